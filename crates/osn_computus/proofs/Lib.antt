@@ -1,0 +1,6 @@
+pub mod WalkFacts
+pub mod FindFacts
+pub mod TableFacts
+pub mod MoonFacts
+pub mod PlaceFacts
+pub mod LetterFacts

@@ -1,0 +1,40 @@
+-- The figures of a year: the cycles of Reingold and Dershowitz, Calendrical Calculations, and the epacts of the canons
+-- of Inter gravissimas (1582).
+use Rattle.std.specs.Prelude.{ℕ, ◌+◌, ◌-◌, ◌*◌, ◌/◌, ◌%◌, ◌==◌, ◌&&◌, nat_lt, pos, ◌-ℤ◌, unsigned_abs}
+use Rattle.std.specs.Int.{int_rem_euclid}
+use Rattle.osn_computus.specs.declared.epact.Epact.{Epact}
+
+-- the place in the cycle of 19 years, after which the moons come on the same days again
+abbrev pub golden_number : ℕ → ℕ
+golden_number y = y % 19 + 1
+
+-- the place in the cycle of 15 years
+abbrev pub indiction : ℕ → ℕ
+indiction y = (y + 2) % 15 + 1
+
+-- a year makes the moon 11 days older
+abbrev pub julian_epact : ℕ → ℕ
+julian_epact y = (11 * (golden_number y - 1)) % 30
+
+-- the century that the corrections count
+abbrev pub century : ℕ → ℕ
+century y = y / 100 + 1
+
+-- the leap days that centuries pass over, each of which makes the moon a day younger
+abbrev pub solar_correction : ℕ → ℕ
+solar_correction y = (3 * century y) / 4
+
+-- eight days in 2500 years, each of which makes the moon a day older
+abbrev pub lunar_correction : ℕ → ℕ
+lunar_correction y = (8 * century y + 5) / 25
+
+abbrev pub epact_number : ℕ → ℕ
+epact_number y =
+    unsigned_abs (int_rem_euclid (pos (8 + 11 * (golden_number y - 1) + lunar_correction y) -ℤ pos (solar_correction y)) (pos 30))
+
+-- 25 has a prime in the later years of the cycle, so that no two of its 19 years have one new moon
+abbrev pub gregorian_epact : ℕ → Epact
+gregorian_epact y = record {
+  number = epact_number y;
+  prime = (epact_number y == 25) && nat_lt 11 (golden_number y);
+}

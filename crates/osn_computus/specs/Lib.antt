@@ -1,0 +1,4 @@
+pub mod Figures
+pub mod Moon
+pub mod Easter
+pub mod Letters

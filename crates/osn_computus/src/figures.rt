@@ -1,0 +1,45 @@
+//! The golden number, the indiction and the epacts.
+ghost use Rattle.std.specs.Prelude.{◌≡◌, IsSome};
+ghost use Rattle.osn_computus.specs.Figures as figure;
+ghost use Rattle.osn_computus.specs.Moon.{julian_full_moon};
+
+use crate::epact::Epact;
+use osn_days::Year;
+
+/// The golden number, the year's place in the cycle of 19 years, from 1 to 19.
+pub fn golden_number(year: Year) -> u8
+    ensures value { result ≡ figure.golden_number year }
+    // each golden number has its full moon in the table of the Julian cycle
+    ensures moon { IsSome (julian_full_moon result) }
+{
+    (year.number() % 19) as u8 + 1
+}
+
+/// The indiction, the year's place in the cycle of 15 years, from 1 to 15.
+pub fn indiction(year: Year) -> u8
+    ensures { result ≡ figure.indiction year }
+{
+    ((year.number() + 2) % 15) as u8 + 1
+}
+
+/// The epact of the Julian reckoning, from 0 to 29.
+pub fn julian_epact(year: Year) -> u8
+    ensures { result ≡ figure.julian_epact year }
+{
+    ((golden_number(year) as u32 - 1) * 11 % 30) as u8
+}
+
+/// The epact of the Gregorian reckoning. Years before 1583 are counted by the same rule.
+pub fn gregorian_epact(year: Year) -> Epact
+    ensures { result ≡ figure.gregorian_epact year }
+{
+    let golden = golden_number(year);
+    let century = year.number() / 100 + 1;
+    let added = 8 + (golden as u32 - 1) * 11 + (century * 8 + 5) / 25;
+    let passed_over = century * 3 / 4;
+    let number = (added as i32 - passed_over as i32).rem_euclid(30) as u8;
+    Epact {
+        number,
+        prime: number == 25 && golden > 11,
+    }
+}

@@ -1,0 +1,22 @@
+//! The figures of a year and both Easters: the cycles of the Julian reckoning, and the epacts and the calendar
+//! of *Inter gravissimas* (1582) with its canons; for the arithmetic Reingold and Dershowitz, *Calendrical
+//! Calculations*. What the crate promises to those above is each figure by its table, and Easter as the first
+//! Sunday after the table's full moon.
+#![tactic(auto)]
+
+mod epact;
+mod feast;
+mod figures;
+mod letter;
+mod letters;
+mod moon;
+mod rule;
+#[cfg(test)]
+mod tests;
+
+pub use epact::Epact;
+pub use feast::easter;
+pub use figures::{golden_number, gregorian_epact, indiction, julian_epact};
+pub use letter::Letter;
+pub use letters::{Letters, sunday_letters};
+pub use rule::Rule;

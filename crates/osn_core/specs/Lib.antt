@@ -1,0 +1,5 @@
+pub mod Sequential
+pub mod Inside
+pub mod Control
+pub mod Machine
+pub mod History

@@ -1,0 +1,42 @@
+ghost use Rattle.std.specs.Prelude.{◌≡◌};
+
+use osn_register::Edit;
+use std::marker::Model;
+
+/// Edits that were published together, in the order in which they were staged.
+#[derive(Debug, Drop)]
+pub struct Batch {
+    edits: Vec<Edit>,
+}
+
+impl Model for Batch {
+    ghost use Rattle.std.specs.Prelude.{List};
+    ghost use Rattle.osn_register.specs.declared.edit.Edit.{Edit};
+
+    ghost Value = { List Edit };
+
+    ghost view = { λ b. b.edits.items };
+}
+
+impl Batch {
+    /// The edits that were moved in.
+    pub fn new(edits: Vec<Edit>) -> Batch
+        ensures { result ≡ edits.items }
+    {
+        Batch { edits }
+    }
+
+    /// The edits, to read.
+    pub fn edits(&self) -> &[Edit]
+        ensures { result.now ≡ self.now }
+    {
+        self.edits.as_slice()
+    }
+
+    /// The edits, moved out.
+    pub fn into_edits(self) -> Vec<Edit>
+        ensures { result.items ≡ self }
+    {
+        self.edits
+    }
+}

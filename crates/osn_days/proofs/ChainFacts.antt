@@ -1,0 +1,148 @@
+-- The chain of dates rises, so a date comes once.
+use Rattle.std.proofs.Common.{◌≡◌, ℕ, [], ◌∷◌, zero, suc, ◌+◌, ◌-◌, ◌*◌, ◌<◌, ◌≤◌, ◌⊎◌, inl, inr, Bool, true, false, nat_lt, if◌then◌else◌, refl, sym, ap, ◌∙◌, arith, ℤ, pos, ◌+ℤ◌, ◌*ℤ◌, ◌<ℤ◌, ◌≤ℤ◌}
+use Rattle.std.proofs.lemmas.Bool.{cases_order}
+use Rattle.std.proofs.lemmas.Bool.Decides.{nat_tests, Decides-and, Decides-eqb, Decides-int_eq}
+use Rattle.std.proofs.lemmas.Int.{ints}
+use Rattle.std.specs.Bool.{Decides}
+use Rattle.osn_days.specs.declared.date.Date.{Date}
+use Rattle.osn_days.specs.declared.calendar.Calendar.{Calendar}
+use Rattle.osn_days.specs.declared.calendar.Calendar.TheVariants.{Julian, Gregorian}
+use Rattle.osn_days.specs.Profile.{Profile}
+use Rattle.osn_days.specs.Line.{line, IsDay}
+use Rattle.osn_days.specs.Chain.{month_length, next, first_date, chain, date_of, same_date, days_with_date}
+use Rattle.osn_days.proofs.FilterFacts.{filter_none, filter_one}
+
+pub chain-zero : (c : Calendar) → chain c 0 ≡ first_date c
+unfolding chain
+chain-zero c = refl
+
+pub chain-suc : (c : Calendar) (n : ℕ) → chain c (suc n) ≡ next c (chain c n)
+unfolding chain
+chain-suc c n = refl
+
+-- a date n days after day 1 or before: a month and a day of a month, in a year from 1 to n + 1
+pub record IsSmall (n : ℕ) (d : Date) : Type 0 where
+  pub year_low : pos 1 ≤ℤ d.year
+  pub year_high : d.year ≤ℤ pos (n + 1)
+  pub month_low : 1 ≤ d.month
+  pub month_high : d.month ≤ 12
+  pub day_low : 1 ≤ d.day
+  pub day_high : d.day ≤ 31
+
+-- one of three, as `next` chooses
+pub cases_of_three : {X : Type 0} (P : X → Type 0) (a b : Bool) (x y z : X) → (a ≡ true → P x) → (a ≡ false → b ≡ true → P y) → (a ≡ false → b ≡ false → P z) → P (if a then x else (if b then y else z))
+cases_of_three P true b x y z f g h = f refl
+cases_of_three P false true x y z f g h = g refl refl
+cases_of_three P false false x y z f g h = h refl refl
+
+pub month_length_bounds : (c : Calendar) (y : ℤ) (m : ℕ) → (month_length c y m ≤ 31) × (28 ≤ month_length c y m)
+month_length_bounds c y m = grind arith
+
+pub lt_of : (m n : ℕ) → nat_lt m n ≡ true → m < n
+lt_of m n h = grind (arith, nat_tests)
+
+pub not_lt_of : (m n : ℕ) → nat_lt m n ≡ false → n ≤ m
+not_lt_of m n h = grind (arith, nat_tests)
+
+next_small : (c : Calendar) (d : Date) (n : ℕ) → IsSmall n d → IsSmall (suc n) (next c d)
+next_small c d n s =
+    cases_of_three (IsSmall (suc n)) (nat_lt d.day (month_length c d.year d.month)) (nat_lt d.month 12)
+    (record d { day = d.day + 1 }) (record { year = d.year; month = d.month + 1; day = 1 }) (record { year = d.year +ℤ pos 1; month = 1; day = 1 })
+    (λ lt. let day = lt_of _ _ lt in let bound = month_length_bounds c d.year d.month in
+    record { year_low = s.year_low; year_high = omega (arith, ints); month_low = s.month_low; month_high = s.month_high; day_low = omega arith; day_high = omega arith })
+    (λ _ lt. let month = lt_of _ _ lt in
+    record { year_low = s.year_low; year_high = omega (arith, ints); month_low = omega arith; month_high = omega arith; day_low = omega arith; day_high = omega arith })
+    (λ _ _. record { year_low = omega (arith, ints); year_high = omega (arith, ints); month_low = omega arith; month_high = omega arith; day_low = omega arith; day_high = omega arith })
+
+first_small : (c : Calendar) → IsSmall 0 (first_date c)
+first_small Julian = record { year_low = search arith; year_high = search arith; month_low = omega arith; month_high = omega arith; day_low = omega arith; day_high = omega arith }
+first_small Gregorian = record { year_low = search arith; year_high = search arith; month_low = omega arith; month_high = omega arith; day_low = omega arith; day_high = omega arith }
+
+pub chain_small : (c : Calendar) (n : ℕ) → IsSmall n (chain c n)
+chain_small c zero = rw chain-zero (first_small c)
+chain_small c (suc n) = rw chain-suc (next_small c (chain c n) n (chain_small c n))
+
+-- a number that orders as dates do
+abbrev pub key : Date → ℤ
+key d = d.year *ℤ pos 512 +ℤ pos (d.month * 32 + d.day)
+
+next_rises : (c : Calendar) (d : Date) (n : ℕ) → IsSmall n d → key d <ℤ key (next c d)
+next_rises c d n s =
+    cases_of_three (λ e. key d <ℤ key e) (nat_lt d.day (month_length c d.year d.month)) (nat_lt d.month 12)
+    (record d { day = d.day + 1 }) (record { year = d.year; month = d.month + 1; day = 1 }) (record { year = d.year +ℤ pos 1; month = 1; day = 1 })
+    (λ lt. omega (arith, ints))
+    (λ _ lt. omega (arith, ints))
+    (λ _ _. omega (arith, ints))
+
+chain_rises_by : (c : Calendar) (n k : ℕ) → key (chain c n) <ℤ key (chain c (suc k + n))
+chain_rises_by c n zero =
+    let one : suc 0 + n ≡ suc n = omega arith in
+    rw one (rw chain-suc (next_rises c (chain c n) n (chain_small c n)))
+chain_rises_by c n (suc k) =
+    let more : suc (suc k) + n ≡ suc (suc k + n) = omega arith in
+    let before = chain_rises_by c n k in
+    let step = next_rises c (chain c (suc k + n)) (suc k + n) (chain_small c (suc k + n)) in
+    rw more (rw chain-suc (omega (arith, ints)))
+
+pub chain_rises : (c : Calendar) (m n : ℕ) → m < n → key (chain c m) <ℤ key (chain c n)
+chain_rises c m n lt =
+    let at : suc (n - suc m) + m ≡ n = omega arith in
+    rw at at (chain_rises_by c m (n - suc m))
+
+-- so two days have two dates
+pub chain_apart : (c : Calendar) (m n : ℕ) → m < n ⊎ (n < m) → chain c m ≡ chain c n → ⊥
+chain_apart c m n (inl lt) e = omega (arith, ints, chain_rises c m n lt, ap key e)
+chain_apart c m n (inr gt) e = omega (arith, ints, chain_rises c n m gt, ap key e)
+
+pub year_bound : (c : Calendar) (d : ℕ) → d ≤ 1095363 → (date_of c d).year <ℤ pos 2000000
+year_bound c d h = let s = chain_small c (d - 1) in omega (arith, ints, s.year_high)
+
+pub date_is : (a b : Date) → a.year ≡ b.year → a.month ≡ b.month → a.day ≡ b.day → a ≡ b
+date_is a b year month day =
+    ap (λ (y : ℤ). let d : Date = record { year = y; month = a.month; day = a.day } in d) year
+    ∙ ap (λ (m : ℕ). let d : Date = record { year = b.year; month = m; day = a.day } in d) month
+    ∙ ap (λ (n : ℕ). let d : Date = record { year = b.year; month = b.month; day = n } in d) day
+
+same_date_decides : (a b : Date) → Decides (same_date a b) ((a.year ≡ b.year) × ((a.month ≡ b.month) × (a.day ≡ b.day)))
+same_date_decides a b =
+    Decides-and _ _ (Decides-int_eq a.year b.year) (Decides-and _ _ (Decides-eqb a.month b.month) (Decides-eqb a.day b.day))
+
+pub same_date_is : (a b : Date) → same_date a b ≡ true → a ≡ b
+same_date_is a b h =
+    let parts = (same_date_decides a b).0 h in
+    date_is a b parts.0 parts.1.0 parts.1.1
+
+pub same_date_self : (a : Date) → same_date a a ≡ true
+same_date_self a = (same_date_decides a a).1 (refl, (refl, refl))
+
+pub not_true : (b : Bool) → (b ≡ true → ⊥) → b ≡ false
+not_true true h = absurd (h refl)
+not_true false h = refl
+
+-- a date is that of no other day
+pub date_apart : (c : Calendar) (date : Date) (d e : ℕ) → 1 ≤ d → 1 ≤ e → same_date (date_of c d) date ≡ true → e < d ⊎ (d < e) → same_date (date_of c e) date ≡ false
+date_apart c date d e dl el is apart =
+    not_true (same_date (date_of c e) date) (λ too. chain_apart c (e - 1) (d - 1)
+    (elim apart [ inl lt ↦ inl (omega arith) | inr gt ↦ inr (omega arith) ])
+    (same_date_is (date_of c e) date too ∙ sym (same_date_is (date_of c d) date is)))
+
+-- the days with a date are the one that has it
+pub days_one : (p : Profile) (c : Calendar) (date : Date) (d : ℕ) → IsDay p d → same_date (date_of c d) date ≡ true → days_with_date p c date ≡ d ∷ []
+unfolding days_with_date line
+days_one p c date d on is =
+    filter_one (λ e. same_date (date_of c e) date) 1 p.high d on.0 (omega arith) is (λ e low high apart. date_apart c date d e on.0 low is apart)
+
+-- or none
+pub days_none : (p : Profile) (c : Calendar) (date : Date) → ((d : ℕ) → IsDay p d → same_date (date_of c d) date ≡ false) → days_with_date p c date ≡ []
+unfolding days_with_date line
+days_none p c date none =
+    filter_none (λ e. same_date (date_of c e) date) 1 p.high (λ d low high. none d (low, omega arith))
+
+-- a day at which each earlier day and this one have failed
+pub none_before : (c : Calendar) (date : Date) (n : ℕ) → ((d : ℕ) → 1 ≤ d → d < n → same_date (date_of c d) date ≡ false) → same_date (date_of c n) date ≡ false → (d : ℕ) → 1 ≤ d → d < n + 1 → same_date (date_of c d) date ≡ false
+none_before c date n before here d low high =
+    elim (cases_order d n) [
+      | inl same ↦ rw same here
+      | inr (inl lt) ↦ before d low lt
+      | inr (inr gt) ↦ absurd (omega arith)
+    ]

@@ -1,0 +1,6 @@
+pub mod ChainFacts
+pub mod CountFacts
+pub mod FilterFacts
+pub mod GregorianFacts
+pub mod JulianFacts
+pub mod LineFacts

@@ -1,0 +1,4 @@
+pub mod Profile
+pub mod Line
+pub mod Chain
+pub mod Weekday

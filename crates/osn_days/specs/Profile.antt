@@ -1,0 +1,24 @@
+-- The numbers and words of the rules, which a later version of the rules may change: this project's profile.
+use Rattle.std.specs.Prelude.{ℕ, List, [], ◌∷◌, codes}
+
+pub record Profile : Type 0 where
+  -- the last day of the line
+  pub high : ℕ
+  -- the last year that has figures, an Easter or an exception; the first is 1
+  pub last_year : ℕ
+  -- the last year of a label; the first is 0
+  pub last_label_year : ℕ
+  -- the words of `style` in a line
+  pub style_words : List (List ℕ)
+  -- the version of a journal that is written
+  pub journal_version : ℕ
+
+-- the rules as they are
+abbrev pub present : Profile
+present = record {
+  high = 1095362;
+  last_year = 2999;
+  last_label_year = 3000;
+  style_words = codes "january" ∷ [];
+  journal_version = 1;
+}

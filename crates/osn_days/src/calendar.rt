@@ -1,0 +1,35 @@
+ghost use Rattle.std.specs.Prelude.{◌≡◌};
+ghost use Rattle.std.specs.Option.{option_to_list};
+ghost use Rattle.osn_days.specs.Profile.{present};
+ghost use Rattle.osn_days.specs.Chain as chain;
+
+use crate::date::Date;
+use crate::day::Day;
+use crate::{gregorian, julian};
+
+/// A calendar on the line of days.
+#[derive(Clone, Copy, Debug, PartialEq, Eq, Hash)]
+pub enum Calendar {
+    Julian,
+    Gregorian,
+}
+
+/// The date of a day in a calendar.
+pub fn date_of(calendar: Calendar, day: Day) -> Date
+    ensures { result ≡ chain.date_of calendar day }
+{
+    match calendar {
+        Calendar::Julian => julian::date_of(day),
+        Calendar::Gregorian => gregorian::date_of(day),
+    }
+}
+
+/// The one day that has the date, or `None` where no day of the line has it.
+pub fn day_of(calendar: Calendar, date: Date) -> Option<Day>
+    ensures { option_to_list result ≡ chain.days_with_date present calendar date }
+{
+    match calendar {
+        Calendar::Julian => julian::day_of(date),
+        Calendar::Gregorian => gregorian::day_of(date),
+    }
+}

@@ -1,0 +1,99 @@
+ghost use Rattle.std.specs.Prelude.{◌≡◌, ◌↔◌, ◌≤◌, ℕ, pos, ◌+ℤ◌, IsSome, IfSome};
+ghost use Rattle.osn_days.specs.Profile.{present};
+ghost use Rattle.osn_days.specs.Line.{IsDay, IsOnLine, weekday, julian_day};
+ghost use Rattle.osn_days.specs.Weekday.{weekday_number};
+
+use crate::weekday::Weekday;
+use std::marker::Model;
+
+/// The last day of the line, 31 December 2999 Gregorian. The first is 1.
+pub const HIGH: u32 = 1_095_362;
+
+/// The Julian day number of the day before the first.
+const JULIAN_DAY_OFFSET: u32 = 1_721_425;
+
+/// A day of the line, numbered as the fixed dates (Rata Die) of *Calendrical Calculations*: day 1 is
+/// Monday 1 January of year 1 Gregorian, which is 3 January of year 1 Julian.
+#[derive(Clone, Copy, Debug, PartialEq, Eq, PartialOrd, Ord, Hash)]
+pub struct Day {
+    number: u32,
+}
+
+impl Model for Day {
+    ghost use Rattle.std.specs.Prelude.{ℕ};
+    ghost use Rattle.osn_days.specs.Profile.{present};
+    ghost use Rattle.osn_days.specs.Line.{IsDay};
+
+    ghost Value = { ℕ };
+
+    ghost view = { λ d. d.number };
+
+    ghost invariant = { λ d. IsDay present d.number };
+
+    ghost inverse = { λ n. record { number = n } };
+}
+
+impl Day {
+    /// The first day of the line.
+    pub const FIRST: Day = Day { number: 1 };
+
+    /// The last day of the line.
+    pub const LAST: Day = Day { number: HIGH };
+
+    /// The day of that number, or `None` off the line.
+    pub fn new(number: i64) -> Option<Day>
+        ensures on_line { IsSome result ↔ IsOnLine present number }
+        ensures value { IfSome result (λ d. pos d ≡ number) }
+    {
+        if number < 1 || number > HIGH as i64 {
+            return None;
+        }
+        Some(Day::at(number as u32))
+    }
+
+    /// The day of a number that is known to be on the line.
+    pub(crate) fn at(number: u32) -> Day
+        requires { IsDay present number }
+        ensures { result ≡ number }
+    {
+        Day { number }
+    }
+
+    /// The number, from 1.
+    pub fn number(self) -> u32
+        ensures value { result ≡ self }
+        ensures on_line { IsDay present result }
+    {
+        self.number
+    }
+
+    /// The Julian day number of astronomers, at noon of the day.
+    pub fn julian_day_number(self) -> u32
+        ensures { result ≡ julian_day self }
+    {
+        self.number + JULIAN_DAY_OFFSET
+    }
+
+    /// The day of the week.
+    pub fn weekday(self) -> Weekday
+        ensures { weekday_number result ≡ weekday self }
+    {
+        match self.number % 7 {
+            0 => Weekday::Sunday,
+            1 => Weekday::Monday,
+            2 => Weekday::Tuesday,
+            3 => Weekday::Wednesday,
+            4 => Weekday::Thursday,
+            5 => Weekday::Friday,
+            _ => Weekday::Saturday,
+        }
+    }
+
+    /// The day that many days later, or earlier for a negative number, or `None` where that is off the line.
+    pub fn plus(self, days: i32) -> Option<Day>
+        ensures on_line { IsSome result ↔ IsOnLine present (pos self +ℤ days) }
+        ensures value { IfSome result (λ d. pos d ≡ pos self +ℤ days) }
+    {
+        Day::new(self.number as i64 + days as i64)
+    }
+}

@@ -1,0 +1,2 @@
+pub mod LabelFacts
+pub mod ReadingFacts

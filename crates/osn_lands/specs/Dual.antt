@@ -1,0 +1,49 @@
+-- The text of a day under a regime: this project's profile.
+use Rattle.std.specs.Prelude.{ℕ, ℤ, int_lt, ◌==◌, if◌then◌else◌, List, [], ◌∷◌, ◌++◌, length, codes}
+use Rattle.std.specs.Fmt.{decimal, signed_decimal}
+use Rattle.osn_days.specs.declared.date.Date.{Date}
+use Rattle.osn_days.specs.Chain.{date_of}
+use Rattle.osn_lands.specs.declared.style.Style.{Style}
+use Rattle.osn_lands.specs.declared.regime.Regime.{Regime}
+use Rattle.osn_lands.specs.Style.{style_year}
+
+-- the English name of a month
+abbrev pub month_name : ℕ → List ℕ
+month_name m =
+    if m == 1 then codes "January"
+    else (if m == 2 then codes "February"
+    else (if m == 3 then codes "March"
+    else (if m == 4 then codes "April"
+    else (if m == 5 then codes "May"
+    else (if m == 6 then codes "June"
+    else (if m == 7 then codes "July"
+    else (if m == 8 then codes "August"
+    else (if m == 9 then codes "September"
+    else (if m == 10 then codes "October"
+    else (if m == 11 then codes "November"
+    else codes "December"))))))))))
+
+-- a number's digits from the first that differs from those of a number as long
+abbrev pub from_difference : List ℕ → List ℕ → List ℕ
+from_difference [] ys = ys
+from_difference (x ∷ xs) [] = []
+from_difference (x ∷ xs) (y ∷ ys) = if x == y then from_difference xs ys else y ∷ ys
+
+-- the digits of the later of two years, without those that the earlier one has already shown
+abbrev pub later_digits : List ℕ → List ℕ → List ℕ
+later_digits earlier later = if length earlier == length later then from_difference earlier later else later
+
+-- a style's year and the year counted from 1 January, where that is later: 1731/2, 1699/700, 0/1
+abbrev pub year_text : ℤ → ℤ → List ℕ
+year_text style_year year =
+    if int_lt style_year year then signed_decimal style_year ++ (codes "/" ++ later_digits (signed_decimal style_year) (signed_decimal year))
+    else signed_decimal style_year
+
+-- the text of a date under a style, without leading zeros
+abbrev pub date_text : Style → Date → List ℕ
+date_text style date =
+    decimal date.day ++ (codes " " ++ (month_name date.month ++ (codes " " ++ year_text (style_year style date) date.year)))
+
+-- the text of a day under a regime
+abbrev pub dual_text : Regime → ℕ → List ℕ
+dual_text regime d = date_text regime.style (date_of regime.calendar d)

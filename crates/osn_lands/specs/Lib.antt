@@ -1,0 +1,5 @@
+pub mod Style
+pub mod Label
+pub mod Dual
+pub mod Territory
+pub mod Inside

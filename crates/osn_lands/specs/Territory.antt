@@ -1,0 +1,86 @@
+-- Territories as lists of start days with their regimes, and what is read in them: this project's profile.
+use Rattle.std.specs.Prelude.{◌≡◌, ℕ, ◌+◌, ◌-◌, ◌≤◌, Bool, true, false, not, ◌&&◌, ◌||◌, nat_le, nat_lt, if◌then◌else◌, List, [], ◌∷◌, filter, fold}
+use Rattle.std.specs.List.{list_any}
+use Rattle.osn_computus.specs.declared.rule.Rule.TheVariants as Easter
+use Rattle.osn_days.specs.declared.calendar.Calendar.TheVariants as Calendar
+use Rattle.osn_days.specs.Profile.{Profile}
+use Rattle.osn_days.specs.Line.{line}
+use Rattle.osn_lands.specs.declared.style.Style.TheVariants as Style
+use Rattle.osn_lands.specs.declared.regime.Regime.{Regime}
+use Rattle.osn_lands.specs.declared.label.Label.{Label}
+use Rattle.osn_lands.specs.declared.period.Period.{Period}
+use Rattle.osn_lands.specs.Label.{local, same_label, days_with_label}
+
+-- the start days in ascending order, each with the regime that comes into force. The first is day 1
+pub record PlainTerritory : Type 0 where
+  pub starts : List (ℕ × Regime)
+
+-- a territory with one regime on every day
+abbrev pub opened : Regime → PlainTerritory
+opened regime = record { starts = (1, regime) ∷ [] }
+
+-- the regime where no start is, which no territory has
+abbrev pub no_start : Regime
+no_start = record { calendar = Calendar.Gregorian; style = Style.January; rule = Easter.Gregorian }
+
+-- the regime in force on a day: that of the greatest start day not after it
+abbrev pub regime_at : PlainTerritory → ℕ → Regime
+regime_at t d = fold (λ before s. if nat_le s.0 d then s.1 else before) no_start t.starts
+
+-- the last day of a period that these starts follow
+abbrev pub last_before : ℕ → List (ℕ × Regime) → ℕ
+last_before high [] = high
+last_before high (next ∷ rest) = next.0 - 1
+
+abbrev pub periods_from : ℕ → List (ℕ × Regime) → List Period
+periods_from high [] = []
+periods_from high (s ∷ rest) = record { first = s.0; last = last_before high rest; regime = s.1 } ∷ periods_from high rest
+
+-- the periods, in order: each from its start to the day before the next start, or to the end of the line
+abbrev pub periods_of : Profile → PlainTerritory → List Period
+periods_of p t = periods_from p.high t.starts
+
+-- the periods cover the days from the first to the last, each once and in order, and none is empty
+abbrev pub Covers : ℕ → ℕ → List Period → Type 0
+Covers first last [] = first ≡ last + 1
+Covers first last (p ∷ ps) = (p.first ≡ first) × (p.first ≤ p.last) × Covers (p.last + 1) last ps
+
+-- the periods cover the line
+abbrev pub CoversLine : Profile → List Period → Type 0
+CoversLine p ps = Covers 1 p.high ps
+
+-- the days that the territory dates with the label, in order
+unfoldable pub reading : Profile → PlainTerritory → Label → List ℕ
+reading p t label = filter (λ d. same_label (local (regime_at t d) d) label) (line p)
+
+abbrev pub is_nowhere : List ℕ → Bool
+is_nowhere [] = true
+is_nowhere (d ∷ ds) = false
+
+-- whether the label is skipped at the change from an old period to a new one, where the two regimes have it on these
+-- days and it is read on those
+abbrev pub is_skipped_between : Period → Period → List ℕ → List ℕ → List ℕ → Bool
+is_skipped_between old new old_days new_days read_days =
+    (list_any (λ d. nat_le new.first d) old_days || is_nowhere old_days)
+    && ((list_any (λ d. nat_lt d new.first) new_days || is_nowhere new_days)
+    && (not (is_nowhere old_days && is_nowhere new_days)
+    && not (list_any (λ d. nat_le old.first d && nat_le d new.last) read_days)))
+
+abbrev pub is_skipped_at : Profile → PlainTerritory → Label → Period → Period → Bool
+is_skipped_at p t label old new =
+    is_skipped_between old new (days_with_label p old.regime label) (days_with_label p new.regime label) (reading p t label)
+
+-- the start days, of the periods that follow an old one, at which the label is skipped
+abbrev pub skipped_after : Profile → PlainTerritory → Label → Period → List Period → List ℕ
+skipped_after p t label old [] = []
+skipped_after p t label old (new ∷ rest) =
+    if is_skipped_at p t label old new then new.first ∷ skipped_after p t label new rest
+    else skipped_after p t label new rest
+
+abbrev pub skipped_among : Profile → PlainTerritory → Label → List Period → List ℕ
+skipped_among p t label [] = []
+skipped_among p t label (opening ∷ rest) = skipped_after p t label opening rest
+
+-- the days of the changes at which the label is skipped, in order
+abbrev pub skipped : Profile → PlainTerritory → Label → List ℕ
+skipped p t label = skipped_among p t label (periods_of p t)

@@ -1,0 +1,32 @@
+-- The refusals by number and name: this project's profile.
+use Rattle.std.specs.Prelude.{ℕ, List, codes}
+use Rattle.osn_register.specs.declared.refusal.Refusal.{Refusal}
+use Rattle.osn_register.specs.declared.refusal.Refusal.TheVariants.{BadCode, BadName, UnknownLand, LandExists, YearOffRange, TooManyLands, NothingPending, JournalFull, EditionsFull, BadDate, NoMemory, BadCount}
+
+abbrev pub refusal_number : Refusal → ℕ
+refusal_number BadCode = 1
+refusal_number BadName = 2
+refusal_number UnknownLand = 3
+refusal_number LandExists = 4
+refusal_number YearOffRange = 9
+refusal_number TooManyLands = 12
+refusal_number NothingPending = 15
+refusal_number JournalFull = 16
+refusal_number EditionsFull = 17
+refusal_number BadDate = 18
+refusal_number NoMemory = 90
+refusal_number BadCount = 92
+
+abbrev pub refusal_name : Refusal → List ℕ
+refusal_name BadCode = codes "BadCode"
+refusal_name BadName = codes "BadName"
+refusal_name UnknownLand = codes "UnknownLand"
+refusal_name LandExists = codes "LandExists"
+refusal_name YearOffRange = codes "YearOffRange"
+refusal_name TooManyLands = codes "TooManyLands"
+refusal_name NothingPending = codes "NothingPending"
+refusal_name JournalFull = codes "JournalFull"
+refusal_name EditionsFull = codes "EditionsFull"
+refusal_name BadDate = codes "BadDate"
+refusal_name NoMemory = codes "NoMemory"
+refusal_name BadCount = codes "BadCount"

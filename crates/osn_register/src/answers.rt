@@ -1,0 +1,73 @@
+//! The answers of a register, built in parts.
+ghost use Rattle.std.specs.Prelude.{◌≡◌, Some, None, IfOk, MatchResult, map};
+ghost use Rattle.osn_days.specs.Profile.{present};
+ghost use Rattle.osn_lands.specs.Territory as plain;
+ghost use Rattle.osn_register.specs.Answer as said;
+
+use crate::answer::{Answer, Found};
+use crate::listing::Listing;
+use crate::refusal::Refusal;
+use crate::text::Text;
+use osn_days::Day;
+use osn_lands::{Label, Territory, dual_text, label_of};
+use std::alloc::{AllocError, Global};
+
+/// The last year that a label may have.
+const LAST_LABEL_YEAR: i64 = 3000;
+
+/// The label of a date that is asked for, where it may be one.
+pub(crate) fn asked_label(year: i64, month: i64, day: i64) -> Result<Label, Refusal>
+    ensures { MatchResult result
+        (λ l. (said.date_refusal present year month day ≡ None) × (l ≡ said.label_from year month day))
+        (λ f. said.date_refusal present year month day ≡ Some f) }
+{
+    if year < 0 || year > LAST_LABEL_YEAR {
+        return Err(Refusal::YearOffRange);
+    }
+    if month < 1 || month > 12 || day < 1 || day > 31 {
+        return Err(Refusal::BadDate);
+    }
+    Ok(Label {
+        year: year as i32,
+        month: month as u8,
+        day: day as u8,
+    })
+}
+
+fn found_on(alloc: Global, territory: &Territory, day: Day) -> Result<Found, AllocError>
+    ensures { IfOk result (λ f. f ≡ said.found_on territory.now day) }
+{
+    let regime = territory.regime_at(day);
+    Ok(Found {
+        day,
+        label: label_of(regime, day),
+        dual: Text::new(dual_text(alloc, regime, day)?),
+    })
+}
+
+fn found_days(alloc: Global, territory: &Territory, days: &[Day]) -> Result<Vec<Found>, AllocError>
+    ensures { IfOk result (λ v. v.items ≡ map (said.found_on territory.now) days.now) }
+{
+    let mut found = Vec::with_capacity(alloc, days.len())?;
+    for day in days {
+        found.push(found_on(alloc, territory, *day)?)?;
+    }
+    Ok(found)
+}
+
+/// The reading of a label in a territory.
+pub(crate) fn reading(
+    alloc: Global,
+    territory: &Territory,
+    label: Label,
+) -> Result<Answer, AllocError>
+    ensures { IfOk result (λ a. a ≡ said.reading_answer present (Some territory.now) label) }
+{
+    let days = territory.read(label)?;
+    let found = found_days(alloc, territory, days.as_slice())?;
+    let skipped = territory.skipped(label)?;
+    Ok(Answer::Reading {
+        found: Listing::new(found),
+        skipped: Listing::new(skipped),
+    })
+}

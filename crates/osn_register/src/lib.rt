@@ -1,0 +1,26 @@
+//! The register of territories: edits with their refusals, queries with their answers. What the crate
+//! promises to those above: `apply` is the edit's effect on a plain list of territories, a refusal is the
+//! first that applies and changes nothing, and `answer` is the definition's answer.
+#![tactic(auto)]
+
+mod answer;
+mod answers;
+mod code;
+mod edit;
+mod limits;
+mod listing;
+mod query;
+mod refusal;
+mod register;
+#[cfg(test)]
+mod tests;
+mod text;
+
+pub use answer::{Answer, Found, FoundList, Land, LandList};
+pub use edit::Edit;
+pub use limits::Limits;
+pub use listing::{DayList, Listing};
+pub use query::Query;
+pub use refusal::Refusal;
+pub use register::Register;
+pub use text::Text;

@@ -1,0 +1,41 @@
+ghost use Rattle.std.specs.Prelude.{◌≡◌, IfOk};
+
+use crate::text::Text;
+use std::alloc::AllocError;
+
+/// A question to the register.
+#[derive(Debug, Drop)]
+pub enum Query {
+    /// Which days a date names in a territory: the year as its documents count it, 0 to 3000, a month from
+    /// 1 to 12 and a day from 1 to 31.
+    Read {
+        code: Text,
+        year: i64,
+        month: i64,
+        day: i64,
+    },
+    /// Which territories there are.
+    Lands,
+}
+
+impl Query {
+    /// A query equal to this one.
+    pub fn copy(&self) -> Result<Query, AllocError>
+        ensures { IfOk result (λ q. q ≡ self.now) }
+    {
+        match self {
+            Query::Read {
+                code,
+                year,
+                month,
+                day,
+            } => Ok(Query::Read {
+                code: code.copy()?,
+                year: *year,
+                month: *month,
+                day: *day,
+            }),
+            Query::Lands => Ok(Query::Lands),
+        }
+    }
+}

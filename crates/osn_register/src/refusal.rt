@@ -1,0 +1,73 @@
+ghost use Rattle.std.specs.Prelude.{◌≡◌};
+ghost use Rattle.osn_register.specs.Refusal.{refusal_number, refusal_name};
+
+/// Why an edit, a query or a publish is refused.
+#[derive(Clone, Copy, Debug, PartialEq, Eq, Hash)]
+pub enum Refusal {
+    /// A code has 2 to 8 bytes, capital letters or digits, the first a letter.
+    BadCode,
+    /// A name has 1 to 64 bytes of UTF-8, with no control byte.
+    BadName,
+    /// No territory has the code.
+    UnknownLand,
+    /// A territory has the code already.
+    LandExists,
+    /// The year is outside the range of the request.
+    YearOffRange,
+    /// The register has as many territories as its limit lets it.
+    TooManyLands,
+    /// There is no edit to publish.
+    NothingPending,
+    /// The journal has as many edits as its limit lets it.
+    JournalFull,
+    /// The journal has as many editions as its limit lets it.
+    EditionsFull,
+    /// The month is not 1 to 12, or the day not 1 to 31.
+    BadDate,
+    /// A growth of memory was refused; the call may be tried again.
+    NoMemory,
+    /// The number of readers is not 1 to 64.
+    BadCount,
+}
+
+impl Refusal {
+    /// The number that a reply gives.
+    pub fn number(self) -> u8
+        ensures { result ≡ refusal_number self }
+    {
+        match self {
+            Refusal::BadCode => 1,
+            Refusal::BadName => 2,
+            Refusal::UnknownLand => 3,
+            Refusal::LandExists => 4,
+            Refusal::YearOffRange => 9,
+            Refusal::TooManyLands => 12,
+            Refusal::NothingPending => 15,
+            Refusal::JournalFull => 16,
+            Refusal::EditionsFull => 17,
+            Refusal::BadDate => 18,
+            Refusal::NoMemory => 90,
+            Refusal::BadCount => 92,
+        }
+    }
+
+    /// The name that a reply gives.
+    pub fn name(self) -> &'static str
+        ensures { result.now ≡ refusal_name self }
+    {
+        match self {
+            Refusal::BadCode => "BadCode",
+            Refusal::BadName => "BadName",
+            Refusal::UnknownLand => "UnknownLand",
+            Refusal::LandExists => "LandExists",
+            Refusal::YearOffRange => "YearOffRange",
+            Refusal::TooManyLands => "TooManyLands",
+            Refusal::NothingPending => "NothingPending",
+            Refusal::JournalFull => "JournalFull",
+            Refusal::EditionsFull => "EditionsFull",
+            Refusal::BadDate => "BadDate",
+            Refusal::NoMemory => "NoMemory",
+            Refusal::BadCount => "BadCount",
+        }
+    }
+}

@@ -1,0 +1,9 @@
+pub mod ByteLemmas
+pub mod InputLemmas
+pub mod LineLemmas
+pub mod ReplyLemmas
+pub mod ServeLemmas
+pub mod WeekdayFacts
+pub mod NoFloat
+pub mod Padded
+pub mod ServedLemmas

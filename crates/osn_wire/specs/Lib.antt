@@ -1,0 +1,13 @@
+pub mod Lines
+pub mod Front
+pub mod Replies
+pub mod Faults
+pub mod Plain
+pub mod Member
+pub mod Words
+pub mod WireFault
+pub mod Request
+pub mod ReplyText
+pub mod Session
+pub mod SessionLines
+pub mod Served

@@ -1,0 +1,127 @@
+-- The JSON value of each outcome, and the line that is its text: this project's profile. The members of an object
+-- stand in ascending order of their names.
+use Rattle.std.specs.Prelude.{ℕ, ◌-◌, ◌==◌, if◌then◌else◌, ℤ, unsigned_abs, List, [], ◌∷◌, ◌++◌, length, map, replicate, codes}
+use Rattle.std.specs.Fmt.{decimal}
+use Rattle.serde_json.specs.Data.{Data, number, unsigned, string, array, object, Members, member, no_members}
+use Rattle.serde_json.specs.View.{items_of}
+use Rattle.serde_json.specs.Written.{compact_text}
+use Rattle.osn_days.specs.declared.date.Date.{Date}
+use Rattle.osn_days.specs.declared.calendar.Calendar.TheVariants.{Julian, Gregorian}
+use Rattle.osn_days.specs.declared.weekday.Weekday.{Weekday}
+use Rattle.osn_days.specs.declared.weekday.Weekday.TheVariants.{Sunday, Monday, Tuesday, Wednesday, Thursday, Friday, Saturday}
+use Rattle.osn_days.specs.Chain.{date_of}
+use Rattle.osn_days.specs.Line.{weekday, julian_day}
+use Rattle.osn_days.specs.Weekday.{weekday_name}
+use Rattle.osn_register.specs.declared.answer.Answer.{Answer}
+use Rattle.osn_register.specs.declared.answer.Answer.TheVariants as answers
+use Rattle.osn_register.specs.declared.answer.Found.{Found}
+use Rattle.osn_register.specs.declared.answer.Land.{Land}
+use Rattle.osn_register.specs.declared.refusal.Refusal.{Refusal}
+use Rattle.osn_register.specs.Refusal.{refusal_number, refusal_name}
+use Rattle.osn_core.specs.declared.step.Reply.{Reply}
+use Rattle.osn_wire.specs.declared.member.Member.{Member}
+use Rattle.osn_wire.specs.declared.wire_fault.WireFault.{WireFault}
+use Rattle.osn_wire.specs.declared.wire_fault.WireFault.TheVariants as faults
+use Rattle.osn_wire.specs.declared.outcome.Outcome.{Outcome}
+use Rattle.osn_wire.specs.declared.outcome.Outcome.TheVariants.{Staged, Published, Refused, Fault, Replied}
+use Rattle.osn_wire.specs.Member.{member_name}
+use Rattle.osn_wire.specs.WireFault.{wire_fault_number, wire_fault_name}
+
+-- a number's digits, after as many zeros as bring them to the length
+abbrev pub at_least : ℕ → ℕ → List ℕ
+at_least width n = replicate (width - length (decimal n)) 48 ++ decimal n
+
+-- a date: the year in at least four digits, the month in two and the day in two. No year is negative, so a year's
+-- digits are those of its absolute value
+unfoldable pub date_text : ℤ → ℕ → ℕ → List ℕ
+date_text year month day =
+    at_least 4 (unsigned_abs year) ++ (codes "-" ++ (at_least 2 month ++ (codes "-" ++ at_least 2 day)))
+
+-- the date of a day in a calendar
+abbrev pub text_of_date : Date → List ℕ
+text_of_date date = date_text date.year date.month date.day
+
+-- the weekday of a number, 0 for Sunday
+unfoldable pub weekday_numbered : ℕ → Weekday
+weekday_numbered n =
+    if n == 0 then Sunday
+    else (if n == 1 then Monday
+    else (if n == 2 then Tuesday
+    else (if n == 3 then Wednesday
+    else (if n == 4 then Thursday
+    else (if n == 5 then Friday
+    else Saturday)))))
+
+abbrev pub whole : ℕ → Data
+whole n = number (unsigned n)
+
+abbrev pub list_data : List Data → Data
+list_data ds = array (items_of ds)
+
+-- a day as a territory names it
+abbrev pub found_data : Found → Data
+found_data f = object (
+    member (codes "day") (whole f.day)
+    (member (codes "dual") (string f.dual)
+    (member (codes "gregorian") (string (text_of_date (date_of Gregorian f.day)))
+    (member (codes "jdn") (whole (julian_day f.day))
+    (member (codes "julian") (string (text_of_date (date_of Julian f.day)))
+    (member (codes "label") (string (date_text f.label.year f.label.month f.label.day))
+    (member (codes "weekday") (string (weekday_name (weekday_numbered (weekday f.day))))
+    no_members)))))))
+
+-- a territory
+abbrev pub land_data : Land → Data
+land_data l = object (member (codes "code") (string l.code) (member (codes "name") (string l.name) no_members))
+
+abbrev pub reading_data : List Found → List ℕ → Data
+reading_data found skipped = object (
+    member (codes "days") (list_data (map found_data found))
+    (member (codes "skipped") (list_data (map whole skipped))
+    no_members))
+
+abbrev pub lands_data : List Land → Data
+lands_data lands = object (member (codes "lands") (list_data (map land_data lands)) no_members)
+
+abbrev pub answered_data : ℕ → ℕ → Data → Data
+answered_data reader edition answer = object (
+    member (codes "answer") answer
+    (member (codes "edition") (whole edition)
+    (member (codes "reader") (whole reader)
+    no_members)))
+
+-- what a reader is told under an edition
+abbrev pub replied_data : ℕ → ℕ → Answer → Data
+replied_data reader edition (answers.Reading found skipped) = answered_data reader edition (reading_data found skipped)
+replied_data reader edition (answers.Lands lands) = answered_data reader edition (lands_data lands)
+replied_data reader edition (answers.Refused f) = object (
+    member (codes "edition") (whole edition)
+    (member (codes "fault") (whole (refusal_number f))
+    (member (codes "name") (string (refusal_name f))
+    (member (codes "reader") (whole reader)
+    no_members))))
+
+-- a refusal or a fault by its number and name
+abbrev pub refused_data : ℕ → List ℕ → Data
+refused_data n name = object (member (codes "fault") (whole n) (member (codes "name") (string name) no_members))
+
+abbrev pub fault_data : WireFault → Data
+fault_data (faults.BadField m) = object (
+    member (codes "fault") (whole 34)
+    (member (codes "field") (string (member_name m))
+    (member (codes "name") (string (codes "BadField"))
+    no_members)))
+fault_data f = refused_data (wire_fault_number f) (wire_fault_name f)
+
+abbrev pub outcome_data : Outcome → Data
+outcome_data (Staged pending) = object (
+    member (codes "ok") (string (codes "staged")) (member (codes "pending") (whole pending) no_members))
+outcome_data (Published edition) = object (
+    member (codes "edition") (whole edition) (member (codes "ok") (string (codes "published")) no_members))
+outcome_data (Refused f) = refused_data (refusal_number f) (refusal_name f)
+outcome_data (Fault f) = fault_data f
+outcome_data (Replied reader reply) = replied_data reader reply.edition reply.answer
+
+-- the line of an outcome: its text with no space, and a line feed
+unfoldable pub reply_line : Outcome → List ℕ
+reply_line o = compact_text (outcome_data o) ++ 10 ∷ []

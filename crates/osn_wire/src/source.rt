@@ -1,0 +1,28 @@
+//! Where bytes come from.
+ghost use Rattle.std.specs.Prelude.{◌≡◌, ℕ, List, Option, Bool, true, is_ok, if◌then◌else◌};
+ghost use Rattle.std.specs.Io.{ReadsAtMost};
+ghost use Rattle.std.specs.Io.KnownBytes.{ReadConsumes};
+
+/// A read that failed. Its source is failed from then on.
+#[derive(Clone, Copy, Debug, PartialEq, Eq)]
+pub struct ReadFailed;
+
+/// What bytes are read from, one call at a time, and what remembers that a call failed.
+pub trait Source {
+    // The bytes that reads will give from here on, where they are known.
+    ghost remaining: { Self → Option (List ℕ) };
+
+    // Whether a read has ever failed.
+    ghost has_failed: { Self → Bool };
+
+    /// Reads once: `Ok(n)` for n bytes at the front of `buffer`, and `Ok(0)` for a buffer with room at the end of
+    /// the input. A read that fails marks the source as failed for good, and nothing else does.
+    fn read(&mut self, buffer: &mut [u8]) -> Result<usize, ReadFailed>
+        ensures bound { ReadsAtMost result buffer.new }
+        ensures bytes { ReadConsumes (remaining self.old) (remaining self.new) result buffer.new }
+        ensures failed { has_failed self.new ≡ (if is_ok result then has_failed self.old else true) };
+
+    /// Whether a read has ever failed.
+    fn failed(&self) -> bool
+        ensures { result ≡ has_failed self.now };
+}
