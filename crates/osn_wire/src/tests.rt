@@ -41,10 +41,10 @@ impl Responder for Echo {
     ghost after_front = { λ echo line. refl };
 }
 
-/// How many bytes were written, in how many writes, and how many of them before the last read.
+/// How many bytes were passed on, in how many writes, and how many of them before the last read.
 #[derive(Drop)]
 struct Notes {
-    written: Cell<usize>,
+    passed_on: Cell<usize>,
     writes: Cell<usize>,
     seen: Cell<usize>,
 }
@@ -60,7 +60,7 @@ struct Trickle {
 
 impl Read for Trickle {
     fn read(&mut self, buffer: &mut [u8]) -> io::Result<usize> {
-        self.notes.seen.set(self.notes.written.get());
+        self.notes.seen.set(self.notes.passed_on.get());
         if self.place == self.fails_at {
             return Err(io::Error::from(ErrorKind::TimedOut));
         }
@@ -89,7 +89,6 @@ impl Write for Drip {
         }
         let taken = self.step.min(bytes.len());
         self.bytes.extend_from_slice(&bytes[..taken])?;
-        self.notes.written.set(self.bytes.len());
         self.notes
             .writes
             .set(self.notes.writes.get().saturating_add(1));
@@ -97,6 +96,7 @@ impl Write for Drip {
     }
 
     fn flush(&mut self) -> io::Result<()> {
+        self.notes.passed_on.set(self.bytes.len());
         Ok(())
     }
 }
@@ -132,7 +132,7 @@ fn tried(alloc: Global, input: &[u8], plan: Plan) -> Result<Outcome, AllocError>
     let notes = Rc::new(
         alloc,
         Notes {
-            written: Cell::new(0),
+            passed_on: Cell::new(0),
             writes: Cell::new(0),
             seen: Cell::new(0),
         },
@@ -215,7 +215,7 @@ fn writes_together_and_before_it_reads_on(rt: HostRuntime) -> Result<(), Fail> {
     };
     let apart = tried(rt.alloc(), b"a\nb\nc\n", plan)?;
     assert_eq!(rt; apart.writes, 3, "one write for each line that came alone");
-    assert_eq!(rt; apart.seen, 9, "all is written before the last read");
+    assert_eq!(rt; apart.seen, 9, "all is passed on before the last read");
     Ok(())
 }
 
