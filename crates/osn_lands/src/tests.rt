@@ -66,3 +66,36 @@ fn a_territory_of_one_regime(rt: HostRuntime) -> Result<(), Fail> {
     assert_eq!(rt; territory.skipped(label)?.len(), 0);
     Ok(())
 }
+
+#[test]
+fn the_search_and_the_conversion_agree(rt: HostRuntime) -> Result<(), Fail> {
+    for regime in [JULIAN, GREGORIAN] {
+        let territory = Territory::new(rt.alloc(), regime)?;
+        for (year, month, day_of_month) in [
+            (1, 1, 1),
+            (1, 1, 3),
+            (1582, 10, 4),
+            (1582, 2, 30),
+            (1700, 2, 29),
+            (1712, 2, 29),
+            (2999, 12, 11),
+            (2999, 12, 31),
+            (3000, 1, 1),
+            (0, 12, 31),
+        ] {
+            let label = Label {
+                year,
+                month,
+                day: day_of_month,
+            };
+            let read = territory.read(label)?;
+            assert_eq!(rt;
+                read.first().copied(),
+                day_of_label(regime, label),
+                "at {year}-{month}-{day_of_month}"
+            );
+            assert!(rt; read.len() <= 1);
+        }
+    }
+    Ok(())
+}
