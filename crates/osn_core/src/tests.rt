@@ -7,10 +7,11 @@ use osn_register::{Answer, Edit, Limits, Query, Refusal, Text};
 use std::alloc::{AllocError, Global};
 use std::test::Fail;
 
-fn add_land(alloc: Global, code: &str, name: &str) -> Result<Edit, AllocError> {
+/// The addition of a territory whose name is its code.
+fn add_land(alloc: Global, code: &str) -> Result<Edit, AllocError> {
     Ok(Edit::AddLand {
         code: Text::from_str(alloc, code)?,
-        name: Text::from_str(alloc, name)?,
+        name: Text::from_str(alloc, code)?,
         regime: Regime {
             calendar: Calendar::Julian,
             style: Style::January,
@@ -19,108 +20,104 @@ fn add_land(alloc: Global, code: &str, name: &str) -> Result<Edit, AllocError> {
     })
 }
 
-fn rome(alloc: Global) -> Result<Edit, AllocError> {
-    add_land(alloc, "RM", "Rome")
-}
-
-fn britain(alloc: Global) -> Result<Edit, AllocError> {
-    add_land(alloc, "GB", "Great Britain")
-}
-
-/// The codes of edits, as one text.
-fn codes(alloc: Global, edits: &[Edit]) -> Result<String, AllocError> {
-    let mut text = String::new(alloc);
+/// Writes the codes of edits.
+fn push_edits(text: &mut String, edits: &[Edit]) -> Result<(), AllocError> {
     for edit in edits {
         match edit {
             Edit::AddLand { code, .. } => text.push_str(code.as_str())?,
         }
         text.push(' ')?;
     }
-    Ok(text)
-}
-
-/// The names of the territories of an answer, as one text.
-fn names(alloc: Global, answer: &Answer) -> Result<String, AllocError> {
-    let mut text = String::new(alloc);
-    match answer {
-        Answer::Lands(lands) => {
-            for land in lands.as_slice() {
-                text.push_str(land.name.as_str())?;
-                text.push('.')?;
-            }
-        }
-        _ => text.push_str("no lands")?,
-    }
-    Ok(text)
-}
-
-/// What a step gave, as a text.
-fn words(alloc: Global, out: &Out) -> Result<String, AllocError> {
-    match out {
-        Out::NotNow => String::from_str(alloc, "not now"),
-        Out::Moved => String::from_str(alloc, "moved"),
-        Out::Staged { pending } => format!(in alloc; "staged {pending}"),
-        Out::Published { edition } => format!(in alloc; "published {edition}"),
-        Out::Refused(refusal) => format!(in alloc; "refused {}", refusal.number()),
-        Out::Replied {
-            reader,
-            reply: Reply { edition, answer },
-        } => {
-            let names = names(alloc, answer)?;
-            format!(in alloc; "{reader} at {edition}: {names}")
-        }
-    }
-}
-
-#[test]
-fn batches_hold_edits(rt: HostRuntime) -> Result<(), Fail> {
-    let alloc = rt.alloc();
-    let mut edits = Vec::new(alloc);
-    edits.push(rome(alloc)?)?;
-    edits.push(britain(alloc)?)?;
-    let batch = Batch::new(edits);
-    assert_eq!(rt; codes(alloc, batch.edits())?.as_str(), "RM GB ");
-    assert_eq!(rt;
-        codes(alloc, batch.into_edits().as_slice())?.as_str(),
-        "RM GB "
-    );
     Ok(())
+}
+
+/// Writes the codes of the territories of an answer.
+fn push_lands(text: &mut String, answer: &Answer) -> Result<(), AllocError> {
+    if let Answer::Lands(lands) = answer {
+        for land in lands.as_slice() {
+            text.push_str(land.code.as_str())?;
+            text.push('.')?;
+        }
+    }
+    Ok(())
+}
+
+/// Writes the edition and the codes of a reply.
+fn push_reply(text: &mut String, alloc: Global, reply: &Reply) -> Result<(), AllocError> {
+    let edition = reply.edition;
+    text.push_str(format!(in alloc; "{edition} ")?.as_str())?;
+    push_lands(text, &reply.answer)
+}
+
+/// Stages the addition of a territory, or publishes where the code is empty.
+fn told(
+    object: &mut Object,
+    alloc: Global,
+    code: &str,
+) -> Result<Result<u32, Refusal>, AllocError> {
+    if code.is_empty() {
+        return Ok(object.publish());
+    }
+    let edit = add_land(alloc, code)?;
+    Ok(object.stage(&edit))
+}
+
+/// The batches, what is pending, and the territories that are published and that a query is told.
+fn state(alloc: Global, object: &Object) -> Result<String, AllocError> {
+    let mut text = String::new(alloc);
+    for batch in object.batches() {
+        push_edits(&mut text, batch.edits())?;
+        text.push('/')?;
+    }
+    push_edits(&mut text, object.pending())?;
+    push_lands(&mut text, &object.register().answer(&Query::Lands)?)?;
+    push_reply(&mut text, alloc, &object.ask(&Query::Lands)?)?;
+    Ok(text)
+}
+
+/// How many of these calls in turn are answered so, up to the first that is not.
+fn agreeing(
+    alloc: Global,
+    limits: Limits,
+    calls: &[(&str, Result<u32, Refusal>)],
+) -> Result<usize, AllocError> {
+    let mut object = Object::new(alloc, limits);
+    for (place, (code, answer)) in calls.iter().enumerate() {
+        if told(&mut object, alloc, code)? != *answer {
+            return Ok(place);
+        }
+    }
+    Ok(calls.len())
+}
+
+/// What stands after two publishes.
+fn published_twice(alloc: Global) -> Result<String, AllocError> {
+    let mut object = Object::new(alloc, Limits::standard());
+    for code in ["RM", "GB", "RM", "", "FR", "", "", "DE"] {
+        let _ = told(&mut object, alloc, code)?;
+    }
+    state(alloc, &object)
 }
 
 #[test]
 fn an_object_stages_and_publishes(rt: HostRuntime) -> Result<(), Fail> {
     let alloc = rt.alloc();
-    let mut object = Object::new(alloc, Limits::standard());
-    assert_eq!(rt; object.register().limits(), Limits::standard());
-    assert_eq!(rt; object.publish(), Err(Refusal::NothingPending));
-    assert_eq!(rt; object.stage(&rome(alloc)?), Ok(1));
-    assert_eq!(rt; object.stage(&britain(alloc)?), Ok(2));
-    assert_eq!(rt; object.stage(&rome(alloc)?), Err(Refusal::LandExists));
-    assert_eq!(rt; codes(alloc, object.pending())?.as_str(), "RM GB ");
-    let told = object.ask(&Query::Lands)?;
-    assert_eq!(rt; told.edition, 0);
-    assert_eq!(rt; names(alloc, &told.answer)?.as_str(), "");
-
-    assert_eq!(rt; object.publish(), Ok(1));
-    assert_eq!(rt; object.pending().len(), 0);
-    assert_eq!(rt; object.stage(&add_land(alloc, "FR", "France")?), Ok(1));
-    assert_eq!(rt; object.publish(), Ok(2));
-    assert_eq!(rt; object.publish(), Err(Refusal::NothingPending));
-    let batches = object.batches();
-    assert_eq!(rt; batches.len(), 2);
-    assert_eq!(rt; codes(alloc, batches[0].edits())?.as_str(), "RM GB ");
-    assert_eq!(rt; codes(alloc, batches[1].edits())?.as_str(), "FR ");
-
-    let told = object.ask(&Query::Lands)?;
-    assert_eq!(rt; told.edition, 2);
+    let calls = [
+        ("", Err(Refusal::NothingPending)),
+        ("RM", Ok(1)),
+        ("GB", Ok(2)),
+        ("RM", Err(Refusal::LandExists)),
+        ("", Ok(1)),
+        ("FR", Ok(1)),
+        ("", Ok(2)),
+        ("", Err(Refusal::NothingPending)),
+        ("RM", Err(Refusal::LandExists)),
+        ("DE", Ok(1)),
+    ];
+    assert_eq!(rt; agreeing(alloc, Limits::standard(), &calls)?, 10);
     assert_eq!(rt;
-        names(alloc, &told.answer)?.as_str(),
-        "Rome.Great Britain.France."
-    );
-    let answer = object.register().answer(&Query::Lands)?;
-    assert_eq!(rt;
-        names(alloc, &answer)?.as_str(),
-        "Rome.Great Britain.France."
+        published_twice(alloc)?.as_str(),
+        "RM GB /FR /DE RM.GB.FR.2 RM.GB.FR."
     );
     Ok(())
 }
@@ -128,116 +125,149 @@ fn an_object_stages_and_publishes(rt: HostRuntime) -> Result<(), Fail> {
 #[test]
 fn limits_are_refused(rt: HostRuntime) -> Result<(), Fail> {
     let alloc = rt.alloc();
-    let few_lands = Limits {
-        lands: 1,
-        ..Limits::standard()
-    };
-    let mut object = Object::new(alloc, few_lands);
-    assert_eq!(rt; object.stage(&rome(alloc)?), Ok(1));
-    assert_eq!(rt; object.stage(&britain(alloc)?), Err(Refusal::TooManyLands));
+    let mut limits = Limits::standard();
+    limits.lands = 1;
+    let lands = [("RM", Ok(1)), ("GB", Err(Refusal::TooManyLands))];
+    assert_eq!(rt; agreeing(alloc, limits, &lands)?, 2);
 
-    let few_edits = Limits {
-        edits: 1,
-        ..Limits::standard()
-    };
-    let mut object = Object::new(alloc, few_edits);
-    assert_eq!(rt; object.stage(&rome(alloc)?), Ok(1));
-    assert_eq!(rt; object.stage(&britain(alloc)?), Err(Refusal::JournalFull));
-    assert_eq!(rt; object.publish(), Ok(1));
-    assert_eq!(rt; object.stage(&britain(alloc)?), Err(Refusal::JournalFull));
-    assert_eq!(rt; object.stage(&rome(alloc)?), Err(Refusal::LandExists));
+    let mut limits = Limits::standard();
+    limits.edits = 1;
+    let edits = [
+        ("RM", Ok(1)),
+        ("GB", Err(Refusal::JournalFull)),
+        ("", Ok(1)),
+        ("GB", Err(Refusal::JournalFull)),
+        ("RM", Err(Refusal::LandExists)),
+    ];
+    assert_eq!(rt; agreeing(alloc, limits, &edits)?, 5);
 
-    let few_editions = Limits {
-        editions: 1,
-        ..Limits::standard()
-    };
-    let mut object = Object::new(alloc, few_editions);
-    assert_eq!(rt; object.stage(&rome(alloc)?), Ok(1));
-    assert_eq!(rt; object.publish(), Ok(1));
-    assert_eq!(rt; object.publish(), Err(Refusal::NothingPending));
-    assert_eq!(rt; object.stage(&britain(alloc)?), Ok(1));
-    assert_eq!(rt; object.publish(), Err(Refusal::EditionsFull));
-    assert_eq!(rt; codes(alloc, object.pending())?.as_str(), "GB ");
+    let mut limits = Limits::standard();
+    limits.editions = 1;
+    let editions = [
+        ("RM", Ok(1)),
+        ("", Ok(1)),
+        ("", Err(Refusal::NothingPending)),
+        ("GB", Ok(1)),
+        ("", Err(Refusal::EditionsFull)),
+        ("FR", Ok(2)),
+    ];
+    assert_eq!(rt; agreeing(alloc, limits, &editions)?, 6);
     Ok(())
 }
 
-/// A schedule of one reader.
+/// The edits of a batch of two, read and then moved out.
+fn batch_text(alloc: Global) -> Result<String, AllocError> {
+    let mut edits = Vec::new(alloc);
+    edits.push(add_land(alloc, "RM")?)?;
+    edits.push(add_land(alloc, "GB")?)?;
+    let batch = Batch::new(edits);
+    let mut text = String::new(alloc);
+    push_edits(&mut text, batch.edits())?;
+    push_edits(&mut text, batch.into_edits().as_slice())?;
+    Ok(text)
+}
+
+#[test]
+fn batches_hold_edits(rt: HostRuntime) -> Result<(), Fail> {
+    assert_eq!(rt; batch_text(rt.alloc())?.as_str(), "RM GB RM GB ");
+    Ok(())
+}
+
+/// A look for the territories.
+fn look(reader: u32) -> Step {
+    Step::Look {
+        reader,
+        query: Query::Lands,
+    }
+}
+
+/// The steps of a schedule of one reader.
 fn schedule(alloc: Global) -> Result<Vec<Step>, AllocError> {
     let mut steps = Vec::new(alloc);
-    steps.push(Step::Look {
-        reader: 1,
-        query: Query::Lands,
-    })?;
-    steps.push(Step::Look {
-        reader: 1,
-        query: Query::Lands,
-    })?;
-    steps.push(Step::Stage(rome(alloc)?))?;
+    steps.push(look(1))?;
+    steps.push(look(1))?;
+    steps.push(Step::Stage(add_land(alloc, "RM")?))?;
     steps.push(Step::Publish)?;
     steps.push(Step::Answer { reader: 1 })?;
     steps.push(Step::Answer { reader: 1 })?;
-    steps.push(Step::Look {
-        reader: 2,
-        query: Query::Lands,
-    })?;
+    steps.push(look(2))?;
     steps.push(Step::Publish)?;
-    steps.push(Step::Stage(rome(alloc)?))?;
+    steps.push(Step::Stage(add_land(alloc, "RM")?))?;
     Ok(steps)
+}
+
+/// What they give.
+const SCHEDULE_GIVES: &str = "moved, not now, staged 1, published 1, 1 at 1 RM., not now, not now, \
+                              refused 15, refused 4, ";
+
+/// Writes what a step gave.
+fn push_out(text: &mut String, alloc: Global, out: &Out) -> Result<(), AllocError> {
+    match out {
+        Out::NotNow => text.push_str("not now")?,
+        Out::Moved => text.push_str("moved")?,
+        Out::Staged { pending } => text.push_str(format!(in alloc; "staged {pending}")?.as_str())?,
+        Out::Published { edition } => {
+            text.push_str(format!(in alloc; "published {edition}")?.as_str())?
+        }
+        Out::Refused(refusal) => {
+            let number = refusal.number();
+            text.push_str(format!(in alloc; "refused {number}")?.as_str())?
+        }
+        Out::Replied { reader, reply } => {
+            text.push_str(format!(in alloc; "{reader} at ")?.as_str())?;
+            push_reply(text, alloc, reply)?
+        }
+    }
+    text.push_str(", ")
+}
+
+/// What the schedule gives, a step at a time.
+fn stepped(alloc: Global) -> Result<String, Fail> {
+    let mut core = Core::new(alloc, Limits::standard(), 1)?;
+    let mut text = String::new(alloc);
+    for step in schedule(alloc)?.iter() {
+        push_out(&mut text, alloc, &core.step(step)?)?;
+    }
+    Ok(text)
+}
+
+/// What the schedule gives, at once.
+fn replayed(alloc: Global) -> Result<String, Fail> {
+    let mut text = String::new(alloc);
+    for out in replay(alloc, Limits::standard(), 1, schedule(alloc)?.as_slice())?.iter() {
+        push_out(&mut text, alloc, out)?;
+    }
+    Ok(text)
 }
 
 #[test]
 fn a_schedule_of_one_reader(rt: HostRuntime) -> Result<(), Fail> {
-    let alloc = rt.alloc();
-    let steps = schedule(alloc)?;
-    let want = [
-        "moved",
-        "not now",
-        "staged 1",
-        "published 1",
-        "1 at 1: Rome.",
-        "not now",
-        "not now",
-        "refused 15",
-        "refused 4",
-    ];
-    assert_eq!(rt; steps.len(), want.len());
-
-    let mut core = Core::new(alloc, Limits::standard(), 1)?;
-    let mut place = 0;
-    for words_wanted in want {
-        let out = core.step(&steps[place])?;
-        assert_eq!(rt; words(alloc, &out)?.as_str(), words_wanted, "step {place}");
-        place += 1;
-    }
-
-    let outs = replay(alloc, Limits::standard(), 1, &steps)?;
-    assert_eq!(rt; outs.len(), want.len());
-    for (out, words_wanted) in outs.iter().zip(want) {
-        assert_eq!(rt; words(alloc, out)?.as_str(), words_wanted);
-    }
+    assert_eq!(rt; stepped(rt.alloc())?.as_str(), SCHEDULE_GIVES);
+    assert_eq!(rt; replayed(rt.alloc())?.as_str(), SCHEDULE_GIVES);
     Ok(())
+}
+
+/// Whether a look of the reader moves, in a core of as many readers as there may be.
+fn moves(alloc: Global, reader: u32) -> Result<bool, Fail> {
+    let mut core = Core::new(alloc, Limits::standard(), MOST_READERS)?;
+    Ok(matches!(core.step(&look(reader))?, Out::Moved))
+}
+
+/// What a core and a replay of so many readers are refused by.
+fn count_refused(alloc: Global, readers: u32) -> (Option<Refusal>, Option<Refusal>) {
+    let limits = Limits::standard();
+    let made = Core::new(alloc, limits, readers).err();
+    (made, replay(alloc, limits, readers, &[Step::Publish]).err())
 }
 
 #[test]
 fn readers_are_1_to_64(rt: HostRuntime) -> Result<(), Fail> {
-    let alloc = rt.alloc();
-    let limits = Limits::standard();
-    for readers in [0, MOST_READERS + 1, u32::MAX] {
-        assert_eq!(rt;
-            Core::new(alloc, limits, readers).err(),
-            Some(Refusal::BadCount)
-        );
-        let outs = replay(alloc, limits, readers, &schedule(alloc)?);
-        assert_eq!(rt; outs.err(), Some(Refusal::BadCount));
+    let refused = Some(Refusal::BadCount);
+    for readers in [0, 65, u32::MAX] {
+        assert_eq!(rt; count_refused(rt.alloc(), readers), (refused, refused));
     }
-
-    let mut core = Core::new(alloc, limits, MOST_READERS)?;
-    for (reader, wanted) in [(0, "not now"), (1, "moved"), (64, "moved"), (65, "not now")] {
-        let out = core.step(&Step::Look {
-            reader,
-            query: Query::Lands,
-        })?;
-        assert_eq!(rt; words(alloc, &out)?.as_str(), wanted, "reader {reader}");
+    for (reader, wanted) in [(0, false), (1, true), (64, true), (65, false)] {
+        assert_eq!(rt; moves(rt.alloc(), reader)?, wanted);
     }
     Ok(())
 }

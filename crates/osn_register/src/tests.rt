@@ -56,8 +56,8 @@ fn query_text(alloc: Global, query: &Query) -> Result<String, AllocError> {
     }
 }
 
-/// The codes and names that the register answers, as one text.
-fn lands(alloc: Global, register: &Register) -> Result<String, AllocError> {
+/// Whether the register answers these codes and names, written one after the other.
+fn has_lands(alloc: Global, register: &Register, wanted: &str) -> Result<bool, AllocError> {
     let mut text = String::new(alloc);
     if let Answer::Lands(lands) = register.answer(&Query::Lands)? {
         for land in lands.as_slice() {
@@ -67,7 +67,7 @@ fn lands(alloc: Global, register: &Register) -> Result<String, AllocError> {
             text.push('.')?;
         }
     }
-    Ok(text)
+    Ok(text.as_str() == wanted)
 }
 
 #[test]
@@ -115,48 +115,70 @@ fn refusals_have_numbers_and_names(rt: HostRuntime) {
     }
 }
 
+/// The text of a copy of an edit.
+fn copied_edit(edit: Edit) -> Result<String, AllocError> {
+    edit_text(&edit.copy()?)
+}
+
+/// The text of a copy of a query.
+fn copied_query(alloc: Global, query: Query) -> Result<String, AllocError> {
+    query_text(alloc, &query.copy()?)
+}
+
 #[test]
 fn edits_and_queries_are_copied(rt: HostRuntime) -> Result<(), Fail> {
     let alloc = rt.alloc();
-    let edit = britain(alloc)?.copy()?;
-    assert_eq!(rt; edit_text(&edit)?.as_str(), "GB Great Britain");
-    assert_eq!(rt; query_text(alloc, &Query::Lands.copy()?)?.as_str(), "lands");
-
+    assert_eq!(rt; copied_edit(britain(alloc)?)?.as_str(), "GB Great Britain");
+    assert_eq!(rt; copied_query(alloc, Query::Lands)?.as_str(), "lands");
     let query = Query::Read {
         code: Text::from_str(alloc, "RM")?,
         year: 1582,
         month: 10,
         day: 4,
     };
-    assert_eq!(rt; query_text(alloc, &query.copy()?)?.as_str(), "RM 1582 10 4");
+    assert_eq!(rt; copied_query(alloc, query)?.as_str(), "RM 1582 10 4");
     Ok(())
 }
 
-/// What checking and then applying the addition of a territory answers.
-fn refusals(
+/// What the addition of a territory is refused by, where `check`, `apply` and `apply_if_lawful` agree on it.
+fn refused(
     register: &mut Register,
     alloc: Global,
     code: &str,
     name: &str,
-) -> Result<(Option<Refusal>, Option<Refusal>), AllocError> {
+) -> Result<Option<Refusal>, AllocError> {
     let edit = add_land(alloc, code, name)?;
     let checked = register.check(&edit).err();
     let applied = register.apply(&edit).err();
     register.apply_if_lawful(&edit)?;
-    Ok((checked, applied))
+    Ok(if checked == applied { applied } else { None })
 }
 
-/// In a register that may hold one territory and holds Rome. Each edit has a fault of each kind that is tested later.
-#[test]
-fn edits_are_refused_in_order(rt: HostRuntime) -> Result<(), Fail> {
-    let alloc = rt.alloc();
+/// How many of these additions in turn are refused so, up to the first that is not, in a register that may hold one
+/// territory and holds Rome.
+fn refused_in_order(
+    alloc: Global,
+    additions: &[(&str, &str, Refusal)],
+) -> Result<usize, AllocError> {
     let limits = Limits {
         lands: 1,
         ..Limits::standard()
     };
     let mut register = Register::new(alloc, limits);
-    assert_eq!(rt; refusals(&mut register, alloc, "RM", "Rome")?, (None, None));
-    for (code, name, refusal) in [
+    register.apply_if_lawful(&rome(alloc)?)?;
+    for (place, (code, name, refusal)) in additions.iter().enumerate() {
+        if refused(&mut register, alloc, code, name)? != Some(*refusal) {
+            return Ok(place);
+        }
+    }
+    let is_kept = register.limits() == limits && has_lands(alloc, &register, "RM Rome.")?;
+    Ok(if is_kept { additions.len() } else { 0 })
+}
+
+/// Each has a later fault too.
+#[test]
+fn edits_are_refused_in_order(rt: HostRuntime) -> Result<(), Fail> {
+    let additions = [
         ("rm", "", Refusal::BadCode),
         ("R", "", Refusal::BadCode),
         ("1RM", "", Refusal::BadCode),
@@ -165,28 +187,23 @@ fn edits_are_refused_in_order(rt: HostRuntime) -> Result<(), Fail> {
         ("FR", "\u{7f}", Refusal::BadName),
         ("RM", "Rome", Refusal::LandExists),
         ("GB", "Great Britain", Refusal::TooManyLands),
-    ] {
-        let got = refusals(&mut register, alloc, code, name)?;
-        assert_eq!(rt; got, (Some(refusal), Some(refusal)));
-    }
-    assert_eq!(rt; register.limits(), limits);
-    assert_eq!(rt; lands(alloc, &register)?.as_str(), "RM Rome.");
+    ];
+    assert_eq!(rt; refused_in_order(rt.alloc(), &additions)?, 8);
     Ok(())
 }
 
-/// The refusal of a reading, if it is refused.
-fn reading_refusal(
+/// What a reading is refused by.
+fn reading_refused(
     register: &Register,
-    code: Text,
-    year: i64,
-    month: i64,
-    day: i64,
+    alloc: Global,
+    code: &str,
+    date: (i64, i64, i64),
 ) -> Result<Option<Refusal>, AllocError> {
     let query = Query::Read {
-        code,
-        year,
-        month,
-        day,
+        code: Text::from_str(alloc, code)?,
+        year: date.0,
+        month: date.1,
+        day: date.2,
     };
     match register.answer(&query)? {
         Answer::Refused(refusal) => Ok(Some(refusal)),
@@ -194,46 +211,70 @@ fn reading_refusal(
     }
 }
 
-#[test]
-fn queries_are_refused_in_order(rt: HostRuntime) -> Result<(), Fail> {
-    let alloc = rt.alloc();
-    let register = Register::fold(alloc, Limits::standard(), &[rome(alloc)?])?;
-    for (code, year, month, day, refusal) in [
-        ("rm", 3001, 13, 32, Refusal::BadCode),
-        ("GB", 3001, 13, 32, Refusal::UnknownLand),
-        ("RM", 3001, 13, 32, Refusal::YearOffRange),
-        ("RM", -1, 13, 32, Refusal::YearOffRange),
-        ("RM", 1582, 13, 1, Refusal::BadDate),
-        ("RM", 1582, 0, 1, Refusal::BadDate),
-        ("RM", 0, 10, 32, Refusal::BadDate),
-        ("RM", 3000, 10, 0, Refusal::BadDate),
-    ] {
-        let code = Text::from_str(alloc, code)?;
-        let got = reading_refusal(&register, code, year, month, day)?;
-        assert_eq!(rt; got, Some(refusal));
+/// A register of Rome alone.
+fn of_rome(alloc: Global) -> Result<Register, AllocError> {
+    Register::fold(alloc, Limits::standard(), &[rome(alloc)?])
+}
+
+/// How many of these readings in turn are refused so, up to the first that is not, in a register of Rome alone.
+fn readings_refused(
+    alloc: Global,
+    readings: &[(&str, (i64, i64, i64), Refusal)],
+) -> Result<usize, AllocError> {
+    let register = of_rome(alloc)?;
+    for (place, (code, date, refusal)) in readings.iter().enumerate() {
+        if reading_refused(&register, alloc, code, *date)? != Some(*refusal) {
+            return Ok(place);
+        }
     }
+    Ok(readings.len())
+}
+
+#[test]
+fn readings_are_refused_in_order(rt: HostRuntime) -> Result<(), Fail> {
+    let readings = [
+        ("rm", (3001, 13, 32), Refusal::BadCode),
+        ("GB", (3001, 13, 32), Refusal::UnknownLand),
+        ("RM", (3001, 13, 32), Refusal::YearOffRange),
+        ("RM", (-1, 13, 32), Refusal::YearOffRange),
+        ("RM", (1582, 13, 1), Refusal::BadDate),
+        ("RM", (1582, 0, 1), Refusal::BadDate),
+        ("RM", (0, 10, 32), Refusal::BadDate),
+        ("RM", (3000, 10, 0), Refusal::BadDate),
+    ];
+    assert_eq!(rt; readings_refused(rt.alloc(), &readings)?, 8);
     Ok(())
+}
+
+/// A copy of the register, to which Britain is added.
+fn copy_with_britain(alloc: Global, register: &Register) -> Result<Register, AllocError> {
+    let mut copied = register.copy()?;
+    copied.apply_if_lawful(&britain(alloc)?)?;
+    Ok(copied)
+}
+
+/// The register of Rome, Rome and Britain.
+fn folded(alloc: Global) -> Result<Register, AllocError> {
+    let mut edits = Vec::new(alloc);
+    edits.push(rome(alloc)?)?;
+    edits.push(rome(alloc)?)?;
+    edits.push(britain(alloc)?)?;
+    Register::fold(alloc, Limits::standard(), edits.as_slice())
+}
+
+/// Whether a copy that has Britain too leaves its source as it is.
+fn is_apart(alloc: Global) -> Result<bool, AllocError> {
+    let register = of_rome(alloc)?;
+    let copied = copy_with_britain(alloc, &register)?;
+    let is_kept = has_lands(alloc, &register, "RM Rome.")?;
+    Ok(is_kept && has_lands(alloc, &copied, "RM Rome.GB Great Britain.")?)
 }
 
 #[test]
 fn a_copy_is_apart_from_its_source(rt: HostRuntime) -> Result<(), Fail> {
     let alloc = rt.alloc();
-    let register = Register::fold(alloc, Limits::standard(), &[rome(alloc)?])?;
-    let mut copied = register.copy()?;
-    assert_eq!(rt; lands(alloc, &copied)?.as_str(), "RM Rome.");
-    copied.apply_if_lawful(&britain(alloc)?)?;
-    assert_eq!(rt; lands(alloc, &register)?.as_str(), "RM Rome.");
-
-    let edits = [rome(alloc)?, rome(alloc)?, britain(alloc)?];
-    let folded = Register::fold(alloc, Limits::standard(), &edits)?;
-    assert_eq!(rt;
-        lands(alloc, &folded)?.as_str(),
-        "RM Rome.GB Great Britain."
-    );
-    assert_eq!(rt;
-        lands(alloc, &copied)?.as_str(),
-        "RM Rome.GB Great Britain."
-    );
-    assert_eq!(rt; folded.limits(), copied.limits());
+    assert!(rt; has_lands(alloc, &of_rome(alloc)?.copy()?, "RM Rome.")?);
+    assert!(rt; is_apart(alloc)?);
+    assert!(rt; has_lands(alloc, &folded(alloc)?, "RM Rome.GB Great Britain.")?);
     Ok(())
 }
