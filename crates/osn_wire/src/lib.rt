@@ -14,6 +14,8 @@ mod reply;
 #[cfg(test)]
 mod reply_tests;
 mod request;
+#[cfg(test)]
+mod request_tests;
 mod responder;
 mod service;
 mod session;
