@@ -1,4 +1,4 @@
--- The tables of the paschal moon: the 19 full moons of the cycle of Dionysius Exiguus, by which the Julian rule goes
+-- The tables of the paschal moon: the 19 full moons of the cycle of 19 years, by which the Julian rule goes
 -- (Reingold and Dershowitz, Calendrical Calculations), and the epacts that the canons of Inter gravissimas (1582) set
 -- beside the days on which a paschal new moon can fall.
 use Rattle.std.specs.Prelude.{ℕ, ◌+◌, ◌-◌, ◌==◌, ◌&&◌, Bool, true, false, not, nat_lt, if◌then◌else◌, List, [], ◌∷◌, Option, slice_get}

@@ -1,5 +1,5 @@
-//! Values from outside: `ncal` 12.1.8 of Debian, Python's `datetime`, and the chronological cycles that the
-//! *Astronomical Ephemeris* prints.
+//! Values from outside: `ncal` 12.1.8 of Debian and Python's `datetime`. The cycles of years and the rows of epacts
+//! were typed from memory of printed calendars, and have not been held against one.
 use crate::{
     Epact, Letter, Letters, Rule, easter, golden_number, gregorian_epact, indiction, julian_epact,
     sunday_letters,
@@ -26,8 +26,7 @@ fn two(january: Letter, march: Letter) -> Option<Letters> {
     Some(Letters { january, march })
 }
 
-/// 1961 and 2000 as the *Astronomical Ephemeris* and the *Astronomical Almanac* of those years print them, and
-/// other years counted from them.
+/// The cycles of 1961 and 2000, as yearbooks of those years have them from memory, and other years counted from them.
 #[test]
 fn cycles(rt: HostRuntime) -> Result<(), Fail> {
     let years = [
@@ -48,7 +47,7 @@ fn cycles(rt: HostRuntime) -> Result<(), Fail> {
     Ok(())
 }
 
-/// The epacts by golden number that missals print for 1900 to 2199, with 0 for the star and 25 with a prime.
+/// The epacts by golden number for 1900 to 2199, from memory, with 0 for the star and 25 with a prime.
 #[test]
 fn epacts_from_1900(rt: HostRuntime) -> Result<(), Fail> {
     let epacts = [
@@ -70,8 +69,7 @@ fn epacts_from_1900(rt: HostRuntime) -> Result<(), Fail> {
     Ok(())
 }
 
-/// Epacts of the cycles that missals print for 1582 to 1699 and for 1700 to 1899, on both sides of the change of
-/// centuries.
+/// Epacts of the cycles for 1582 to 1699 and for 1700 to 1899, from memory, on both sides of the change of centuries.
 #[test]
 fn epacts_before_1900(rt: HostRuntime) -> Result<(), Fail> {
     let years = [
@@ -200,7 +198,7 @@ fn julian_easters(rt: HostRuntime) -> Result<(), Fail> {
     Ok(())
 }
 
-/// The dates that `ncal -s IT -e` prints, and for the first year the anonymous algorithm of *Nature*, 20 April 1876.
+/// The dates that `ncal -s IT -e` prints, and for the first year another algorithm, run in Python.
 #[test]
 fn gregorian_easters(rt: HostRuntime) -> Result<(), Fail> {
     let easters = [
