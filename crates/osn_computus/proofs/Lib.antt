@@ -4,3 +4,4 @@ pub mod TableFacts
 pub mod MoonFacts
 pub mod PlaceFacts
 pub mod LetterFacts
+pub mod PlainFacts

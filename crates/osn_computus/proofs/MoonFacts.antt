@@ -1,13 +1,14 @@
 -- The days of the paschal moon and of Easter, counted from 1 March of the year.
-use Rattle.std.proofs.Common.{◌≡◌, ℕ, ◌+◌, ◌-◌, ◌%◌, ◌<◌, ◌≤◌, inl, inr, ◌==◌, ◌&&◌, Bool, true, false, nat_lt, Option, Some, [], ◌∷◌, refl, ap, ◌∙◌, arith, pos}
+use Rattle.std.proofs.Common.{◌≡◌, ◌≢◌, ℕ, ◌+◌, ◌-◌, ◌%◌, ◌<◌, ◌≤◌, inl, inr, ◌==◌, ◌&&◌, Bool, true, false, nat_lt, Option, Some, [], ◌∷◌, refl, ap, ◌∙◌, arith, pos}
 use Rattle.std.proofs.lemmas.Bool.{cases_lt}
 use Rattle.std.proofs.lemmas.Bool.Decides.{nat_tests, Decides-and, Decides-eqb, Decides-ltb, Decides-int_eq}
 use Rattle.osn_days.specs.declared.date.Date.{Date}
 use Rattle.osn_days.specs.declared.calendar.Calendar.{Calendar}
+use Rattle.osn_days.specs.declared.calendar.Calendar.TheVariants.{Swedish}
 use Rattle.osn_days.specs.Profile.{present}
 use Rattle.osn_days.specs.Line.{IsDay, IsYear, weekday}
 use Rattle.osn_days.specs.Chain.{chain, date_of, same_date, days_with_date}
-use Rattle.osn_days.proofs.ChainFacts.{date_apart, days_one}
+use Rattle.osn_days.proofs.ChainFacts.{julian_by_months, gregorian_by_months, date_apart, days_one}
 use Rattle.osn_computus.specs.declared.rule.Rule.{Rule}
 use Rattle.osn_computus.specs.declared.rule.Rule.TheVariants.{Julian, Gregorian}
 use Rattle.osn_computus.specs.Figures.{golden_number, gregorian_epact}
@@ -21,17 +22,22 @@ not_true : (b : Bool) → (b ≡ true → ⊥) → b ≡ false
 not_true true h = absurd (h refl)
 not_true false h = refl
 
-march_at : (c : Calendar) (y : ℕ) → 1 ≤ y → chain c (march_1 c y) ≡ date (pos y) 3 1
-march_at c y low = let more : y ≡ y - 1 + 1 = omega arith in rw more (march_on_chain c (y - 1))
+-- both rules' calendars go by the lengths of the months
+pub of_months : (rule : Rule) → calendar_of rule ≢ Swedish
+of_months Julian = julian_by_months
+of_months Gregorian = gregorian_by_months
+
+march_at : (c : Calendar) → c ≢ Swedish → (y : ℕ) → 1 ≤ y → chain c (march_1 c y) ≡ date (pos y) 3 1
+march_at c months y low = let more : y ≡ y - 1 + 1 = omega arith in rw more (march_on_chain c months (y - 1))
 
 -- the days of March and April are on the chain
-pub spring : (c : Calendar) (y n : ℕ) → 1 ≤ y → n < 61 → chain c (march_1 c y + n) ≡ date_in y (after_march_1 n)
-spring c y n low high =
+pub spring : (c : Calendar) → c ≢ Swedish → (y n : ℕ) → 1 ≤ y → n < 61 → chain c (march_1 c y + n) ≡ date_in y (after_march_1 n)
+spring c months y n low high =
     elim (cases_lt n 31) [
-      | inl early ↦ grind (arith, nat_tests, on_in_month c (pos y) 3 1 (march_1 c y) n (march_at c y low) (omega arith))
+      | inl early ↦ grind (arith, nat_tests, on_in_month c months (pos y) 3 1 (march_1 c y) n (march_at c months y low) (omega arith))
       | inr late ↦
-          let april = to_next_month c (pos y) 3 1 (march_1 c y) (march_1 c y + 31) (march_at c y low) (omega arith) (omega arith) (omega arith) in
-          let here = on_in_month c (pos y) 4 1 (march_1 c y + 31) (n - 31) april (omega arith) in
+          let april = to_next_month c months (pos y) 3 1 (march_1 c y) (march_1 c y + 31) (march_at c months y low) (omega arith) (omega arith) (omega arith) in
+          let here = on_in_month c months (pos y) 4 1 (march_1 c y + 31) (n - 31) april (omega arith) in
           grind (arith, nat_tests)
     ]
 
@@ -40,31 +46,31 @@ pub spring_on_line : (c : Calendar) (y n : ℕ) → IsYear present y → n < 61 
 spring_on_line c y n year high =
     let bound = march_1-bound c y year.0 year.1 in (omega arith, omega arith)
 
-pub spring_date : (c : Calendar) (y n : ℕ) → 1 ≤ y → n < 61 → date_of c (march_1 c y + n + 1) ≡ date_in y (after_march_1 n)
-spring_date c y n low high =
+pub spring_date : (c : Calendar) → c ≢ Swedish → (y n : ℕ) → 1 ≤ y → n < 61 → date_of c (march_1 c y + n + 1) ≡ date_in y (after_march_1 n)
+spring_date c months y n low high =
     let place : march_1 c y + n + 1 - 1 ≡ march_1 c y + n = omega arith in
-    rw place (spring c y n low high)
+    rw place (spring c months y n low high)
 
 same_date_self : (d : Date) → same_date d d ≡ true
 same_date_self d =
     (Decides-and _ _ (Decides-int_eq d.year d.year) (Decides-and _ _ (Decides-eqb d.month d.month) (Decides-eqb d.day d.day))).1 (refl, (refl, refl))
 
-spring_same : (c : Calendar) (y n : ℕ) → 1 ≤ y → n < 61 → same_date (date_of c (march_1 c y + n + 1)) (date_in y (after_march_1 n)) ≡ true
-spring_same c y n low high =
-    ap (λ (d : Date). same_date d (date_in y (after_march_1 n))) (spring_date c y n low high) ∙ same_date_self (date_in y (after_march_1 n))
+spring_same : (c : Calendar) → c ≢ Swedish → (y n : ℕ) → 1 ≤ y → n < 61 → same_date (date_of c (march_1 c y + n + 1)) (date_in y (after_march_1 n)) ≡ true
+spring_same c months y n low high =
+    ap (λ (d : Date). same_date d (date_in y (after_march_1 n))) (spring_date c months y n low high) ∙ same_date_self (date_in y (after_march_1 n))
 
 -- the day with a date of March or April
-pub day_with_spring : (c : Calendar) (y n : ℕ) → IsYear present y → n < 61 → day_with present c (date_in y (after_march_1 n)) ≡ Some (march_1 c y + n + 1)
+pub day_with_spring : (c : Calendar) → c ≢ Swedish → (y n : ℕ) → IsYear present y → n < 61 → day_with present c (date_in y (after_march_1 n)) ≡ Some (march_1 c y + n + 1)
 unfolding day_with
-day_with_spring c y n year high =
-    let is = spring_same c y n year.0 high in
+day_with_spring c months y n year high =
+    let is = spring_same c months y n year.0 high in
     find_on_line present (λ d. same_date (date_of c d) (date_in y (after_march_1 n))) (march_1 c y + n + 1) (spring_on_line c y n year high) is
     (λ e low before. date_apart c _ (march_1 c y + n + 1) e (omega arith) low is (inl before))
 
 -- as the search through all days has it
-pub days_with_spring : (c : Calendar) (y n : ℕ) → IsYear present y → n < 61 → days_with_date present c (date_in y (after_march_1 n)) ≡ (march_1 c y + n + 1) ∷ []
-days_with_spring c y n year high =
-    days_one present c _ (march_1 c y + n + 1) (spring_on_line c y n year high) (spring_same c y n year.0 high)
+pub days_with_spring : (c : Calendar) → c ≢ Swedish → (y n : ℕ) → IsYear present y → n < 61 → days_with_date present c (date_in y (after_march_1 n)) ≡ (march_1 c y + n + 1) ∷ []
+days_with_spring c months y n year high =
+    days_one present c _ (march_1 c y + n + 1) (spring_on_line c y n year high) (spring_same c months y n year.0 high)
 
 -- the rule's table has the moon of the year that many days after 21 March
 abbrev pub HasMoonAt : Rule → ℕ → ℕ → Type 0
@@ -86,11 +92,11 @@ unfolding paschal_moon
 moon_is Julian y n year low table =
     let c = calendar_of Julian in
     let place : march_1 c y + (20 + n) + 1 ≡ march_1 c y + 21 + n = omega arith in
-    rw table (day_with_spring c y (20 + n) year (omega arith) ∙ ap Some place)
+    rw table (day_with_spring c (of_months Julian) y (20 + n) year (omega arith) ∙ ap Some place)
 moon_is Gregorian y n year low table =
     let c = calendar_of Gregorian in
     let place : march_1 c y + (7 + n) + 1 + 13 ≡ march_1 c y + 21 + n = omega arith in
-    rw table (rw (day_with_spring c y (7 + n) year (omega arith)) (ap Some place))
+    rw table (rw (day_with_spring c (of_months Gregorian) y (7 + n) year (omega arith)) (ap Some place))
 
 some_same : (a b : ℕ) (o : Option ℕ) → o ≡ Some a → o ≡ Some b → a ≡ b
 some_same a b o p q = cc
@@ -119,7 +125,7 @@ season rule y moon d year is after within =
     let place : d ≡ march_1 c y + n + 1 = omega (arith, bounds.0) in
     let low : 21 ≤ n = omega (arith, bounds.0) in
     let high : n ≤ 55 = omega (arith, bounds.1) in
-    rw place (rw (spring_date c y n year.0 (omega arith)) (in_season y n low high))
+    rw place (rw (spring_date c (of_months rule) y n year.0 (omega arith)) (in_season y n low high))
 
 -- the first Sunday after a day
 pub sunday_is : (m : ℕ) → m + 7 ≤ 1095362 → first_sunday_after present m ≡ Some (m + 7 - m % 7)
@@ -130,7 +136,7 @@ sunday_is m h =
     (λ e low before. not_true _ (λ is. let parts = (Decides-and _ _ (Decides-ltb m e) (Decides-eqb (weekday e) 0)).0 is in omega (arith, parts.0, parts.1)))
 
 -- 21 March is 20 days after 1 March
-pub march_21_is : (c : Calendar) (y d : ℕ) → IsYear present y → day_with present c (date_in y (march 21)) ≡ Some d → d ≡ march_1 c y + 21
-march_21_is c y d year is =
-    let there = day_with_spring c y 20 year (omega arith) in
+pub march_21_is : (c : Calendar) → c ≢ Swedish → (y d : ℕ) → IsYear present y → day_with present c (date_in y (march 21)) ≡ Some d → d ≡ march_1 c y + 21
+march_21_is c months y d year is =
+    let there = day_with_spring c months y 20 year (omega arith) in
     omega (arith, some_same d _ _ is there)

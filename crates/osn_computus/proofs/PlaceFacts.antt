@@ -1,10 +1,11 @@
--- The place of each date of a chain: how many days it lies after 1 March, and which letter it has.
+-- The place of each date of a chain that goes by the lengths of the months: how many days it lies after 1 March, and
+-- which letter it has.
 use Rattle.std.proofs.Common.{◌≡◌, ◌≢◌, ℕ, zero, suc, ◌+◌, ◌-◌, ◌%◌, ◌<◌, ◌≤◌, inl, inr, ◌==◌, ◌&&◌, true, false, nat_lt, if◌then◌else◌, refl, ap, subst, ◌∙◌, arith, ℤ, pos}
 use Rattle.std.proofs.lemmas.Bool.{cases_lt, cases_order}
 use Rattle.std.proofs.lemmas.Bool.Decides.{nat_tests}
 use Rattle.osn_days.specs.declared.date.Date.{Date}
 use Rattle.osn_days.specs.declared.calendar.Calendar.{Calendar}
-use Rattle.osn_days.specs.declared.calendar.Calendar.TheVariants.{Julian, Gregorian}
+use Rattle.osn_days.specs.declared.calendar.Calendar.TheVariants.{Julian, Gregorian, Swedish}
 use Rattle.osn_days.specs.Chain.{is_leap, month_length, next, chain}
 use Rattle.osn_days.proofs.ChainFacts.{chain-zero, chain-suc, month_length_bounds}
 use Rattle.osn_computus.specs.declared.letter.Letter.{Letter}
@@ -176,9 +177,9 @@ day_letter c n y m d p lt is =
           day_letter_plain c n y m d p is (not_leap_month (pos y) m (d + 1) not_two) (mark_month m d not_two) (mark_month m (d + 1) not_two)
     ]
 
-step_day : (c : Calendar) (n y m d : ℕ) → Placed c n y m d → d < month_length c (pos y) m → Placed c (suc n) y m (d + 1)
-step_day c n y m d p lt =
-    let is : chain c (suc n) ≡ date (pos y) m (d + 1) = chain-suc c n ∙ ap (next c) p.is ∙ next_day c (pos y) m d lt in
+step_day : (c : Calendar) → c ≢ Swedish → (n y m d : ℕ) → Placed c n y m d → d < month_length c (pos y) m → Placed c (suc n) y m (d + 1)
+step_day c months n y m d p lt =
+    let is : chain c (suc n) ≡ date (pos y) m (d + 1) = chain-suc c n ∙ ap (next c) p.is ∙ next_day c months (pos y) m d lt in
     record {
       is = is;
       year_low = p.year_low;
@@ -207,9 +208,9 @@ full_month c y m d low full =
           (omega (arith, length, mark_month m d (omega arith)), omega (arith, length, ahead_late c y m (omega arith), ahead_late c y (m + 1) (omega arith)))
     ]
 
-step_month : (c : Calendar) (n y m d : ℕ) → Placed c n y m d → d ≡ month_length c (pos y) m → m < 12 → Placed c (suc n) y (m + 1) 1
-step_month c n y m d p full lt =
-    let is : chain c (suc n) ≡ date (pos y) (m + 1) 1 = chain-suc c n ∙ ap (next c) p.is ∙ next_month c (pos y) m d (omega arith) lt in
+step_month : (c : Calendar) → c ≢ Swedish → (n y m d : ℕ) → Placed c n y m d → d ≡ month_length c (pos y) m → m < 12 → Placed c (suc n) y (m + 1) 1
+step_month c months n y m d p full lt =
+    let is : chain c (suc n) ≡ date (pos y) (m + 1) 1 = chain-suc c n ∙ ap (next c) p.is ∙ next_month c months (pos y) m d (omega arith) lt in
     let days = full_month c y m d p.month_low full in
     let low = p.month_low in
     let day = p.day_low in
@@ -229,9 +230,9 @@ step_month c n y m d p full lt =
       letter = omega (arith, step, p.letter, days.0, more, none, bounds.1);
     }
 
-step_year : (c : Calendar) (n y d : ℕ) → Placed c n y 12 d → d ≡ 31 → Placed c (suc n) (y + 1) 1 1
-step_year c n y d p full =
-    let is : chain c (suc n) ≡ date (pos (y + 1)) 1 1 = chain-suc c n ∙ ap (next c) p.is ∙ next_year c (pos y) 12 d (omega arith) (omega arith) in
+step_year : (c : Calendar) → c ≢ Swedish → (n y d : ℕ) → Placed c n y 12 d → d ≡ 31 → Placed c (suc n) (y + 1) 1 1
+step_year c months n y d p full =
+    let is : chain c (suc n) ≡ date (pos (y + 1)) 1 1 = chain-suc c n ∙ ap (next c) p.is ∙ next_year c months (pos y) 12 d (omega arith) (omega arith) in
     let more = before_more 12 (omega arith) in
     record {
       is = is;
@@ -252,6 +253,7 @@ leap_first : (c : Calendar) → leap_days c 1 ≡ 0
 unfolding leap_days
 leap_first Julian = refl
 leap_first Gregorian = refl
+leap_first Swedish = refl
 
 march_julian : march_1 Julian 1 ≡ 57
 unfolding march_1
@@ -261,8 +263,8 @@ march_gregorian : march_1 Gregorian 1 ≡ 59
 unfolding march_1
 march_gregorian = refl
 
-first_placed : (c : Calendar) → (d : ℕ) × Placed c 0 1 1 d
-first_placed Julian = (
+first_placed : (c : Calendar) → c ≢ Swedish → (d : ℕ) × Placed c 0 1 1 d
+first_placed Julian months = (
   3,
   record {
     is = chain-zero Julian;
@@ -275,7 +277,7 @@ first_placed Julian = (
     letter = ap letter_number (letter_at-zero Julian) ∙ omega (arith, before_none, mark_day 1 3 (omega arith));
   },
 )
-first_placed Gregorian = (
+first_placed Gregorian months = (
   1,
   record {
     is = chain-zero Gregorian;
@@ -288,27 +290,28 @@ first_placed Gregorian = (
     letter = ap letter_number (letter_at-zero Gregorian) ∙ omega (arith, before_none, mark_day 1 1 (omega arith));
   },
 )
+first_placed Swedish months = absurd (months refl)
 
 abbrev pub IsPlaced : Calendar → ℕ → Type 0
 IsPlaced c n = (y : ℕ) × (m : ℕ) × (d : ℕ) × Placed c n y m d
 
-next_placed : (c : Calendar) (n : ℕ) → IsPlaced c n → IsPlaced c (suc n)
-next_placed c n s =
+next_placed : (c : Calendar) → c ≢ Swedish → (n : ℕ) → IsPlaced c n → IsPlaced c (suc n)
+next_placed c months n s =
     let y = s.0 in let m = s.1 in let d = s.2 in let p = s.3 in
     elim (cases_lt d (month_length c (pos y) m)) [
-      | inl lt ↦ (y, m, d + 1, step_day c n y m d p lt)
+      | inl lt ↦ (y, m, d + 1, step_day c months n y m d p lt)
       | inr full ↦
           elim (cases_lt m 12) [
-            | inl lt ↦ (y, m + 1, 1, step_month c n y m d p (omega arith) lt)
+            | inl lt ↦ (y, m + 1, 1, step_month c months n y m d p (omega arith) lt)
             | inr last ↦
                 let december : m ≡ 12 = omega arith in
                 let q = subst (λ (k : ℕ). Placed c n y k d) december p in
                 let length = subst (λ (k : ℕ). month_length c (pos y) k ≤ d) december full in
-                (y + 1, 1, 1, step_year c n y d q (omega arith))
+                (y + 1, 1, 1, step_year c months n y d q (omega arith))
           ]
     ]
 
 -- each date of the chain has its place
-pub placed : (c : Calendar) (n : ℕ) → IsPlaced c n
-placed c zero = let first = first_placed c in (1, 1, first.0, first.1)
-placed c (suc n) = next_placed c n (placed c n)
+pub placed : (c : Calendar) → c ≢ Swedish → (n : ℕ) → IsPlaced c n
+placed c months zero = let first = first_placed c months in (1, 1, first.0, first.1)
+placed c months (suc n) = next_placed c months n (placed c months n)

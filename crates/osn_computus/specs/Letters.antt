@@ -1,12 +1,12 @@
 -- The Sunday letters, by the calendar of the canons of Inter gravissimas (1582), in which each day of the year stands
 -- beside one of the letters A to G.
-use Rattle.std.specs.Prelude.{◌≡◌, ℕ, zero, suc, ◌-◌, ◌==◌, ◌&&◌, Bool, false, nat_lt, nat_le, if◌then◌else◌, Option, List, pos, codes}
+use Rattle.std.specs.Prelude.{◌≡◌, ℕ, zero, suc, ◌-◌, ◌==◌, ◌&&◌, Bool, true, false, nat_lt, nat_le, if◌then◌else◌, Option, None, List, pos, codes}
 use Rattle.std.specs.List.{find}
 use Rattle.std.specs.Option.{option_map, option_and_then}
 use Rattle.std.specs.Ordering.{int_eq}
 use Rattle.osn_days.specs.declared.date.Date.{Date}
 use Rattle.osn_days.specs.declared.calendar.Calendar.{Calendar}
-use Rattle.osn_days.specs.declared.calendar.Calendar.TheVariants.{Julian, Gregorian}
+use Rattle.osn_days.specs.declared.calendar.Calendar.TheVariants.{Julian, Gregorian, Swedish}
 use Rattle.osn_days.specs.Profile.{Profile}
 use Rattle.osn_days.specs.Line.{line, weekday, IsDay}
 use Rattle.osn_days.specs.Chain.{chain, date_of}
@@ -52,10 +52,17 @@ is_leap_day d = (d.month == 2) && (d.day == 29)
 abbrev pub letter_after : Date → Letter → Letter
 letter_after d l = if is_new_year d then A else (if is_leap_day d then l else next_letter l)
 
--- the letter of day 1, which is 3 January in the Julian calendar and 1 January in the Gregorian
+-- they are stated for the Julian and the Gregorian calendar
+abbrev pub has_letters : Calendar → Bool
+has_letters Julian = true
+has_letters Gregorian = true
+has_letters Swedish = false
+
+-- the letter of day 1, which is 3 January in the Julian and the Swedish calendar and 1 January in the Gregorian
 abbrev pub first_letter : Calendar → Letter
 first_letter Julian = C
 first_letter Gregorian = A
+first_letter Swedish = C
 
 -- the letter of the day that many days after day 1, and on 29 February, which has none, that of the day before
 unfoldable pub letter_at : Calendar → ℕ → Letter
@@ -76,12 +83,14 @@ is_sunday_of c y low high d =
 unfoldable pub letter_of_sundays : Profile → Calendar → ℕ → ℕ → ℕ → Option Letter
 letter_of_sundays p c y low high = option_map (letter_of c) (find (is_sunday_of c y low high) (line p))
 
--- the letter of the Sundays of January, and of the Sundays from March to December
+-- the letter of the Sundays of January, and of the Sundays from March to December, in a calendar that has letters
 unfoldable pub letters_of : Profile → Calendar → ℕ → Option Letters
 letters_of p c y =
+    if has_letters c then
     option_and_then
     (λ january. option_map (λ march. record { january = january; march = march }) (letter_of_sundays p c y 3 12))
     (letter_of_sundays p c y 1 1)
+    else None
 
 -- each Sunday of the year has the letter, save a 29 February
 abbrev pub AreSundayLetters : Profile → Calendar → ℕ → Letters → Type 0

@@ -1,7 +1,8 @@
 //! The Sunday letters.
-ghost use Rattle.std.specs.Prelude.{◌≡◌, ◌+◌, ◌%◌, ◌<◌, pos, false, IsSome, IfSome};
+ghost use Rattle.std.specs.Prelude.{◌≡◌, ◌↔◌, ◌+◌, ◌%◌, ◌<◌, pos, false, IsNone, IfSome};
 ghost use Rattle.osn_days.specs.Profile.{present};
 ghost use Rattle.osn_days.specs.Chain as chain;
+ghost use Rattle.osn_days.specs.declared.calendar.Calendar.TheVariants.{Swedish};
 ghost use Rattle.osn_computus.specs.Letters.{letter_number, letters_of, AreSundayLetters};
 
 use crate::letter::Letter;
@@ -21,16 +22,15 @@ fn is_leap(calendar: Calendar, year: u32) -> bool
     ensures { result ≡ chain.is_leap calendar (pos year) }
 {
     match calendar {
-        Calendar::Julian => year % 4 == 0,
+        Calendar::Julian | Calendar::Swedish => year % 4 == 0,
         Calendar::Gregorian => year % 4 == 0 && (year % 100 != 0 || year % 400 == 0),
     }
 }
 
-/// The Sunday letters of the year, or `None` for a calendar that has none.
+/// The Sunday letters of the year, or `None` for a calendar that has none: the Swedish.
 pub fn sunday_letters(calendar: Calendar, year: Year) -> Option<Letters>
     ensures value { result ≡ letters_of present calendar year }
-    // both calendars have letters
-    ensures has_letters { IsSome result }
+    ensures none { IsNone result ↔ (calendar ≡ Swedish) }
     // in the subject's own words
     ensures sundays { IfSome result (AreSundayLetters present calendar year) }
     ensures common_year { IfSome result
@@ -41,6 +41,7 @@ pub fn sunday_letters(calendar: Calendar, year: Year) -> Option<Letters>
     let moved = match calendar {
         Calendar::Julian => y + y / 4 + 5,
         Calendar::Gregorian => y + y / 4 + y / 400 - y / 100,
+        Calendar::Swedish => return None,
     };
     let number = 6 - (moved + 6) % 7;
     let march = Letter::at(number);

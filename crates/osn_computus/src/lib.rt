@@ -10,6 +10,10 @@ mod figures;
 mod letter;
 mod letters;
 mod moon;
+#[cfg(test)]
+mod plain;
+#[cfg(test)]
+mod plain_tests;
 mod rule;
 #[cfg(test)]
 mod tests;

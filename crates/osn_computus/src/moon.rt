@@ -8,7 +8,7 @@ ghost use Rattle.osn_computus.specs.Easter as easter;
 
 use crate::figures::gregorian_epact;
 use crate::rule::Rule;
-use osn_days::{Calendar, Date, Day, Year, day_of};
+use osn_days::{Date, Day, Year, day_of};
 
 /// The days from 21 March to the full moon of the Julian rule.
 fn julian_moon_days(year: Year) -> u32
@@ -29,9 +29,9 @@ fn gregorian_moon_days(year: Year) -> u32
     29 - days - u32::from(raised)
 }
 
-/// 21 March, from which the paschal moon is counted.
-fn march_21(calendar: Calendar, year: Year) -> Day
-    ensures value { easter.day_with present calendar (easter.date_in year (march 21)) ≡ Some result }
+/// 21 March in the rule's calendar, from which the paschal moon is counted.
+fn march_21(rule: Rule, year: Year) -> Day
+    ensures value { easter.day_with present (easter.calendar_of rule) (easter.date_in year (march 21)) ≡ Some result }
     ensures in_range { IsYear present year }
 {
     let date = Date {
@@ -39,7 +39,7 @@ fn march_21(calendar: Calendar, year: Year) -> Day
         month: 3,
         day: 21,
     };
-    match day_of(calendar, date) {
+    match day_of(rule.calendar(), date) {
         Some(day) => day,
         None => unreachable!(),
     }
@@ -54,7 +54,7 @@ pub(crate) fn paschal_moon(rule: Rule, year: Year) -> Day
         Rule::Julian => julian_moon_days(year),
         Rule::Gregorian => gregorian_moon_days(year),
     };
-    match march_21(rule.calendar(), year).plus(days as i32) {
+    match march_21(rule, year).plus(days as i32) {
         Some(moon) => moon,
         None => unreachable!(),
     }

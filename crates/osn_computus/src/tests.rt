@@ -141,6 +141,18 @@ fn gregorian_letters(rt: HostRuntime) -> Result<(), Fail> {
     Ok(())
 }
 
+/// Sunday letters are stated for the Julian and the Gregorian calendar.
+#[test]
+fn swedish_years_have_no_letters(rt: HostRuntime) -> Result<(), Fail> {
+    for number in [1, 1699, 1700, 1701, 1711, 1712, 1713, 2999] {
+        let year = Year::new(number).ok_or("a year")?;
+        assert_eq!(rt; sunday_letters(Calendar::Swedish, year), None);
+        assert_ne!(rt; sunday_letters(Calendar::Julian, year), None);
+        assert_ne!(rt; sunday_letters(Calendar::Gregorian, year), None);
+    }
+    Ok(())
+}
+
 #[test]
 fn letters_have_names(rt: HostRuntime) {
     let letters = [

@@ -9,8 +9,7 @@ use Rattle.osn_register.specs.declared.limits.Limits.{Limits}
 use Rattle.osn_register.specs.declared.edit.Edit.{Edit}
 use Rattle.osn_register.specs.declared.refusal.Refusal.{Refusal}
 use Rattle.osn_register.specs.declared.refusal.Refusal.TheVariants.{NothingPending, JournalFull, EditionsFull}
-use Rattle.osn_register.specs.Plain.{PlainLand, PlainRegister, refusal, effect, applied, applied_all, unless_refused}
-use Rattle.osn_register.specs.Answer.{or_else}
+use Rattle.osn_register.specs.Plain.{or_else, PlainLand, PlainRegister, refusal, effect, applied, applied_all, unless_refused}
 use Rattle.osn_core.specs.Sequential.{ObjectState, joined, last_batch, drafted, edits_in, stage_refusal, publish_refusal, staged, published, AreLawful, NoneEmpty}
 use Rattle.osn_core.specs.Inside.{AreInStep}
 

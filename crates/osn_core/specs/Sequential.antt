@@ -7,8 +7,8 @@ use Rattle.osn_register.specs.declared.edit.Edit.{Edit}
 use Rattle.osn_register.specs.declared.query.Query.{Query}
 use Rattle.osn_register.specs.declared.refusal.Refusal.{Refusal}
 use Rattle.osn_register.specs.declared.refusal.Refusal.TheVariants.{NothingPending, JournalFull, EditionsFull}
-use Rattle.osn_register.specs.Plain.{PlainLand, refusal, effect, applied_all}
-use Rattle.osn_register.specs.Answer.{or_else, answer}
+use Rattle.osn_register.specs.Plain.{PlainLand, or_else, refusal, effect, applied_all}
+use Rattle.osn_register.specs.Answer.{answer}
 use Rattle.osn_core.specs.declared.step.Reply.{Reply}
 use Rattle.osn_core.specs.declared.step.Out.{Out}
 use Rattle.osn_core.specs.declared.step.Out.TheVariants.{Staged, Published, Refused}

@@ -23,8 +23,8 @@ fn add_land(alloc: Global, code: &str) -> Result<Edit, AllocError> {
 /// Writes the codes of edits.
 fn push_edits(text: &mut String, edits: &[Edit]) -> Result<(), AllocError> {
     for edit in edits {
-        match edit {
-            Edit::AddLand { code, .. } => text.push_str(code.as_str())?,
+        if let Edit::AddLand { code, .. } = edit {
+            text.push_str(code.as_str())?;
         }
         text.push(' ')?;
     }

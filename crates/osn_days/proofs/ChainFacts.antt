@@ -1,15 +1,15 @@
 -- The chain of dates rises, so a date comes once.
-use Rattle.std.proofs.Common.{◌≡◌, ℕ, [], ◌∷◌, zero, suc, ◌+◌, ◌-◌, ◌*◌, ◌<◌, ◌≤◌, ◌⊎◌, inl, inr, Bool, true, false, nat_lt, if◌then◌else◌, refl, sym, ap, ◌∙◌, arith, ℤ, pos, ◌+ℤ◌, ◌*ℤ◌, ◌<ℤ◌, ◌≤ℤ◌}
+use Rattle.std.proofs.Common.{◌≡◌, ◌≢◌, ℕ, [], ◌∷◌, zero, suc, ◌+◌, ◌-◌, ◌*◌, ◌<◌, ◌≤◌, ◌⊎◌, inl, inr, Bool, true, false, nat_lt, if◌then◌else◌, refl, sym, ap, ◌∙◌, arith, ℤ, pos, ◌+ℤ◌, ◌*ℤ◌, ◌<ℤ◌, ◌≤ℤ◌}
 use Rattle.std.proofs.lemmas.Bool.{cases_order}
 use Rattle.std.proofs.lemmas.Bool.Decides.{nat_tests, Decides-and, Decides-eqb, Decides-int_eq}
 use Rattle.std.proofs.lemmas.Int.{ints}
 use Rattle.std.specs.Bool.{Decides}
 use Rattle.osn_days.specs.declared.date.Date.{Date}
 use Rattle.osn_days.specs.declared.calendar.Calendar.{Calendar}
-use Rattle.osn_days.specs.declared.calendar.Calendar.TheVariants.{Julian, Gregorian}
+use Rattle.osn_days.specs.declared.calendar.Calendar.TheVariants.{Julian, Gregorian, Swedish}
 use Rattle.osn_days.specs.Profile.{Profile}
 use Rattle.osn_days.specs.Line.{line, IsDay}
-use Rattle.osn_days.specs.Chain.{month_length, next, first_date, chain, date_of, same_date, days_with_date}
+use Rattle.osn_days.specs.Chain.{month_length, next, next_by_months, february, march_1, first_date, chain, date_of, same_date, days_with_date}
 use Rattle.osn_days.proofs.FilterFacts.{filter_none, filter_one}
 
 pub chain-zero : (c : Calendar) → chain c 0 ≡ first_date c
@@ -19,6 +19,18 @@ chain-zero c = refl
 pub chain-suc : (c : Calendar) (n : ℕ) → chain c (suc n) ≡ next c (chain c n)
 unfolding chain
 chain-suc c n = refl
+
+-- in the calendars that go by the lengths of the months
+pub next_is : (c : Calendar) (d : Date) → c ≢ Swedish → next c d ≡ next_by_months c d
+next_is Julian d h = refl
+next_is Gregorian d h = refl
+next_is Swedish d h = absurd (h refl)
+
+pub julian_by_months : Julian ≢ Swedish
+julian_by_months e = cc
+
+pub gregorian_by_months : Gregorian ≢ Swedish
+gregorian_by_months e = cc
 
 -- a date n days after day 1 or before: a month and a day of a month, in a year from 1 to n + 1
 pub record IsSmall (n : ℕ) (d : Date) : Type 0 where
@@ -35,6 +47,10 @@ cases_of_three P true b x y z f g h = f refl
 cases_of_three P false true x y z f g h = g refl refl
 cases_of_three P false false x y z f g h = h refl refl
 
+cases_of_two : {X : Type 0} (P : X → Type 0) (a : Bool) (x y : X) → (a ≡ true → P x) → P y → P (if a then x else y)
+cases_of_two P true x y f h = f refl
+cases_of_two P false x y f h = h
+
 pub month_length_bounds : (c : Calendar) (y : ℤ) (m : ℕ) → (month_length c y m ≤ 31) × (28 ≤ month_length c y m)
 month_length_bounds c y m = grind arith
 
@@ -44,8 +60,23 @@ lt_of m n h = grind (arith, nat_tests)
 pub not_lt_of : (m n : ℕ) → nat_lt m n ≡ false → n ≤ m
 not_lt_of m n h = grind (arith, nat_tests)
 
-next_small : (c : Calendar) (d : Date) (n : ℕ) → IsSmall n d → IsSmall (suc n) (next c d)
-next_small c d n s =
+pub date_is : (a b : Date) → a.year ≡ b.year → a.month ≡ b.month → a.day ≡ b.day → a ≡ b
+date_is a b year month day =
+    ap (λ (y : ℤ). let d : Date = record { year = y; month = a.month; day = a.day } in d) year
+    ∙ ap (λ (m : ℕ). let d : Date = record { year = b.year; month = m; day = a.day } in d) month
+    ∙ ap (λ (n : ℕ). let d : Date = record { year = b.year; month = b.month; day = n } in d) day
+
+same_date_decides : (a b : Date) → Decides (same_date a b) ((a.year ≡ b.year) × ((a.month ≡ b.month) × (a.day ≡ b.day)))
+same_date_decides a b =
+    Decides-and _ _ (Decides-int_eq a.year b.year) (Decides-and _ _ (Decides-eqb a.month b.month) (Decides-eqb a.day b.day))
+
+pub same_date_is : (a b : Date) → same_date a b ≡ true → a ≡ b
+same_date_is a b h =
+    let parts = (same_date_decides a b).0 h in
+    date_is a b parts.0 parts.1.0 parts.1.1
+
+months_small : (c : Calendar) (d : Date) (n : ℕ) → IsSmall n d → IsSmall (suc n) (next_by_months c d)
+months_small c d n s =
     cases_of_three (IsSmall (suc n)) (nat_lt d.day (month_length c d.year d.month)) (nat_lt d.month 12)
     (record d { day = d.day + 1 }) (record { year = d.year; month = d.month + 1; day = 1 }) (record { year = d.year +ℤ pos 1; month = 1; day = 1 })
     (λ lt. let day = lt_of _ _ lt in let bound = month_length_bounds c d.year d.month in
@@ -54,9 +85,33 @@ next_small c d n s =
     record { year_low = s.year_low; year_high = omega (arith, ints); month_low = omega arith; month_high = omega arith; day_low = omega arith; day_high = omega arith })
     (λ _ _. record { year_low = omega (arith, ints); year_high = omega (arith, ints); month_low = omega arith; month_high = omega arith; day_low = omega arith; day_high = omega arith })
 
+-- one of four, as `next` chooses in Sweden
+cases_in_sweden : (P : Date → Type 0) (d : Date) → (d ≡ february 1700 28 → P (march_1 1700)) → (d ≡ february 1712 29 → P (february 1712 30)) → (d ≡ february 1712 30 → P (march_1 1712)) → P (next_by_months Julian d) → P (next Swedish d)
+cases_in_sweden P d f g h k =
+    cases_of_three P (same_date d (february 1700 28)) (same_date d (february 1712 29))
+    (march_1 1700) (february 1712 30) (if same_date d (february 1712 30) then march_1 1712 else next_by_months Julian d)
+    (λ is. f (same_date_is d (february 1700 28) is))
+    (λ _ is. g (same_date_is d (february 1712 29) is))
+    (λ _ _. cases_of_two P (same_date d (february 1712 30)) (march_1 1712) (next_by_months Julian d)
+    (λ is. h (same_date_is d (february 1712 30) is)) k)
+
+next_small : (c : Calendar) (d : Date) (n : ℕ) → IsSmall n d → IsSmall (suc n) (next c d)
+next_small Julian d n s = months_small Julian d n s
+next_small Gregorian d n s = months_small Gregorian d n s
+next_small Swedish d n s =
+    cases_in_sweden (IsSmall (suc n)) d
+    (λ is. let year : d.year ≡ pos 1700 = ap (λ (e : Date). e.year) is in
+    record { year_low = search arith; year_high = omega (arith, ints, s.year_high); month_low = omega arith; month_high = omega arith; day_low = omega arith; day_high = omega arith })
+    (λ is. let year : d.year ≡ pos 1712 = ap (λ (e : Date). e.year) is in
+    record { year_low = search arith; year_high = omega (arith, ints, s.year_high); month_low = omega arith; month_high = omega arith; day_low = omega arith; day_high = omega arith })
+    (λ is. let year : d.year ≡ pos 1712 = ap (λ (e : Date). e.year) is in
+    record { year_low = search arith; year_high = omega (arith, ints, s.year_high); month_low = omega arith; month_high = omega arith; day_low = omega arith; day_high = omega arith })
+    (months_small Julian d n s)
+
 first_small : (c : Calendar) → IsSmall 0 (first_date c)
 first_small Julian = record { year_low = search arith; year_high = search arith; month_low = omega arith; month_high = omega arith; day_low = omega arith; day_high = omega arith }
 first_small Gregorian = record { year_low = search arith; year_high = search arith; month_low = omega arith; month_high = omega arith; day_low = omega arith; day_high = omega arith }
+first_small Swedish = record { year_low = search arith; year_high = search arith; month_low = omega arith; month_high = omega arith; day_low = omega arith; day_high = omega arith }
 
 pub chain_small : (c : Calendar) (n : ℕ) → IsSmall n (chain c n)
 chain_small c zero = rw chain-zero (first_small c)
@@ -66,13 +121,23 @@ chain_small c (suc n) = rw chain-suc (next_small c (chain c n) n (chain_small c 
 abbrev pub key : Date → ℤ
 key d = d.year *ℤ pos 512 +ℤ pos (d.month * 32 + d.day)
 
-next_rises : (c : Calendar) (d : Date) (n : ℕ) → IsSmall n d → key d <ℤ key (next c d)
-next_rises c d n s =
+months_rise : (c : Calendar) (d : Date) (n : ℕ) → IsSmall n d → key d <ℤ key (next_by_months c d)
+months_rise c d n s =
     cases_of_three (λ e. key d <ℤ key e) (nat_lt d.day (month_length c d.year d.month)) (nat_lt d.month 12)
     (record d { day = d.day + 1 }) (record { year = d.year; month = d.month + 1; day = 1 }) (record { year = d.year +ℤ pos 1; month = 1; day = 1 })
     (λ lt. omega (arith, ints))
     (λ _ lt. omega (arith, ints))
     (λ _ _. omega (arith, ints))
+
+next_rises : (c : Calendar) (d : Date) (n : ℕ) → IsSmall n d → key d <ℤ key (next c d)
+next_rises Julian d n s = months_rise Julian d n s
+next_rises Gregorian d n s = months_rise Gregorian d n s
+next_rises Swedish d n s =
+    cases_in_sweden (λ e. key d <ℤ key e) d
+    (λ is. rw is (search arith))
+    (λ is. rw is (search arith))
+    (λ is. rw is (search arith))
+    (months_rise Julian d n s)
 
 chain_rises_by : (c : Calendar) (n k : ℕ) → key (chain c n) <ℤ key (chain c (suc k + n))
 chain_rises_by c n zero =
@@ -96,21 +161,6 @@ chain_apart c m n (inr gt) e = omega (arith, ints, chain_rises c n m gt, ap key 
 
 pub year_bound : (c : Calendar) (d : ℕ) → d ≤ 1095363 → (date_of c d).year <ℤ pos 2000000
 year_bound c d h = let s = chain_small c (d - 1) in omega (arith, ints, s.year_high)
-
-pub date_is : (a b : Date) → a.year ≡ b.year → a.month ≡ b.month → a.day ≡ b.day → a ≡ b
-date_is a b year month day =
-    ap (λ (y : ℤ). let d : Date = record { year = y; month = a.month; day = a.day } in d) year
-    ∙ ap (λ (m : ℕ). let d : Date = record { year = b.year; month = m; day = a.day } in d) month
-    ∙ ap (λ (n : ℕ). let d : Date = record { year = b.year; month = b.month; day = n } in d) day
-
-same_date_decides : (a b : Date) → Decides (same_date a b) ((a.year ≡ b.year) × ((a.month ≡ b.month) × (a.day ≡ b.day)))
-same_date_decides a b =
-    Decides-and _ _ (Decides-int_eq a.year b.year) (Decides-and _ _ (Decides-eqb a.month b.month) (Decides-eqb a.day b.day))
-
-pub same_date_is : (a b : Date) → same_date a b ≡ true → a ≡ b
-same_date_is a b h =
-    let parts = (same_date_decides a b).0 h in
-    date_is a b parts.0 parts.1.0 parts.1.1
 
 pub same_date_self : (a : Date) → same_date a a ≡ true
 same_date_self a = (same_date_decides a a).1 (refl, (refl, refl))

@@ -10,7 +10,7 @@ use Rattle.jiff_core.proofs.CalendarLemmas.{days_from_civil-day_count, day_count
 use Rattle.osn_days.specs.declared.date.Date.{Date}
 use Rattle.osn_days.specs.declared.calendar.Calendar.TheVariants.{Gregorian}
 use Rattle.osn_days.specs.Chain.{month_length, next, date_of}
-use Rattle.osn_days.proofs.ChainFacts.{cases_of_three, month_length_bounds, not_lt_of}
+use Rattle.osn_days.proofs.ChainFacts.{gregorian_by_months, cases_of_three, month_length_bounds, not_lt_of}
 use Rattle.osn_days.proofs.CountFacts.{IsReal, IsCount, count_chain}
 
 -- the days from 1 January of the year -10000 to a date
@@ -40,7 +40,7 @@ gregorian_steps d s =
     rw (december, day) (omega (arith, day_count-next_year d.year (d.year +ℤ pos 1) (omega (arith, signed_arith, s.year_low)) refl, day_count-last_of_year d.year)))
 
 pub gregorian_is : IsCount Gregorian gregorian_count
-gregorian_is = record { steps = gregorian_steps; early = λ d s lt. absurd (omega (arith, ints, s.year_low, s.month_low, s.day_low)) }
+gregorian_is = record { by_months = gregorian_by_months; steps = gregorian_steps; early = λ d s lt. absurd (omega (arith, ints, s.year_low, s.month_low, s.day_low)) }
 
 -- the count of day n is n + 3652790
 pub gregorian_place : (d : Date) (n : ℕ) → 1 ≤ n → date_of Gregorian n ≡ d → gregorian_count d ≡ n + 3_652_790

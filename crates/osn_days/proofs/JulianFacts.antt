@@ -6,7 +6,7 @@ use Rattle.std.proofs.lemmas.Int.{ints}
 use Rattle.osn_days.specs.declared.date.Date.{Date}
 use Rattle.osn_days.specs.declared.calendar.Calendar.TheVariants.{Julian}
 use Rattle.osn_days.specs.Chain.{month_length, next, first_date, date_of}
-use Rattle.osn_days.proofs.ChainFacts.{cases_of_three, month_length_bounds, lt_of, not_lt_of, key}
+use Rattle.osn_days.proofs.ChainFacts.{julian_by_months, cases_of_three, month_length_bounds, lt_of, not_lt_of, key}
 use Rattle.osn_days.proofs.CountFacts.{IsReal, IsCount, count_chain}
 
 -- the days up to a date, of a year that begins in March and has the months 3 to 14
@@ -75,7 +75,7 @@ julian_early d s lt =
     rw (year, month) (omega arith)
 
 pub julian_is : IsCount Julian julian_count
-julian_is = record { steps = julian_steps; early = julian_early }
+julian_is = record { by_months = julian_by_months; steps = julian_steps; early = julian_early }
 
 -- the count of day n is n + 308
 pub julian_place : (d : Date) (n : ℕ) → 1 ≤ n → date_of Julian n ≡ d → julian_count d ≡ n + 308

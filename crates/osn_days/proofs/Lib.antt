@@ -4,3 +4,4 @@ pub mod FilterFacts
 pub mod GregorianFacts
 pub mod JulianFacts
 pub mod LineFacts
+pub mod SwedishFacts

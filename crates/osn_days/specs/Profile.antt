@@ -19,6 +19,6 @@ present = record {
   high = 1095362;
   last_year = 2999;
   last_label_year = 3000;
-  style_words = codes "january" ∷ [];
+  style_words = codes "january" ∷ codes "annunciation" ∷ codes "nativity" ∷ codes "september" ∷ [];
   journal_version = 1;
 }

@@ -5,13 +5,15 @@ ghost use Rattle.osn_days.specs.Chain as chain;
 
 use crate::date::Date;
 use crate::day::Day;
-use crate::{gregorian, julian};
+use crate::{gregorian, julian, swedish};
 
 /// A calendar on the line of days.
 #[derive(Clone, Copy, Debug, PartialEq, Eq, Hash)]
 pub enum Calendar {
     Julian,
     Gregorian,
+    /// The Julian calendar without 29 February 1700, and so a day ahead of it, until a 30 February 1712 brought it back.
+    Swedish,
 }
 
 /// The date of a day in a calendar.
@@ -21,6 +23,7 @@ pub fn date_of(calendar: Calendar, day: Day) -> Date
     match calendar {
         Calendar::Julian => julian::date_of(day),
         Calendar::Gregorian => gregorian::date_of(day),
+        Calendar::Swedish => swedish::date_of(day),
     }
 }
 
@@ -31,5 +34,6 @@ pub fn day_of(calendar: Calendar, date: Date) -> Option<Day>
     match calendar {
         Calendar::Julian => julian::day_of(date),
         Calendar::Gregorian => gregorian::day_of(date),
+        Calendar::Swedish => swedish::day_of(date),
     }
 }

@@ -1,6 +1,6 @@
 //! The line of days and the calendars on it: the fixed dates of Reingold and Dershowitz, *Calendrical
-//! Calculations*, with the Julian and the Gregorian calendar as chains of dates. What the crate promises
-//! to those above is `date_of` and `day_of`: a calendar's chain, both ways.
+//! Calculations*, with the Julian, the Gregorian and the Swedish calendar as chains of dates. What the crate
+//! promises to those above is `date_of` and `day_of`: a calendar's chain, both ways.
 #![tactic(auto)]
 
 mod calendar;
@@ -10,6 +10,7 @@ mod gregorian;
 mod julian;
 #[cfg(test)]
 mod plain;
+mod swedish;
 #[cfg(test)]
 mod tests;
 mod weekday;

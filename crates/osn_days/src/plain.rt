@@ -3,6 +3,7 @@ ghost use Rattle.std.specs.Prelude.{◌≡◌, ◌+◌, ◌<◌, ◌≤◌, ◌^
 ghost use Rattle.std.specs.Option.{option_to_list};
 ghost use Rattle.osn_days.specs.Profile.{present};
 ghost use Rattle.osn_days.specs.Chain as chain;
+ghost use Rattle.osn_days.specs.declared.calendar.Calendar.TheVariants.{Swedish};
 
 use crate::calendar::Calendar;
 use crate::date::Date;
@@ -13,7 +14,7 @@ fn is_leap(calendar: Calendar, year: i32) -> bool
 {
     let year = year.unsigned_abs();
     match calendar {
-        Calendar::Julian => year % 4 == 0,
+        Calendar::Julian | Calendar::Swedish => year % 4 == 0,
         Calendar::Gregorian => year % 4 == 0 && (year % 100 != 0 || year % 400 == 0),
     }
 }
@@ -32,6 +33,51 @@ fn month_length(calendar: Calendar, year: i32, month: u8) -> u8
 pub fn next(calendar: Calendar, date: Date) -> Date
     requires { date.year <ℤ pos 2_000_000 }
     ensures { result ≡ chain.next calendar date }
+{
+    match calendar {
+        Calendar::Julian | Calendar::Gregorian => next_by_months(calendar, date),
+        Calendar::Swedish => next_in_sweden(date),
+    }
+}
+
+fn next_in_sweden(date: Date) -> Date
+    requires { date.year <ℤ pos 2_000_000 }
+    ensures { result ≡ chain.next Swedish date }
+{
+    if date == february(1700, 28) {
+        march_1(1700)
+    } else if date == february(1712, 29) {
+        february(1712, 30)
+    } else if date == february(1712, 30) {
+        march_1(1712)
+    } else {
+        next_by_months(Calendar::Julian, date)
+    }
+}
+
+fn february(year: u16, day: u8) -> Date
+    ensures { result ≡ chain.february year day }
+{
+    Date {
+        year: year as i32,
+        month: 2,
+        day,
+    }
+}
+
+fn march_1(year: u16) -> Date
+    ensures { result ≡ chain.march_1 year }
+{
+    Date {
+        year: year as i32,
+        month: 3,
+        day: 1,
+    }
+}
+
+fn next_by_months(calendar: Calendar, date: Date) -> Date
+    requires { date.year <ℤ pos 2_000_000 }
+    ensures { result ≡ chain.next_by_months calendar date }
 {
     if date.day < month_length(calendar, date.year, date.month) {
         return Date {
@@ -59,7 +105,7 @@ pub fn first_date(calendar: Calendar) -> Date
     ensures { result ≡ chain.first_date calendar }
 {
     let day = match calendar {
-        Calendar::Julian => 3,
+        Calendar::Julian | Calendar::Swedish => 3,
         Calendar::Gregorian => 1,
     };
     Date {

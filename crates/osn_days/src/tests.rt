@@ -162,10 +162,74 @@ fn gregorian_februaries(rt: HostRuntime) -> Result<(), Fail> {
     Ok(())
 }
 
+/// The Swedish dates around the three that Sweden changed, and far from them the Julian ones. Day 639964 was the last
+/// before Sweden took the Gregorian calendar.
+#[test]
+fn swedish_dates(rt: HostRuntime) -> Result<(), Fail> {
+    let days = [
+        (1, date(1, 1, 3)),
+        (2, date(1, 1, 4)),
+        (577_736, date(1582, 10, 5)),
+        (620_558, date(1700, 1, 1)),
+        (620_615, date(1700, 2, 27)),
+        (620_616, date(1700, 2, 28)),
+        (620_617, date(1700, 3, 1)),
+        (620_618, date(1700, 3, 2)),
+        (620_922, date(1700, 12, 31)),
+        (620_923, date(1701, 1, 1)),
+        (622_076, date(1704, 2, 28)),
+        (622_077, date(1704, 2, 29)),
+        (622_078, date(1704, 3, 1)),
+        (624_997, date(1712, 2, 27)),
+        (624_998, date(1712, 2, 28)),
+        (624_999, date(1712, 2, 29)),
+        (625_000, date(1712, 2, 30)),
+        (625_001, date(1712, 3, 1)),
+        (625_002, date(1712, 3, 2)),
+        (626_461, date(1716, 2, 29)),
+        (639_964, date(1753, 2, 17)),
+        (1_095_361, date(2999, 12, 10)),
+        (1_095_362, date(2999, 12, 11)),
+    ];
+    for (number, swedish) in days {
+        let day = Day::new(number).ok_or("a day")?;
+        assert_eq!(rt; date_of(Calendar::Swedish, day), swedish);
+        assert_eq!(rt; day_of(Calendar::Swedish, swedish), Some(day));
+    }
+    Ok(())
+}
+
+/// Dates that the Swedish calendar lacks: 29 February 1700, and each 30 February but that of 1712.
+#[test]
+fn swedish_dates_of_no_day(rt: HostRuntime) {
+    let lacking = [
+        date(1700, 2, 29),
+        date(1700, 2, 30),
+        date(1701, 2, 29),
+        date(1704, 2, 30),
+        date(1708, 2, 30),
+        date(1711, 2, 29),
+        date(1711, 2, 30),
+        date(1712, 2, 31),
+        date(1712, 2, 0),
+        date(1713, 2, 29),
+        date(1713, 2, 30),
+        date(1716, 2, 30),
+        date(1, 1, 2),
+        date(2999, 12, 12),
+    ];
+    for date in lacking {
+        assert_eq!(rt; day_of(Calendar::Swedish, date), None);
+        assert_eq!(rt; plain::day_of(Calendar::Swedish, date), None);
+    }
+    assert_ne!(rt; day_of(Calendar::Julian, date(1700, 2, 29)), None);
+    assert_eq!(rt; day_of(Calendar::Julian, date(1712, 2, 30)), None);
+}
+
 /// Dates that no day of the line has: the calendar lacks them, or they come before day 1 or after the last day.
 #[test]
 fn dates_of_no_day(rt: HostRuntime) {
-    let of_neither = [
+    let of_none = [
         date(0, 1, 1),
         date(-1, 1, 1),
         date(i32::MIN, 1, 1),
@@ -185,9 +249,10 @@ fn dates_of_no_day(rt: HostRuntime) {
         date(i32::MIN, 255, 255),
         date(i32::MAX, 255, 255),
     ];
-    for date in of_neither {
+    for date in of_none {
         assert_eq!(rt; day_of(Calendar::Julian, date), None);
         assert_eq!(rt; day_of(Calendar::Gregorian, date), None);
+        assert_eq!(rt; day_of(Calendar::Swedish, date), None);
         assert_eq!(rt; plain::day_of(Calendar::Julian, date), None);
         assert_eq!(rt; plain::day_of(Calendar::Gregorian, date), None);
     }
@@ -213,9 +278,9 @@ fn dates_of_no_day(rt: HostRuntime) {
 /// The plain walk, at a few days.
 #[test]
 fn plain_bodies_agree(rt: HostRuntime) -> Result<(), Fail> {
-    for number in [1, 2, 1_155, 145_791, 620_607, 1_095_362] {
+    for number in [1, 2, 1_155, 145_791, 620_607, 620_617, 625_000, 1_095_362] {
         let day = Day::new(number).ok_or("a day")?;
-        for calendar in [Calendar::Julian, Calendar::Gregorian] {
+        for calendar in [Calendar::Julian, Calendar::Gregorian, Calendar::Swedish] {
             let date = plain::date_of(calendar, day);
             assert_eq!(rt; date_of(calendar, day), date);
             assert_eq!(rt; plain::day_of(calendar, date), Some(day));
@@ -228,7 +293,8 @@ fn plain_bodies_agree(rt: HostRuntime) -> Result<(), Fail> {
 #[test]
 fn the_whole_chain(rt: HostRuntime) -> Result<(), Fail> {
     walk(&rt, Calendar::Julian)?;
-    walk(&rt, Calendar::Gregorian)
+    walk(&rt, Calendar::Gregorian)?;
+    walk(&rt, Calendar::Swedish)
 }
 
 fn walk(rt: &impl Abort, calendar: Calendar) -> Result<(), Fail> {

@@ -1,2 +1,10 @@
 pub mod LabelFacts
+pub mod YearDigits
+pub mod PeriodFacts
+pub mod RegimeFacts
+pub mod CoverFacts
+pub mod ChangeFacts
 pub mod ReadingFacts
+pub mod MemberFacts
+pub mod SkippedFacts
+pub mod ExplainedFacts

@@ -84,3 +84,13 @@ skipped_among p t label (opening ∷ rest) = skipped_after p t label opening res
 -- the days of the changes at which the label is skipped, in order
 abbrev pub skipped : Profile → PlainTerritory → Label → List ℕ
 skipped p t label = skipped_among p t label (periods_of p t)
+
+-- the regime of some period has the label on some day of the line
+abbrev pub is_dated : Profile → PlainTerritory → Label → Bool
+is_dated p t label = list_any (λ s. not (is_nowhere (days_with_label p s.1 label))) t.starts
+
+-- a date that is missing is explained: one that is read on no day, and that some regime of the territory has, is
+-- skipped at a change
+abbrev pub IsExplained : Profile → PlainTerritory → Label → List ℕ → Type 0
+IsExplained p t label skipped_at =
+    is_nowhere (reading p t label) ≡ true → is_dated p t label ≡ true → is_nowhere skipped_at ≡ false

@@ -3,16 +3,26 @@
 //! starts that reads labels as days, with `label_of`, `day_of_label` and `dual_text` for one regime.
 #![tactic(auto)]
 
+#[cfg(test)]
+mod change_tests;
+mod cover;
 mod dual;
+mod fault;
 mod label;
 mod period;
+mod reading;
+#[cfg(test)]
+mod reading_tests;
 mod regime;
 mod style;
+#[cfg(test)]
+mod style_tests;
 mod territory;
 #[cfg(test)]
 mod tests;
 
 pub use dual::dual_text;
+pub use fault::LandFault;
 pub use label::{Label, day_of_label, label_of};
 pub use period::Period;
 pub use regime::Regime;

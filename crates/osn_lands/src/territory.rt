@@ -1,12 +1,16 @@
-ghost use Rattle.std.specs.Prelude.{◌≡◌, ◌∷◌, [], IfOk};
+ghost use Rattle.std.specs.Prelude.{◌≡◌, ◌⊎◌, ◌∷◌, [], Some, None, IfOk, IfErr, OnOk, OnErr, MatchResult};
 ghost use Rattle.osn_days.specs.Profile.{present};
-ghost use Rattle.osn_days.specs.Line.{IsDay};
 ghost use Rattle.osn_lands.specs.Territory as plain;
+ghost use Rattle.osn_lands.specs.Changes as changes;
+ghost use Rattle.osn_lands.specs.declared.fault.LandFault.TheVariants.{NoMemory};
 
-use crate::label::{Label, label_of};
+use crate::cover::{join, place_of, split};
+use crate::fault::LandFault;
+use crate::label::Label;
 use crate::period::Period;
+use crate::reading::{is_skipped_between, read_period};
 use crate::regime::Regime;
-use osn_days::{Day, HIGH};
+use osn_days::Day;
 use std::alloc::{AllocError, Global};
 use std::marker::Model;
 
@@ -22,22 +26,11 @@ impl Model for Territory {
 
     ghost Value = { PlainTerritory };
 
-    ghost use Rattle.osn_lands.specs.Inside.{starts_in, IsOpeningAlone};
+    ghost use Rattle.osn_lands.specs.Inside.{starts_in, IsWhole};
 
     ghost view = { starts_in };
 
-    ghost invariant = { IsOpeningAlone };
-}
-
-/// The day of a number of the line.
-fn day_at(number: u32) -> Day
-    requires { IsDay present number }
-    ensures { result ≡ number }
-{
-    match Day::new(number as i64) {
-        Some(day) => day,
-        None => unreachable!(),
-    }
+    ghost invariant = { IsWhole };
 }
 
 impl Territory {
@@ -54,11 +47,84 @@ impl Territory {
         Ok(Territory { alloc, periods })
     }
 
+    /// Changes the regime from a day on, until the next change or the end of the line.
+    ///
+    /// # Errors
+    ///
+    /// `OpeningPeriod` for day 1, then `ChangeExists` where a period starts on the day, then `NoMemory`.
+    pub fn add_change(&mut self, day: Day, regime: Regime) -> Result<(), LandFault>
+        ensures lawful { OnOk result (changes.add_fault self.old day ≡ None) }
+        ensures ok { OnOk result (self.new ≡ changes.with_change self.old day regime) }
+        ensures refused { IfErr result (λ f. (changes.add_fault self.old day ≡ Some f)
+            ⊎ ((f ≡ NoMemory) × (changes.add_fault self.old day ≡ None))) }
+        ensures unchanged { OnErr result (self.new ≡ self.old) }
+    {
+        if day == Day::FIRST {
+            return Err(LandFault::OpeningPeriod);
+        }
+        let place = place_of(&self.periods, day);
+        if self.periods[place].first == day {
+            return Err(LandFault::ChangeExists);
+        }
+        split(&mut self.periods, place, day, regime)
+    }
+
+    /// Alters the regime that starts on a day, on day 1 that of the opening period.
+    ///
+    /// # Errors
+    ///
+    /// `NoSuchChange` where no period starts on the day.
+    pub fn alter_change(&mut self, day: Day, regime: Regime) -> Result<(), LandFault>
+        ensures value { MatchResult result
+            (λ _. changes.alter_fault self.old day ≡ None)
+            (λ f. changes.alter_fault self.old day ≡ Some f) }
+        ensures ok { OnOk result (self.new ≡ changes.with_altered self.old day regime) }
+        ensures unchanged { OnErr result (self.new ≡ self.old) }
+    {
+        let place = place_of(&self.periods, day);
+        let period = &mut self.periods[place];
+        if period.first != day {
+            return Err(LandFault::NoSuchChange);
+        }
+        period.regime = regime;
+        Ok(())
+    }
+
+    /// Drops the change on a day: the period before it goes on to where the dropped one ended.
+    ///
+    /// # Errors
+    ///
+    /// `OpeningPeriod` for day 1, then `NoSuchChange` where no period starts on the day.
+    pub fn drop_change(&mut self, day: Day) -> Result<(), LandFault>
+        ensures value { MatchResult result
+            (λ _. changes.drop_fault self.old day ≡ None)
+            (λ f. changes.drop_fault self.old day ≡ Some f) }
+        ensures ok { OnOk result (self.new ≡ changes.without_change self.old day) }
+        ensures unchanged { OnErr result (self.new ≡ self.old) }
+    {
+        let place = place_of(&self.periods, day);
+        if self.periods[place].first != day {
+            return Err(LandFault::NoSuchChange);
+        }
+        if place == 0 {
+            return Err(LandFault::OpeningPeriod);
+        }
+        join(&mut self.periods, place);
+        Ok(())
+    }
+
+    /// Whether a period starts on a day.
+    pub fn starts_on(&self, day: Day) -> bool
+        ensures { result ≡ changes.starts_on self.now day }
+    {
+        self.periods.iter().any(|period| period.first == day)
+    }
+
     /// The regime in force on a day.
     pub fn regime_at(&self, day: Day) -> Regime
         ensures { result ≡ plain.regime_at self.now day }
     {
-        self.periods[0].regime
+        self.periods[place_of(&self.periods, day)].regime
     }
 
     /// The periods, in order.
@@ -74,20 +140,26 @@ impl Territory {
         ensures { IfOk result (λ days. days.items ≡ plain.reading present self.now label) }
     {
         let mut days = Vec::new(self.alloc);
-        for number in 1..HIGH + 1 {
-            let day = day_at(number);
-            if label_of(self.regime_at(day), day) == label {
-                days.push(day)?;
-            }
+        for period in &self.periods {
+            read_period(period, label, &mut days)?;
         }
         Ok(days)
     }
 
     /// The days of the changes at which the label is skipped, in order.
     pub fn skipped(&self, label: Label) -> Result<Vec<Day>, AllocError>
-        ensures { IfOk result (λ days. days.items ≡ plain.skipped present self.now label) }
+        ensures value { IfOk result (λ days. days.items ≡ plain.skipped present self.now label) }
+        ensures explained { IfOk result (λ days. plain.IsExplained present self.now label days.items) }
     {
-        Ok(Vec::new(self.alloc))
+        let mut days = Vec::new(self.alloc);
+        let periods: &[Period] = &self.periods;
+        for i in 1..periods.len() {
+            let new = &periods[i];
+            if is_skipped_between(&periods[i - 1], new, label) {
+                days.push(new.first)?;
+            }
+        }
+        Ok(days)
     }
 
     /// An equal territory.

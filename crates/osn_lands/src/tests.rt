@@ -4,19 +4,25 @@ use osn_computus::Rule;
 use osn_days::{Calendar, Day, HIGH};
 use std::test::Fail;
 
-const JULIAN: Regime = Regime {
+pub(crate) const JULIAN: Regime = Regime {
     calendar: Calendar::Julian,
     style: Style::January,
     rule: Rule::Julian,
 };
 
-const GREGORIAN: Regime = Regime {
+pub(crate) const GREGORIAN: Regime = Regime {
     calendar: Calendar::Gregorian,
     style: Style::January,
     rule: Rule::Gregorian,
 };
 
-fn day(number: u32) -> Day {
+pub(crate) const SWEDISH: Regime = Regime {
+    calendar: Calendar::Swedish,
+    style: Style::January,
+    rule: Rule::Julian,
+};
+
+pub(crate) fn day(number: u32) -> Day {
     Day::new(number as i64).unwrap_or(Day::FIRST)
 }
 
@@ -29,6 +35,11 @@ fn labels_and_texts(rt: HostRuntime) -> Result<(), Fail> {
         (GREGORIAN, 577_736, 1582, 10, 15, "15 October 1582"),
         (JULIAN, 639_796, 1752, 9, 2, "2 September 1752"),
         (GREGORIAN, 639_797, 1752, 9, 14, "14 September 1752"),
+        (SWEDISH, 620_616, 1700, 2, 28, "28 February 1700"),
+        (SWEDISH, 620_617, 1700, 3, 1, "1 March 1700"),
+        (SWEDISH, 624_999, 1712, 2, 29, "29 February 1712"),
+        (SWEDISH, 625_000, 1712, 2, 30, "30 February 1712"),
+        (SWEDISH, 625_001, 1712, 3, 1, "1 March 1712"),
         (GREGORIAN, HIGH, 2999, 12, 31, "31 December 2999"),
     ] {
         let at = day(number);
@@ -69,7 +80,7 @@ fn a_territory_of_one_regime(rt: HostRuntime) -> Result<(), Fail> {
 
 #[test]
 fn the_search_and_the_conversion_agree(rt: HostRuntime) -> Result<(), Fail> {
-    for regime in [JULIAN, GREGORIAN] {
+    for regime in [JULIAN, GREGORIAN, SWEDISH] {
         let territory = Territory::new(rt.alloc(), regime)?;
         for (year, month, day_of_month) in [
             (1, 1, 1),
@@ -78,6 +89,7 @@ fn the_search_and_the_conversion_agree(rt: HostRuntime) -> Result<(), Fail> {
             (1582, 2, 30),
             (1700, 2, 29),
             (1712, 2, 29),
+            (1712, 2, 30),
             (2999, 12, 11),
             (2999, 12, 31),
             (3000, 1, 1),

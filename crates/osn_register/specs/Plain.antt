@@ -1,14 +1,15 @@
 -- The plain register: territories in the order in which they were added, which edits are lawful, and what they do.
 -- The rules are this project's profile.
-use Rattle.std.specs.Prelude.{ℕ, ◌≡◌, ◌≤◌, Bool, not, nat_le, if◌then◌else◌, List, [], ◌∷◌, ◌++◌, length, fold, find, Option, Some, None, is_some}
+use Rattle.std.specs.Prelude.{ℕ, ◌≡◌, ◌≤◌, ◌+◌, Bool, true, false, not, ◌&&◌, ◌==◌, nat_le, nat_lt, if◌then◌else◌, ℤ, pos, int_le, unsigned_abs, List, [], ◌∷◌, ◌++◌, length, fold, find, Option, Some, None, is_some, is_none, option_map}
 use Rattle.std.specs.Str.{bytes_eq}
 use Rattle.osn_days.specs.Profile.{Profile}
 use Rattle.osn_lands.specs.Territory.{PlainTerritory, opened}
+use Rattle.osn_lands.specs.Changes.{starts_on, with_change, with_altered, without_change}
 use Rattle.osn_register.specs.declared.limits.Limits.{Limits}
 use Rattle.osn_register.specs.declared.edit.Edit.{Edit}
-use Rattle.osn_register.specs.declared.edit.Edit.TheVariants.{AddLand}
+use Rattle.osn_register.specs.declared.edit.Edit.TheVariants.{AddLand, AddChange, AlterChange, DropChange}
 use Rattle.osn_register.specs.declared.refusal.Refusal.{Refusal}
-use Rattle.osn_register.specs.declared.refusal.Refusal.TheVariants.{BadCode, BadName, LandExists, TooManyLands}
+use Rattle.osn_register.specs.declared.refusal.Refusal.TheVariants.{BadCode, BadName, UnknownLand, LandExists, DayOffLine, ChangeExists, NoSuchChange, OpeningPeriod, TooManyLands, TooManyChanges}
 use Rattle.osn_register.specs.Code.{is_code, is_name}
 
 -- a territory with its code and name
@@ -26,10 +27,20 @@ pub record PlainRegister : Type 0 where
 abbrev pub land_of : List ℕ → List PlainLand → Option PlainLand
 land_of code lands = find (λ l. bytes_eq code l.code) lands
 
+abbrev pub territory_of : List ℕ → List PlainLand → Option PlainTerritory
+territory_of code lands = option_map (λ l. l.territory) (land_of code lands)
+
 -- of tests with what each would refuse by, the first that applies
 abbrev pub first_refusal : List (Bool × Refusal) → Option Refusal
 first_refusal [] = None
 first_refusal (t ∷ ts) = if t.0 then Some t.1 else first_refusal ts
+
+abbrev pub or_else : Option Refusal → Option Refusal → Option Refusal
+or_else None second = second
+or_else (Some f) second = Some f
+
+abbrev pub is_between : ℤ → ℤ → ℤ → Bool
+is_between low high n = int_le low n && int_le n high
 
 abbrev pub add_land_refusal : Limits → List PlainLand → List ℕ → List ℕ → Option Refusal
 add_land_refusal limits lands code name = first_refusal (
@@ -39,14 +50,75 @@ add_land_refusal limits lands code name = first_refusal (
     ∷ (nat_le limits.lands (length lands), TooManyLands)
     ∷ [])
 
+-- why an edit or a query of a territory is refused for its code
+abbrev pub code_refusal : List PlainLand → List ℕ → Option Refusal
+code_refusal lands code = first_refusal ((not (is_code code), BadCode) ∷ (is_none (land_of code lands), UnknownLand) ∷ [])
+
+abbrev pub is_off_line : Profile → ℤ → Bool
+is_off_line p day = not (is_between (pos 1) (pos p.high) day)
+
+-- why an edit of a territory is refused by what the territory holds
+abbrev pub change_refusal : Profile → Limits → Edit → PlainTerritory → Option Refusal
+change_refusal p limits (AddLand code name regime) t = None
+change_refusal p limits (AddChange code day regime) t = first_refusal (
+    (is_off_line p day, DayOffLine)
+    ∷ (unsigned_abs day == 1, OpeningPeriod)
+    ∷ (starts_on t (unsigned_abs day), ChangeExists)
+    ∷ (nat_lt limits.changes (length t.starts), TooManyChanges)
+    ∷ [])
+change_refusal p limits (AlterChange code day regime) t = first_refusal (
+    (is_off_line p day, DayOffLine)
+    ∷ (not (starts_on t (unsigned_abs day)), NoSuchChange)
+    ∷ [])
+change_refusal p limits (DropChange code day) t = first_refusal (
+    (is_off_line p day, DayOffLine)
+    ∷ (unsigned_abs day == 1, OpeningPeriod)
+    ∷ (not (starts_on t (unsigned_abs day)), NoSuchChange)
+    ∷ [])
+
+abbrev pub inside : (PlainTerritory → Option Refusal) → Option PlainTerritory → Option Refusal
+inside refused None = None
+inside refused (Some t) = refused t
+
+-- for its code, and else by what the territory of the code holds
+abbrev pub refusal_in : List PlainLand → List ℕ → (PlainTerritory → Option Refusal) → Option Refusal
+refusal_in lands code refused = or_else (code_refusal lands code) (inside refused (territory_of code lands))
+
 -- why an edit is refused, if it is
 abbrev pub refusal : Profile → Limits → List PlainLand → Edit → Option Refusal
 refusal p limits lands (AddLand code name regime) = add_land_refusal limits lands code name
+refusal p limits lands (AddChange code day regime) = refusal_in lands code (change_refusal p limits (AddChange code day regime))
+refusal p limits lands (AlterChange code day regime) = refusal_in lands code (change_refusal p limits (AlterChange code day regime))
+refusal p limits lands (DropChange code day) = refusal_in lands code (change_refusal p limits (DropChange code day))
+
+-- only what adds a territory or a change takes memory
+abbrev pub takes_memory : Edit → Bool
+takes_memory (AddLand code name regime) = true
+takes_memory (AddChange code day regime) = true
+takes_memory (AlterChange code day regime) = false
+takes_memory (DropChange code day) = false
+
+-- the territory of a lawful edit, after it
+abbrev pub changed : Edit → PlainTerritory → PlainTerritory
+changed (AddLand code name regime) t = t
+changed (AddChange code day regime) t = with_change t (unsigned_abs day) regime
+changed (AlterChange code day regime) t = with_altered t (unsigned_abs day) regime
+changed (DropChange code day) t = without_change t (unsigned_abs day)
+
+-- the territories, with a change of the one that has the code
+abbrev pub with_territory : List ℕ → (PlainTerritory → PlainTerritory) → List PlainLand → List PlainLand
+with_territory code change [] = []
+with_territory code change (l ∷ ls) =
+    if bytes_eq code l.code then record l { territory = change l.territory } ∷ ls
+    else l ∷ with_territory code change ls
 
 -- the territories after a lawful edit
 abbrev pub effect : List PlainLand → Edit → List PlainLand
 effect lands (AddLand code name regime) =
     lands ++ record { code = code; name = name; territory = opened regime } ∷ []
+effect lands (AddChange code day regime) = with_territory code (changed (AddChange code day regime)) lands
+effect lands (AlterChange code day regime) = with_territory code (changed (AlterChange code day regime)) lands
+effect lands (DropChange code day) = with_territory code (changed (DropChange code day)) lands
 
 abbrev pub unless_refused : Option Refusal → List PlainLand → List PlainLand → List PlainLand
 unless_refused None new old = new
@@ -69,7 +141,16 @@ abbrev pub AreDistinct : List PlainLand → Type 0
 AreDistinct [] = Unit {0}
 AreDistinct (l ∷ ls) = (land_of l.code ls ≡ None) × AreDistinct ls
 
--- codes are distinct, and the territories within their limit
+-- a territory has at most one period more than its changes
+abbrev pub HasFewChanges : Limits → PlainTerritory → Type 0
+HasFewChanges limits t = length t.starts ≤ limits.changes + 1
+
+abbrev pub HaveFewChanges : Limits → List PlainLand → Type 0
+HaveFewChanges limits [] = Unit {0}
+HaveFewChanges limits (l ∷ ls) = HasFewChanges limits l.territory × HaveFewChanges limits ls
+
+-- codes are distinct, and the territories and their changes within their limits
 pub record IsWellFormed (r : PlainRegister) : Type 0 where
   pub distinct : AreDistinct r.lands
   pub within : length r.lands ≤ r.limits.lands
+  pub few_changes : HaveFewChanges r.limits r.lands

@@ -9,7 +9,7 @@ use crate::listing::Listing;
 use crate::refusal::Refusal;
 use crate::text::Text;
 use osn_days::Day;
-use osn_lands::{Label, Territory, dual_text, label_of};
+use osn_lands::{Label, Period, Territory, dual_text, label_of};
 use std::alloc::{AllocError, Global};
 
 /// The last year that a label may have.
@@ -53,6 +53,36 @@ fn found_days(alloc: Global, territory: &Territory, days: &[Day]) -> Result<Vec<
         found.push(found_on(alloc, territory, *day)?)?;
     }
     Ok(found)
+}
+
+fn holds(period: &Period, day: Day) -> bool
+    ensures { result ≡ said.holds day period.now }
+{
+    period.first.number() <= day.number() && day.number() <= period.last.number()
+}
+
+fn period_on(periods: &[Period], day: Day) -> Option<Period>
+    ensures { result ≡ said.period_on periods.now day }
+{
+    for period in periods {
+        if holds(period, day) {
+            return Some(*period);
+        }
+    }
+    None
+}
+
+/// A day as a territory names it, with the period that holds it.
+pub(crate) fn on_day(alloc: Global, territory: &Territory, day: Day) -> Result<Answer, AllocError>
+    ensures { IfOk result (λ a. a ≡ said.day_answer present (Some territory.now) day) }
+{
+    match period_on(territory.periods(), day) {
+        Some(period) => Ok(Answer::OnDay {
+            found: found_on(alloc, territory, day)?,
+            period,
+        }),
+        None => Ok(Answer::Refused(Refusal::DayOffLine)),
+    }
 }
 
 /// The reading of a label in a territory.

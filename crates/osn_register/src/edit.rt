@@ -13,6 +13,23 @@ pub enum Edit {
         name: Text,
         regime: Regime,
     },
+    /// Changes a territory's regime from a day on, until its next change.
+    AddChange {
+        code: Text,
+        day: i64,
+        regime: Regime,
+    },
+    /// Alters the regime that starts on a day, on day 1 the opening one.
+    AlterChange {
+        code: Text,
+        day: i64,
+        regime: Regime,
+    },
+    /// Drops the change on a day, so that the period before it goes on.
+    DropChange {
+        code: Text,
+        day: i64,
+    },
 }
 
 impl Edit {
@@ -25,6 +42,20 @@ impl Edit {
                 code: code.copy()?,
                 name: name.copy()?,
                 regime: *regime,
+            }),
+            Edit::AddChange { code, day, regime } => Ok(Edit::AddChange {
+                code: code.copy()?,
+                day: *day,
+                regime: *regime,
+            }),
+            Edit::AlterChange { code, day, regime } => Ok(Edit::AlterChange {
+                code: code.copy()?,
+                day: *day,
+                regime: *regime,
+            }),
+            Edit::DropChange { code, day } => Ok(Edit::DropChange {
+                code: code.copy()?,
+                day: *day,
             }),
         }
     }

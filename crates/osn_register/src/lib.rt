@@ -5,18 +5,25 @@
 
 mod answer;
 mod answers;
+#[cfg(test)]
+mod change_tests;
+mod changes;
 mod code;
 mod edit;
 mod limits;
 mod listing;
+#[cfg(test)]
+mod opening_tests;
 mod query;
 mod refusal;
 mod register;
 #[cfg(test)]
+mod samples;
+#[cfg(test)]
 mod tests;
 mod text;
 
-pub use answer::{Answer, Found, FoundList, Land, LandList};
+pub use answer::{Answer, Found, FoundList, Land, LandList, PeriodList};
 pub use edit::Edit;
 pub use limits::Limits;
 pub use listing::{DayList, Listing};

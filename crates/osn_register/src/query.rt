@@ -14,8 +14,17 @@ pub enum Query {
         month: i64,
         day: i64,
     },
+    /// How a territory names a day, and the period of its regime.
+    DayIn {
+        code: Text,
+        day: i64,
+    },
     /// Which territories there are.
     Lands,
+    /// Which periods a territory has.
+    Periods {
+        code: Text,
+    },
 }
 
 impl Query {
@@ -35,7 +44,12 @@ impl Query {
                 month: *month,
                 day: *day,
             }),
+            Query::DayIn { code, day } => Ok(Query::DayIn {
+                code: code.copy()?,
+                day: *day,
+            }),
             Query::Lands => Ok(Query::Lands),
+            Query::Periods { code } => Ok(Query::Periods { code: code.copy()? }),
         }
     }
 }

@@ -12,10 +12,20 @@ pub enum Refusal {
     UnknownLand,
     /// A territory has the code already.
     LandExists,
+    /// The day is not on the line, 1 to 1095362.
+    DayOffLine,
+    /// A period of the territory starts on the day already.
+    ChangeExists,
+    /// No period of the territory starts on the day.
+    NoSuchChange,
+    /// Day 1 begins the opening period, which is neither added nor dropped.
+    OpeningPeriod,
     /// The year is outside the range of the request.
     YearOffRange,
     /// The register has as many territories as its limit lets it.
     TooManyLands,
+    /// The territory has as many changes as the limit lets it.
+    TooManyChanges,
     /// There is no edit to publish.
     NothingPending,
     /// The journal has as many edits as its limit lets it.
@@ -40,8 +50,13 @@ impl Refusal {
             Refusal::BadName => 2,
             Refusal::UnknownLand => 3,
             Refusal::LandExists => 4,
+            Refusal::DayOffLine => 5,
+            Refusal::ChangeExists => 6,
+            Refusal::NoSuchChange => 7,
+            Refusal::OpeningPeriod => 8,
             Refusal::YearOffRange => 9,
             Refusal::TooManyLands => 12,
+            Refusal::TooManyChanges => 13,
             Refusal::NothingPending => 15,
             Refusal::JournalFull => 16,
             Refusal::EditionsFull => 17,
@@ -60,8 +75,13 @@ impl Refusal {
             Refusal::BadName => "BadName",
             Refusal::UnknownLand => "UnknownLand",
             Refusal::LandExists => "LandExists",
+            Refusal::DayOffLine => "DayOffLine",
+            Refusal::ChangeExists => "ChangeExists",
+            Refusal::NoSuchChange => "NoSuchChange",
+            Refusal::OpeningPeriod => "OpeningPeriod",
             Refusal::YearOffRange => "YearOffRange",
             Refusal::TooManyLands => "TooManyLands",
+            Refusal::TooManyChanges => "TooManyChanges",
             Refusal::NothingPending => "NothingPending",
             Refusal::JournalFull => "JournalFull",
             Refusal::EditionsFull => "EditionsFull",

@@ -1,12 +1,13 @@
-ghost use Rattle.std.specs.Prelude.{◌≡◌, ◌++◌, [], ◌∷◌, Some, None, Ok, Err, IfOk, IfErr, OnOk, OnErr, MatchResult, ◌<◌, ◌⊎◌, length, map, is_some, option_map, option_copied, string_bytes};
+ghost use Rattle.std.specs.Prelude.{◌≡◌, ◌++◌, [], ◌∷◌, true, Some, None, Ok, Err, IfOk, IfErr, OnOk, OnErr, MatchResult, ◌<◌, ◌⊎◌, length, map, is_some, option_map, option_copied, string_bytes};
 ghost use Rattle.osn_days.specs.Profile.{present};
 ghost use Rattle.osn_register.specs.Code as form;
-ghost use Rattle.osn_register.specs.Plain.{refusal, add_land_refusal, effect, applied, folded, land_of, IsWellFormed};
+ghost use Rattle.osn_register.specs.Plain.{refusal, refusal_in, add_land_refusal, code_refusal, change_refusal, changed, with_territory, effect, applied, folded, takes_memory, land_of, territory_of, HasFewChanges, IsWellFormed};
 ghost use Rattle.osn_lands.specs.Territory.{opened};
 ghost use Rattle.osn_register.specs.Answer as said;
 
 use crate::answer::{Answer, Land};
-use crate::answers::{asked_label, reading};
+use crate::answers::{asked_label, on_day, reading};
+use crate::changes::{change, check_change, day_on_line};
 use crate::code::{is_code, is_name};
 use crate::edit::Edit;
 use crate::limits::Limits;
@@ -77,6 +78,9 @@ impl Register {
     {
         match edit {
             Edit::AddLand { code, name, .. } => self.check_add_land(code.as_str(), name.as_str()),
+            Edit::AddChange { code, .. } => self.check_change(code.as_str(), edit),
+            Edit::AlterChange { code, .. } => self.check_change(code.as_str(), edit),
+            Edit::DropChange { code, .. } => self.check_change(code.as_str(), edit),
         }
     }
 
@@ -100,6 +104,17 @@ impl Register {
         Ok(())
     }
 
+    fn check_change(&self, code: &str, edit: &Edit) -> Result<(), Refusal>
+        ensures { MatchResult result
+            (λ _. refusal_in self.now.lands code.now (change_refusal present self.now.limits edit.now) ≡ None)
+            (λ f. refusal_in self.now.lands code.now (change_refusal present self.now.limits edit.now) ≡ Some f) }
+    {
+        match self.known_territory(code) {
+            Ok(territory) => check_change(self.limits, territory, edit),
+            Err(refusal) => Err(refusal),
+        }
+    }
+
     fn has_land(&self, code: &str) -> bool
         ensures { result ≡ is_some (land_of code.now self.now.lands) }
     {
@@ -107,7 +122,7 @@ impl Register {
     }
 
     fn territory(&self, code: &str) -> Option<&Territory>
-        ensures { option_copied result ≡ said.territory_of code.now self.now.lands }
+        ensures { option_copied result ≡ territory_of code.now self.now.lands }
     {
         match self.lands.get(code) {
             Some(entry) => Some(&entry.territory),
@@ -122,6 +137,7 @@ impl Register {
         ensures refused { IfErr result (λ f. (refusal present self.old.limits self.old.lands edit.now ≡ Some f)
             ⊎ ((f ≡ Refusal.NoMemory) × (refusal present self.old.limits self.old.lands edit.now ≡ None))) }
         ensures err { OnErr result (self.new ≡ self.old) }
+        ensures memory { IfErr result (λ f. f ≡ Refusal.NoMemory → takes_memory edit.now ≡ true) }
     {
         self.check(edit)?;
         match self.add(edit) {
@@ -135,6 +151,7 @@ impl Register {
         ensures ok { OnOk result (self.new ≡ record self.old { lands = applied present self.old.limits self.old.lands edit.now }) }
         ensures err { OnErr result (self.new ≡ self.old) }
         ensures memory { OnErr result (refusal present self.old.limits self.old.lands edit.now ≡ None) }
+        ensures needed { OnErr result (takes_memory edit.now ≡ true) }
     {
         match self.apply(edit) {
             Ok(()) => Ok(()),
@@ -147,10 +164,26 @@ impl Register {
         requires { refusal present self.old.limits self.old.lands edit.now ≡ None }
         ensures ok { OnOk result (self.new ≡ record self.old { lands = effect self.old.lands edit.now }) }
         ensures err { OnErr result (self.new ≡ self.old) }
+        ensures memory { OnErr result (takes_memory edit.now ≡ true) }
     {
         match edit {
             Edit::AddLand { code, name, regime } => self.add_land(code, name, *regime),
+            Edit::AddChange { code, .. } => self.change(code.as_str(), edit),
+            Edit::AlterChange { code, .. } => self.change(code.as_str(), edit),
+            Edit::DropChange { code, .. } => self.change(code.as_str(), edit),
         }
+    }
+
+    fn change(&mut self, code: &str, edit: &Edit) -> Result<(), AllocError>
+        requires { refusal_in self.old.lands code.now (change_refusal present self.old.limits edit.now) ≡ None }
+        ensures ok { OnOk result (self.new ≡ record self.old { lands = with_territory code.now (changed edit.now) self.old.lands }) }
+        ensures err { OnErr result (self.new ≡ self.old) }
+        ensures memory { OnErr result (takes_memory edit.now ≡ true) }
+    {
+        let Some(entry) = self.lands.get_mut(code) else {
+            return Ok(());
+        };
+        change(&mut entry.territory, edit)
     }
 
     fn add_land(&mut self, code: &Text, name: &Text, regime: Regime) -> Result<(), AllocError>
@@ -171,6 +204,7 @@ impl Register {
     fn insert(&mut self, code: String, entry: Entry) -> Result<(), AllocError>
         requires absent { land_of (string_bytes code) self.old.lands ≡ None }
         requires room { length self.old.lands < self.old.limits.lands }
+        requires few_changes { HasFewChanges self.old.limits entry.territory }
         ensures ok { OnOk result (self.new ≡ record self.old {
           lands =
               self.old.lands ++ record { code = string_bytes code; name = entry.name; territory = entry.territory } ∷ [];
@@ -195,14 +229,16 @@ impl Register {
                 month,
                 day,
             } => self.read(code.as_str(), *year, *month, *day),
+            Query::DayIn { code, day } => self.day_in(code.as_str(), *day),
             Query::Lands => Ok(Answer::Lands(Listing::new(self.listed()?))),
+            Query::Periods { code } => self.periods(code.as_str()),
         }
     }
 
     fn known_territory(&self, code: &str) -> Result<&Territory, Refusal>
         ensures { MatchResult result
-            (λ t. (said.code_refusal self.now.lands code.now ≡ None) × (said.territory_of code.now self.now.lands ≡ Some t.now))
-            (λ f. said.code_refusal self.now.lands code.now ≡ Some f) }
+            (λ t. (code_refusal self.now.lands code.now ≡ None) × (territory_of code.now self.now.lands ≡ Some t.now))
+            (λ f. code_refusal self.now.lands code.now ≡ Some f) }
     {
         if !is_code(code) {
             return Err(Refusal::BadCode);
@@ -223,6 +259,32 @@ impl Register {
         };
         match asked_label(year, month, day) {
             Ok(label) => reading(self.alloc, territory, label),
+            Err(refusal) => Ok(Answer::Refused(refusal)),
+        }
+    }
+
+    fn day_in(&self, code: &str, day: i64) -> Result<Answer, AllocError>
+        ensures value { IfOk result (λ a. a ≡ said.day_in_answer present self.now.lands code.now day) }
+        ensures memory { OnErr result (said.day_refusal present self.now.lands code.now day ≡ None) }
+    {
+        let territory = match self.known_territory(code) {
+            Ok(territory) => territory,
+            Err(refusal) => return Ok(Answer::Refused(refusal)),
+        };
+        match day_on_line(day) {
+            Ok(day) => on_day(self.alloc, territory, day),
+            Err(refusal) => Ok(Answer::Refused(refusal)),
+        }
+    }
+
+    fn periods(&self, code: &str) -> Result<Answer, AllocError>
+        ensures value { IfOk result (λ a. a ≡ said.periods_in_answer present self.now.lands code.now) }
+        ensures memory { OnErr result (code_refusal self.now.lands code.now ≡ None) }
+    {
+        match self.known_territory(code) {
+            Ok(territory) => Ok(Answer::Periods(Listing::new(
+                territory.periods().to_vec(self.alloc)?,
+            ))),
             Err(refusal) => Ok(Answer::Refused(refusal)),
         }
     }

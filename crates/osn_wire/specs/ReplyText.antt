@@ -12,6 +12,8 @@ use Rattle.osn_days.specs.declared.weekday.Weekday.TheVariants.{Sunday, Monday, 
 use Rattle.osn_days.specs.Chain.{date_of}
 use Rattle.osn_days.specs.Line.{weekday, julian_day}
 use Rattle.osn_days.specs.Weekday.{weekday_name}
+use Rattle.osn_lands.specs.declared.regime.Regime.{Regime}
+use Rattle.osn_lands.specs.declared.period.Period.{Period}
 use Rattle.osn_register.specs.declared.answer.Answer.{Answer}
 use Rattle.osn_register.specs.declared.answer.Answer.TheVariants as answers
 use Rattle.osn_register.specs.declared.answer.Found.{Found}
@@ -26,6 +28,7 @@ use Rattle.osn_wire.specs.declared.outcome.Outcome.{Outcome}
 use Rattle.osn_wire.specs.declared.outcome.Outcome.TheVariants.{Staged, Published, Refused, Fault, Replied}
 use Rattle.osn_wire.specs.Member.{member_name}
 use Rattle.osn_wire.specs.WireFault.{wire_fault_number, wire_fault_name}
+use Rattle.osn_wire.specs.Words.{calendar_word, style_word, rule_word}
 
 -- a number's digits, after as many zeros as bring them to the length
 abbrev pub at_least : ℕ → ℕ → List ℕ
@@ -70,6 +73,24 @@ found_data f = object (
     (member (codes "weekday") (string (weekday_name (weekday_numbered (weekday f.day))))
     no_members)))))))
 
+-- how a territory reckons
+abbrev pub regime_data : Regime → Data
+regime_data r = object (
+    member (codes "calendar") (string (calendar_word r.calendar))
+    (member (codes "rule") (string (rule_word r.rule))
+    (member (codes "style") (string (style_word r.style))
+    no_members)))
+
+-- a period by its first and last day and its regime
+abbrev pub period_data : Period → Data
+period_data p = object (
+    member (codes "calendar") (string (calendar_word p.regime.calendar))
+    (member (codes "first") (whole p.first)
+    (member (codes "last") (whole p.last)
+    (member (codes "rule") (string (rule_word p.regime.rule))
+    (member (codes "style") (string (style_word p.regime.style))
+    no_members)))))
+
 -- a territory
 abbrev pub land_data : Land → Data
 land_data l = object (member (codes "code") (string l.code) (member (codes "name") (string l.name) no_members))
@@ -80,8 +101,20 @@ reading_data found skipped = object (
     (member (codes "skipped") (list_data (map whole skipped))
     no_members))
 
+-- a day as the territory names it, and the period that holds it
+abbrev pub on_day_data : Found → Period → Data
+on_day_data found period = object (
+    member (codes "first") (whole period.first)
+    (member (codes "found") (found_data found)
+    (member (codes "last") (whole period.last)
+    (member (codes "regime") (regime_data period.regime)
+    no_members))))
+
 abbrev pub lands_data : List Land → Data
 lands_data lands = object (member (codes "lands") (list_data (map land_data lands)) no_members)
+
+abbrev pub periods_data : List Period → Data
+periods_data periods = object (member (codes "periods") (list_data (map period_data periods)) no_members)
 
 abbrev pub answered_data : ℕ → ℕ → Data → Data
 answered_data reader edition answer = object (
@@ -93,7 +126,9 @@ answered_data reader edition answer = object (
 -- what a reader is told under an edition
 abbrev pub replied_data : ℕ → ℕ → Answer → Data
 replied_data reader edition (answers.Reading found skipped) = answered_data reader edition (reading_data found skipped)
+replied_data reader edition (answers.OnDay found period) = answered_data reader edition (on_day_data found period)
 replied_data reader edition (answers.Lands lands) = answered_data reader edition (lands_data lands)
+replied_data reader edition (answers.Periods periods) = answered_data reader edition (periods_data periods)
 replied_data reader edition (answers.Refused f) = object (
     member (codes "edition") (whole edition)
     (member (codes "fault") (whole (refusal_number f))

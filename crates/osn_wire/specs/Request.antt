@@ -9,7 +9,8 @@ use Rattle.osn_computus.specs.declared.rule.Rule.{Rule}
 use Rattle.osn_days.specs.declared.calendar.Calendar.{Calendar}
 use Rattle.osn_days.specs.Profile.{Profile}
 use Rattle.osn_lands.specs.declared.style.Style.{Style}
-use Rattle.osn_register.specs.declared.edit.Edit.TheVariants.{AddLand}
+use Rattle.osn_lands.specs.declared.regime.Regime.{Regime}
+use Rattle.osn_register.specs.declared.edit.Edit.TheVariants.{AddLand, AddChange, AlterChange, DropChange}
 use Rattle.osn_register.specs.declared.query.Query.TheVariants as queries
 use Rattle.osn_wire.specs.declared.member.Member.{Member}
 use Rattle.osn_wire.specs.declared.member.Member.TheVariants as members
@@ -53,14 +54,40 @@ word_at m named d = text_at m d >>= λ word. or_fault (BadField m) (named word)
 abbrev pub reader_in : ℕ → ℤ → Result ℕ WireFault
 reader_in readers r = if int_le (pos 1) r && int_le r (pos readers) then Ok (unsigned_abs r) else Err UnknownReader
 
+-- a regime by its three members
+unfoldable pub regime_at : Profile → Data → Result Regime WireFault
+regime_at p d = do
+  calendar ← word_at members.Calendar calendar_named d
+  style ← word_at members.Style (style_named p) d
+  rule ← word_at members.Rule rule_named d
+  Ok (record { calendar = calendar; style = style; rule = rule })
+
 unfoldable pub add_land_of : Profile → Data → Result Request WireFault
 add_land_of p d = do
   code ← text_at members.Code d
   name ← text_at members.Name d
-  calendar ← word_at members.Calendar calendar_named d
-  style ← word_at members.Style (style_named p) d
-  rule ← word_at members.Rule rule_named d
-  Ok (Stage (AddLand code name (record { calendar = calendar; style = style; rule = rule })))
+  regime ← regime_at p d
+  Ok (Stage (AddLand code name regime))
+
+unfoldable pub add_change_of : Profile → Data → Result Request WireFault
+add_change_of p d = do
+  code ← text_at members.Code d
+  day ← whole_at members.Day d
+  regime ← regime_at p d
+  Ok (Stage (AddChange code day regime))
+
+unfoldable pub alter_change_of : Profile → Data → Result Request WireFault
+alter_change_of p d = do
+  code ← text_at members.Code d
+  day ← whole_at members.Day d
+  regime ← regime_at p d
+  Ok (Stage (AlterChange code day regime))
+
+unfoldable pub drop_change_of : Data → Result Request WireFault
+drop_change_of d = do
+  code ← text_at members.Code d
+  day ← whole_at members.Day d
+  Ok (Stage (DropChange code day))
 
 unfoldable pub read_of : ℕ → Data → Result Request WireFault
 read_of readers d = do
@@ -72,18 +99,38 @@ read_of readers d = do
   number ← reader_in readers reader
   Ok (Ask number (queries.Read code year month day))
 
+unfoldable pub day_in_of : ℕ → Data → Result Request WireFault
+day_in_of readers d = do
+  reader ← whole_at members.Reader d
+  code ← text_at members.Code d
+  day ← whole_at members.Day d
+  number ← reader_in readers reader
+  Ok (Ask number (queries.DayIn code day))
+
 unfoldable pub lands_of : ℕ → Data → Result Request WireFault
 lands_of readers d = do
   reader ← whole_at members.Reader d
   number ← reader_in readers reader
   Ok (Ask number queries.Lands)
 
+unfoldable pub periods_of : ℕ → Data → Result Request WireFault
+periods_of readers d = do
+  reader ← whole_at members.Reader d
+  code ← text_at members.Code d
+  number ← reader_in readers reader
+  Ok (Ask number (queries.Periods code))
+
 -- the request of an object with this op
 abbrev pub request_by : Profile → ℕ → Data → Op → Result Request WireFault
 request_by p readers d ops.AddLand = add_land_of p d
+request_by p readers d ops.AddChange = add_change_of p d
+request_by p readers d ops.AlterChange = alter_change_of p d
+request_by p readers d ops.DropChange = drop_change_of d
 request_by p readers d ops.Publish = Ok Publish
 request_by p readers d ops.Read = read_of readers d
+request_by p readers d ops.DayIn = day_in_of readers d
 request_by p readers d ops.Lands = lands_of readers d
+request_by p readers d ops.Periods = periods_of readers d
 
 abbrev pub op_at : Data → Result Op WireFault
 op_at d = text_at members.Op d >>= λ word. or_fault UnknownOp (op_named word)

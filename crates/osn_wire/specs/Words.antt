@@ -1,5 +1,5 @@
--- The words of a request line: this project's profile.
-use Rattle.std.specs.Prelude.{ℕ, Bool, if◌then◌else◌, List, [], ◌∷◌, codes, Option, Some, None}
+-- The words of a request line, and of a reply: this project's profile.
+use Rattle.std.specs.Prelude.{ℕ, Bool, if◌then◌else◌, List, [], ◌∷◌, map, codes, Option, Some, None}
 use Rattle.std.specs.List.{list_any}
 use Rattle.std.specs.Str.{bytes_eq}
 use Rattle.osn_computus.specs.declared.rule.Rule.{Rule}
@@ -12,26 +12,50 @@ use Rattle.osn_lands.specs.declared.style.Style.TheVariants as styles
 use Rattle.osn_wire.specs.declared.words.Op.{Op}
 use Rattle.osn_wire.specs.declared.words.Op.TheVariants as ops
 
+abbrev pub calendar_word : Calendar → List ℕ
+calendar_word calendars.Julian = codes "julian"
+calendar_word calendars.Gregorian = codes "gregorian"
+calendar_word calendars.Swedish = codes "swedish"
+
+abbrev pub style_word : Style → List ℕ
+style_word styles.January = codes "january"
+style_word styles.Annunciation = codes "annunciation"
+style_word styles.Nativity = codes "nativity"
+style_word styles.September = codes "september"
+
+abbrev pub rule_word : Rule → List ℕ
+rule_word rules.Julian = codes "julian"
+rule_word rules.Gregorian = codes "gregorian"
+
 -- of words with what each means, what a word means
 abbrev pub meaning : {X : Type 0} → List (List ℕ × X) → List ℕ → Option X
 meaning [] word = None
 meaning (m ∷ ms) word = if bytes_eq word m.0 then Some m.1 else meaning ms word
 
+-- of some values, the one that is written by a word
+abbrev pub written_by : {X : Type 0} → (X → List ℕ) → List X → List ℕ → Option X
+written_by word_of xs = meaning (map (λ x. (word_of x, x)) xs)
+
 abbrev pub op_named : List ℕ → Option Op
 op_named = meaning (
     (codes "add_land", ops.AddLand)
+    ∷ (codes "add_change", ops.AddChange)
+    ∷ (codes "alter_change", ops.AlterChange)
+    ∷ (codes "drop_change", ops.DropChange)
     ∷ (codes "publish", ops.Publish)
     ∷ (codes "read", ops.Read)
+    ∷ (codes "day", ops.DayIn)
     ∷ (codes "lands", ops.Lands)
+    ∷ (codes "periods", ops.Periods)
     ∷ [])
 
 abbrev pub calendar_named : List ℕ → Option Calendar
-calendar_named = meaning ((codes "julian", calendars.Julian) ∷ (codes "gregorian", calendars.Gregorian) ∷ [])
+calendar_named = written_by calendar_word (calendars.Julian ∷ calendars.Gregorian ∷ calendars.Swedish ∷ [])
 
 -- a style's word, where the rules have it
 abbrev pub style_named : Profile → List ℕ → Option Style
 style_named p word =
-    if list_any (bytes_eq word) p.style_words then meaning ((codes "january", styles.January) ∷ []) word else None
+    if list_any (bytes_eq word) p.style_words then written_by style_word (styles.January ∷ styles.Annunciation ∷ styles.Nativity ∷ styles.September ∷ []) word else None
 
 abbrev pub rule_named : List ℕ → Option Rule
-rule_named = meaning ((codes "julian", rules.Julian) ∷ (codes "gregorian", rules.Gregorian) ∷ [])
+rule_named = written_by rule_word (rules.Julian ∷ rules.Gregorian ∷ [])

@@ -1,12 +1,14 @@
-//! The JSON values of days and territories.
+//! The JSON values of days, territories and their periods.
 ghost use Rattle.std.specs.Prelude.{◌≡◌, IfOk, map};
 ghost use Rattle.serde_json.specs.View.{view};
 ghost use Rattle.osn_days.specs.Line.{weekday};
 ghost use Rattle.osn_days.specs.Weekday.{weekday_name};
-ghost use Rattle.osn_wire.specs.ReplyText.{weekday_numbered, found_data, land_data, whole};
+ghost use Rattle.osn_wire.specs.ReplyText.{weekday_numbered, found_data, regime_data, period_data, land_data, whole};
 
 use crate::date_text::date_text;
+use crate::words::{calendar_word, rule_word, style_word};
 use osn_days::{Calendar, Day, date_of};
+use osn_lands::{Period, Regime};
 use osn_register::{Found, Land};
 use serde_json::{Value, json};
 use std::alloc::{AllocError, Global};
@@ -67,6 +69,40 @@ pub(crate) fn land_values(alloc: Global, lands: &[Land]) -> Result<Vec<Value>, A
     for land in lands {
         let value = json!(in alloc; {"code": land.code.as_str(), "name": land.name.as_str()})?;
         values.push(value)?;
+    }
+    Ok(values)
+}
+
+/// The JSON value of a regime.
+pub(crate) fn regime_value(alloc: Global, regime: Regime) -> Result<Value, AllocError>
+    ensures { IfOk result (λ v. view v ≡ regime_data regime) }
+{
+    json!(in alloc; {
+        "calendar": calendar_word(regime.calendar),
+        "rule": rule_word(regime.rule),
+        "style": style_word(regime.style),
+    })
+}
+
+fn period_value(alloc: Global, period: Period) -> Result<Value, AllocError>
+    ensures { IfOk result (λ v. view v ≡ period_data period) }
+{
+    json!(in alloc; {
+        "calendar": calendar_word(period.regime.calendar),
+        "first": period.first.number(),
+        "last": period.last.number(),
+        "rule": rule_word(period.regime.rule),
+        "style": style_word(period.regime.style),
+    })
+}
+
+/// The JSON values of periods.
+pub(crate) fn period_values(alloc: Global, periods: &[Period]) -> Result<Vec<Value>, AllocError>
+    ensures { IfOk result (λ v. map view v.items ≡ map period_data periods.now) }
+{
+    let mut values = Vec::with_capacity(alloc, periods.len())?;
+    for period in periods {
+        values.push(period_value(alloc, *period)?)?;
     }
     Ok(values)
 }

@@ -4,12 +4,15 @@
 #![tactic(auto)]
 
 mod date_text;
+mod edit_request;
 mod fault;
 mod found;
+mod json_member;
 mod lines;
 mod member;
 mod outcome;
 mod plain;
+mod query_request;
 mod reply;
 #[cfg(test)]
 mod reply_tests;
@@ -18,6 +21,8 @@ mod request;
 mod request_tests;
 mod responder;
 mod service;
+#[cfg(test)]
+mod service_tests;
 mod session;
 mod sink;
 mod source;

@@ -1,9 +1,10 @@
 //! Reply lines byte for byte, from the worked examples of the format.
 use crate::reply::push_reply;
 use crate::{Member, Outcome, WireFault, reply_text};
+use osn_computus::Rule;
 use osn_core::Reply;
-use osn_days::Day;
-use osn_lands::Label;
+use osn_days::{Calendar, Day};
+use osn_lands::{Label, Period, Regime, Style};
 use osn_register::{Answer, Found, Land, Listing, Refusal, Text};
 use std::alloc::{AllocError, Global};
 use std::test::Fail;
@@ -21,6 +22,18 @@ fn land(alloc: Global, code: &str, name: &str) -> Result<Land, AllocError> {
         code: Text::from_str(alloc, code)?,
         name: Text::from_str(alloc, name)?,
     })
+}
+
+fn period(first: i64, last: i64, calendar: Calendar, rule: Rule) -> Period {
+    Period {
+        first: Day::new(first).unwrap_or(Day::FIRST),
+        last: Day::new(last).unwrap_or(Day::FIRST),
+        regime: Regime {
+            calendar,
+            style: Style::January,
+            rule,
+        },
+    }
 }
 
 fn replied(reader: u32, edition: u32, answer: Answer) -> Outcome {
@@ -46,6 +59,30 @@ fn edits_and_refusals(rt: HostRuntime) -> Result<(), Fail> {
         (
             replied(1, 0, Answer::Refused(Refusal::UnknownLand)),
             "{\"edition\":0,\"fault\":3,\"name\":\"UnknownLand\",\"reader\":1}\n",
+        ),
+        (
+            Outcome::Refused(Refusal::DayOffLine),
+            "{\"fault\":5,\"name\":\"DayOffLine\"}\n",
+        ),
+        (
+            Outcome::Refused(Refusal::ChangeExists),
+            "{\"fault\":6,\"name\":\"ChangeExists\"}\n",
+        ),
+        (
+            Outcome::Refused(Refusal::NoSuchChange),
+            "{\"fault\":7,\"name\":\"NoSuchChange\"}\n",
+        ),
+        (
+            Outcome::Refused(Refusal::OpeningPeriod),
+            "{\"fault\":8,\"name\":\"OpeningPeriod\"}\n",
+        ),
+        (
+            Outcome::Refused(Refusal::TooManyChanges),
+            "{\"fault\":13,\"name\":\"TooManyChanges\"}\n",
+        ),
+        (
+            replied(2, 7, Answer::Refused(Refusal::DayOffLine)),
+            "{\"edition\":7,\"fault\":5,\"name\":\"DayOffLine\",\"reader\":2}\n",
         ),
     ] {
         assert_eq!(rt; reply_text(alloc, &outcome)?.as_str(), line);
@@ -182,6 +219,67 @@ fn skipped_dates_and_lands(rt: HostRuntime) -> Result<(), Fail> {
     ] {
         assert_eq!(rt; reply_text(alloc, &outcome)?.as_str(), line);
     }
+    Ok(())
+}
+
+#[test]
+fn days_in_periods(rt: HostRuntime) -> Result<(), Fail> {
+    let alloc = rt.alloc();
+    let julian = Label {
+        year: 1,
+        month: 1,
+        day: 3,
+    };
+    let gregorian = Label {
+        year: 1752,
+        month: 9,
+        day: 14,
+    };
+    for (outcome, line) in [
+        (
+            replied(
+                1,
+                1,
+                Answer::OnDay {
+                    found: found(alloc, 1, julian, "3 January 1")?,
+                    period: period(1, 639_550, Calendar::Julian, Rule::Julian),
+                },
+            ),
+            "{\"answer\":{\"first\":1,\"found\":{\"day\":1,\"dual\":\"3 January 1\",\"gregorian\":\"0001-01-01\",\"jdn\":1721426,\"julian\":\"0001-01-03\",\"label\":\"0001-01-03\",\"weekday\":\"Monday\"},\"last\":639550,\"regime\":{\"calendar\":\"julian\",\"rule\":\"julian\",\"style\":\"january\"}},\"edition\":1,\"reader\":1}\n",
+        ),
+        (
+            replied(
+                3,
+                2,
+                Answer::OnDay {
+                    found: found(alloc, 639_797, gregorian, "14 September 1752")?,
+                    period: period(639_797, 1_095_362, Calendar::Gregorian, Rule::Julian),
+                },
+            ),
+            "{\"answer\":{\"first\":639797,\"found\":{\"day\":639797,\"dual\":\"14 September 1752\",\"gregorian\":\"1752-09-14\",\"jdn\":2361222,\"julian\":\"1752-09-03\",\"label\":\"1752-09-14\",\"weekday\":\"Thursday\"},\"last\":1095362,\"regime\":{\"calendar\":\"gregorian\",\"rule\":\"julian\",\"style\":\"january\"}},\"edition\":2,\"reader\":3}\n",
+        ),
+    ] {
+        assert_eq!(rt; reply_text(alloc, &outcome)?.as_str(), line);
+    }
+    Ok(())
+}
+
+#[test]
+fn periods_of_a_territory(rt: HostRuntime) -> Result<(), Fail> {
+    let alloc = rt.alloc();
+    let mut periods = Vec::new(alloc);
+    periods.push(period(1, 639_796, Calendar::Julian, Rule::Julian))?;
+    periods.push(period(639_797, 1_095_362, Calendar::Gregorian, Rule::Gregorian))?;
+    let outcome = replied(1, 1, Answer::Periods(Listing::new(periods)));
+    let line =
+        "{\"answer\":{\"periods\":[{\"calendar\":\"julian\",\"first\":1,\"last\":639796,\"rule\":\"julian\",\"style\":\"january\"},{\"calendar\":\"gregorian\",\"first\":639797,\"last\":1095362,\"rule\":\"gregorian\",\"style\":\"january\"}]},\"edition\":1,\"reader\":1}\n";
+    assert_eq!(rt; reply_text(alloc, &outcome)?.as_str(), line);
+    let mut periods = Vec::new(alloc);
+    periods.push(period(1, 1_095_362, Calendar::Julian, Rule::Gregorian))?;
+    let outcome = replied(8, 3, Answer::Periods(Listing::new(periods)));
+    let line =
+        "{\"answer\":{\"periods\":[{\"calendar\":\"julian\",\"first\":1,\"last\":1095362,\"rule\":\"gregorian\",\"style\":\"january\"}]},\"edition\":3,\"reader\":8}\n";
+    assert_eq!(rt; reply_text(alloc, &outcome)?.as_str(), line);
     Ok(())
 }
 

@@ -1,40 +1,66 @@
-//! Requests and first faults of lines, and the service over memory, from the worked examples of the format.
+//! Requests and first faults of lines, from the worked examples of the format.
 use crate::request::{LONGEST_LINE, Request, RequestError, read_request};
-use crate::{Member, Plain, WireFault, serve};
+use crate::words::{calendar_named, calendar_word, rule_named, rule_word, style_named, style_word};
+use crate::{Member, WireFault};
 use osn_computus::Rule;
 use osn_days::Calendar;
 use osn_lands::{Regime, Style};
-use osn_register::{Edit, Limits, Query};
+use osn_register::{Edit, Query};
 use std::alloc::{AllocError, Global};
 use std::test::Fail;
 
 const READERS: u32 = 4;
 
-/// The members of an op in the order of their tests, each right and each of another type.
-const OF_ADD_LAND: [(Member, &str, &str); 5] = [
-    (Member::Code, r#","code":"RM""#, r#","code":7"#),
-    (Member::Name, r#","name":"Rome""#, r#","name":null"#),
-    (
-        Member::Calendar,
-        r#","calendar":"julian""#,
-        r#","calendar":"swedish""#,
-    ),
-    (
-        Member::Style,
-        r#","style":"january""#,
-        r#","style":"annunciation""#,
-    ),
-    (Member::Rule, r#","rule":"julian""#, r#","rule":"january""#),
-];
+/// A member, right and of another type or with a word that is none of its words.
+type Tried = (Member, &'static str, &'static str);
+
+const CODE: Tried = (Member::Code, r#","code":"RM""#, r#","code":["RM"]"#);
+
+const DAY: Tried = (Member::Day, r#","day":4"#, r#","day":9223372036854775808"#);
 
 /// The reader is a whole number and none of the readers, which is tested last.
-const OF_READ: [(Member, &str, &str); 5] = [
-    (Member::Reader, r#","reader":5"#, r#","reader":"1""#),
-    (Member::Code, r#","code":"RM""#, r#","code":["RM"]"#),
+const READER: Tried = (Member::Reader, r#","reader":5"#, r#","reader":"1""#);
+
+const CALENDAR: Tried = (
+    Member::Calendar,
+    r#","calendar":"julian""#,
+    r#","calendar":"coptic""#,
+);
+
+const STYLE: Tried = (
+    Member::Style,
+    r#","style":"january""#,
+    r#","style":"julian""#,
+);
+
+const RULE: Tried = (Member::Rule, r#","rule":"julian""#, r#","rule":"january""#);
+
+/// The members of an op in the order of their tests.
+const OF_ADD_LAND: [Tried; 5] = [
+    CODE,
+    (Member::Name, r#","name":"Rome""#, r#","name":null"#),
+    CALENDAR,
+    STYLE,
+    RULE,
+];
+
+const OF_CHANGE: [Tried; 5] = [CODE, DAY, CALENDAR, STYLE, RULE];
+
+const OF_DROP_CHANGE: [Tried; 2] = [CODE, DAY];
+
+const OF_READ: [Tried; 5] = [
+    READER,
+    CODE,
     (Member::Year, r#","year":1582"#, r#","year":"1582""#),
     (Member::Month, r#","month":10"#, r#","month":1e1"#),
-    (Member::Day, r#","day":4"#, r#","day":9223372036854775808"#),
+    DAY,
 ];
+
+const OF_DAY: [Tried; 3] = [READER, CODE, DAY];
+
+const OF_PERIODS: [Tried; 2] = [READER, CODE];
+
+const OF_LANDS: [Tried; 1] = [READER];
 
 /// The first fault of a line, or none where it is a request.
 fn fault_of(alloc: Global, line: &[u8]) -> Result<Option<WireFault>, AllocError> {
@@ -43,14 +69,6 @@ fn fault_of(alloc: Global, line: &[u8]) -> Result<Option<WireFault>, AllocError>
         Err(RequestError::Fault(fault)) => Ok(Some(fault)),
         Err(RequestError::NoMemory) => Err(AllocError),
     }
-}
-
-/// What is written for the lines of some bytes, and how many lines that are.
-fn served(alloc: Global, readers: u32, input: &[u8]) -> Result<(Vec<u8>, u64), Fail> {
-    let mut source = Plain::new(input);
-    let mut sink = Plain::new(Vec::new(alloc));
-    let lines = serve(alloc, Limits::standard(), readers, &mut source, &mut sink)?;
-    Ok((sink.into_inner(), lines))
 }
 
 #[test]
@@ -102,8 +120,82 @@ fn requests(rt: HostRuntime) -> Result<(), Fail> {
 }
 
 #[test]
+fn requests_of_changes(rt: HostRuntime) -> Result<(), Fail> {
+    let alloc = rt.alloc();
+    let wanted = Regime {
+        calendar: Calendar::Gregorian,
+        style: Style::January,
+        rule: Rule::Julian,
+    };
+    let line =
+        br#"{"op":"add_change","code":"GB","day":639797,"calendar":"gregorian","style":"january","rule":"julian"}"#;
+    let Request::Stage(Edit::AddChange { code, day, regime }) = read_request(alloc, 0, line)? else {
+        return Err(Fail::new("no change is added"));
+    };
+    assert_eq!(rt; (code.as_str(), day), ("GB", 639_797));
+    assert_eq!(rt; regime, wanted);
+    let line =
+        br#"{"rule":"julian","style":"january","calendar":"gregorian","day":-1,"code":"","op":"alter_change"}"#;
+    let Request::Stage(Edit::AlterChange { code, day, regime }) = read_request(alloc, 0, line)?
+    else {
+        return Err(Fail::new("no change is altered"));
+    };
+    assert_eq!(rt; (code.as_str(), day), ("", -1));
+    assert_eq!(rt; regime, wanted);
+    let line = br#"{"op":"drop_change","code":"SE","day":9223372036854775807,"calendar":7}"#;
+    let Request::Stage(Edit::DropChange { code, day }) = read_request(alloc, 0, line)? else {
+        return Err(Fail::new("no change is dropped"));
+    };
+    assert_eq!(rt; (code.as_str(), day), ("SE", i64::MAX));
+    Ok(())
+}
+
+#[test]
+fn requests_of_days_and_periods(rt: HostRuntime) -> Result<(), Fail> {
+    let alloc = rt.alloc();
+    let line = br#"{"op":"day","reader":2,"code":"GB","day":-9223372036854775808}"#;
+    let Request::Ask {
+        reader,
+        query: Query::DayIn { code, day },
+    } = read_request(alloc, READERS, line)?
+    else {
+        return Err(Fail::new("no day"));
+    };
+    assert_eq!(rt; (reader, code.as_str(), day), (2, "GB", i64::MIN));
+    let line = br#"{"op":"periods","reader":3,"code":"gb"}"#;
+    let Request::Ask {
+        reader,
+        query: Query::Periods { code },
+    } = read_request(alloc, READERS, line)?
+    else {
+        return Err(Fail::new("no periods"));
+    };
+    assert_eq!(rt; (reader, code.as_str()), (3, "gb"));
+    Ok(())
+}
+
+/// A word reads as that of which it is the word.
+#[test]
+fn words_read_as_they_are_written(rt: HostRuntime) {
+    for calendar in [Calendar::Julian, Calendar::Gregorian, Calendar::Swedish] {
+        assert_eq!(rt; calendar_named(calendar_word(calendar)), Some(calendar));
+    }
+    for style in [
+        Style::January,
+        Style::Annunciation,
+        Style::Nativity,
+        Style::September,
+    ] {
+        assert_eq!(rt; style_named(style_word(style)), Some(style));
+    }
+    for rule in [Rule::Julian, Rule::Gregorian] {
+        assert_eq!(rt; rule_named(rule_word(rule)), Some(rule));
+    }
+}
+
+#[test]
 fn faults(rt: HostRuntime) -> Result<(), Fail> {
-    let lines: [(&[u8], WireFault); 22] = [
+    let lines: [(&[u8], WireFault); 27] = [
         (b"", WireFault::NotJson),
         (br#"{"op":"publish""#, WireFault::NotJson),
         (br#"{"op":"publish"} {}"#, WireFault::NotJson),
@@ -117,7 +209,8 @@ fn faults(rt: HostRuntime) -> Result<(), Fail> {
         (br#"{"Op":"publish"}"#, WireFault::BadField(Member::Op)),
         (br#"{"op":"fly"}"#, WireFault::UnknownOp),
         (br#"{"op":"Publish"}"#, WireFault::UnknownOp),
-        (br#"{"op":"add_change"}"#, WireFault::UnknownOp),
+        (br#"{"op":"addchange"}"#, WireFault::UnknownOp),
+        (br#"{"op":"day_in"}"#, WireFault::UnknownOp),
         (br#"{"op":"lands"}"#, WireFault::BadField(Member::Reader)),
         (
             br#"{"op":"lands","reader":1.0}"#,
@@ -138,6 +231,22 @@ fn faults(rt: HostRuntime) -> Result<(), Fail> {
             br#"{"op":"read","reader":0,"year":1582,"month":10,"day":4}"#,
             WireFault::BadField(Member::Code),
         ),
+        (
+            br#"{"op":"day","reader":0,"code":"RM","day":1.0}"#,
+            WireFault::BadField(Member::Day),
+        ),
+        (
+            br#"{"op":"day","reader":0,"code":"RM","day":1}"#,
+            WireFault::UnknownReader,
+        ),
+        (
+            br#"{"op":"periods","reader":5,"code":7}"#,
+            WireFault::BadField(Member::Code),
+        ),
+        (
+            br#"{"op":"periods","reader":5,"code":"RM"}"#,
+            WireFault::UnknownReader,
+        ),
     ];
     for (line, fault) in lines {
         assert_eq!(rt; fault_of(rt.alloc(), line)?, Some(fault), "at {line:?}");
@@ -148,9 +257,16 @@ fn faults(rt: HostRuntime) -> Result<(), Fail> {
 #[test]
 fn first_faults(rt: HostRuntime) -> Result<(), Fail> {
     let alloc = rt.alloc();
+    let unknown = Some(WireFault::UnknownReader);
     for (op, members, whole) in [
-        ("add_land", OF_ADD_LAND, None),
-        ("read", OF_READ, Some(WireFault::UnknownReader)),
+        ("add_land", OF_ADD_LAND.as_slice(), None),
+        ("add_change", OF_CHANGE.as_slice(), None),
+        ("alter_change", OF_CHANGE.as_slice(), None),
+        ("drop_change", OF_DROP_CHANGE.as_slice(), None),
+        ("read", OF_READ.as_slice(), unknown),
+        ("day", OF_DAY.as_slice(), unknown),
+        ("lands", OF_LANDS.as_slice(), unknown),
+        ("periods", OF_PERIODS.as_slice(), unknown),
     ] {
         for right in 0..=members.len() {
             let mut missing = format!(in alloc; "{{\"op\":\"{op}\"")?;
@@ -200,110 +316,5 @@ fn long_and_deep_lines(rt: HostRuntime) -> Result<(), Fail> {
         }
         assert_eq!(rt; fault_of(alloc, &line)?, Some(fault), "at depth {depth}");
     }
-    Ok(())
-}
-
-const ROME: [(&str, &str); 3] = [
-    (
-        r#"{"op":"add_land","code":"RM","name":"Rome","calendar":"julian","style":"january","rule":"julian"}"#,
-        "{\"ok\":\"staged\",\"pending\":1}\n",
-    ),
-    (
-        r#"{"op":"publish"}"#,
-        "{\"edition\":1,\"ok\":\"published\"}\n",
-    ),
-    (
-        r#"{"op":"read","reader":1,"code":"RM","year":1582,"month":10,"day":4}"#,
-        "{\"answer\":{\"days\":[{\"day\":577735,\"dual\":\"4 October 1582\",\"gregorian\":\"1582-10-14\",\"jdn\":2299160,\"julian\":\"1582-10-04\",\"label\":\"1582-10-04\",\"weekday\":\"Thursday\"}],\"skipped\":[]},\"edition\":1,\"reader\":1}\n",
-    ),
-];
-
-/// The whole lines of each start of an input are answered, and what is left of a line that was cut is no JSON.
-#[test]
-fn serves_each_start_of_an_input(rt: HostRuntime) -> Result<(), Fail> {
-    let alloc = rt.alloc();
-    let mut input = Vec::new(alloc);
-    let mut replies = Vec::new(alloc);
-    for (line, reply) in ROME {
-        for cut in 1..line.len() {
-            let mut start = input.clone()?;
-            start.extend_from_slice(&line.as_bytes()[..cut])?;
-            let mut told = replies.clone()?;
-            told.extend_from_slice(b"{\"fault\":32,\"name\":\"NotJson\"}\n")?;
-            assert!(rt;
-                served(alloc, 8, &start)?.0 == told,
-                "{cut} bytes of {line}"
-            );
-        }
-        input.extend_from_slice(line.as_bytes())?;
-        replies.extend_from_slice(reply.as_bytes())?;
-        assert!(rt;
-            served(alloc, 8, &input)?.0 == replies,
-            "{line} without its line feed"
-        );
-        input.push(b'\n')?;
-    }
-    let (told, lines) = served(alloc, 8, &input)?;
-    assert!(rt; told == replies);
-    assert_eq!(rt; lines, 3);
-    Ok(())
-}
-
-#[test]
-fn serves_on_after_faults_and_refusals(rt: HostRuntime) -> Result<(), Fail> {
-    let alloc = rt.alloc();
-    let mut input = vec![in alloc; b'x'; LONGEST_LINE + 1]?;
-    let mut replies = Vec::new(alloc);
-    replies.extend_from_slice(b"{\"fault\":31,\"name\":\"LineTooLong\"}\n")?;
-    for (line, reply) in [
-        ("", r#"{"fault":32,"name":"NotJson"}"#),
-        (r#"{"op":"publish""#, r#"{"fault":32,"name":"NotJson"}"#),
-        ("[1]", r#"{"fault":33,"name":"NotObject"}"#),
-        (
-            r#"{"op":7}"#,
-            r#"{"fault":34,"field":"op","name":"BadField"}"#,
-        ),
-        (r#"{"op":"fly"}"#, r#"{"fault":35,"name":"UnknownOp"}"#),
-        (
-            r#"{"op":"lands"}"#,
-            r#"{"fault":34,"field":"reader","name":"BadField"}"#,
-        ),
-        (
-            r#"{"op":"lands","reader":5}"#,
-            r#"{"fault":36,"name":"UnknownReader"}"#,
-        ),
-        (
-            r#"{"op":"publish"}"#,
-            r#"{"fault":15,"name":"NothingPending"}"#,
-        ),
-        (
-            r#"{"op":"read","reader":1,"code":"GB","year":1731,"month":2,"day":11}"#,
-            r#"{"edition":0,"fault":3,"name":"UnknownLand","reader":1}"#,
-        ),
-        (ROME[0].0, r#"{"ok":"staged","pending":1}"#),
-        (ROME[0].0, r#"{"fault":4,"name":"LandExists"}"#),
-        (
-            r#"{"op":"lands","reader":4,"x":0}"#,
-            r#"{"answer":{"lands":[]},"edition":0,"reader":4}"#,
-        ),
-        (r#"{"op":"publish"}"#, r#"{"edition":1,"ok":"published"}"#),
-        (
-            r#"{"op":"read","reader":2,"code":"RM","year":1582,"month":13,"day":4}"#,
-            r#"{"edition":1,"fault":18,"name":"BadDate","reader":2}"#,
-        ),
-        (
-            r#"{"op":"lands","reader":3}"#,
-            r#"{"answer":{"lands":[{"code":"RM","name":"Rome"}]},"edition":1,"reader":3}"#,
-        ),
-    ] {
-        input.push(b'\n')?;
-        input.extend_from_slice(line.as_bytes())?;
-        replies.extend_from_slice(reply.as_bytes())?;
-        replies.push(b'\n')?;
-    }
-    let got = served(alloc, READERS, &input)?;
-    let text = str::from_utf8(&got.0)?;
-    assert_eq!(rt; text, str::from_utf8(&replies)?);
-    assert_eq!(rt; got.1, 16);
     Ok(())
 }

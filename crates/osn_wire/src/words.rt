@@ -1,4 +1,4 @@
-//! The words of a request line.
+//! The words of a request line, and of a reply.
 ghost use Rattle.std.specs.Prelude.{◌≡◌};
 ghost use Rattle.osn_days.specs.Profile.{present};
 ghost use Rattle.osn_wire.specs.Words as words;
@@ -11,9 +11,14 @@ use osn_lands::Style;
 #[derive(Clone, Copy, Debug, PartialEq, Eq)]
 pub(crate) enum Op {
     AddLand,
+    AddChange,
+    AlterChange,
+    DropChange,
     Publish,
     Read,
+    DayIn,
     Lands,
+    Periods,
 }
 
 pub(crate) fn op_named(word: &str) -> Option<Op>
@@ -21,9 +26,14 @@ pub(crate) fn op_named(word: &str) -> Option<Op>
 {
     match word {
         "add_land" => Some(Op::AddLand),
+        "add_change" => Some(Op::AddChange),
+        "alter_change" => Some(Op::AlterChange),
+        "drop_change" => Some(Op::DropChange),
         "publish" => Some(Op::Publish),
         "read" => Some(Op::Read),
+        "day" => Some(Op::DayIn),
         "lands" => Some(Op::Lands),
+        "periods" => Some(Op::Periods),
         _ => None,
     }
 }
@@ -34,6 +44,7 @@ pub(crate) fn calendar_named(word: &str) -> Option<Calendar>
     match word {
         "julian" => Some(Calendar::Julian),
         "gregorian" => Some(Calendar::Gregorian),
+        "swedish" => Some(Calendar::Swedish),
         _ => None,
     }
 }
@@ -43,6 +54,9 @@ pub(crate) fn style_named(word: &str) -> Option<Style>
 {
     match word {
         "january" => Some(Style::January),
+        "annunciation" => Some(Style::Annunciation),
+        "nativity" => Some(Style::Nativity),
+        "september" => Some(Style::September),
         _ => None,
     }
 }
@@ -54,5 +68,35 @@ pub(crate) fn rule_named(word: &str) -> Option<Rule>
         "julian" => Some(Rule::Julian),
         "gregorian" => Some(Rule::Gregorian),
         _ => None,
+    }
+}
+
+pub(crate) fn calendar_word(calendar: Calendar) -> &'static str
+    ensures { result.now ≡ words.calendar_word calendar }
+{
+    match calendar {
+        Calendar::Julian => "julian",
+        Calendar::Gregorian => "gregorian",
+        Calendar::Swedish => "swedish",
+    }
+}
+
+pub(crate) fn style_word(style: Style) -> &'static str
+    ensures { result.now ≡ words.style_word style }
+{
+    match style {
+        Style::January => "january",
+        Style::Annunciation => "annunciation",
+        Style::Nativity => "nativity",
+        Style::September => "september",
+    }
+}
+
+pub(crate) fn rule_word(rule: Rule) -> &'static str
+    ensures { result.now ≡ words.rule_word rule }
+{
+    match rule {
+        Rule::Julian => "julian",
+        Rule::Gregorian => "gregorian",
     }
 }

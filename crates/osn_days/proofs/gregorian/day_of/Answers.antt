@@ -3,13 +3,13 @@ use Rattle.std.proofs.lemmas.Int.{ints}
 use Rattle.jiff_core.specs.Date.{epoch_day}
 use Rattle.osn_days.specs.Profile.{present}
 use Rattle.osn_days.specs.declared.calendar.Calendar.TheVariants.{Gregorian}
-use Rattle.osn_days.proofs.ChainFacts.{month_length_bounds}
+use Rattle.osn_days.proofs.ChainFacts.{gregorian_by_months, month_length_bounds}
 use Rattle.osn_days.proofs.CountFacts.{days_of_count, days_not}
 use Rattle.osn_days.proofs.GregorianFacts.{gregorian_count, gregorian_is, gregorian_place, gregorian_first, gregorian_last_year, IsMade, gregorian_made}
 use Rattle.osn_days.proofs.gregorian.day_of.Goals as goal
 
 pub returns-then-date-lt1 : goal.returns-then-date-lt1
-returns-then-date-lt1 c = days_not present Gregorian c.args.date (λ n on s same.
+returns-then-date-lt1 c = days_not present Gregorian c.args.date gregorian_by_months (λ n on s same.
     let year = gregorian_last_year c.args.date s (omega (arith, gregorian_place c.args.date n on.0 same)) in
     let bound = month_length_bounds Gregorian c.args.date.year c.args.date.month in
     absurd (grind (arith, ints)))
@@ -35,7 +35,7 @@ returns-in-Ok c =
     (omega (arith, gregorian_first, m.count, m.low))
 
 pub returns-in-Err : goal.returns-in-Err
-returns-in-Err c = days_not present Gregorian c.args.date (λ n on s same.
+returns-in-Err c = days_not present Gregorian c.args.date gregorian_by_months (λ n on s same.
     let bound = month_length_bounds Gregorian c.args.date.year c.args.date.month in
     let year : to_z w16 (of_z w16 (to_z w32 (of_z w32 c.args.date.year))) ≡ c.args.date.year = omega (arith, ints) in
     let month : to_z w8 c.args.date.month ≡ pos c.args.date.month = omega (arith, ints) in

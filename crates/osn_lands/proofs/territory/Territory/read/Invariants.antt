@@ -1,10 +1,9 @@
-use Rattle.std.proofs.Common.{◌≡◌, ◌-◌, filter}
-use Rattle.std.specs.List.{range_with_len}
-use Rattle.osn_lands.specs.Label.{local, same_label}
-use Rattle.osn_lands.specs.Territory.{regime_at}
+use Rattle.std.proofs.Common.{◌≡◌, ◌++◌, drop}
+use Rattle.std.specs.List.{flat_map}
+use Rattle.osn_lands.specs.Reading.{days_read}
 use Rattle.osn_lands.proofs.territory.Territory.read.Given as goal
 
--- the days before this one that have the label
-abbrev pub invariant-loop-number : goal.invariant-loop-number
-invariant-loop-number l =
-    l.days.items ≡ filter (λ d. same_label (local (regime_at l.self d) d) l.label) (range_with_len 1 (l.number - 1))
+-- the days found so far, and those of the periods that are left
+abbrev pub invariant-loop-period : goal.invariant-loop-period
+invariant-loop-period l =
+    l.days.items ++ flat_map (days_read l.label) (drop l.period-index l.period-items) ≡ flat_map (days_read l.label) l.period-items

@@ -1,0 +1,56 @@
+//! The Swedish calendar by the Julian. From 1 March 1700 to 29 February 1712 it is a day ahead: the date of a day is
+//! that of the next day in the Julian calendar. Then comes 30 February 1712, and the two agree again.
+ghost use Rattle.std.specs.Prelude.{◌≡◌};
+ghost use Rattle.std.specs.Option.{option_to_list};
+ghost use Rattle.osn_days.specs.Profile.{present};
+ghost use Rattle.osn_days.specs.Chain as chain;
+ghost use Rattle.osn_days.specs.declared.calendar.Calendar.TheVariants.{Swedish};
+
+use crate::date::Date;
+use crate::day::Day;
+use crate::julian;
+
+/// The day of 1 March 1700, which is 29 February in the Julian calendar.
+const FIRST_AHEAD: u32 = 620_617;
+
+/// The day of 30 February 1712, which is 29 February in the Julian calendar.
+const EXTRA: u32 = 625_000;
+
+/// The date of a day.
+pub fn date_of(day: Day) -> Date
+    ensures { result ≡ chain.date_of Swedish day }
+{
+    let number = day.number();
+    if number == EXTRA {
+        return Date {
+            year: 1712,
+            month: 2,
+            day: 30,
+        };
+    }
+    if number >= FIRST_AHEAD && number < EXTRA {
+        return julian::date_of(Day::at(number + 1));
+    }
+    julian::date_of(day)
+}
+
+/// The one day that has the date, or `None` where no day of the line has it.
+pub fn day_of(date: Date) -> Option<Day>
+    ensures { option_to_list result ≡ chain.days_with_date present Swedish date }
+{
+    if date.year == 1712 && date.month == 2 && date.day == 30 {
+        return Some(Day::at(EXTRA));
+    }
+    let day = match julian::day_of(date) {
+        Some(day) => day,
+        None => return None,
+    };
+    let number = day.number();
+    if number == FIRST_AHEAD {
+        return None;
+    }
+    if number > FIRST_AHEAD && number <= EXTRA {
+        return Some(Day::at(number - 1));
+    }
+    Some(day)
+}

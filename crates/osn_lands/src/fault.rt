@@ -1,0 +1,12 @@
+/// Why a territory refuses a call, and is as before.
+#[derive(Clone, Copy, Debug, PartialEq, Eq, Hash)]
+pub enum LandFault {
+    /// A period starts on the day already.
+    ChangeExists,
+    /// No period starts on the day.
+    NoSuchChange,
+    /// Day 1 begins the opening period, which is altered and neither added nor dropped.
+    OpeningPeriod,
+    /// A growth of memory was refused; the call may be tried again.
+    NoMemory,
+}

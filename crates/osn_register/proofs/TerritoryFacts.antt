@@ -1,0 +1,147 @@
+-- One territory of the list changed in its place.
+use Rattle.std.proofs.Common.{◌≡◌, ℕ, zero, suc, ◌+◌, ◌<◌, ◌≤◌, Bool, true, false, cond, not, nat_lt, ◌==◌, if◌then◌else◌, List, [], ◌∷◌, length, map, filter, Option, Some, None, option_map, is_some, is_none, refl, sym, ap, subst, ◌∙◌, arith, unsigned_abs}
+use Rattle.std.proofs.lemmas.Bool.{false≢true}
+use Rattle.std.proofs.lemmas.Bool.Decides.{nat_tests}
+use Rattle.std.proofs.lemmas.List.{length-map}
+use Rattle.osn_register.specs.declared.refusal.Refusal.TheVariants as Refusal
+use Rattle.std.specs.Str.{bytes_eq}
+use Rattle.std.specs.Map.{lookup, set_value}
+use Rattle.osn_days.specs.Profile.{Profile}
+use Rattle.osn_lands.specs.declared.regime.Regime.{Regime}
+use Rattle.osn_lands.specs.Territory.{PlainTerritory}
+use Rattle.osn_lands.specs.Changes.{with_start, starts_on}
+use Rattle.osn_register.specs.declared.limits.Limits.{Limits}
+use Rattle.osn_register.specs.declared.edit.Edit.{Edit}
+use Rattle.osn_register.specs.declared.edit.Edit.TheVariants.{AddLand, AddChange, AlterChange, DropChange}
+use Rattle.osn_register.specs.declared.refusal.Refusal.{Refusal}
+use Rattle.osn_register.specs.Code.{is_code}
+use Rattle.osn_register.specs.Plain.{PlainLand, PlainRegister, land_of, territory_of, code_refusal, is_off_line, refusal_in, inside, or_else, change_refusal, changed, with_territory, AreDistinct, HasFewChanges, HaveFewChanges, IsWellFormed}
+use Rattle.osn_register.specs.Inside.{land_in}
+use Rattle.osn_register.proofs.Kept.{apart_first}
+
+some_is : {X : Type 0} {x y : X} → Some x ≡ Some y → x ≡ y
+some_is h = cc
+
+not_none : {X Y : Type 0} {x : X} → Some x ≡ None → Y
+not_none h = absurd (false≢true (sym (ap is_some h)))
+
+-- what is written under a key, seen as the plain list
+module _ {K V : Type 0} (text : K → List ℕ) (name : V → List ℕ) (territory : V → PlainTerritory) where
+  pub map-set_value : (code : List ℕ) (f : PlainTerritory → PlainTerritory) (es : List (K × V)) (v w : V) → lookup (λ k. bytes_eq code (text k)) es ≡ Some v → name w ≡ name v → territory w ≡ f (territory v) → map (land_in text name territory) (set_value (λ k. bytes_eq code (text k)) es w) ≡ with_territory code f (map (land_in text name territory) es)
+  map-set_value code f [] v w found called land = not_none (sym found)
+  map-set_value code f (e ∷ es) v w found called land =
+      elim (bytes_eq code (text e.0)) as (λ b. cond b (Some e.1) (lookup (λ k. bytes_eq code (text k)) es) ≡ Some v → map (land_in text name territory) (cond b ((e.0, w) ∷ es) (e ∷ set_value (λ k. bytes_eq code (text k)) es w)) ≡ cond b (record (land_in text name territory e) { territory = f (territory e.1) } ∷ map (land_in text name territory) es) (land_in text name territory e ∷ with_territory code f (map (land_in text name territory) es))) [
+        | true ↦ λ h. ap (λ (n : List ℕ). let l : PlainLand = record { code = text e.0; name = n; territory = territory w } in l ∷ map (land_in text name territory) es) (called ∙ ap name (sym (some_is h)))
+            ∙ ap (λ (t : PlainTerritory). let l : PlainLand = record { code = text e.0; name = name e.1; territory = t } in l ∷ map (land_in text name territory) es) (land ∙ ap (λ x. f (territory x)) (sym (some_is h)))
+        | false ↦ λ h. ap (λ ls. land_in text name territory e ∷ ls) (map-set_value code f es v w h called land)
+      ] found
+
+land_of-with : (code other : List ℕ) (f : PlainTerritory → PlainTerritory) (ls : List PlainLand) → land_of other ls ≡ None → land_of other (with_territory code f ls) ≡ None
+land_of-with code other f [] none = refl
+land_of-with code other f (l ∷ ls) none =
+    let first = apart_first other l ls none in
+    elim (bytes_eq code l.code) as (λ b. land_of other (cond b (record l { territory = f l.territory } ∷ ls) (l ∷ with_territory code f ls)) ≡ None) [
+      | true ↦ ap (λ b. cond b (Some (record l { territory = f l.territory })) (land_of other ls)) first.0 ∙ first.1
+      | false ↦ ap (λ b. cond b (Some l) (land_of other (with_territory code f ls))) first.0 ∙ land_of-with code other f ls first.1
+    ]
+
+AreDistinct-with : (code : List ℕ) (f : PlainTerritory → PlainTerritory) (ls : List PlainLand) → AreDistinct ls → AreDistinct (with_territory code f ls)
+AreDistinct-with code f [] distinct = tt
+AreDistinct-with code f (l ∷ ls) distinct =
+    elim (bytes_eq code l.code) as (λ b. AreDistinct (cond b (record l { territory = f l.territory } ∷ ls) (l ∷ with_territory code f ls))) [
+      | true ↦ distinct
+      | false ↦ (land_of-with code l.code f ls distinct.0, AreDistinct-with code f ls distinct.1)
+    ]
+
+length-with : (code : List ℕ) (f : PlainTerritory → PlainTerritory) (ls : List PlainLand) → length (with_territory code f ls) ≡ length ls
+length-with code f [] = refl
+length-with code f (l ∷ ls) =
+    elim (bytes_eq code l.code) as (λ b. length (cond b (record l { territory = f l.territory } ∷ ls) (l ∷ with_territory code f ls)) ≡ suc (length ls)) [
+      | true ↦ refl
+      | false ↦ ap suc (length-with code f ls)
+    ]
+
+HaveFewChanges-with : (limits : Limits) (code : List ℕ) (f : PlainTerritory → PlainTerritory) (ls : List PlainLand) → HaveFewChanges limits ls → ((t : PlainTerritory) → territory_of code ls ≡ Some t → HasFewChanges limits t → HasFewChanges limits (f t)) → HaveFewChanges limits (with_territory code f ls)
+HaveFewChanges-with limits code f [] few still = tt
+HaveFewChanges-with limits code f (l ∷ ls) few still =
+    elim (bytes_eq code l.code) as (λ b. ((t : PlainTerritory) → option_map (λ (k : PlainLand). k.territory) (cond b (Some l) (land_of code ls)) ≡ Some t → HasFewChanges limits t → HasFewChanges limits (f t)) → HaveFewChanges limits (cond b (record l { territory = f l.territory } ∷ ls) (l ∷ with_territory code f ls))) [
+      | true ↦ λ here. (here l.territory refl few.0, few.1)
+      | false ↦ λ later. (few.0, HaveFewChanges-with limits code f ls few.1 later)
+    ] still
+
+-- a register stays well formed where one of its territories is changed within the limit
+pub IsWellFormed-with : (r : PlainRegister) (code : List ℕ) (f : PlainTerritory → PlainTerritory) → IsWellFormed r → ((t : PlainTerritory) → territory_of code r.lands ≡ Some t → HasFewChanges r.limits t → HasFewChanges r.limits (f t)) → IsWellFormed (record r { lands = with_territory code f r.lands })
+IsWellFormed-with r code f w still = record {
+  distinct = AreDistinct-with code f r.lands w.distinct;
+  within = omega (arith, length-with code f r.lands, w.within);
+  few_changes = HaveFewChanges-with r.limits code f r.lands w.few_changes still;
+}
+
+-- what is lawful in a territory of a known code
+pub lawful_in : (lands : List PlainLand) (code : List ℕ) (refused : PlainTerritory → Option Refusal) → refusal_in lands code refused ≡ None → (t : PlainTerritory) → territory_of code lands ≡ Some t → refused t ≡ None
+lawful_in lands code refused h t known = by (code_refusal lands code) (territory_of code lands) h known
+  where
+    by : (o : Option Refusal) (u : Option PlainTerritory) → or_else o (inside refused u) ≡ None → u ≡ Some t → refused t ≡ None
+    by (Some f) u h known = not_none h
+    by None u h known = rw known at h
+
+-- a known code has a territory
+pub no_territory : (lands : List PlainLand) (code : List ℕ) (refused : PlainTerritory → Option Refusal) → refusal_in lands code refused ≡ None → territory_of code lands ≡ None → ⊥
+no_territory lands code refused h none = by (not (is_code code)) (land_of code lands) h none
+  where
+    by : (b : Bool) (o : Option PlainLand) → or_else (if b then Some Refusal.BadCode else (if is_none o then Some Refusal.UnknownLand else None)) (inside refused (option_map (λ l. l.territory) o)) ≡ None → option_map (λ (l : PlainLand). l.territory) o ≡ None → ⊥
+    by true o h none = not_none h
+    by false None h none = not_none h
+    by false (Some l) h none = not_none none
+
+-- of four tests the last has not applied
+last_passed : (a b c d : Bool) (f g h k : Refusal) → (if a then Some f else (if b then Some g else (if c then Some h else (if d then Some k else None)))) ≡ None → d ≡ false
+last_passed true b c d f g h k none = not_none none
+last_passed false true c d f g h k none = not_none none
+last_passed false false true d f g h k none = not_none none
+last_passed false false false true f g h k none = not_none none
+last_passed false false false false f g h k none = refl
+
+not_lt : (m n : ℕ) → nat_lt m n ≡ false → n ≤ m
+not_lt m n h = grind (arith, nat_tests)
+
+length-with_start : (d : ℕ) (r : Regime) (starts : List (ℕ × Regime)) → length (with_start d r starts) ≡ suc (length starts)
+length-with_start d r [] = refl
+length-with_start d r (s ∷ rest) =
+    elim (nat_lt d s.0) as (λ b. length (cond b ((d, r) ∷ s ∷ rest) (s ∷ with_start d r rest)) ≡ suc (suc (length rest))) [
+      | true ↦ refl
+      | false ↦ ap suc (length-with_start d r rest)
+    ]
+
+length-filter : {X : Type 0} (p : X → Bool) (xs : List X) → length (filter p xs) ≤ length xs
+length-filter p [] = omega arith
+length-filter p (x ∷ xs) =
+    elim (p x) as (λ b. length (cond b (x ∷ filter p xs) (filter p xs)) ≤ suc (length xs)) [
+      | true ↦ omega (arith, length-filter p xs)
+      | false ↦ omega (arith, length-filter p xs)
+    ]
+
+-- a lawful change leaves the territory within the limit
+pub still_few : (p : Profile) (limits : Limits) (e : Edit) (t : PlainTerritory) → change_refusal p limits e t ≡ None → HasFewChanges limits t → HasFewChanges limits (changed e t)
+still_few p limits (AddLand code name regime) t lawful few = few
+still_few p limits (AddChange code day regime) t lawful few =
+    let room = last_passed (is_off_line p day) (unsigned_abs day == 1) (starts_on t (unsigned_abs day)) (nat_lt limits.changes (length t.starts)) Refusal.DayOffLine Refusal.OpeningPeriod Refusal.ChangeExists Refusal.TooManyChanges lawful in
+    let at_most : length t.starts ≤ limits.changes = not_lt limits.changes (length t.starts) room in
+    omega (arith, length-with_start (unsigned_abs day) regime t.starts)
+still_few p limits (AlterChange code day regime) t lawful few = omega (arith, length-map t.starts (λ s. if s.0 == unsigned_abs day then (unsigned_abs day, regime) else s))
+still_few p limits (DropChange code day) t lawful few = omega (arith, length-filter (λ s. not (s.0 == unsigned_abs day)) t.starts)
+
+pub with_same : (code : List ℕ) (ls : List PlainLand) → with_territory code (λ t. t) ls ≡ ls
+with_same code [] = refl
+with_same code (l ∷ ls) =
+    elim (bytes_eq code l.code) as (λ b. cond b (l ∷ ls) (l ∷ with_territory code (λ t. t) ls) ≡ l ∷ ls) [
+      | true ↦ refl
+      | false ↦ ap (λ ks. l ∷ ks) (with_same code ls)
+    ]
+
+-- the register once a territory was written under its key
+pub register-with : {K V : Type 0} (text : K → List ℕ) (name : V → List ℕ) (territory : V → PlainTerritory) (limits : Limits) (es new : List (K × V)) (now : PlainRegister) (code : List ℕ) (f : PlainTerritory → PlainTerritory) (v w : V) → record { limits = limits; lands = map (land_in text name territory) es } ≡ now → new ≡ set_value (λ k. bytes_eq code (text k)) es w → lookup (λ k. bytes_eq code (text k)) es ≡ Some v → name w ≡ name v → territory w ≡ f (territory v) → record { limits = limits; lands = map (land_in text name territory) new } ≡ record now { lands = with_territory code f now.lands }
+register-with text name territory limits es new now code f v w is written found called land =
+    ap (λ (ls : List PlainLand). let r : PlainRegister = record { limits = limits; lands = ls } in r)
+    (ap (map (land_in text name territory)) written ∙ map-set_value text name territory code f es v w found called land)
+    ∙ ap (λ (r : PlainRegister). record r { lands = with_territory code f r.lands }) is

@@ -1,0 +1,30 @@
+//! The members of a line's object by their types.
+ghost use Rattle.std.specs.Prelude.{◌≡◌, MatchResult, Ok, Err};
+ghost use Rattle.serde_json.specs.View.{view};
+ghost use Rattle.osn_wire.specs.Request as said;
+
+use crate::member::Member;
+use crate::wire_fault::WireFault;
+use serde_json::Value;
+
+/// A member that is a text.
+pub(crate) fn text_at(value: &Value, member: Member) -> Result<&str, WireFault>
+    ensures { MatchResult result
+        (λ s. said.text_at member (view value.now) ≡ Ok s.now)
+        (λ f. said.text_at member (view value.now) ≡ Err f) }
+{
+    match value.get(member.name()).and_then(Value::as_str) {
+        Some(text) => Ok(text),
+        None => Err(WireFault::BadField(member)),
+    }
+}
+
+/// A member that is a whole number.
+pub(crate) fn whole_at(value: &Value, member: Member) -> Result<i64, WireFault>
+    ensures { result ≡ said.whole_at member (view value.now) }
+{
+    match value.get(member.name()).and_then(Value::as_i64) {
+        Some(number) => Ok(number),
+        None => Err(WireFault::BadField(member)),
+    }
+}
