@@ -1,6 +1,6 @@
 //! Territories of an opening period alone: what is refused there, and how their days are named.
 use crate::samples::{
-    GREGORIAN, Kind, answers, change, day_in, has_periods, names_days, of_rome, reads,
+    GREGORIAN, Kind, answers, day_in, has_periods, make_change, names_days, of_rome, reads,
     refused_in_turn, rome,
 };
 use crate::{Limits, Refusal, Register};
@@ -33,15 +33,13 @@ fn unchanging(alloc: Global) -> Result<Register, AllocError> {
     Register::fold(alloc, limits, &[rome(alloc)?])
 }
 
-/// How many of these edits in turn are refused so by that register, or none where they leave it another one.
+/// How many of these edits in turn are refused so by that register.
 fn refused_in_order(
     alloc: Global,
     edits: &[(Kind, &str, i64, Refusal)],
 ) -> Result<usize, AllocError> {
     let mut register = unchanging(alloc)?;
-    let count = refused_in_turn(alloc, &mut register, edits)?;
-    let is_kept = has_periods(alloc, &register, "RM", "1 to 1095362 julian. ")?;
-    Ok(if is_kept { count } else { 0 })
+    refused_in_turn(alloc, &mut register, ("RM", "1 to 1095362 julian. "), edits)
 }
 
 /// Each but the last has a later fault too.
@@ -105,7 +103,7 @@ fn days_are_named_or_refused_in_order(rt: HostRuntime) -> Result<(), Fail> {
 /// Whether the opening period of Rome has the regime that it is altered to, and then a day is named by it.
 fn is_altered(alloc: Global) -> Result<bool, AllocError> {
     let mut register = unchanging(alloc)?;
-    register.apply_if_lawful(&change(alloc, Kind::Alter, "RM", 1, GREGORIAN)?)?;
+    make_change(alloc, &mut register, Kind::Alter, "RM", 1, GREGORIAN)?;
     let is_named = answers(
         alloc,
         &register,

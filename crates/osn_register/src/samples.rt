@@ -25,7 +25,7 @@ pub(crate) const MIXED: Regime = Regime {
 };
 
 /// The edits of a territory that is there.
-#[derive(Clone, Copy, Debug)]
+#[derive(Clone, Copy)]
 pub(crate) enum Kind {
     Add,
     Alter,
@@ -91,6 +91,18 @@ pub(crate) fn of_rome(alloc: Global) -> Result<Register, AllocError> {
     Register::fold(alloc, Limits::standard(), &[rome(alloc)?])
 }
 
+/// Applies an edit of that kind, where it is lawful.
+pub(crate) fn make_change(
+    alloc: Global,
+    register: &mut Register,
+    kind: Kind,
+    code: &str,
+    day: i64,
+    regime: Regime,
+) -> Result<(), AllocError> {
+    register.apply_if_lawful(&change(alloc, kind, code, day, regime)?)
+}
+
 /// What an edit is refused by, where `check` and `apply` agree on it, and `apply_if_lawful` passes over it.
 pub(crate) fn refused(register: &mut Register, edit: &Edit) -> Result<Option<Refusal>, AllocError> {
     let checked = register.check(edit).err();
@@ -99,15 +111,19 @@ pub(crate) fn refused(register: &mut Register, edit: &Edit) -> Result<Option<Ref
     Ok(if checked == applied { applied } else { None })
 }
 
-/// How many of these edits in turn are refused so, up to the first that is not.
+/// How many of these edits in turn are refused so, and leave the territory its periods, up to the first that does not.
 pub(crate) fn refused_in_turn(
     alloc: Global,
     register: &mut Register,
+    land: (&str, &str),
     edits: &[(Kind, &str, i64, Refusal)],
 ) -> Result<usize, AllocError> {
     for (place, (kind, code, day, refusal)) in edits.iter().enumerate() {
         let edit = change(alloc, *kind, code, *day, GREGORIAN)?;
         if refused(register, &edit)? != Some(*refusal) {
+            return Ok(place);
+        }
+        if !has_periods(alloc, register, land.0, land.1)? {
             return Ok(place);
         }
     }
