@@ -1,20 +1,19 @@
 -- What a change does to ascending starts, where the periods that follow from them cover the days.
-use Rattle.std.proofs.Common.{◌≡◌, ℕ, ◌+◌, ◌<◌, ◌≤◌, Bool, true, false, suc, List, [], ◌∷◌, ◌++◌, length, get_or, take, drop, set, ◌==◌, ◌||◌, not, nat_lt, if◌then◌else◌, map, filter, Option, Some, None, refl, ap, sym, subst, ◌∙◌, arith, eq-eqb}
+use Rattle.std.proofs.Common.{◌≡◌, ℕ, ◌+◌, ◌<◌, ◌≤◌, Bool, true, false, suc, List, [], ◌∷◌, ◌++◌, length, get_or, take, drop, set, ◌==◌, ◌||◌, not, if◌then◌else◌, map, filter, Some, None, refl, ap, sym, subst, ◌∙◌, arith, eq-eqb}
 use Rattle.std.proofs.Math.Bool.{or-false}
 use Rattle.std.specs.List.{HoldsAt, list_any, remove}
 use Rattle.std.proofs.lemmas.List.{set_at, length-take-le}
 use Rattle.std.proofs.lemmas.Bool.{lt-ltb, le-ltb, ne_eqb}
 use Rattle.osn_lands.specs.declared.regime.Regime.{Regime}
 use Rattle.osn_lands.specs.declared.period.Period.{Period}
-use Rattle.osn_lands.specs.declared.fault.LandFault.{LandFault}
 use Rattle.osn_lands.specs.declared.fault.LandFault.TheVariants.{ChangeExists, NoSuchChange, OpeningPeriod}
 use Rattle.osn_lands.specs.Territory.{PlainTerritory, Covers}
 use Rattle.osn_lands.specs.Changes.{starts_on, add_fault, alter_fault, drop_fault, with_start}
 use Rattle.osn_lands.specs.Inside.{start_of}
 use Rattle.osn_lands.proofs.CoverFacts.{at_place, begins, begins_later}
 
-abbrev pub of_starts : List (ℕ × Regime) → PlainTerritory
-of_starts starts = record { starts = starts }
+abbrev pub of_starts : List (ℕ × ℕ) → List (ℕ × Regime) → PlainTerritory
+of_starts es starts = record { starts = starts; exceptions = es }
 
 abbrev alter : ℕ → Regime → ℕ × Regime → ℕ × Regime
 alter d regime s = if s.0 == d then (d, regime) else s
@@ -131,8 +130,8 @@ module _ (ps : List Period) (i first last d : ℕ) (p : Period) (within : i < le
       ∙ ap (λ qs. filter (is_off d) (map start_of qs)) (sym split)
 
 -- as the code finds it: the list as a slice, and the place by what it holds
-pub starts_on-found : (ps qs : List Period) (t : PlainTerritory) (i first last d : ℕ) (p : Period) → qs ≡ ps → of_starts (map start_of ps) ≡ t → i < length qs → HoldsAt (λ q. (q.first ≤ d) × (d ≤ q.last)) qs i → p ≡ get_or ps i p → Covers first last ps → starts_on t d ≡ (p.first == d)
-starts_on-found ps qs t i first last d p same view within holds read covers =
+pub starts_on-found : (es : List (ℕ × ℕ)) (ps qs : List Period) (t : PlainTerritory) (i first last d : ℕ) (p : Period) → qs ≡ ps → of_starts es (map start_of ps) ≡ t → i < length qs → HoldsAt (λ q. (q.first ≤ d) × (d ≤ q.last)) qs i → p ≡ get_or ps i p → Covers first last ps → starts_on t d ≡ (p.first == d)
+starts_on-found es ps qs t i first last d p same view within holds read covers =
     let inside = subst (λ l. i < length l) same within in
     let found = subst (λ l. ((get_or l i p).first ≤ d) × (d ≤ (get_or l i p).last)) same (holds p) in
     let held = subst (λ q. (q.first ≤ d) × (d ≤ q.last)) (sym read) found in

@@ -128,14 +128,14 @@ undated_among p t label [] covers agree none nothing = refl
 undated_among p t label (opening ∷ rest) covers agree none nothing =
     undated_after p t label 1 opening rest covers agree none (ahead_at_start p t label opening none agree.0 covers.0) nothing
 
-explained : (p : Profile) (label : Label) (ps : List Period) → Covers 1 p.high ps → IsExplained p (record { starts = map start_of ps }) label (skipped p (record { starts = map start_of ps }) label)
-explained p label ps covers none dated =
-    let t : PlainTerritory = record { starts = map start_of ps } in
+explained : (es : List (ℕ × ℕ)) (p : Profile) (label : Label) (ps : List Period) → Covers 1 p.high ps → IsExplained p (record { starts = map start_of ps; exceptions = es }) label (skipped p (record { starts = map start_of ps; exceptions = es }) label)
+explained es p label ps covers none dated =
+    let t : PlainTerritory = record { starts = map start_of ps; exceptions = es } in
     false_from_ne_true (is_nowhere (skipped p t label)) (λ nowhere.
     let nothing : skipped_among p t label ps ≡ [] = ap (skipped_among p t label) (sym (periods_back 1 p.high ps covers)) ∙ nowhere_is (skipped p t label) nowhere in
-    both_ways (is_dated_among p label (map start_of ps)) (undated_among p t label ps covers (agrees 1 p.high ps covers) none nothing) dated)
+    both_ways (is_dated_among p label (map start_of ps)) (undated_among p t label ps covers (agrees es 1 p.high ps covers) none nothing) dated)
 
-pub explained_is : (p : Profile) (t : PlainTerritory) (label : Label) (found : List ℕ) (ps : List Period) → record { starts = map start_of ps } ≡ t → Covers 1 p.high ps → found ≡ skipped p t label → IsExplained p t label found
-explained_is p t label found ps view covers same =
-    let all = subst (λ s. IsExplained p s label (skipped p s label)) view (explained p label ps covers) in
+pub explained_is : (es : List (ℕ × ℕ)) (p : Profile) (t : PlainTerritory) (label : Label) (found : List ℕ) (ps : List Period) → record { starts = map start_of ps; exceptions = es } ≡ t → Covers 1 p.high ps → found ≡ skipped p t label → IsExplained p t label found
+explained_is es p t label found ps view covers same =
+    let all = subst (λ s. IsExplained p s label (skipped p s label)) view (explained es p label ps covers) in
     λ none dated. ap is_nowhere same ∙ all none dated

@@ -5,6 +5,7 @@ pub mod RegimeFacts
 pub mod CoverFacts
 pub mod ChangeFacts
 pub mod ReadingFacts
+pub mod EasterFacts
 pub mod MemberFacts
 pub mod SkippedFacts
 pub mod ExplainedFacts

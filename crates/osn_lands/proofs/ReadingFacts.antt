@@ -10,8 +10,7 @@ use Rattle.osn_lands.specs.declared.label.Label.{Label}
 use Rattle.osn_lands.specs.declared.period.Period.{Period}
 use Rattle.osn_lands.specs.Label.{local, same_label}
 use Rattle.osn_lands.specs.Territory.{PlainTerritory, Covers, regime_at, reading}
-use Rattle.osn_lands.specs.Reading.{days_read}
-use Rattle.osn_lands.specs.Inside.{start_of}
+use Rattle.osn_lands.specs.Inside.{start_of, days_in, days_read}
 use Rattle.osn_lands.proofs.RegimeFacts.{Agrees, agrees}
 
 range_more : (a n j : ℕ) → a + n ≡ j → range_with_len a (suc n) ≡ range_with_len a n ++ j ∷ []
@@ -69,33 +68,39 @@ days_join first last p until from full =
     ∙ ap (λ k. range_with_len k (last + 1 - first)) from
 
 -- period by period, or day by day
-in_periods : (label : Label) (regime : ℕ → Regime) (first last : ℕ) (ps : List Period) → Covers first last ps → Agrees regime ps → flat_map (days_read label) ps ≡ filter (λ d. same_label (local (regime d) d) label) (range_with_len first (last + 1 - first))
-in_periods label regime first last [] covers agree =
+in_periods : (test : Regime → ℕ → Bool) (regime : ℕ → Regime) (first last : ℕ) (ps : List Period) → Covers first last ps → Agrees regime ps → flat_map (days_in test) ps ≡ filter (λ d. test (regime d) d) (range_with_len first (last + 1 - first))
+in_periods test regime first last [] covers agree =
     let none : last + 1 - first ≡ 0 = omega (arith, covers) in rw none refl
-in_periods label regime first last (p ∷ ps) covers agree =
-    let test : ℕ → Bool = λ d. same_label (local (regime d) d) label in
+in_periods test regime first last (p ∷ ps) covers agree =
+    let on : ℕ → Bool = λ d. test (regime d) d in
     let n = p.last + 1 - p.first in
     let m = last + 1 - (p.last + 1) in
-    let here : days_read label p ≡ filter test (range_with_len p.first n) =
-    filter_same (λ d. same_label (local p.regime d) label) test p.first n (λ d low high. ap (λ r. same_label (local r d) label) (sym (agree.0 d low (omega arith)))) in
-    ap (λ l. l ++ flat_map (days_read label) ps) here
-    ∙ ap (λ l. filter test (range_with_len p.first n) ++ l) (in_periods label regime (p.last + 1) last ps covers.2 agree.1)
-    ∙ sym (filter-append test (range_with_len p.first n) (range_with_len (p.last + 1) m))
-    ∙ ap (filter test) (days_join first last p (covers_until (p.last + 1) last ps covers.2) covers.0 covers.1)
+    let here : days_in test p ≡ filter on (range_with_len p.first n) =
+    filter_same (test p.regime) on p.first n (λ d low high. ap (λ r. test r d) (sym (agree.0 d low (omega arith)))) in
+    ap (λ l. l ++ flat_map (days_in test) ps) here
+    ∙ ap (λ l. filter on (range_with_len p.first n) ++ l) (in_periods test regime (p.last + 1) last ps covers.2 agree.1)
+    ∙ sym (filter-append on (range_with_len p.first n) (range_with_len (p.last + 1) m))
+    ∙ ap (filter on) (days_join first last p (covers_until (p.last + 1) last ps covers.2) covers.0 covers.1)
 
-pub read_periods : (p : Profile) (label : Label) (ps : List Period) → Covers 1 p.high ps → flat_map (days_read label) ps ≡ reading p (record { starts = map start_of ps }) label
-unfolding reading line
-read_periods p label ps covers =
+in_territory : (test : Regime → ℕ → Bool) (es : List (ℕ × ℕ)) (p : Profile) (ps : List Period) → Covers 1 p.high ps → flat_map (days_in test) ps ≡ filter (λ d. test (regime_at (record { starts = map start_of ps; exceptions = es }) d) d) (line p)
+unfolding line
+in_territory test es p ps covers =
     let whole : p.high + 1 - 1 ≡ p.high = omega arith in
-    in_periods label (regime_at (record { starts = map start_of ps })) 1 p.high ps covers (agrees 1 p.high ps covers)
+    in_periods test (regime_at (record { starts = map start_of ps; exceptions = es })) 1 p.high ps covers (agrees es 1 p.high ps covers)
     ∙ rw whole refl
 
--- all periods have been read
-pub reading_is : (p : Profile) (t : PlainTerritory) (label : Label) (found : List ℕ) (items ps : List Period) (i : ℕ) → items ≡ ps → record { starts = map start_of ps } ≡ t → Covers 1 p.high ps → length items ≤ i → found ++ flat_map (days_read label) (drop i items) ≡ flat_map (days_read label) items → found ≡ reading p t label
-reading_is p t label found items ps i same view covers all invariant =
+-- what is found once all periods were seen
+pub found_in_all : (test : Regime → ℕ → Bool) (es : List (ℕ × ℕ)) (p : Profile) (t : PlainTerritory) (found : List ℕ) (items ps : List Period) (i : ℕ) → items ≡ ps → record { starts = map start_of ps; exceptions = es } ≡ t → Covers 1 p.high ps → length items ≤ i → found ++ flat_map (days_in test) (drop i items) ≡ flat_map (days_in test) items → found ≡ filter (λ d. test (regime_at t d) d) (line p)
+found_in_all test es p t found items ps i same view covers all invariant =
     sym (append-nil found)
-    ∙ ap (λ qs. found ++ flat_map (days_read label) qs) (sym (drop_all i items all))
+    ∙ ap (λ qs. found ++ flat_map (days_in test) qs) (sym (drop_all i items all))
     ∙ invariant
-    ∙ ap (flat_map (days_read label)) same
-    ∙ read_periods p label ps covers
-    ∙ ap (λ s. reading p s label) view
+    ∙ ap (flat_map (days_in test)) same
+    ∙ in_territory test es p ps covers
+    ∙ ap (λ s. filter (λ d. test (regime_at s d) d) (line p)) view
+
+-- all periods have been read
+pub reading_is : (es : List (ℕ × ℕ)) (p : Profile) (t : PlainTerritory) (label : Label) (found : List ℕ) (items ps : List Period) (i : ℕ) → items ≡ ps → record { starts = map start_of ps; exceptions = es } ≡ t → Covers 1 p.high ps → length items ≤ i → found ++ flat_map (days_read label) (drop i items) ≡ flat_map (days_read label) items → found ≡ reading p t label
+unfolding reading
+reading_is es p t label found items ps i same view covers all invariant =
+    found_in_all (λ r d. same_label (local r d) label) es p t found items ps i same view covers all invariant

@@ -29,8 +29,8 @@ at_period first last [] rest p d before covers low high = at_first first last p 
 at_period first last (q ∷ front) rest p d before covers low high =
     at_period (q.last + 1) last front rest p d (if nat_le q.first d then q.regime else before) covers.2 low high
 
-pub regime_in : (ps : List Period) (first last : ℕ) → Covers first last ps → (front rest : List Period) (p : Period) → ps ≡ front ++ p ∷ rest → (d : ℕ) → p.first ≤ d → d ≤ p.last → regime_at (record { starts = map start_of ps }) d ≡ p.regime
-regime_in ps first last covers front rest p split d low high =
+pub regime_in : (es : List (ℕ × ℕ)) (ps : List Period) (first last : ℕ) → Covers first last ps → (front rest : List Period) (p : Period) → ps ≡ front ++ p ∷ rest → (d : ℕ) → p.first ≤ d → d ≤ p.last → regime_at (record { starts = map start_of ps; exceptions = es }) d ≡ p.regime
+regime_in es ps first last covers front rest p split d low high =
     ap (λ qs. regime_after d no_start (map start_of qs)) split
     ∙ at_period first last front rest p d no_start (rw split at covers) low high
 
@@ -47,5 +47,5 @@ agrees_after first last (p ∷ ps) before covers = (
 )
 
 -- and so it is in a territory
-pub agrees : (first last : ℕ) (ps : List Period) → Covers first last ps → Agrees (regime_at (record { starts = map start_of ps })) ps
-agrees first last ps covers = agrees_after first last ps (λ d. no_start) covers
+pub agrees : (es : List (ℕ × ℕ)) (first last : ℕ) (ps : List Period) → Covers first last ps → Agrees (regime_at (record { starts = map start_of ps; exceptions = es })) ps
+agrees es first last ps covers = agrees_after first last ps (λ d. no_start) covers

@@ -122,10 +122,10 @@ named_skipped_among : (p : Profile) (t : PlainTerritory) (label : Label) (ps : L
 named_skipped_among p t label [] covers agree = refl
 named_skipped_among p t label (opening ∷ rest) covers agree = named_skipped_after p t label 1 p.high opening rest covers agree
 
-pub named_skipped : (p : Profile) (label : Label) (ps : List Period) → Covers 1 p.high ps → named_among p label ps ≡ skipped p (record { starts = map start_of ps }) label
-named_skipped p label ps covers =
-    named_skipped_among p (record { starts = map start_of ps }) label ps covers (agrees 1 p.high ps covers)
-    ∙ ap (skipped_among p (record { starts = map start_of ps }) label) (sym (periods_back 1 p.high ps covers))
+pub named_skipped : (es : List (ℕ × ℕ)) (p : Profile) (label : Label) (ps : List Period) → Covers 1 p.high ps → named_among p label ps ≡ skipped p (record { starts = map start_of ps; exceptions = es }) label
+named_skipped es p label ps covers =
+    named_skipped_among p (record { starts = map start_of ps; exceptions = es }) label ps covers (agrees es 1 p.high ps covers)
+    ∙ ap (skipped_among p (record { starts = map start_of ps; exceptions = es }) label) (sym (periods_back 1 p.high ps covers))
 
 step_named : (p : Profile) (label : Label) (ps : List Period) (i : ℕ) (old new d e : Period) → 1 ≤ i → i < length ps → get_or ps (i - 1) d ≡ old → get_or ps i e ≡ new → named_among p label (drop (i - 1) ps) ≡ (if is_named p label old new then new.first ∷ named_among p label (drop i ps) else named_among p label (drop i ps))
 step_named p label ps i old new d e low high at_old at_new =
@@ -164,11 +164,11 @@ named_last p label (q ∷ []) one = refl
 named_last p label (q ∷ r ∷ ps) one = absurd (omega (arith, one))
 
 -- all changes have been seen
-pub skipped_is : (p : Profile) (t : PlainTerritory) (label : Label) (found : List ℕ) (items ps : List Period) (i : ℕ) → items ≡ ps → record { starts = map start_of ps } ≡ t → Covers 1 p.high ps → 1 ≤ i → length items ≤ i → found ++ named_among p label (drop (i - 1) items) ≡ named_among p label items → found ≡ skipped p t label
-skipped_is p t label found items ps i same view covers low all invariant =
+pub skipped_is : (es : List (ℕ × ℕ)) (p : Profile) (t : PlainTerritory) (label : Label) (found : List ℕ) (items ps : List Period) (i : ℕ) → items ≡ ps → record { starts = map start_of ps; exceptions = es } ≡ t → Covers 1 p.high ps → 1 ≤ i → length items ≤ i → found ++ named_among p label (drop (i - 1) items) ≡ named_among p label items → found ≡ skipped p t label
+skipped_is es p t label found items ps i same view covers low all invariant =
     sym (append-nil found)
     ∙ ap (λ ds. found ++ ds) (sym (named_last p label (drop (i - 1) items) (simp length-drop (omega arith))))
     ∙ invariant
     ∙ ap (named_among p label) same
-    ∙ named_skipped p label ps covers
+    ∙ named_skipped es p label ps covers
     ∙ ap (λ s. skipped p s label) view

@@ -11,13 +11,15 @@ use Rattle.osn_lands.specs.declared.label.Label.{Label}
 use Rattle.osn_lands.specs.declared.period.Period.{Period}
 use Rattle.osn_lands.specs.Label.{local, same_label, days_with_label}
 
--- the start days in ascending order, each with the regime that comes into force. The first is day 1
+-- the start days in ascending order, each with the regime that comes into force, the first on day 1; and the years with
+-- a listed exception in ascending order, each with the day that is its Easter
 pub record PlainTerritory : Type 0 where
   pub starts : List (ℕ × Regime)
+  pub exceptions : List (ℕ × ℕ)
 
 -- a territory with one regime on every day
 abbrev pub opened : Regime → PlainTerritory
-opened regime = record { starts = (1, regime) ∷ [] }
+opened regime = record { starts = (1, regime) ∷ []; exceptions = [] }
 
 -- the regime where no start is, which no territory has
 abbrev pub no_start : Regime

@@ -7,6 +7,10 @@ pub enum LandFault {
     NoSuchChange,
     /// Day 1 begins the opening period, which is altered and neither added nor dropped.
     OpeningPeriod,
+    /// An exception is listed for the year already.
+    ExceptionExists,
+    /// No exception is listed for the year.
+    NoSuchException,
     /// A growth of memory was refused; the call may be tried again.
     NoMemory,
 }

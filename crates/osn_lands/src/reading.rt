@@ -4,7 +4,7 @@ ghost use Rattle.osn_days.specs.Profile.{present};
 ghost use Rattle.osn_days.specs.Line.{IsDay};
 ghost use Rattle.osn_lands.specs.Label.{days_with_label};
 ghost use Rattle.osn_lands.specs.Territory as plain;
-ghost use Rattle.osn_lands.specs.Reading.{days_read};
+ghost use Rattle.osn_lands.specs.Inside.{days_read};
 
 use crate::label::{Label, day_of_label, label_of};
 use crate::period::Period;

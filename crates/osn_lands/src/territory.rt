@@ -1,24 +1,29 @@
-ghost use Rattle.std.specs.Prelude.{◌≡◌, ◌⊎◌, ◌∷◌, [], Some, None, IfOk, IfErr, OnOk, OnErr, MatchResult};
+ghost use Rattle.std.specs.Prelude.{◌≡◌, ◌⊎◌, ◌∷◌, [], Some, None, IfOk, IfErr, OnOk, OnErr, MatchResult, length};
 ghost use Rattle.osn_days.specs.Profile.{present};
 ghost use Rattle.osn_lands.specs.Territory as plain;
 ghost use Rattle.osn_lands.specs.Changes as changes;
+ghost use Rattle.osn_lands.specs.Easters as easter;
+ghost use Rattle.osn_lands.specs.Exceptions as exceptions;
 ghost use Rattle.osn_lands.specs.declared.fault.LandFault.TheVariants.{NoMemory};
 
 use crate::cover::{join, place_of, split};
+use crate::easters::push_easter;
 use crate::fault::LandFault;
 use crate::label::Label;
 use crate::period::Period;
 use crate::reading::{is_skipped_between, read_period};
 use crate::regime::Regime;
-use osn_days::Day;
+use osn_days::{Day, Year};
 use std::alloc::{AllocError, Global};
+use std::collections::BTreeMap;
 use std::marker::Model;
 
-/// A territory: the regimes that were in force in it, each from its start day on.
+/// A territory: the regimes that were in force in it, each from its start day on, and the years whose Easter is listed.
 #[derive(Drop)]
 pub struct Territory {
     alloc: Global,
     periods: Vec<Period>,
+    exceptions: BTreeMap<Year, Day>,
 }
 
 impl Model for Territory {
@@ -26,9 +31,9 @@ impl Model for Territory {
 
     ghost Value = { PlainTerritory };
 
-    ghost use Rattle.osn_lands.specs.Inside.{starts_in, IsWhole};
+    ghost use Rattle.osn_lands.specs.Inside.{territory_in, IsWhole};
 
-    ghost view = { starts_in };
+    ghost view = { territory_in };
 
     ghost invariant = { IsWhole };
 }
@@ -44,7 +49,11 @@ impl Territory {
             last: Day::LAST,
             regime,
         })?;
-        Ok(Territory { alloc, periods })
+        Ok(Territory {
+            alloc,
+            periods,
+            exceptions: BTreeMap::new(alloc),
+        })
     }
 
     /// Changes the regime from a day on, until the next change or the end of the line.
@@ -113,6 +122,46 @@ impl Territory {
         Ok(())
     }
 
+    /// Lists a day as the Easter of a year, in place of the rule's.
+    ///
+    /// # Errors
+    ///
+    /// `ExceptionExists` where one is listed for the year, then `NoMemory`.
+    pub fn add_exception(&mut self, year: Year, day: Day) -> Result<(), LandFault>
+        ensures lawful { OnOk result (exceptions.add_exception_fault self.old year ≡ None) }
+        ensures ok { OnOk result (self.new ≡ exceptions.with_exception self.old year day) }
+        ensures refused { IfErr result (λ f. (exceptions.add_exception_fault self.old year ≡ Some f)
+            ⊎ ((f ≡ NoMemory) × (exceptions.add_exception_fault self.old year ≡ None))) }
+        ensures unchanged { OnErr result (self.new ≡ self.old) }
+    {
+        if self.exception(year).is_some() {
+            return Err(LandFault::ExceptionExists);
+        }
+        if let Err(_) = self.exceptions.insert(year, day) {
+            return Err(LandFault::NoMemory);
+        }
+        Ok(())
+    }
+
+    /// Drops the exception of a year, whose Easter is the rule's again.
+    ///
+    /// # Errors
+    ///
+    /// `NoSuchException` where none is listed for the year.
+    pub fn drop_exception(&mut self, year: Year) -> Result<(), LandFault>
+        ensures value { MatchResult result
+            (λ _. exceptions.drop_exception_fault self.old year ≡ None)
+            (λ f. exceptions.drop_exception_fault self.old year ≡ Some f) }
+        ensures ok { OnOk result (self.new ≡ exceptions.without_exception self.old year) }
+        ensures unchanged { OnErr result (self.new ≡ self.old) }
+    {
+        if self.exception(year).is_none() {
+            return Err(LandFault::NoSuchException);
+        }
+        self.exceptions.remove(&year);
+        Ok(())
+    }
+
     /// Whether a period starts on a day.
     pub fn starts_on(&self, day: Day) -> bool
         ensures { result ≡ changes.starts_on self.now day }
@@ -162,6 +211,36 @@ impl Territory {
         Ok(days)
     }
 
+    /// The day that is listed as the Easter of a year.
+    pub fn exception(&self, year: Year) -> Option<Day>
+        ensures { result ≡ exceptions.exception_of self.now year }
+    {
+        self.exceptions.get(&year).copied()
+    }
+
+    /// How many years have a listed exception.
+    pub fn exception_count(&self) -> usize
+        ensures { result ≡ length self.now.exceptions }
+    {
+        self.exceptions.len()
+    }
+
+    /// The days that were Easter of a year in the territory, in order: the listed day alone where one is listed, else
+    /// each day that is the year's Easter by the rule in force on it. So a year may have none, one or two.
+    pub fn easters(&self, year: Year) -> Result<Vec<Day>, AllocError>
+        ensures { IfOk result (λ days. days.items ≡ easter.easters present self.now year) }
+    {
+        let mut days = Vec::new(self.alloc);
+        if let Some(day) = self.exception(year) {
+            days.push(day)?;
+            return Ok(days);
+        }
+        for period in &self.periods {
+            push_easter(period, year, &mut days)?;
+        }
+        Ok(days)
+    }
+
     /// An equal territory.
     pub fn copy(&self) -> Result<Territory, AllocError>
         ensures { IfOk result (λ t. t ≡ self.now) }
@@ -169,6 +248,7 @@ impl Territory {
         Ok(Territory {
             alloc: self.alloc,
             periods: self.periods.clone()?,
+            exceptions: self.exceptions.clone()?,
         })
     }
 }

@@ -6,7 +6,7 @@ use Rattle.std.specs.Str.{bytes_eq}
 use Rattle.std.specs.Map.{lookup}
 use Rattle.osn_lands.specs.Territory.{PlainTerritory}
 use Rattle.osn_register.specs.declared.limits.Limits.{Limits}
-use Rattle.osn_register.specs.Plain.{PlainLand, PlainRegister, land_of, territory_of, AreDistinct, HasFewChanges, HaveFewChanges, IsWellFormed}
+use Rattle.osn_register.specs.Plain.{PlainLand, PlainRegister, land_of, territory_of, AreDistinct, IsWithinLimits, AreWithinLimits, IsWellFormed}
 use Rattle.osn_register.specs.Inside.{land_in}
 
 module _ {K V : Type 0} (text : K → List ℕ) (name : V → List ℕ) (territory : V → PlainTerritory) where
@@ -63,16 +63,16 @@ AreDistinct-push (k ∷ ls) l distinct none =
     let first = apart_first l.code k ls none in
     (land_of-push k.code ls l distinct.0 (other_way l.code k.code first.0), AreDistinct-push ls l distinct.1 first.1)
 
-HaveFewChanges-push : (limits : Limits) (ls : List PlainLand) (l : PlainLand) → HaveFewChanges limits ls → HasFewChanges limits l.territory → HaveFewChanges limits (ls ++ l ∷ [])
-HaveFewChanges-push limits [] l few here = (here, tt)
-HaveFewChanges-push limits (k ∷ ls) l few here = (few.0, HaveFewChanges-push limits ls l few.1 here)
+AreWithinLimits-push : (limits : Limits) (ls : List PlainLand) (l : PlainLand) → AreWithinLimits limits ls → IsWithinLimits limits l.territory → AreWithinLimits limits (ls ++ l ∷ [])
+AreWithinLimits-push limits [] l few here = (here, tt)
+AreWithinLimits-push limits (k ∷ ls) l few here = (few.0, AreWithinLimits-push limits ls l few.1 here)
 
 -- a new territory under a new code keeps a register well formed
-pub IsWellFormed-push : (r : PlainRegister) (l : PlainLand) → IsWellFormed r → land_of l.code r.lands ≡ None → length r.lands < r.limits.lands → HasFewChanges r.limits l.territory → IsWellFormed (record r { lands = r.lands ++ l ∷ [] })
+pub IsWellFormed-push : (r : PlainRegister) (l : PlainLand) → IsWellFormed r → land_of l.code r.lands ≡ None → length r.lands < r.limits.lands → IsWithinLimits r.limits l.territory → IsWellFormed (record r { lands = r.lands ++ l ∷ [] })
 IsWellFormed-push r l w none room few = record {
   distinct = AreDistinct-push r.lands l w.distinct none;
   within = omega (arith, length-append r.lands (l ∷ []));
-  few_changes = HaveFewChanges-push r.limits r.lands l w.few_changes few;
+  territories = AreWithinLimits-push r.limits r.lands l w.territories few;
 }
 
 -- what is kept after one new key, seen as the plain list
@@ -103,14 +103,14 @@ copied_absent copied l rest lands code e distinct same =
 pub copied_room : (copied : List PlainLand) (l : PlainLand) (rest lands : List PlainLand) (limit room : ℕ) → copied ++ l ∷ rest ≡ lands → length lands ≤ limit → room ≡ limit → length copied < room
 copied_room copied l rest lands limit room e within same = omega (arith, ap length e, length-append copied (l ∷ rest))
 
-HaveFewChanges-within : (limits : Limits) (front : List PlainLand) (l : PlainLand) (rest : List PlainLand) → HaveFewChanges limits (front ++ l ∷ rest) → HasFewChanges limits l.territory
-HaveFewChanges-within limits [] l rest few = few.0
-HaveFewChanges-within limits (k ∷ front) l rest few = HaveFewChanges-within limits front l rest few.1
+AreWithinLimits-within : (limits : Limits) (front : List PlainLand) (l : PlainLand) (rest : List PlainLand) → AreWithinLimits limits (front ++ l ∷ rest) → IsWithinLimits limits l.territory
+AreWithinLimits-within limits [] l rest few = few.0
+AreWithinLimits-within limits (k ∷ front) l rest few = AreWithinLimits-within limits front l rest few.1
 
-pub copied_few : (copied : List PlainLand) (l : PlainLand) (rest lands : List PlainLand) (limits room : Limits) (t : PlainTerritory) → copied ++ l ∷ rest ≡ lands → HaveFewChanges limits lands → room ≡ limits → t ≡ l.territory → HasFewChanges room t
-copied_few copied l rest lands limits room t e few same land =
-    subst (λ m. HasFewChanges m t) (sym same)
-    (subst (HasFewChanges limits) (sym land) (HaveFewChanges-within limits copied l rest (subst (HaveFewChanges limits) (sym e) few)))
+pub copied_within : (copied : List PlainLand) (l : PlainLand) (rest lands : List PlainLand) (limits room : Limits) (t : PlainTerritory) → copied ++ l ∷ rest ≡ lands → AreWithinLimits limits lands → room ≡ limits → t ≡ l.territory → IsWithinLimits room t
+copied_within copied l rest lands limits room t e few same land =
+    subst (λ m. IsWithinLimits m t) (sym same)
+    (subst (IsWithinLimits limits) (sym land) (AreWithinLimits-within limits copied l rest (subst (AreWithinLimits limits) (sym e) few)))
 
 pub copied_more : (copied : List PlainLand) (l k : PlainLand) (rest lands : List PlainLand) → copied ++ l ∷ rest ≡ lands → k.code ≡ l.code → k.name ≡ l.name → k.territory ≡ l.territory → (copied ++ k ∷ []) ++ rest ≡ lands
 copied_more copied l k rest lands e code called land =

@@ -1,21 +1,24 @@
 -- One territory of the list changed in its place.
-use Rattle.std.proofs.Common.{◌≡◌, ℕ, zero, suc, ◌+◌, ◌<◌, ◌≤◌, Bool, true, false, cond, not, nat_lt, ◌==◌, if◌then◌else◌, List, [], ◌∷◌, length, map, filter, Option, Some, None, option_map, is_some, is_none, refl, sym, ap, subst, ◌∙◌, arith, unsigned_abs}
+use Rattle.std.proofs.Common.{◌≡◌, ℕ, suc, ◌<◌, ◌≤◌, Bool, true, false, cond, not, nat_lt, nat_le, ◌==◌, if◌then◌else◌, List, [], ◌∷◌, length, map, filter, Option, Some, None, option_map, is_some, is_none, refl, sym, ap, ◌∙◌, arith, unsigned_abs}
 use Rattle.std.proofs.lemmas.Bool.{false≢true}
 use Rattle.std.proofs.lemmas.Bool.Decides.{nat_tests}
 use Rattle.std.proofs.lemmas.List.{length-map}
-use Rattle.osn_register.specs.declared.refusal.Refusal.TheVariants as Refusal
 use Rattle.std.specs.Str.{bytes_eq}
-use Rattle.std.specs.Map.{lookup, set_value}
+use Rattle.std.specs.BTreeMap.{insert_entry}
+use Rattle.std.specs.Map.{lookup, set_value, remove_entry}
+use Rattle.std.specs.declared.cmp.Ordering.TheVariants.{Less, Equal, Greater}
+use Rattle.std.specs.Ordering.{match_ordering, nat_cmp}
 use Rattle.osn_days.specs.Profile.{Profile}
 use Rattle.osn_lands.specs.declared.regime.Regime.{Regime}
 use Rattle.osn_lands.specs.Territory.{PlainTerritory}
 use Rattle.osn_lands.specs.Changes.{with_start, starts_on}
+use Rattle.osn_lands.specs.Exceptions.{exception_of}
 use Rattle.osn_register.specs.declared.limits.Limits.{Limits}
 use Rattle.osn_register.specs.declared.edit.Edit.{Edit}
-use Rattle.osn_register.specs.declared.edit.Edit.TheVariants.{AddLand, AddChange, AlterChange, DropChange}
+use Rattle.osn_register.specs.declared.edit.Edit.TheVariants.{AddLand, AddChange, AlterChange, DropChange, AddException, DropException}
 use Rattle.osn_register.specs.declared.refusal.Refusal.{Refusal}
 use Rattle.osn_register.specs.Code.{is_code}
-use Rattle.osn_register.specs.Plain.{PlainLand, PlainRegister, land_of, territory_of, code_refusal, is_off_line, refusal_in, inside, or_else, change_refusal, changed, with_territory, AreDistinct, HasFewChanges, HaveFewChanges, IsWellFormed}
+use Rattle.osn_register.specs.Plain.{PlainLand, PlainRegister, land_of, territory_of, code_refusal, is_off_line, is_off_years, refusal_in, inside, or_else, change_refusal, changed, with_territory, AreDistinct, IsWithinLimits, AreWithinLimits, IsWellFormed}
 use Rattle.osn_register.specs.Inside.{land_in}
 use Rattle.osn_register.proofs.Kept.{apart_first}
 
@@ -61,20 +64,20 @@ length-with code f (l ∷ ls) =
       | false ↦ ap suc (length-with code f ls)
     ]
 
-HaveFewChanges-with : (limits : Limits) (code : List ℕ) (f : PlainTerritory → PlainTerritory) (ls : List PlainLand) → HaveFewChanges limits ls → ((t : PlainTerritory) → territory_of code ls ≡ Some t → HasFewChanges limits t → HasFewChanges limits (f t)) → HaveFewChanges limits (with_territory code f ls)
-HaveFewChanges-with limits code f [] few still = tt
-HaveFewChanges-with limits code f (l ∷ ls) few still =
-    elim (bytes_eq code l.code) as (λ b. ((t : PlainTerritory) → option_map (λ (k : PlainLand). k.territory) (cond b (Some l) (land_of code ls)) ≡ Some t → HasFewChanges limits t → HasFewChanges limits (f t)) → HaveFewChanges limits (cond b (record l { territory = f l.territory } ∷ ls) (l ∷ with_territory code f ls))) [
+AreWithinLimits-with : (limits : Limits) (code : List ℕ) (f : PlainTerritory → PlainTerritory) (ls : List PlainLand) → AreWithinLimits limits ls → ((t : PlainTerritory) → territory_of code ls ≡ Some t → IsWithinLimits limits t → IsWithinLimits limits (f t)) → AreWithinLimits limits (with_territory code f ls)
+AreWithinLimits-with limits code f [] few still = tt
+AreWithinLimits-with limits code f (l ∷ ls) few still =
+    elim (bytes_eq code l.code) as (λ b. ((t : PlainTerritory) → option_map (λ (k : PlainLand). k.territory) (cond b (Some l) (land_of code ls)) ≡ Some t → IsWithinLimits limits t → IsWithinLimits limits (f t)) → AreWithinLimits limits (cond b (record l { territory = f l.territory } ∷ ls) (l ∷ with_territory code f ls))) [
       | true ↦ λ here. (here l.territory refl few.0, few.1)
-      | false ↦ λ later. (few.0, HaveFewChanges-with limits code f ls few.1 later)
+      | false ↦ λ later. (few.0, AreWithinLimits-with limits code f ls few.1 later)
     ] still
 
 -- a register stays well formed where one of its territories is changed within the limit
-pub IsWellFormed-with : (r : PlainRegister) (code : List ℕ) (f : PlainTerritory → PlainTerritory) → IsWellFormed r → ((t : PlainTerritory) → territory_of code r.lands ≡ Some t → HasFewChanges r.limits t → HasFewChanges r.limits (f t)) → IsWellFormed (record r { lands = with_territory code f r.lands })
+pub IsWellFormed-with : (r : PlainRegister) (code : List ℕ) (f : PlainTerritory → PlainTerritory) → IsWellFormed r → ((t : PlainTerritory) → territory_of code r.lands ≡ Some t → IsWithinLimits r.limits t → IsWithinLimits r.limits (f t)) → IsWellFormed (record r { lands = with_territory code f r.lands })
 IsWellFormed-with r code f w still = record {
   distinct = AreDistinct-with code f r.lands w.distinct;
   within = omega (arith, length-with code f r.lands, w.within);
-  few_changes = HaveFewChanges-with r.limits code f r.lands w.few_changes still;
+  territories = AreWithinLimits-with r.limits code f r.lands w.territories still;
 }
 
 -- what is lawful in a territory of a known code
@@ -105,6 +108,9 @@ last_passed false false false false f g h k none = refl
 not_lt : (m n : ℕ) → nat_lt m n ≡ false → n ≤ m
 not_lt m n h = grind (arith, nat_tests)
 
+not_le : (m n : ℕ) → nat_le m n ≡ false → n < m
+not_le m n h = grind (arith, nat_tests)
+
 length-with_start : (d : ℕ) (r : Regime) (starts : List (ℕ × Regime)) → length (with_start d r starts) ≡ suc (length starts)
 length-with_start d r [] = refl
 length-with_start d r (s ∷ rest) =
@@ -121,15 +127,41 @@ length-filter p (x ∷ xs) =
       | false ↦ omega (arith, length-filter p xs)
     ]
 
--- a lawful change leaves the territory within the limit
-pub still_few : (p : Profile) (limits : Limits) (e : Edit) (t : PlainTerritory) → change_refusal p limits e t ≡ None → HasFewChanges limits t → HasFewChanges limits (changed e t)
-still_few p limits (AddLand code name regime) t lawful few = few
-still_few p limits (AddChange code day regime) t lawful few =
+length-insert_entry : (es : List (ℕ × ℕ)) (y d : ℕ) → length (insert_entry nat_cmp es y d) ≤ suc (length es)
+length-insert_entry [] y d = omega arith
+length-insert_entry (e ∷ es) y d =
+    elim (nat_cmp y e.0) as (λ o. length (match_ordering o ((y, d) ∷ e ∷ es) ((e.0, d) ∷ es) (e ∷ insert_entry nat_cmp es y d)) ≤ suc (suc (length es))) [
+      | Less ↦ omega arith
+      | Equal ↦ omega arith
+      | Greater ↦ omega (arith, length-insert_entry es y d)
+    ]
+
+length-remove_entry : (test : ℕ → Bool) (es : List (ℕ × ℕ)) → length (remove_entry test es) ≤ length es
+length-remove_entry test [] = omega arith
+length-remove_entry test (e ∷ es) =
+    elim (test e.0) as (λ b. length (cond b es (e ∷ remove_entry test es)) ≤ suc (length es)) [
+      | true ↦ omega arith
+      | false ↦ omega (arith, length-remove_entry test es)
+    ]
+
+-- a lawful change leaves the territory within the limits
+pub still_within : (p : Profile) (limits : Limits) (e : Edit) (t : PlainTerritory) → change_refusal p limits e t ≡ None → IsWithinLimits limits t → IsWithinLimits limits (changed e t)
+still_within p limits (AddLand code name regime) t lawful few = few
+still_within p limits (AddChange code day regime) t lawful few =
     let room = last_passed (is_off_line p day) (unsigned_abs day == 1) (starts_on t (unsigned_abs day)) (nat_lt limits.changes (length t.starts)) Refusal.DayOffLine Refusal.OpeningPeriod Refusal.ChangeExists Refusal.TooManyChanges lawful in
     let at_most : length t.starts ≤ limits.changes = not_lt limits.changes (length t.starts) room in
-    omega (arith, length-with_start (unsigned_abs day) regime t.starts)
-still_few p limits (AlterChange code day regime) t lawful few = omega (arith, length-map t.starts (λ s. if s.0 == unsigned_abs day then (unsigned_abs day, regime) else s))
-still_few p limits (DropChange code day) t lawful few = omega (arith, length-filter (λ s. not (s.0 == unsigned_abs day)) t.starts)
+    (omega (arith, length-with_start (unsigned_abs day) regime t.starts), few.1)
+still_within p limits (AlterChange code day regime) t lawful few =
+    (omega (arith, few.0, length-map t.starts (λ s. if s.0 == unsigned_abs day then (unsigned_abs day, regime) else s)), few.1)
+still_within p limits (DropChange code day) t lawful few =
+    (omega (arith, few.0, length-filter (λ s. not (s.0 == unsigned_abs day)) t.starts), few.1)
+still_within p limits (AddException code year day) t lawful few =
+    let room = last_passed (is_off_line p day) (is_off_years p year) (is_some (exception_of t (unsigned_abs year))) (nat_le limits.exceptions (length t.exceptions)) Refusal.DayOffLine Refusal.YearOffRange Refusal.ExceptionExists Refusal.TooManyExceptions lawful in
+    let below : length t.exceptions < limits.exceptions = not_le limits.exceptions (length t.exceptions) room in
+    (few.0, omega (arith, below, length-insert_entry t.exceptions (unsigned_abs year) (unsigned_abs day)))
+still_within p limits (DropException code year) t lawful few =
+    let fewer : length (changed (DropException code year) t).exceptions ≤ length t.exceptions = length-remove_entry (λ y. unsigned_abs year == y) t.exceptions in
+    (few.0, omega (arith, few.1, fewer))
 
 pub with_same : (code : List ℕ) (ls : List PlainLand) → with_territory code (λ t. t) ls ≡ ls
 with_same code [] = refl

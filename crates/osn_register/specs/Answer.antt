@@ -1,20 +1,28 @@
 -- What the register answers to a query.
-use Rattle.std.specs.Prelude.{ℕ, Bool, not, ◌&&◌, nat_le, ℤ, pos, unsigned_abs, List, [], ◌∷◌, map, find, Option, Some, None}
+use Rattle.std.specs.Prelude.{ℕ, Bool, not, ◌&&◌, nat_le, ℤ, pos, unsigned_abs, List, [], ◌∷◌, map, find, Option, Some, None, is_some}
 use Rattle.osn_days.specs.Profile.{Profile}
+use Rattle.osn_days.specs.declared.calendar.Calendar.TheVariants as calendar
+use Rattle.osn_computus.specs.declared.rule.Rule.TheVariants as rule
+use Rattle.osn_computus.specs.declared.letters.Letters.{Letters}
+use Rattle.osn_computus.specs.Figures.{golden_number, indiction, julian_epact, gregorian_epact}
+use Rattle.osn_computus.specs.Letters.{letters_of}
+use Rattle.osn_computus.specs.Easter.{easter_of}
 use Rattle.osn_lands.specs.declared.label.Label.{Label}
 use Rattle.osn_lands.specs.Label.{local}
 use Rattle.osn_lands.specs.Dual.{dual_text}
 use Rattle.osn_lands.specs.declared.period.Period.{Period}
 use Rattle.osn_lands.specs.Territory.{PlainTerritory, regime_at, periods_of, reading, skipped}
+use Rattle.osn_lands.specs.Exceptions.{exception_of}
+use Rattle.osn_lands.specs.Easters.{easters}
 use Rattle.osn_register.specs.declared.query.Query.{Query}
 use Rattle.osn_register.specs.declared.query.Query.TheVariants as queries
 use Rattle.osn_register.specs.declared.answer.Answer.{Answer}
-use Rattle.osn_register.specs.declared.answer.Answer.TheVariants.{Reading, OnDay, Lands, Periods, Refused}
+use Rattle.osn_register.specs.declared.answer.Answer.TheVariants.{Reading, OnDay, Easters, Figures, Lands, Periods, Refused}
 use Rattle.osn_register.specs.declared.answer.Found.{Found}
 use Rattle.osn_register.specs.declared.answer.Land.{Land}
 use Rattle.osn_register.specs.declared.refusal.Refusal.{Refusal}
 use Rattle.osn_register.specs.declared.refusal.Refusal.TheVariants.{UnknownLand, DayOffLine, YearOffRange, BadDate}
-use Rattle.osn_register.specs.Plain.{PlainLand, territory_of, first_refusal, or_else, code_refusal, is_between, is_off_line}
+use Rattle.osn_register.specs.Plain.{PlainLand, territory_of, first_refusal, or_else, code_refusal, is_between, is_off_line, is_off_years}
 
 -- why a reading is refused for its date
 abbrev pub date_refusal : Profile → ℤ → ℤ → ℤ → Option Refusal
@@ -31,10 +39,20 @@ read_refusal p lands code year month day = or_else (code_refusal lands code) (da
 abbrev pub day_refusal : Profile → List PlainLand → List ℕ → ℤ → Option Refusal
 day_refusal p lands code day = or_else (code_refusal lands code) (first_refusal ((is_off_line p day, DayOffLine) ∷ []))
 
+-- why the figures of a year are refused
+abbrev pub year_refusal : Profile → ℤ → Option Refusal
+year_refusal p year = first_refusal ((is_off_years p year, YearOffRange) ∷ [])
+
+-- why a query of a territory's Easters is refused
+abbrev pub easter_refusal : Profile → List PlainLand → List ℕ → ℤ → Option Refusal
+easter_refusal p lands code year = or_else (code_refusal lands code) (year_refusal p year)
+
 -- why a query is refused, if it is
 abbrev pub query_refusal : Profile → List PlainLand → Query → Option Refusal
 query_refusal p lands (queries.Read code year month day) = read_refusal p lands code year month day
 query_refusal p lands (queries.DayIn code day) = day_refusal p lands code day
+query_refusal p lands (queries.Easter code year) = easter_refusal p lands code year
+query_refusal p lands (queries.YearFigures year) = year_refusal p year
 query_refusal p lands queries.Lands = None
 query_refusal p lands (queries.Periods code) = code_refusal lands code
 
@@ -64,6 +82,26 @@ abbrev pub day_answer : Profile → Option PlainTerritory → ℕ → Answer
 day_answer p None d = Refused UnknownLand
 day_answer p (Some t) d = on_day (period_on (periods_of p t) d) (found_on t d)
 
+-- the Easters of a year, and whether they are listed
+abbrev pub easters_answer : Profile → Option PlainTerritory → ℕ → Answer
+easters_answer p None y = Refused UnknownLand
+easters_answer p (Some t) y = Easters (map (found_on t) (easters p t y)) (is_some (exception_of t y))
+
+-- the figures of a year with its letters and Easters, of which each year in the range has both
+abbrev pub figures_with : ℕ → Option Letters → Option Letters → Option ℕ → Option ℕ → Answer
+figures_with y None gregorian julian_easter gregorian_easter = Refused YearOffRange
+figures_with y (Some julian) None julian_easter gregorian_easter = Refused YearOffRange
+figures_with y (Some julian) (Some gregorian) None gregorian_easter = Refused YearOffRange
+figures_with y (Some julian) (Some gregorian) (Some julian_easter) None = Refused YearOffRange
+figures_with y (Some julian) (Some gregorian) (Some julian_easter) (Some gregorian_easter) =
+    Figures y (golden_number y) (indiction y) (julian_epact y) (gregorian_epact y) julian gregorian julian_easter gregorian_easter
+
+-- the figures of a year
+abbrev pub figures_of : Profile → ℕ → Answer
+figures_of p y = figures_with y
+    (letters_of p calendar.Julian y) (letters_of p calendar.Gregorian y)
+    (easter_of p rule.Julian y) (easter_of p rule.Gregorian y)
+
 abbrev pub periods_answer : Profile → Option PlainTerritory → Answer
 periods_answer p None = Refused UnknownLand
 periods_answer p (Some t) = Periods (periods_of p t)
@@ -84,11 +122,20 @@ abbrev pub day_in_answer : Profile → List PlainLand → List ℕ → ℤ → A
 day_in_answer p lands code day =
     unless (day_refusal p lands code day) (day_answer p (territory_of code lands) (unsigned_abs day))
 
+abbrev pub easter_answer : Profile → List PlainLand → List ℕ → ℤ → Answer
+easter_answer p lands code year =
+    unless (easter_refusal p lands code year) (easters_answer p (territory_of code lands) (unsigned_abs year))
+
+abbrev pub figures_answer : Profile → ℤ → Answer
+figures_answer p year = unless (year_refusal p year) (figures_of p (unsigned_abs year))
+
 abbrev pub periods_in_answer : Profile → List PlainLand → List ℕ → Answer
 periods_in_answer p lands code = unless (code_refusal lands code) (periods_answer p (territory_of code lands))
 
 abbrev pub answer : Profile → List PlainLand → Query → Answer
 answer p lands (queries.Read code year month day) = read_answer p lands code year month day
 answer p lands (queries.DayIn code day) = day_in_answer p lands code day
+answer p lands (queries.Easter code year) = easter_answer p lands code year
+answer p lands (queries.YearFigures year) = figures_answer p year
 answer p lands queries.Lands = Lands (map listed lands)
 answer p lands (queries.Periods code) = periods_in_answer p lands code

@@ -5,11 +5,12 @@ use Rattle.std.specs.Str.{bytes_eq}
 use Rattle.osn_days.specs.Profile.{Profile}
 use Rattle.osn_lands.specs.Territory.{PlainTerritory, opened}
 use Rattle.osn_lands.specs.Changes.{starts_on, with_change, with_altered, without_change}
+use Rattle.osn_lands.specs.Exceptions.{exception_of, with_exception, without_exception}
 use Rattle.osn_register.specs.declared.limits.Limits.{Limits}
 use Rattle.osn_register.specs.declared.edit.Edit.{Edit}
-use Rattle.osn_register.specs.declared.edit.Edit.TheVariants.{AddLand, AddChange, AlterChange, DropChange}
+use Rattle.osn_register.specs.declared.edit.Edit.TheVariants.{AddLand, AddChange, AlterChange, DropChange, AddException, DropException}
 use Rattle.osn_register.specs.declared.refusal.Refusal.{Refusal}
-use Rattle.osn_register.specs.declared.refusal.Refusal.TheVariants.{BadCode, BadName, UnknownLand, LandExists, DayOffLine, ChangeExists, NoSuchChange, OpeningPeriod, TooManyLands, TooManyChanges}
+use Rattle.osn_register.specs.declared.refusal.Refusal.TheVariants.{BadCode, BadName, UnknownLand, LandExists, DayOffLine, ChangeExists, NoSuchChange, OpeningPeriod, YearOffRange, ExceptionExists, NoSuchException, TooManyLands, TooManyChanges, TooManyExceptions}
 use Rattle.osn_register.specs.Code.{is_code, is_name}
 
 -- a territory with its code and name
@@ -57,24 +58,53 @@ code_refusal lands code = first_refusal ((not (is_code code), BadCode) ∷ (is_n
 abbrev pub is_off_line : Profile → ℤ → Bool
 is_off_line p day = not (is_between (pos 1) (pos p.high) day)
 
--- why an edit of a territory is refused by what the territory holds
-abbrev pub change_refusal : Profile → Limits → Edit → PlainTerritory → Option Refusal
-change_refusal p limits (AddLand code name regime) t = None
-change_refusal p limits (AddChange code day regime) t = first_refusal (
+-- the year has no figures, no Easter and no exception
+abbrev pub is_off_years : Profile → ℤ → Bool
+is_off_years p year = not (is_between (pos 1) (pos p.last_year) year)
+
+abbrev pub add_change_refusal : Profile → Limits → ℤ → PlainTerritory → Option Refusal
+add_change_refusal p limits day t = first_refusal (
     (is_off_line p day, DayOffLine)
     ∷ (unsigned_abs day == 1, OpeningPeriod)
     ∷ (starts_on t (unsigned_abs day), ChangeExists)
     ∷ (nat_lt limits.changes (length t.starts), TooManyChanges)
     ∷ [])
-change_refusal p limits (AlterChange code day regime) t = first_refusal (
+
+abbrev pub alter_change_refusal : Profile → ℤ → PlainTerritory → Option Refusal
+alter_change_refusal p day t = first_refusal (
     (is_off_line p day, DayOffLine)
     ∷ (not (starts_on t (unsigned_abs day)), NoSuchChange)
     ∷ [])
-change_refusal p limits (DropChange code day) t = first_refusal (
+
+abbrev pub drop_change_refusal : Profile → ℤ → PlainTerritory → Option Refusal
+drop_change_refusal p day t = first_refusal (
     (is_off_line p day, DayOffLine)
     ∷ (unsigned_abs day == 1, OpeningPeriod)
     ∷ (not (starts_on t (unsigned_abs day)), NoSuchChange)
     ∷ [])
+
+abbrev pub add_exception_refusal : Profile → Limits → ℤ → ℤ → PlainTerritory → Option Refusal
+add_exception_refusal p limits year day t = first_refusal (
+    (is_off_line p day, DayOffLine)
+    ∷ (is_off_years p year, YearOffRange)
+    ∷ (is_some (exception_of t (unsigned_abs year)), ExceptionExists)
+    ∷ (nat_le limits.exceptions (length t.exceptions), TooManyExceptions)
+    ∷ [])
+
+abbrev pub drop_exception_refusal : Profile → ℤ → PlainTerritory → Option Refusal
+drop_exception_refusal p year t = first_refusal (
+    (is_off_years p year, YearOffRange)
+    ∷ (is_none (exception_of t (unsigned_abs year)), NoSuchException)
+    ∷ [])
+
+-- why an edit of a territory is refused by what the territory holds
+abbrev pub change_refusal : Profile → Limits → Edit → PlainTerritory → Option Refusal
+change_refusal p limits (AddLand code name regime) t = None
+change_refusal p limits (AddChange code day regime) t = add_change_refusal p limits day t
+change_refusal p limits (AlterChange code day regime) t = alter_change_refusal p day t
+change_refusal p limits (DropChange code day) t = drop_change_refusal p day t
+change_refusal p limits (AddException code year day) t = add_exception_refusal p limits year day t
+change_refusal p limits (DropException code year) t = drop_exception_refusal p year t
 
 abbrev pub inside : (PlainTerritory → Option Refusal) → Option PlainTerritory → Option Refusal
 inside refused None = None
@@ -90,13 +120,17 @@ refusal p limits lands (AddLand code name regime) = add_land_refusal limits land
 refusal p limits lands (AddChange code day regime) = refusal_in lands code (change_refusal p limits (AddChange code day regime))
 refusal p limits lands (AlterChange code day regime) = refusal_in lands code (change_refusal p limits (AlterChange code day regime))
 refusal p limits lands (DropChange code day) = refusal_in lands code (change_refusal p limits (DropChange code day))
+refusal p limits lands (AddException code year day) = refusal_in lands code (change_refusal p limits (AddException code year day))
+refusal p limits lands (DropException code year) = refusal_in lands code (change_refusal p limits (DropException code year))
 
--- only what adds a territory or a change takes memory
+-- only what adds a territory, a change or an exception takes memory
 abbrev pub takes_memory : Edit → Bool
 takes_memory (AddLand code name regime) = true
 takes_memory (AddChange code day regime) = true
 takes_memory (AlterChange code day regime) = false
 takes_memory (DropChange code day) = false
+takes_memory (AddException code year day) = true
+takes_memory (DropException code year) = false
 
 -- the territory of a lawful edit, after it
 abbrev pub changed : Edit → PlainTerritory → PlainTerritory
@@ -104,6 +138,8 @@ changed (AddLand code name regime) t = t
 changed (AddChange code day regime) t = with_change t (unsigned_abs day) regime
 changed (AlterChange code day regime) t = with_altered t (unsigned_abs day) regime
 changed (DropChange code day) t = without_change t (unsigned_abs day)
+changed (AddException code year day) t = with_exception t (unsigned_abs year) (unsigned_abs day)
+changed (DropException code year) t = without_exception t (unsigned_abs year)
 
 -- the territories, with a change of the one that has the code
 abbrev pub with_territory : List ℕ → (PlainTerritory → PlainTerritory) → List PlainLand → List PlainLand
@@ -119,6 +155,8 @@ effect lands (AddLand code name regime) =
 effect lands (AddChange code day regime) = with_territory code (changed (AddChange code day regime)) lands
 effect lands (AlterChange code day regime) = with_territory code (changed (AlterChange code day regime)) lands
 effect lands (DropChange code day) = with_territory code (changed (DropChange code day)) lands
+effect lands (AddException code year day) = with_territory code (changed (AddException code year day)) lands
+effect lands (DropException code year) = with_territory code (changed (DropException code year)) lands
 
 abbrev pub unless_refused : Option Refusal → List PlainLand → List PlainLand → List PlainLand
 unless_refused None new old = new
@@ -145,12 +183,18 @@ AreDistinct (l ∷ ls) = (land_of l.code ls ≡ None) × AreDistinct ls
 abbrev pub HasFewChanges : Limits → PlainTerritory → Type 0
 HasFewChanges limits t = length t.starts ≤ limits.changes + 1
 
-abbrev pub HaveFewChanges : Limits → List PlainLand → Type 0
-HaveFewChanges limits [] = Unit {0}
-HaveFewChanges limits (l ∷ ls) = HasFewChanges limits l.territory × HaveFewChanges limits ls
+abbrev pub HasFewExceptions : Limits → PlainTerritory → Type 0
+HasFewExceptions limits t = length t.exceptions ≤ limits.exceptions
 
--- codes are distinct, and the territories and their changes within their limits
+abbrev pub IsWithinLimits : Limits → PlainTerritory → Type 0
+IsWithinLimits limits t = HasFewChanges limits t × HasFewExceptions limits t
+
+abbrev pub AreWithinLimits : Limits → List PlainLand → Type 0
+AreWithinLimits limits [] = Unit {0}
+AreWithinLimits limits (l ∷ ls) = IsWithinLimits limits l.territory × AreWithinLimits limits ls
+
+-- codes are distinct, and the territories, their changes and their exceptions within their limits
 pub record IsWellFormed (r : PlainRegister) : Type 0 where
   pub distinct : AreDistinct r.lands
   pub within : length r.lands ≤ r.limits.lands
-  pub few_changes : HaveFewChanges r.limits r.lands
+  pub territories : AreWithinLimits r.limits r.lands

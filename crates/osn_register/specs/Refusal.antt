@@ -1,7 +1,7 @@
 -- The refusals by number and name: this project's profile.
 use Rattle.std.specs.Prelude.{ℕ, List, codes}
 use Rattle.osn_register.specs.declared.refusal.Refusal.{Refusal}
-use Rattle.osn_register.specs.declared.refusal.Refusal.TheVariants.{BadCode, BadName, UnknownLand, LandExists, DayOffLine, ChangeExists, NoSuchChange, OpeningPeriod, YearOffRange, TooManyLands, TooManyChanges, NothingPending, JournalFull, EditionsFull, BadDate, NoMemory, BadCount}
+use Rattle.osn_register.specs.declared.refusal.Refusal.TheVariants.{BadCode, BadName, UnknownLand, LandExists, DayOffLine, ChangeExists, NoSuchChange, OpeningPeriod, YearOffRange, ExceptionExists, NoSuchException, TooManyLands, TooManyChanges, TooManyExceptions, NothingPending, JournalFull, EditionsFull, BadDate, NoMemory, BadCount}
 
 abbrev pub refusal_number : Refusal → ℕ
 refusal_number BadCode = 1
@@ -13,8 +13,11 @@ refusal_number ChangeExists = 6
 refusal_number NoSuchChange = 7
 refusal_number OpeningPeriod = 8
 refusal_number YearOffRange = 9
+refusal_number ExceptionExists = 10
+refusal_number NoSuchException = 11
 refusal_number TooManyLands = 12
 refusal_number TooManyChanges = 13
+refusal_number TooManyExceptions = 14
 refusal_number NothingPending = 15
 refusal_number JournalFull = 16
 refusal_number EditionsFull = 17
@@ -32,8 +35,11 @@ refusal_name ChangeExists = codes "ChangeExists"
 refusal_name NoSuchChange = codes "NoSuchChange"
 refusal_name OpeningPeriod = codes "OpeningPeriod"
 refusal_name YearOffRange = codes "YearOffRange"
+refusal_name ExceptionExists = codes "ExceptionExists"
+refusal_name NoSuchException = codes "NoSuchException"
 refusal_name TooManyLands = codes "TooManyLands"
 refusal_name TooManyChanges = codes "TooManyChanges"
+refusal_name TooManyExceptions = codes "TooManyExceptions"
 refusal_name NothingPending = codes "NothingPending"
 refusal_name JournalFull = codes "JournalFull"
 refusal_name EditionsFull = codes "EditionsFull"

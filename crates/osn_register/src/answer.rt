@@ -1,7 +1,8 @@
 use crate::listing::{DayList, Listing};
 use crate::refusal::Refusal;
 use crate::text::Text;
-use osn_days::Day;
+use osn_computus::{Epact, Letters};
+use osn_days::{Day, Year};
 use osn_lands::{Label, Period};
 
 /// A day as a territory names it: its label and its dual text, under the regime in force on it.
@@ -32,9 +33,33 @@ pub type PeriodList = Listing<Period>;
 #[derive(Debug, Drop)]
 pub enum Answer {
     /// The days that a date names, and the days of the changes at which it was skipped.
-    Reading { found: FoundList, skipped: DayList },
+    Reading {
+        found: FoundList,
+        skipped: DayList,
+    },
     /// A day as the territory names it, and the period that holds it.
-    OnDay { found: Found, period: Period },
+    OnDay {
+        found: Found,
+        period: Period,
+    },
+    /// The days that were Easter of a year in a territory, and whether a listed exception says so.
+    Easters {
+        found: FoundList,
+        listed: bool,
+    },
+    /// The figures of a year, its Sunday letters in both calendars and its Easters by both rules. The golden number is
+    /// from 1 to 19, the indiction from 1 to 15, an epact from 0 to 29.
+    Figures {
+        year: Year,
+        golden: u8,
+        indiction: u8,
+        julian_epact: u8,
+        gregorian_epact: Epact,
+        julian_letters: Letters,
+        gregorian_letters: Letters,
+        julian_easter: Day,
+        gregorian_easter: Day,
+    },
     /// The territories.
     Lands(LandList),
     /// The periods of a territory.

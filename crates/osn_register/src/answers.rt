@@ -8,7 +8,7 @@ use crate::answer::{Answer, Found};
 use crate::listing::Listing;
 use crate::refusal::Refusal;
 use crate::text::Text;
-use osn_days::Day;
+use osn_days::{Day, Year};
 use osn_lands::{Label, Period, Territory, dual_text, label_of};
 use std::alloc::{AllocError, Global};
 
@@ -83,6 +83,29 @@ pub(crate) fn on_day(alloc: Global, territory: &Territory, day: Day) -> Result<A
         }),
         None => Ok(Answer::Refused(Refusal::DayOffLine)),
     }
+}
+
+/// The periods of a territory.
+pub(crate) fn periods(alloc: Global, territory: &Territory) -> Result<Answer, AllocError>
+    ensures { IfOk result (λ a. a ≡ said.periods_answer present (Some territory.now)) }
+{
+    Ok(Answer::Periods(Listing::new(territory.periods().to_vec(alloc)?)))
+}
+
+/// The Easters of a year in a territory.
+pub(crate) fn easters(
+    alloc: Global,
+    territory: &Territory,
+    year: Year,
+) -> Result<Answer, AllocError>
+    ensures { IfOk result (λ a. a ≡ said.easters_answer present (Some territory.now) year) }
+{
+    let days = territory.easters(year)?;
+    let found = found_days(alloc, territory, days.as_slice())?;
+    Ok(Answer::Easters {
+        found: Listing::new(found),
+        listed: territory.exception(year).is_some(),
+    })
 }
 
 /// The reading of a label in a territory.

@@ -1,7 +1,7 @@
 //! Territories with changes of regime: what is refused there, and how their days are named and dates read.
 use crate::samples::{
-    GREGORIAN, JULIAN, Kind, MIXED, add_land, answers, change, has_periods, make_change,
-    names_days, reads, refused_in_turn,
+    GREGORIAN, JULIAN, Kind, MIXED, add_changed, add_land, answers, change, changed, has_periods,
+    make_change, names_days, reads, refused_in_turn,
 };
 use crate::{Edit, Limits, Query, Refusal, Register};
 use osn_lands::Regime;
@@ -10,39 +10,13 @@ use std::test::Fail;
 
 const OF_BRITAIN: &str = "1 to 639796 julian. 639797 to 1095362 gregorian. ";
 
-/// Puts the changes of a Julian territory into a register.
-fn add_changed(
-    alloc: Global,
-    register: &mut Register,
-    code: &str,
-    changes: &[(i64, Regime)],
-) -> Result<(), AllocError> {
-    register.apply_if_lawful(&add_land(alloc, code, "Sample")?)?;
-    for (day, regime) in changes {
-        make_change(alloc, register, Kind::Add, code, *day, *regime)?;
-    }
-    Ok(())
-}
-
-/// A register of that territory alone.
-fn changed(
-    alloc: Global,
-    limits: Limits,
-    code: &str,
-    changes: &[(i64, Regime)],
-) -> Result<Register, AllocError> {
-    let mut register = Register::new(alloc, limits);
-    add_changed(alloc, &mut register, code, changes)?;
-    Ok(register)
-}
-
 /// A register of Britain, where a territory may have as many changes.
 fn of_britain(alloc: Global, most: u32) -> Result<Register, AllocError> {
     let limits = Limits {
         changes: most,
         ..Limits::standard()
     };
-    changed(alloc, limits, "GB", &[(639_797, GREGORIAN)])
+    changed(alloc, limits, ("GB", JULIAN), &[(639_797, GREGORIAN)])
 }
 
 /// How many of these edits in turn are refused so by a register of Britain that takes no further change.
@@ -125,7 +99,12 @@ fn days_of_britain(rt: HostRuntime) -> Result<(), Fail> {
 
 /// The register of Russia.
 fn of_russia(alloc: Global) -> Result<Register, AllocError> {
-    changed(alloc, Limits::standard(), "RU", &[(700_214, MIXED)])
+    changed(
+        alloc,
+        Limits::standard(),
+        ("RU", JULIAN),
+        &[(700_214, MIXED)],
+    )
 }
 
 #[test]
@@ -174,7 +153,7 @@ fn a_dropped_change_is_as_if_it_never_was(rt: HostRuntime) -> Result<(), Fail> {
 fn a_date_is_read_on_two_days(rt: HostRuntime) -> Result<(), Fail> {
     let alloc = rt.alloc();
     let changes = [(577_736, GREGORIAN), (577_836, JULIAN)];
-    let register = changed(alloc, Limits::standard(), "ZZ", &changes)?;
+    let register = changed(alloc, Limits::standard(), ("ZZ", JULIAN), &changes)?;
     let rows = [(
         "ZZ",
         (1583, 1, 20),
@@ -204,7 +183,7 @@ fn changes_are_altered(rt: HostRuntime) -> Result<(), Fail> {
 /// Whether a change of one territory leaves another one as it is.
 fn is_alone_changed(alloc: Global) -> Result<bool, AllocError> {
     let mut register = of_britain(alloc, 40)?;
-    add_changed(alloc, &mut register, "RU", &[(700_214, MIXED)])?;
+    add_changed(alloc, &mut register, ("RU", JULIAN), &[(700_214, MIXED)])?;
     make_change(alloc, &mut register, Kind::Drop, "RU", 700_214, MIXED)?;
     Ok(
         has_periods(alloc, &register, "GB", OF_BRITAIN)?

@@ -1,15 +1,17 @@
 //! Edits of a territory: why each is refused by what the territory holds, and what it does.
-ghost use Rattle.std.specs.Prelude.{◌≡◌, true, false, Some, None, OnOk, OnErr, MatchResult, nat_lt, length, unsigned_abs};
+ghost use Rattle.std.specs.Prelude.{◌≡◌, true, false, None, Some, OnOk, OnErr, MatchResult, nat_lt, length, unsigned_abs};
 ghost use Rattle.osn_days.specs.Profile.{present};
-ghost use Rattle.osn_register.specs.Plain.{is_off_line, change_refusal, changed, takes_memory};
+ghost use Rattle.osn_lands.specs.Changes as starts;
+ghost use Rattle.osn_register.specs.Plain.{is_off_line, add_change_refusal, alter_change_refusal, drop_change_refusal, change_refusal, changed, takes_memory};
 ghost use Rattle.osn_register.specs.declared.limits.Limits.{Limits};
 ghost use Rattle.osn_register.specs.declared.refusal.Refusal.TheVariants.{DayOffLine};
 
 use crate::edit::Edit;
+use crate::exceptions::{add_exception, check_add_exception, check_drop_exception, drop_exception};
 use crate::limits::Limits;
 use crate::refusal::Refusal;
 use osn_days::Day;
-use osn_lands::Territory;
+use osn_lands::{Regime, Territory};
 use std::alloc::AllocError;
 
 /// The day of a number, where it is on the line.
@@ -30,6 +32,51 @@ fn has_all_changes(limits: Limits, territory: &Territory) -> bool
     territory.periods().len() > limits.changes as usize
 }
 
+fn check_add_change(limits: Limits, territory: &Territory, day: i64) -> Result<(), Refusal>
+    ensures { MatchResult result
+        (λ _. add_change_refusal present limits day territory.now ≡ None)
+        (λ f. add_change_refusal present limits day territory.now ≡ Some f) }
+{
+    let day = day_on_line(day)?;
+    if day == Day::FIRST {
+        return Err(Refusal::OpeningPeriod);
+    }
+    if territory.starts_on(day) {
+        return Err(Refusal::ChangeExists);
+    }
+    if has_all_changes(limits, territory) {
+        return Err(Refusal::TooManyChanges);
+    }
+    Ok(())
+}
+
+fn check_alter_change(territory: &Territory, day: i64) -> Result<(), Refusal>
+    ensures { MatchResult result
+        (λ _. alter_change_refusal present day territory.now ≡ None)
+        (λ f. alter_change_refusal present day territory.now ≡ Some f) }
+{
+    let day = day_on_line(day)?;
+    if !territory.starts_on(day) {
+        return Err(Refusal::NoSuchChange);
+    }
+    Ok(())
+}
+
+fn check_drop_change(territory: &Territory, day: i64) -> Result<(), Refusal>
+    ensures { MatchResult result
+        (λ _. drop_change_refusal present day territory.now ≡ None)
+        (λ f. drop_change_refusal present day territory.now ≡ Some f) }
+{
+    let day = day_on_line(day)?;
+    if day == Day::FIRST {
+        return Err(Refusal::OpeningPeriod);
+    }
+    if !territory.starts_on(day) {
+        return Err(Refusal::NoSuchChange);
+    }
+    Ok(())
+}
+
 /// Why an edit of a territory is refused, if it is.
 pub(crate) fn check_change(
     limits: Limits,
@@ -42,37 +89,48 @@ pub(crate) fn check_change(
 {
     match edit {
         Edit::AddLand { .. } => Ok(()),
-        Edit::AddChange { day, .. } => {
-            let day = day_on_line(*day)?;
-            if day == Day::FIRST {
-                return Err(Refusal::OpeningPeriod);
-            }
-            if territory.starts_on(day) {
-                return Err(Refusal::ChangeExists);
-            }
-            if has_all_changes(limits, territory) {
-                return Err(Refusal::TooManyChanges);
-            }
-            Ok(())
+        Edit::AddChange { day, .. } => check_add_change(limits, territory, *day),
+        Edit::AlterChange { day, .. } => check_alter_change(territory, *day),
+        Edit::DropChange { day, .. } => check_drop_change(territory, *day),
+        Edit::AddException { year, day, .. } => {
+            check_add_exception(limits, territory, *year, *day)
         }
-        Edit::AlterChange { day, .. } => {
-            let day = day_on_line(*day)?;
-            if !territory.starts_on(day) {
-                return Err(Refusal::NoSuchChange);
-            }
-            Ok(())
-        }
-        Edit::DropChange { day, .. } => {
-            let day = day_on_line(*day)?;
-            if day == Day::FIRST {
-                return Err(Refusal::OpeningPeriod);
-            }
-            if !territory.starts_on(day) {
-                return Err(Refusal::NoSuchChange);
-            }
-            Ok(())
-        }
+        Edit::DropException { year, .. } => check_drop_exception(territory, *year),
     }
+}
+
+fn add_change(territory: &mut Territory, day: i64, regime: Regime) -> Result<(), AllocError>
+    requires { (limits : Limits) × (add_change_refusal present limits day territory.old ≡ None) }
+    ensures ok { OnOk result (territory.new ≡ starts.with_change territory.old (unsigned_abs day) regime) }
+    ensures err { OnErr result (territory.new ≡ territory.old) }
+{
+    let Ok(day) = day_on_line(day) else {
+        return Ok(());
+    };
+    match territory.add_change(day, regime) {
+        Ok(()) => Ok(()),
+        Err(_) => Err(AllocError),
+    }
+}
+
+fn alter_change(territory: &mut Territory, day: i64, regime: Regime)
+    requires { alter_change_refusal present day territory.old ≡ None }
+    ensures { territory.new ≡ starts.with_altered territory.old (unsigned_abs day) regime }
+{
+    let Ok(day) = day_on_line(day) else {
+        return;
+    };
+    let _ = territory.alter_change(day, regime);
+}
+
+fn drop_change(territory: &mut Territory, day: i64)
+    requires { drop_change_refusal present day territory.old ≡ None }
+    ensures { territory.new ≡ starts.without_change territory.old (unsigned_abs day) }
+{
+    let Ok(day) = day_on_line(day) else {
+        return;
+    };
+    let _ = territory.drop_change(day);
 }
 
 /// Makes the change of a lawful edit in its territory.
@@ -84,32 +142,19 @@ pub(crate) fn change(territory: &mut Territory, edit: &Edit) -> Result<(), Alloc
 {
     match edit {
         Edit::AddLand { .. } => Ok(()),
-        Edit::AddChange { day, regime, .. } => {
-            let Ok(day) = day_on_line(*day) else {
-                return Ok(());
-            };
-            match territory.add_change(day, *regime) {
-                Ok(()) => Ok(()),
-                Err(_) => Err(AllocError),
-            }
-        }
+        Edit::AddChange { day, regime, .. } => add_change(territory, *day, *regime),
         Edit::AlterChange { day, regime, .. } => {
-            let Ok(day) = day_on_line(*day) else {
-                return Ok(());
-            };
-            match territory.alter_change(day, *regime) {
-                Ok(()) => Ok(()),
-                Err(_) => Err(AllocError),
-            }
+            alter_change(territory, *day, *regime);
+            Ok(())
         }
         Edit::DropChange { day, .. } => {
-            let Ok(day) = day_on_line(*day) else {
-                return Ok(());
-            };
-            match territory.drop_change(day) {
-                Ok(()) => Ok(()),
-                Err(_) => Err(AllocError),
-            }
+            drop_change(territory, *day);
+            Ok(())
+        }
+        Edit::AddException { year, day, .. } => add_exception(territory, *year, *day),
+        Edit::DropException { year, .. } => {
+            drop_exception(territory, *year);
+            Ok(())
         }
     }
 }

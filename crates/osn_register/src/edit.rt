@@ -30,6 +30,17 @@ pub enum Edit {
         code: Text,
         day: i64,
     },
+    /// Lists a day as the Easter of a year from 1 to 2999, in place of the rule's. It may be any day of the line.
+    AddException {
+        code: Text,
+        year: i64,
+        day: i64,
+    },
+    /// Drops the exception of a year, whose Easter is the rule's again.
+    DropException {
+        code: Text,
+        year: i64,
+    },
 }
 
 impl Edit {
@@ -56,6 +67,15 @@ impl Edit {
             Edit::DropChange { code, day } => Ok(Edit::DropChange {
                 code: code.copy()?,
                 day: *day,
+            }),
+            Edit::AddException { code, year, day } => Ok(Edit::AddException {
+                code: code.copy()?,
+                year: *year,
+                day: *day,
+            }),
+            Edit::DropException { code, year } => Ok(Edit::DropException {
+                code: code.copy()?,
+                year: *year,
             }),
         }
     }

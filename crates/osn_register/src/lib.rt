@@ -10,6 +10,12 @@ mod change_tests;
 mod changes;
 mod code;
 mod edit;
+#[cfg(test)]
+mod exception_tests;
+mod exceptions;
+#[cfg(test)]
+mod figure_tests;
+mod figures;
 mod limits;
 mod listing;
 #[cfg(test)]
@@ -19,6 +25,8 @@ mod refusal;
 mod register;
 #[cfg(test)]
 mod samples;
+#[cfg(test)]
+mod style_tests;
 #[cfg(test)]
 mod tests;
 mod text;

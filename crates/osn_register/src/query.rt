@@ -19,6 +19,15 @@ pub enum Query {
         code: Text,
         day: i64,
     },
+    /// Which days were Easter of a year from 1 to 2999 in a territory.
+    Easter {
+        code: Text,
+        year: i64,
+    },
+    /// The figures and both Easters of a year from 1 to 2999.
+    YearFigures {
+        year: i64,
+    },
     /// Which territories there are.
     Lands,
     /// Which periods a territory has.
@@ -48,6 +57,11 @@ impl Query {
                 code: code.copy()?,
                 day: *day,
             }),
+            Query::Easter { code, year } => Ok(Query::Easter {
+                code: code.copy()?,
+                year: *year,
+            }),
+            Query::YearFigures { year } => Ok(Query::YearFigures { year: *year }),
             Query::Lands => Ok(Query::Lands),
             Query::Periods { code } => Ok(Query::Periods { code: code.copy()? }),
         }

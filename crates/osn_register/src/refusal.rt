@@ -22,10 +22,16 @@ pub enum Refusal {
     OpeningPeriod,
     /// The year is outside the range of the request.
     YearOffRange,
+    /// An exception is listed for the year already.
+    ExceptionExists,
+    /// No exception is listed for the year.
+    NoSuchException,
     /// The register has as many territories as its limit lets it.
     TooManyLands,
     /// The territory has as many changes as the limit lets it.
     TooManyChanges,
+    /// The territory has as many listed exceptions as the limit lets it.
+    TooManyExceptions,
     /// There is no edit to publish.
     NothingPending,
     /// The journal has as many edits as its limit lets it.
@@ -55,8 +61,11 @@ impl Refusal {
             Refusal::NoSuchChange => 7,
             Refusal::OpeningPeriod => 8,
             Refusal::YearOffRange => 9,
+            Refusal::ExceptionExists => 10,
+            Refusal::NoSuchException => 11,
             Refusal::TooManyLands => 12,
             Refusal::TooManyChanges => 13,
+            Refusal::TooManyExceptions => 14,
             Refusal::NothingPending => 15,
             Refusal::JournalFull => 16,
             Refusal::EditionsFull => 17,
@@ -80,8 +89,11 @@ impl Refusal {
             Refusal::NoSuchChange => "NoSuchChange",
             Refusal::OpeningPeriod => "OpeningPeriod",
             Refusal::YearOffRange => "YearOffRange",
+            Refusal::ExceptionExists => "ExceptionExists",
+            Refusal::NoSuchException => "NoSuchException",
             Refusal::TooManyLands => "TooManyLands",
             Refusal::TooManyChanges => "TooManyChanges",
+            Refusal::TooManyExceptions => "TooManyExceptions",
             Refusal::NothingPending => "NothingPending",
             Refusal::JournalFull => "JournalFull",
             Refusal::EditionsFull => "EditionsFull",

@@ -1,15 +1,17 @@
 ghost use Rattle.std.specs.Prelude.{◌≡◌, ◌++◌, [], ◌∷◌, true, Some, None, Ok, Err, IfOk, IfErr, OnOk, OnErr, MatchResult, ◌<◌, ◌⊎◌, length, map, is_some, option_map, option_copied, string_bytes};
 ghost use Rattle.osn_days.specs.Profile.{present};
 ghost use Rattle.osn_register.specs.Code as form;
-ghost use Rattle.osn_register.specs.Plain.{refusal, refusal_in, add_land_refusal, code_refusal, change_refusal, changed, with_territory, effect, applied, folded, takes_memory, land_of, territory_of, HasFewChanges, IsWellFormed};
+ghost use Rattle.osn_register.specs.Plain.{refusal, refusal_in, add_land_refusal, code_refusal, change_refusal, changed, with_territory, effect, applied, folded, takes_memory, land_of, territory_of, IsWithinLimits, IsWellFormed};
 ghost use Rattle.osn_lands.specs.Territory.{opened};
 ghost use Rattle.osn_register.specs.Answer as said;
 
 use crate::answer::{Answer, Land};
-use crate::answers::{asked_label, on_day, reading};
+use crate::answers::{asked_label, easters, on_day, periods, reading};
 use crate::changes::{change, check_change, day_on_line};
 use crate::code::{is_code, is_name};
 use crate::edit::Edit;
+use crate::exceptions::year_in_range;
+use crate::figures::asked_figures;
 use crate::limits::Limits;
 use crate::listing::Listing;
 use crate::query::Query;
@@ -81,6 +83,8 @@ impl Register {
             Edit::AddChange { code, .. } => self.check_change(code.as_str(), edit),
             Edit::AlterChange { code, .. } => self.check_change(code.as_str(), edit),
             Edit::DropChange { code, .. } => self.check_change(code.as_str(), edit),
+            Edit::AddException { code, .. } => self.check_change(code.as_str(), edit),
+            Edit::DropException { code, .. } => self.check_change(code.as_str(), edit),
         }
     }
 
@@ -171,6 +175,8 @@ impl Register {
             Edit::AddChange { code, .. } => self.change(code.as_str(), edit),
             Edit::AlterChange { code, .. } => self.change(code.as_str(), edit),
             Edit::DropChange { code, .. } => self.change(code.as_str(), edit),
+            Edit::AddException { code, .. } => self.change(code.as_str(), edit),
+            Edit::DropException { code, .. } => self.change(code.as_str(), edit),
         }
     }
 
@@ -204,7 +210,7 @@ impl Register {
     fn insert(&mut self, code: String, entry: Entry) -> Result<(), AllocError>
         requires absent { land_of (string_bytes code) self.old.lands ≡ None }
         requires room { length self.old.lands < self.old.limits.lands }
-        requires few_changes { HasFewChanges self.old.limits entry.territory }
+        requires territory { IsWithinLimits self.old.limits entry.territory }
         ensures ok { OnOk result (self.new ≡ record self.old {
           lands =
               self.old.lands ++ record { code = string_bytes code; name = entry.name; territory = entry.territory } ∷ [];
@@ -230,6 +236,8 @@ impl Register {
                 day,
             } => self.read(code.as_str(), *year, *month, *day),
             Query::DayIn { code, day } => self.day_in(code.as_str(), *day),
+            Query::Easter { code, year } => self.easter(code.as_str(), *year),
+            Query::YearFigures { year } => Ok(asked_figures(*year)),
             Query::Lands => Ok(Answer::Lands(Listing::new(self.listed()?))),
             Query::Periods { code } => self.periods(code.as_str()),
         }
@@ -277,14 +285,26 @@ impl Register {
         }
     }
 
+    fn easter(&self, code: &str, year: i64) -> Result<Answer, AllocError>
+        ensures value { IfOk result (λ a. a ≡ said.easter_answer present self.now.lands code.now year) }
+        ensures memory { OnErr result (said.easter_refusal present self.now.lands code.now year ≡ None) }
+    {
+        let territory = match self.known_territory(code) {
+            Ok(territory) => territory,
+            Err(refusal) => return Ok(Answer::Refused(refusal)),
+        };
+        match year_in_range(year) {
+            Ok(year) => easters(self.alloc, territory, year),
+            Err(refusal) => Ok(Answer::Refused(refusal)),
+        }
+    }
+
     fn periods(&self, code: &str) -> Result<Answer, AllocError>
         ensures value { IfOk result (λ a. a ≡ said.periods_in_answer present self.now.lands code.now) }
         ensures memory { OnErr result (code_refusal self.now.lands code.now ≡ None) }
     {
         match self.known_territory(code) {
-            Ok(territory) => Ok(Answer::Periods(Listing::new(
-                territory.periods().to_vec(self.alloc)?,
-            ))),
+            Ok(territory) => periods(self.alloc, territory),
             Err(refusal) => Ok(Answer::Refused(refusal)),
         }
     }

@@ -1,7 +1,7 @@
 //! Edits, queries and registers of the tests, and answers as texts.
 use crate::{Answer, Edit, Found, Land, Limits, Query, Refusal, Register, Text};
-use osn_computus::Rule;
-use osn_days::{Calendar, Day};
+use osn_computus::{Epact, Letters, Rule};
+use osn_days::{Calendar, Day, Year};
 use osn_lands::{Period, Regime, Style};
 use std::alloc::{AllocError, Global};
 
@@ -24,6 +24,13 @@ pub(crate) const MIXED: Regime = Regime {
     rule: Rule::Julian,
 };
 
+/// The Julian calendar, whose years begin on 25 March.
+pub(crate) const ANNUNCIATION: Regime = Regime {
+    calendar: Calendar::Julian,
+    style: Style::Annunciation,
+    rule: Rule::Julian,
+};
+
 /// The edits of a territory that is there.
 #[derive(Clone, Copy)]
 pub(crate) enum Kind {
@@ -32,12 +39,21 @@ pub(crate) enum Kind {
     Drop,
 }
 
-pub(crate) fn add_land(alloc: Global, code: &str, name: &str) -> Result<Edit, AllocError> {
+pub(crate) fn add_land_under(
+    alloc: Global,
+    code: &str,
+    name: &str,
+    regime: Regime,
+) -> Result<Edit, AllocError> {
     Ok(Edit::AddLand {
         code: Text::from_str(alloc, code)?,
         name: Text::from_str(alloc, name)?,
-        regime: JULIAN,
+        regime,
     })
+}
+
+pub(crate) fn add_land(alloc: Global, code: &str, name: &str) -> Result<Edit, AllocError> {
+    add_land_under(alloc, code, name, JULIAN)
 }
 
 pub(crate) fn rome(alloc: Global) -> Result<Edit, AllocError> {
@@ -64,6 +80,26 @@ pub(crate) fn change(
     })
 }
 
+pub(crate) fn add_exception(
+    alloc: Global,
+    code: &str,
+    year: i64,
+    day: i64,
+) -> Result<Edit, AllocError> {
+    Ok(Edit::AddException {
+        code: Text::from_str(alloc, code)?,
+        year,
+        day,
+    })
+}
+
+pub(crate) fn drop_exception(alloc: Global, code: &str, year: i64) -> Result<Edit, AllocError> {
+    Ok(Edit::DropException {
+        code: Text::from_str(alloc, code)?,
+        year,
+    })
+}
+
 pub(crate) fn read(alloc: Global, code: &str, date: (i64, i64, i64)) -> Result<Query, AllocError> {
     Ok(Query::Read {
         code: Text::from_str(alloc, code)?,
@@ -80,6 +116,13 @@ pub(crate) fn day_in(alloc: Global, code: &str, day: i64) -> Result<Query, Alloc
     })
 }
 
+pub(crate) fn easter(alloc: Global, code: &str, year: i64) -> Result<Query, AllocError> {
+    Ok(Query::Easter {
+        code: Text::from_str(alloc, code)?,
+        year,
+    })
+}
+
 pub(crate) fn periods(alloc: Global, code: &str) -> Result<Query, AllocError> {
     Ok(Query::Periods {
         code: Text::from_str(alloc, code)?,
@@ -89,6 +132,32 @@ pub(crate) fn periods(alloc: Global, code: &str) -> Result<Query, AllocError> {
 /// A register of Rome alone.
 pub(crate) fn of_rome(alloc: Global) -> Result<Register, AllocError> {
     Register::fold(alloc, Limits::standard(), &[rome(alloc)?])
+}
+
+/// Puts a territory of that opening regime and its changes into a register.
+pub(crate) fn add_changed(
+    alloc: Global,
+    register: &mut Register,
+    land: (&str, Regime),
+    changes: &[(i64, Regime)],
+) -> Result<(), AllocError> {
+    register.apply_if_lawful(&add_land_under(alloc, land.0, "Sample", land.1)?)?;
+    for (day, regime) in changes {
+        make_change(alloc, register, Kind::Add, land.0, *day, *regime)?;
+    }
+    Ok(())
+}
+
+/// A register of that territory alone.
+pub(crate) fn changed(
+    alloc: Global,
+    limits: Limits,
+    land: (&str, Regime),
+    changes: &[(i64, Regime)],
+) -> Result<Register, AllocError> {
+    let mut register = Register::new(alloc, limits);
+    add_changed(alloc, &mut register, land, changes)?;
+    Ok(register)
 }
 
 /// Applies an edit of that kind, where it is lawful.
@@ -137,6 +206,8 @@ fn regime_text(regime: Regime) -> &'static str {
         "gregorian"
     } else if regime == MIXED {
         "mixed"
+    } else if regime == ANNUNCIATION {
+        "annunciation"
     } else {
         "other"
     }
@@ -161,6 +232,14 @@ pub(crate) fn edit_text(alloc: Global, edit: &Edit) -> Result<String, AllocError
             let code = code.as_str();
             format!(in alloc; "drop {code} {day}")
         }
+        Edit::AddException { code, year, day } => {
+            let code = code.as_str();
+            format!(in alloc; "add exception {code} {year} {day}")
+        }
+        Edit::DropException { code, year } => {
+            let code = code.as_str();
+            format!(in alloc; "drop exception {code} {year}")
+        }
     }
 }
 
@@ -180,6 +259,11 @@ pub(crate) fn query_text(alloc: Global, query: &Query) -> Result<String, AllocEr
             let code = code.as_str();
             format!(in alloc; "day {code} {day}")
         }
+        Query::Easter { code, year } => {
+            let code = code.as_str();
+            format!(in alloc; "easter {code} {year}")
+        }
+        Query::YearFigures { year } => format!(in alloc; "figures {year}"),
         Query::Lands => String::from_str(alloc, "lands"),
         Query::Periods { code } => {
             let code = code.as_str();
@@ -200,11 +284,34 @@ fn period_text(alloc: Global, period: &Period) -> Result<String, AllocError> {
     format!(in alloc; "{first} to {last} {regime}. ")
 }
 
-fn reading_text(alloc: Global, found: &[Found], skipped: &[Day]) -> Result<String, AllocError> {
+fn days_text(alloc: Global, found: &[Found]) -> Result<String, AllocError> {
     let mut text = String::new(alloc);
     for found in found {
         text.push_str(found_text(alloc, found)?.as_str())?;
     }
+    Ok(text)
+}
+
+fn easters_text(alloc: Global, found: &[Found], listed: bool) -> Result<String, AllocError> {
+    let mut text = days_text(alloc, found)?;
+    text.push_str(if listed { "listed" } else { "by rule" })?;
+    Ok(text)
+}
+
+fn reckoning_text(
+    alloc: Global,
+    epact: Epact,
+    letters: Letters,
+    easter: Day,
+) -> Result<String, AllocError> {
+    let (epact, prime) = (epact.number, if epact.prime { "'" } else { "" });
+    let (january, march) = (letters.january.name(), letters.march.name());
+    let easter = easter.number();
+    format!(in alloc; "{epact}{prime} {january}{march} {easter}")
+}
+
+fn reading_text(alloc: Global, found: &[Found], skipped: &[Day]) -> Result<String, AllocError> {
+    let mut text = days_text(alloc, found)?;
     text.push_str("skipped")?;
     for day in skipped {
         let number = day.number();
@@ -232,6 +339,17 @@ fn periods_text(alloc: Global, periods: &[Period]) -> Result<String, AllocError>
     Ok(text)
 }
 
+/// The figures of a year, as one text.
+fn figures_text(
+    alloc: Global,
+    cycles: (Year, u8, u8),
+    julian: &str,
+    gregorian: &str,
+) -> Result<String, AllocError> {
+    let (year, golden, indiction) = (cycles.0.number(), cycles.1, cycles.2);
+    format!(in alloc; "{year} {golden} {indiction}, julian {julian}, gregorian {gregorian}")
+}
+
 /// The members of an answer, as one text.
 fn answer_text(alloc: Global, answer: &Answer) -> Result<String, AllocError> {
     match answer {
@@ -242,6 +360,28 @@ fn answer_text(alloc: Global, answer: &Answer) -> Result<String, AllocError> {
             let mut text = found_text(alloc, found)?;
             text.push_str(period_text(alloc, period)?.as_str())?;
             Ok(text)
+        }
+        Answer::Easters { found, listed } => easters_text(alloc, found.as_slice(), *listed),
+        Answer::Figures {
+            year,
+            golden,
+            indiction,
+            julian_epact,
+            gregorian_epact,
+            julian_letters,
+            gregorian_letters,
+            julian_easter,
+            gregorian_easter,
+        } => {
+            let epact = Epact {
+                number: *julian_epact,
+                prime: false,
+            };
+            let julian = reckoning_text(alloc, epact, *julian_letters, *julian_easter)?;
+            let (letters, easter) = (*gregorian_letters, *gregorian_easter);
+            let gregorian = reckoning_text(alloc, *gregorian_epact, letters, easter)?;
+            let cycles = (*year, *golden, *indiction);
+            figures_text(alloc, cycles, julian.as_str(), gregorian.as_str())
         }
         Answer::Lands(lands) => lands_text(alloc, lands.as_slice()),
         Answer::Periods(periods) => periods_text(alloc, periods.as_slice()),
@@ -278,6 +418,20 @@ pub(crate) fn reads(
 ) -> Result<bool, AllocError> {
     for (code, date, wanted) in rows {
         if !answers(alloc, register, &read(alloc, code, *date)?, wanted)? {
+            return Ok(false);
+        }
+    }
+    Ok(true)
+}
+
+/// Whether the register answers the Easters of years so.
+pub(crate) fn has_easters(
+    alloc: Global,
+    register: &Register,
+    rows: &[(&str, i64, &str)],
+) -> Result<bool, AllocError> {
+    for (code, year, wanted) in rows {
+        if !answers(alloc, register, &easter(alloc, code, *year)?, wanted)? {
             return Ok(false);
         }
     }

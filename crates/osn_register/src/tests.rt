@@ -1,7 +1,7 @@
 //! Texts, copies, and the addition of territories, with ample memory.
 use crate::samples::{
-    GREGORIAN, JULIAN, Kind, add_land, answers, britain, change, day_in, edit_text, of_rome,
-    periods, query_text, read, refused, rome,
+    GREGORIAN, JULIAN, Kind, add_exception, add_land, answers, britain, change, day_in,
+    drop_exception, easter, edit_text, of_rome, periods, query_text, read, refused, rome,
 };
 use crate::{Edit, Limits, Listing, Query, Refusal, Register, Text};
 use osn_days::Day;
@@ -44,8 +44,11 @@ fn refusals_have_numbers_and_names(rt: HostRuntime) {
         (Refusal::NoSuchChange, 7, "NoSuchChange"),
         (Refusal::OpeningPeriod, 8, "OpeningPeriod"),
         (Refusal::YearOffRange, 9, "YearOffRange"),
+        (Refusal::ExceptionExists, 10, "ExceptionExists"),
+        (Refusal::NoSuchException, 11, "NoSuchException"),
         (Refusal::TooManyLands, 12, "TooManyLands"),
         (Refusal::TooManyChanges, 13, "TooManyChanges"),
+        (Refusal::TooManyExceptions, 14, "TooManyExceptions"),
         (Refusal::NothingPending, 15, "NothingPending"),
         (Refusal::JournalFull, 16, "JournalFull"),
         (Refusal::EditionsFull, 17, "EditionsFull"),
@@ -83,6 +86,32 @@ fn edits_are_copied(rt: HostRuntime) -> Result<(), Fail> {
         let edit = change(alloc, kind, "GB", 639_797, regime)?;
         assert_eq!(rt; copied_edit(alloc, edit)?.as_str(), wanted);
     }
+    Ok(())
+}
+
+#[test]
+fn exception_edits_are_copied(rt: HostRuntime) -> Result<(), Fail> {
+    let alloc = rt.alloc();
+    let edit = add_exception(alloc, "GB", 1724, 629_412)?;
+    assert_eq!(rt;
+        copied_edit(alloc, edit)?.as_str(),
+        "add exception GB 1724 629412"
+    );
+    let edit = drop_exception(alloc, "GB", -1724)?;
+    assert_eq!(rt;
+        copied_edit(alloc, edit)?.as_str(),
+        "drop exception GB -1724"
+    );
+    Ok(())
+}
+
+#[test]
+fn queries_of_years_are_copied(rt: HostRuntime) -> Result<(), Fail> {
+    let alloc = rt.alloc();
+    let query = easter(alloc, "RM", 1724)?;
+    assert_eq!(rt; copied_query(alloc, query)?.as_str(), "easter RM 1724");
+    let query = Query::YearFigures { year: -1954 };
+    assert_eq!(rt; copied_query(alloc, query)?.as_str(), "figures -1954");
     Ok(())
 }
 

@@ -22,6 +22,8 @@ has_float-replied : (reader edition : ℕ) (a : Answer) → has_float (replied_d
 has_float-replied reader edition (answers.Reading found skipped) =
     rw (has_float-list found_data (λ f. refl) found, has_float-list whole (λ d. refl) skipped)
 has_float-replied reader edition (answers.OnDay found period) = refl
+has_float-replied reader edition (answers.Easters found listed) = rw (has_float-list found_data (λ f. refl) found)
+has_float-replied reader edition (answers.Figures year golden indiction julian_epact gregorian_epact julian_letters gregorian_letters julian_easter gregorian_easter) = refl
 has_float-replied reader edition (answers.Lands lands) = rw (has_float-list land_data (λ l. refl) lands)
 has_float-replied reader edition (answers.Periods periods) = rw (has_float-list period_data (λ p. refl) periods)
 has_float-replied reader edition (answers.Refused f) = refl

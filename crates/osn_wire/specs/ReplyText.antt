@@ -1,10 +1,13 @@
 -- The JSON value of each outcome, and the line that is its text: this project's profile. The members of an object
 -- stand in ascending order of their names.
-use Rattle.std.specs.Prelude.{ℕ, ◌-◌, ◌==◌, if◌then◌else◌, ℤ, unsigned_abs, List, [], ◌∷◌, ◌++◌, length, map, replicate, codes}
+use Rattle.std.specs.Prelude.{ℕ, Bool, ◌-◌, ◌==◌, ◌&&◌, if◌then◌else◌, ℤ, unsigned_abs, List, [], ◌∷◌, ◌++◌, length, map, replicate, codes}
 use Rattle.std.specs.Fmt.{decimal}
-use Rattle.serde_json.specs.Data.{Data, number, unsigned, string, array, object, Members, member, no_members}
+use Rattle.serde_json.specs.Data.{Data, boolean, number, unsigned, string, array, object, Members, member, no_members}
 use Rattle.serde_json.specs.View.{items_of}
 use Rattle.serde_json.specs.Written.{compact_text}
+use Rattle.osn_computus.specs.declared.epact.Epact.{Epact}
+use Rattle.osn_computus.specs.declared.letters.Letters.{Letters}
+use Rattle.osn_computus.specs.Letters.{letter_name, letter_number}
 use Rattle.osn_days.specs.declared.date.Date.{Date}
 use Rattle.osn_days.specs.declared.calendar.Calendar.TheVariants.{Julian, Gregorian}
 use Rattle.osn_days.specs.declared.weekday.Weekday.{Weekday}
@@ -110,6 +113,44 @@ on_day_data found period = object (
     (member (codes "regime") (regime_data period.regime)
     no_members))))
 
+-- the Easters of a year, and whether an exception is listed for it
+abbrev pub easters_data : List Found → Bool → Data
+easters_data found listed = object (
+    member (codes "days") (list_data (map found_data found))
+    (member (codes "listed") (boolean listed)
+    no_members))
+
+-- an epact of the Gregorian reckoning as the canons write it: a star for 0, and the second of the two of 25 with a prime
+unfoldable pub epact_text : Epact → List ℕ
+epact_text e =
+    if e.number == 0 then codes "*"
+    else (if (e.number == 25) && e.prime then codes "25'"
+    else decimal e.number)
+
+-- the letter of January before that of March, and one letter where they are the same
+unfoldable pub letters_text : Letters → List ℕ
+letters_text l =
+    if letter_number l.january == letter_number l.march then letter_name l.january
+    else letter_name l.january ++ letter_name l.march
+
+-- the figures of a year by one rule
+abbrev pub reckoning_data : ℕ → Data → Letters → Data
+reckoning_data easter epact letters = object (
+    member (codes "easter") (whole easter)
+    (member (codes "epact") epact
+    (member (codes "letters") (string (letters_text letters))
+    no_members)))
+
+-- the figures of a year
+abbrev pub figures_data : ℕ → ℕ → ℕ → Data → Data → Data
+figures_data year golden indiction gregorian julian = object (
+    member (codes "golden") (whole golden)
+    (member (codes "gregorian") gregorian
+    (member (codes "indiction") (whole indiction)
+    (member (codes "julian") julian
+    (member (codes "year") (whole year)
+    no_members)))))
+
 abbrev pub lands_data : List Land → Data
 lands_data lands = object (member (codes "lands") (list_data (map land_data lands)) no_members)
 
@@ -127,6 +168,11 @@ answered_data reader edition answer = object (
 abbrev pub replied_data : ℕ → ℕ → Answer → Data
 replied_data reader edition (answers.Reading found skipped) = answered_data reader edition (reading_data found skipped)
 replied_data reader edition (answers.OnDay found period) = answered_data reader edition (on_day_data found period)
+replied_data reader edition (answers.Easters found listed) = answered_data reader edition (easters_data found listed)
+replied_data reader edition (answers.Figures year golden indiction julian_epact gregorian_epact julian_letters gregorian_letters julian_easter gregorian_easter) =
+    answered_data reader edition (figures_data year golden indiction
+    (reckoning_data gregorian_easter (string (epact_text gregorian_epact)) gregorian_letters)
+    (reckoning_data julian_easter (whole julian_epact) julian_letters))
 replied_data reader edition (answers.Lands lands) = answered_data reader edition (lands_data lands)
 replied_data reader edition (answers.Periods periods) = answered_data reader edition (periods_data periods)
 replied_data reader edition (answers.Refused f) = object (

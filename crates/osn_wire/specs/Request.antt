@@ -10,7 +10,7 @@ use Rattle.osn_days.specs.declared.calendar.Calendar.{Calendar}
 use Rattle.osn_days.specs.Profile.{Profile}
 use Rattle.osn_lands.specs.declared.style.Style.{Style}
 use Rattle.osn_lands.specs.declared.regime.Regime.{Regime}
-use Rattle.osn_register.specs.declared.edit.Edit.TheVariants.{AddLand, AddChange, AlterChange, DropChange}
+use Rattle.osn_register.specs.declared.edit.Edit.TheVariants.{AddLand, AddChange, AlterChange, DropChange, AddException, DropException}
 use Rattle.osn_register.specs.declared.query.Query.TheVariants as queries
 use Rattle.osn_wire.specs.declared.member.Member.{Member}
 use Rattle.osn_wire.specs.declared.member.Member.TheVariants as members
@@ -89,6 +89,19 @@ drop_change_of d = do
   day ← whole_at members.Day d
   Ok (Stage (DropChange code day))
 
+unfoldable pub add_exception_of : Data → Result Request WireFault
+add_exception_of d = do
+  code ← text_at members.Code d
+  year ← whole_at members.Year d
+  day ← whole_at members.Day d
+  Ok (Stage (AddException code year day))
+
+unfoldable pub drop_exception_of : Data → Result Request WireFault
+drop_exception_of d = do
+  code ← text_at members.Code d
+  year ← whole_at members.Year d
+  Ok (Stage (DropException code year))
+
 unfoldable pub read_of : ℕ → Data → Result Request WireFault
 read_of readers d = do
   reader ← whole_at members.Reader d
@@ -106,6 +119,21 @@ day_in_of readers d = do
   day ← whole_at members.Day d
   number ← reader_in readers reader
   Ok (Ask number (queries.DayIn code day))
+
+unfoldable pub easter_of : ℕ → Data → Result Request WireFault
+easter_of readers d = do
+  reader ← whole_at members.Reader d
+  code ← text_at members.Code d
+  year ← whole_at members.Year d
+  number ← reader_in readers reader
+  Ok (Ask number (queries.Easter code year))
+
+unfoldable pub figures_of : ℕ → Data → Result Request WireFault
+figures_of readers d = do
+  reader ← whole_at members.Reader d
+  year ← whole_at members.Year d
+  number ← reader_in readers reader
+  Ok (Ask number (queries.YearFigures year))
 
 unfoldable pub lands_of : ℕ → Data → Result Request WireFault
 lands_of readers d = do
@@ -126,9 +154,13 @@ request_by p readers d ops.AddLand = add_land_of p d
 request_by p readers d ops.AddChange = add_change_of p d
 request_by p readers d ops.AlterChange = alter_change_of p d
 request_by p readers d ops.DropChange = drop_change_of d
+request_by p readers d ops.AddException = add_exception_of d
+request_by p readers d ops.DropException = drop_exception_of d
 request_by p readers d ops.Publish = Ok Publish
 request_by p readers d ops.Read = read_of readers d
 request_by p readers d ops.DayIn = day_in_of readers d
+request_by p readers d ops.Easter = easter_of readers d
+request_by p readers d ops.YearFigures = figures_of readers d
 request_by p readers d ops.Lands = lands_of readers d
 request_by p readers d ops.Periods = periods_of readers d
 

@@ -101,3 +101,24 @@ pub(crate) fn drop_change_of(alloc: Global, value: &Value) -> Result<Request, Re
     let code = Text::from_str(alloc, code)?;
     Ok(Request::Stage(Edit::DropChange { code, day }))
 }
+
+#[tactic(auto, unfolding(crate::specs::Request::add_exception_of))]
+pub(crate) fn add_exception_of(alloc: Global, value: &Value) -> Result<Request, RequestError>
+    ensures { said.Gives result (said.add_exception_of (view value.now)) }
+{
+    let code = text_at(value, Member::Code)?;
+    let year = whole_at(value, Member::Year)?;
+    let day = whole_at(value, Member::Day)?;
+    let code = Text::from_str(alloc, code)?;
+    Ok(Request::Stage(Edit::AddException { code, year, day }))
+}
+
+#[tactic(auto, unfolding(crate::specs::Request::drop_exception_of))]
+pub(crate) fn drop_exception_of(alloc: Global, value: &Value) -> Result<Request, RequestError>
+    ensures { said.Gives result (said.drop_exception_of (view value.now)) }
+{
+    let code = text_at(value, Member::Code)?;
+    let year = whole_at(value, Member::Year)?;
+    let code = Text::from_str(alloc, code)?;
+    Ok(Request::Stage(Edit::DropException { code, year }))
+}

@@ -6,6 +6,9 @@
 mod date_text;
 mod edit_request;
 mod fault;
+mod figures;
+#[cfg(test)]
+mod figures_tests;
 mod found;
 mod json_member;
 mod lines;
@@ -31,6 +34,8 @@ mod stream;
 mod tests;
 mod wire_fault;
 mod words;
+#[cfg(test)]
+mod year_tests;
 
 pub use fault::ServeFault;
 pub use member::Member;

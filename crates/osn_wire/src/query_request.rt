@@ -53,6 +53,30 @@ pub(crate) fn day_in_of(alloc: Global, readers: u32, value: &Value) -> Result<Re
     Ok(Request::Ask { reader, query })
 }
 
+#[tactic(auto, unfolding(crate::specs::Request::easter_of))]
+pub(crate) fn easter_of(alloc: Global, readers: u32, value: &Value) -> Result<Request, RequestError>
+    ensures { said.Gives result (said.easter_of readers (view value.now)) }
+{
+    let reader = whole_at(value, Member::Reader)?;
+    let code = text_at(value, Member::Code)?;
+    let year = whole_at(value, Member::Year)?;
+    let reader = reader_in(readers, reader)?;
+    let code = Text::from_str(alloc, code)?;
+    let query = Query::Easter { code, year };
+    Ok(Request::Ask { reader, query })
+}
+
+#[tactic(auto, unfolding(crate::specs::Request::figures_of))]
+pub(crate) fn figures_of(readers: u32, value: &Value) -> Result<Request, WireFault>
+    ensures { result ≡ said.figures_of readers (view value.now) }
+{
+    let reader = whole_at(value, Member::Reader)?;
+    let year = whole_at(value, Member::Year)?;
+    let reader = reader_in(readers, reader)?;
+    let query = Query::YearFigures { year };
+    Ok(Request::Ask { reader, query })
+}
+
 #[tactic(auto, unfolding(crate::specs::Request::lands_of))]
 pub(crate) fn lands_of(readers: u32, value: &Value) -> Result<Request, WireFault>
     ensures { result ≡ said.lands_of readers (view value.now) }

@@ -1,16 +1,19 @@
 //! A reply line: the compact text of a JSON value, and a line feed.
 ghost use Rattle.std.specs.Prelude.{◌≡◌, ◌++◌, IfOk, OnOk, OnErr, string_bytes};
 ghost use Rattle.serde_json.specs.View.{view};
-ghost use Rattle.osn_wire.specs.ReplyText.{fault_data, on_day_data, answered_data, replied_data, outcome_data, reply_line};
+ghost use Rattle.osn_register.specs.declared.answer.Answer.TheVariants.{Refused};
+ghost use Rattle.osn_wire.specs.ReplyText.{fault_data, reading_data, on_day_data, easters_data, lands_data, periods_data, answered_data, replied_data, outcome_data, reply_line};
 
+use crate::figures::{figures_value, gregorian_value, julian_value};
 use crate::found::{
     day_values, found_value, found_values, land_values, period_values, regime_value,
 };
 use crate::outcome::Outcome;
 use crate::wire_fault::WireFault;
 use osn_core::Reply;
+use osn_days::Day;
 use osn_lands::Period;
-use osn_register::{Answer, Found};
+use osn_register::{Answer, Found, Land, Refusal};
 use serde_json::{Value, json};
 use std::alloc::{AllocError, Global};
 
@@ -49,37 +52,84 @@ fn answered_value(
     json!(in alloc; {"answer": answer, "edition": edition, "reader": reader})
 }
 
+fn reading_value(alloc: Global, found: &[Found], skipped: &[Day]) -> Result<Value, AllocError>
+    ensures { IfOk result (λ v. view v ≡ reading_data found.now skipped.now) }
+{
+    json!(in alloc; {
+        "days": found_values(alloc, found)?,
+        "skipped": day_values(alloc, skipped)?,
+    })
+}
+
+fn easters_value(alloc: Global, found: &[Found], listed: bool) -> Result<Value, AllocError>
+    ensures { IfOk result (λ v. view v ≡ easters_data found.now listed) }
+{
+    json!(in alloc; {"days": found_values(alloc, found)?, "listed": listed})
+}
+
+fn lands_value(alloc: Global, lands: &[Land]) -> Result<Value, AllocError>
+    ensures { IfOk result (λ v. view v ≡ lands_data lands.now) }
+{
+    json!(in alloc; {"lands": land_values(alloc, lands)?})
+}
+
+fn periods_value(alloc: Global, periods: &[Period]) -> Result<Value, AllocError>
+    ensures { IfOk result (λ v. view v ≡ periods_data periods.now) }
+{
+    json!(in alloc; {"periods": period_values(alloc, periods)?})
+}
+
+fn refused_value(
+    alloc: Global,
+    reader: u32,
+    edition: u32,
+    refusal: Refusal,
+) -> Result<Value, AllocError>
+    ensures { IfOk result (λ v. view v ≡ replied_data reader edition (Refused refusal)) }
+{
+    json!(in alloc; {
+        "edition": edition,
+        "fault": refusal.number(),
+        "name": refusal.name(),
+        "reader": reader,
+    })
+}
+
 fn replied_value(alloc: Global, reader: u32, reply: &Reply) -> Result<Value, AllocError>
     ensures { IfOk result (λ v. view v ≡ replied_data reader reply.now.edition reply.now.answer) }
 {
     let edition = reply.edition;
-    match &reply.answer {
+    let answer = match &reply.answer {
         Answer::Reading { found, skipped } => {
-            let answer = json!(in alloc; {
-                "days": found_values(alloc, found.as_slice())?,
-                "skipped": day_values(alloc, skipped.as_slice())?,
-            })?;
-            answered_value(alloc, reader, edition, answer)
+            reading_value(alloc, found.as_slice(), skipped.as_slice())?
         }
-        Answer::OnDay { found, period } => {
-            let answer = on_day_value(alloc, found, period)?;
-            answered_value(alloc, reader, edition, answer)
+        Answer::OnDay { found, period } => on_day_value(alloc, found, period)?,
+        Answer::Easters { found, listed } => easters_value(alloc, found.as_slice(), *listed)?,
+        Answer::Figures {
+            year,
+            golden,
+            indiction,
+            julian_epact,
+            gregorian_epact,
+            julian_letters,
+            gregorian_letters,
+            julian_easter,
+            gregorian_easter,
+        } => {
+            let gregorian = gregorian_value(
+                alloc,
+                *gregorian_easter,
+                *gregorian_epact,
+                *gregorian_letters,
+            )?;
+            let julian = julian_value(alloc, *julian_easter, *julian_epact, *julian_letters)?;
+            figures_value(alloc, *year, *golden, *indiction, gregorian, julian)?
         }
-        Answer::Lands(lands) => {
-            let answer = json!(in alloc; {"lands": land_values(alloc, lands.as_slice())?})?;
-            answered_value(alloc, reader, edition, answer)
-        }
-        Answer::Periods(periods) => {
-            let answer = json!(in alloc; {"periods": period_values(alloc, periods.as_slice())?})?;
-            answered_value(alloc, reader, edition, answer)
-        }
-        Answer::Refused(refusal) => json!(in alloc; {
-            "edition": edition,
-            "fault": refusal.number(),
-            "name": refusal.name(),
-            "reader": reader,
-        }),
-    }
+        Answer::Lands(lands) => lands_value(alloc, lands.as_slice())?,
+        Answer::Periods(periods) => periods_value(alloc, periods.as_slice())?,
+        Answer::Refused(refusal) => return refused_value(alloc, reader, edition, *refusal),
+    };
+    answered_value(alloc, reader, edition, answer)
 }
 
 fn outcome_value(alloc: Global, outcome: &Outcome) -> Result<Value, AllocError>

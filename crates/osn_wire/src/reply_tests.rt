@@ -36,7 +36,7 @@ fn period(first: i64, last: i64, calendar: Calendar, rule: Rule) -> Period {
     }
 }
 
-fn replied(reader: u32, edition: u32, answer: Answer) -> Outcome {
+pub(crate) fn replied(reader: u32, edition: u32, answer: Answer) -> Outcome {
     Outcome::Replied {
         reader,
         reply: Reply { edition, answer },
@@ -280,6 +280,36 @@ fn periods_of_a_territory(rt: HostRuntime) -> Result<(), Fail> {
     let line =
         "{\"answer\":{\"periods\":[{\"calendar\":\"julian\",\"first\":1,\"last\":1095362,\"rule\":\"gregorian\",\"style\":\"january\"}]},\"edition\":3,\"reader\":8}\n";
     assert_eq!(rt; reply_text(alloc, &outcome)?.as_str(), line);
+    Ok(())
+}
+
+/// A year with no Easter, and one with an Easter that is listed.
+#[test]
+fn easters(rt: HostRuntime) -> Result<(), Fail> {
+    let alloc = rt.alloc();
+    let label = Label {
+        year: 1724,
+        month: 4,
+        day: 9,
+    };
+    let mut days = Vec::new(alloc);
+    days.push(found(alloc, 629_412, label, "9 April 1724")?)?;
+    for (found, listed, line) in [
+        (
+            Vec::new(alloc),
+            false,
+            "{\"answer\":{\"days\":[],\"listed\":false},\"edition\":2,\"reader\":1}\n",
+        ),
+        (
+            days,
+            true,
+            "{\"answer\":{\"days\":[{\"day\":629412,\"dual\":\"9 April 1724\",\"gregorian\":\"1724-04-09\",\"jdn\":2350837,\"julian\":\"1724-03-29\",\"label\":\"1724-04-09\",\"weekday\":\"Sunday\"}],\"listed\":true},\"edition\":2,\"reader\":1}\n",
+        ),
+    ] {
+        let found = Listing::new(found);
+        let outcome = replied(1, 2, Answer::Easters { found, listed });
+        assert_eq!(rt; reply_text(alloc, &outcome)?.as_str(), line);
+    }
     Ok(())
 }
 

@@ -4,10 +4,13 @@ ghost use Rattle.serde_json.specs.View.{view};
 ghost use Rattle.osn_days.specs.Profile.{present};
 ghost use Rattle.osn_wire.specs.Request as said;
 
-use crate::edit_request::{add_change_of, add_land_of, alter_change_of, drop_change_of};
+use crate::edit_request::{
+    add_change_of, add_exception_of, add_land_of, alter_change_of, drop_change_of,
+    drop_exception_of,
+};
 use crate::json_member::text_at;
 use crate::member::Member;
-use crate::query_request::{day_in_of, lands_of, periods_of, read_of};
+use crate::query_request::{day_in_of, easter_of, figures_of, lands_of, periods_of, read_of};
 use crate::wire_fault::WireFault;
 use crate::words::{Op, op_named};
 use osn_register::{Edit, Query};
@@ -77,9 +80,13 @@ fn request_of(alloc: Global, readers: u32, value: &Value) -> Result<Request, Req
         Op::AddChange => add_change_of(alloc, value),
         Op::AlterChange => alter_change_of(alloc, value),
         Op::DropChange => drop_change_of(alloc, value),
+        Op::AddException => add_exception_of(alloc, value),
+        Op::DropException => drop_exception_of(alloc, value),
         Op::Publish => Ok(Request::Publish),
         Op::Read => read_of(alloc, readers, value),
         Op::DayIn => day_in_of(alloc, readers, value),
+        Op::Easter => easter_of(alloc, readers, value),
+        Op::YearFigures => Ok(figures_of(readers, value)?),
         Op::Lands => Ok(lands_of(readers, value)?),
         Op::Periods => periods_of(alloc, readers, value),
     }

@@ -18,6 +18,8 @@ const CODE: Tried = (Member::Code, r#","code":"RM""#, r#","code":["RM"]"#);
 
 const DAY: Tried = (Member::Day, r#","day":4"#, r#","day":9223372036854775808"#);
 
+const YEAR: Tried = (Member::Year, r#","year":1582"#, r#","year":"x""#);
+
 /// The reader is a whole number and none of the readers, which is tested last.
 const READER: Tried = (Member::Reader, r#","reader":5"#, r#","reader":"1""#);
 
@@ -48,15 +50,23 @@ const OF_CHANGE: [Tried; 5] = [CODE, DAY, CALENDAR, STYLE, RULE];
 
 const OF_DROP_CHANGE: [Tried; 2] = [CODE, DAY];
 
+const OF_ADD_EXCEPTION: [Tried; 3] = [CODE, YEAR, DAY];
+
+const OF_DROP_EXCEPTION: [Tried; 2] = [CODE, YEAR];
+
 const OF_READ: [Tried; 5] = [
     READER,
     CODE,
-    (Member::Year, r#","year":1582"#, r#","year":"1582""#),
+    YEAR,
     (Member::Month, r#","month":10"#, r#","month":1e1"#),
     DAY,
 ];
 
 const OF_DAY: [Tried; 3] = [READER, CODE, DAY];
+
+const OF_EASTER: [Tried; 3] = [READER, CODE, YEAR];
+
+const OF_FIGURES: [Tried; 2] = [READER, YEAR];
 
 const OF_PERIODS: [Tried; 2] = [READER, CODE];
 
@@ -174,6 +184,47 @@ fn requests_of_days_and_periods(rt: HostRuntime) -> Result<(), Fail> {
     Ok(())
 }
 
+#[test]
+fn requests_of_exceptions(rt: HostRuntime) -> Result<(), Fail> {
+    let alloc = rt.alloc();
+    let line = br#"{"op":"add_exception","code":"DE","year":1724,"day":629412}"#;
+    let Request::Stage(Edit::AddException { code, year, day }) = read_request(alloc, 0, line)?
+    else {
+        return Err(Fail::new("no exception is added"));
+    };
+    assert_eq!(rt; (code.as_str(), year, day), ("DE", 1724, 629_412));
+    let line = br#"{"op":"drop_exception","code":"","year":-9223372036854775808,"day":7}"#;
+    let Request::Stage(Edit::DropException { code, year }) = read_request(alloc, 0, line)? else {
+        return Err(Fail::new("no exception is dropped"));
+    };
+    assert_eq!(rt; (code.as_str(), year), ("", i64::MIN));
+    Ok(())
+}
+
+#[test]
+fn requests_of_years(rt: HostRuntime) -> Result<(), Fail> {
+    let alloc = rt.alloc();
+    let line = br#"{"op":"easter","reader":2,"code":"GB","year":9223372036854775807}"#;
+    let Request::Ask {
+        reader,
+        query: Query::Easter { code, year },
+    } = read_request(alloc, READERS, line)?
+    else {
+        return Err(Fail::new("no Easter"));
+    };
+    assert_eq!(rt; (reader, code.as_str(), year), (2, "GB", i64::MAX));
+    let line = br#"{"op":"figures","reader":4,"year":0,"code":7}"#;
+    let Request::Ask {
+        reader,
+        query: Query::YearFigures { year },
+    } = read_request(alloc, READERS, line)?
+    else {
+        return Err(Fail::new("no figures"));
+    };
+    assert_eq!(rt; (reader, year), (4, 0));
+    Ok(())
+}
+
 /// A word reads as that of which it is the word.
 #[test]
 fn words_read_as_they_are_written(rt: HostRuntime) {
@@ -263,8 +314,12 @@ fn first_faults(rt: HostRuntime) -> Result<(), Fail> {
         ("add_change", OF_CHANGE.as_slice(), None),
         ("alter_change", OF_CHANGE.as_slice(), None),
         ("drop_change", OF_DROP_CHANGE.as_slice(), None),
+        ("add_exception", OF_ADD_EXCEPTION.as_slice(), None),
+        ("drop_exception", OF_DROP_EXCEPTION.as_slice(), None),
         ("read", OF_READ.as_slice(), unknown),
         ("day", OF_DAY.as_slice(), unknown),
+        ("easter", OF_EASTER.as_slice(), unknown),
+        ("figures", OF_FIGURES.as_slice(), unknown),
         ("lands", OF_LANDS.as_slice(), unknown),
         ("periods", OF_PERIODS.as_slice(), unknown),
     ] {

@@ -238,7 +238,8 @@ const CHANGED: [(&str, &str); 16] = [
     ),
 ];
 
-fn serves(rt: &impl Abort, alloc: Global, told: &[(&str, &str)]) -> Result<(), Fail> {
+/// Whether these lines, in turn, have these replies.
+pub(crate) fn serves(rt: &impl Abort, alloc: Global, told: &[(&str, &str)]) -> Result<(), Fail> {
     let mut input = Vec::new(alloc);
     let mut replies = Vec::new(alloc);
     for (line, reply) in told {

@@ -7,12 +7,12 @@ use Rattle.osn_lands.proofs.territory.Territory.add_change.Goals as goal
 
 pub returns-then-eq-2-clause-refused : goal.returns-then-eq-2-clause-refused
 returns-then-eq-2-clause-refused c =
-    let found = starts_on-found c.self.inside.periods.items c.deref.result.now c.args.self.now c.place_of-place.result 1 present.high c.args.day c.index.result.now c.deref.ensures.value c.self.view_is c.place_of-place.ensures.within c.place_of-place.ensures.holds c.index.ensures c.self.invariant in
+    let found = starts_on-found c.self.inside.exceptions.entries c.self.inside.periods.items c.deref.result.now c.args.self.now c.place_of-place.result 1 present.high c.args.day c.index.result.now c.deref.ensures.value c.self.view_is c.place_of-place.ensures.within c.place_of-place.ensures.holds c.index.ensures c.self.invariant in
     inl (add_fault-is c.args.self.now c.args.day _ (sym c.if-eq.ensures) (found ∙ sym c.if-eq-2.ensures))
 
 lawful : (c : goal.After-split) → add_fault c.args.self.now c.args.day ≡ None
 lawful c =
-    let found = starts_on-found c.self.inside.periods.items c.deref.result.now c.args.self.now c.place_of-place.result 1 present.high c.args.day c.index.result.now c.deref.ensures.value c.self.view_is c.place_of-place.ensures.within c.place_of-place.ensures.holds c.index.ensures c.self.invariant in
+    let found = starts_on-found c.self.inside.exceptions.entries c.self.inside.periods.items c.deref.result.now c.args.self.now c.place_of-place.result 1 present.high c.args.day c.index.result.now c.deref.ensures.value c.self.view_is c.place_of-place.ensures.within c.place_of-place.ensures.holds c.index.ensures c.self.invariant in
     add_fault-is c.args.self.now c.args.day _ (sym c.if-eq.ensures) (found ∙ sym c.if-eq-2.ensures)
 
 pub returns-clause-lawful : goal.returns-clause-lawful

@@ -1,6 +1,6 @@
 use Rattle.std.proofs.Common.{◌≡◌, ◌++◌, drop}
 use Rattle.std.specs.List.{flat_map}
-use Rattle.osn_lands.specs.Reading.{days_read}
+use Rattle.osn_lands.specs.Inside.{days_read}
 use Rattle.osn_lands.proofs.territory.Territory.read.Given as goal
 
 -- the days found so far, and those of the periods that are left

@@ -16,8 +16,8 @@ loop-i-preserved c =
 
 pub returns-clause-value : goal.returns-clause-value
 returns-clause-value c =
-    skipped_is present c.args.self.now c.args.label c.loop-i.days.items c.deref-periods.result.now c.self.inside.periods.items c.loop-i.i c.deref-periods.ensures.value c.self.view_is c.self.invariant (omega arith) (omega arith) c.loop-i.invariant
+    skipped_is c.self.inside.exceptions.entries present c.args.self.now c.args.label c.loop-i.days.items c.deref-periods.result.now c.self.inside.periods.items c.loop-i.i c.deref-periods.ensures.value c.self.view_is c.self.invariant (omega arith) (omega arith) c.loop-i.invariant
 
 pub returns-clause-explained : goal.returns-clause-explained
 returns-clause-explained c =
-    explained_is present c.args.self.now c.args.label c.loop-i.days.items c.self.inside.periods.items c.self.view_is c.self.invariant (returns-clause-value c)
+    explained_is c.self.inside.exceptions.entries present c.args.self.now c.args.label c.loop-i.days.items c.self.inside.periods.items c.self.view_is c.self.invariant (returns-clause-value c)

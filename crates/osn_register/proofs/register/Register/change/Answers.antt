@@ -1,12 +1,12 @@
-use Rattle.std.proofs.Common.{◌≡◌, ◌⊎◌, inl, inr, List, Ok, Err, Some, None, ap, sym, subst, ◌∙◌, refl, option_map, string_bytes}
+use Rattle.std.proofs.Common.{◌≡◌, Ok, Err, Some, None, ap, sym, subst, ◌∙◌, refl, option_map, string_bytes}
 use Rattle.std.specs.declared.result.Result.{Result}
 use Rattle.std.specs.Result.{OnOk, OnErr}
 use Rattle.osn_days.specs.Profile.{present}
 use Rattle.osn_lands.specs.Territory.{PlainTerritory}
-use Rattle.osn_register.specs.Plain.{PlainLand, PlainRegister, territory_of, with_territory, change_refusal, changed, IsWellFormed}
+use Rattle.osn_register.specs.Plain.{territory_of, with_territory, change_refusal, changed, IsWellFormed}
 use Rattle.osn_register.specs.Inside.{register_in}
 use Rattle.osn_register.proofs.Kept.{territory_of-map}
-use Rattle.osn_register.proofs.TerritoryFacts.{register-with, lawful_in, no_territory, still_few, with_same, IsWellFormed-with}
+use Rattle.osn_register.proofs.TerritoryFacts.{register-with, lawful_in, no_territory, still_within, with_same, IsWellFormed-with}
 use Rattle.osn_register.proofs.register.Register.change.Goals as goal
 
 -- where the code is not kept, its territory is not known
@@ -56,7 +56,7 @@ invariant_of-self-2 c =
     either c.change.result
     (λ is. subst IsWellFormed (sym (written c (changed c.args.edit.now) is))
     (IsWellFormed-with c.args.self.now c.args.code.now (changed c.args.edit.now) before
-    (λ t there few. still_few present c.args.self.now.limits c.args.edit.now t (lawful_in c.args.self.now.lands c.args.code.now refused c.requires t there) few)))
+    (λ t there few. still_within present c.args.self.now.limits c.args.edit.now t (lawful_in c.args.self.now.lands c.args.code.now refused c.requires t there) few)))
     (λ is. subst IsWellFormed (sym (written c (λ t. t) is))
     (IsWellFormed-with c.args.self.now c.args.code.now (λ t. t) before (λ t there few. few)))
     c.change.ensures.ok c.change.ensures.err

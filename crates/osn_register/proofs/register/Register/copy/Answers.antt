@@ -2,7 +2,7 @@ use Rattle.std.proofs.Common.{◌≡◌, ◌∷◌, ◌++◌, map, ap, sym, subs
 use Rattle.osn_register.specs.declared.register.Entry.{Entry}
 use Rattle.osn_register.specs.Plain.{PlainLand, IsWellFormed}
 use Rattle.osn_register.specs.Inside.{land_in}
-use Rattle.osn_register.proofs.Kept.{copied_absent, copied_room, copied_few, copied_more, same_register}
+use Rattle.osn_register.proofs.Kept.{copied_absent, copied_room, copied_within, copied_more, same_register}
 use Rattle.osn_register.proofs.register.Register.copy.Goals as goal
 
 well_formed : (c : goal.In_ok-clone) → IsWellFormed c.args.self.now
@@ -18,8 +18,8 @@ insert-requires-clause-absent c = copied_absent _ _ _ _ (string_bytes c.in_ok-cl
 pub insert-requires-clause-room : goal.insert-requires-clause-room
 insert-requires-clause-room c = copied_room _ _ _ _ _ _ (all c) (well_formed c).within (ap (λ m. m.lands) c.loop-code.invariant.0)
 
-pub insert-requires-clause-few_changes : goal.insert-requires-clause-few_changes
-insert-requires-clause-few_changes c = copied_few _ _ _ _ _ _ _ (all c) (well_formed c).few_changes c.loop-code.invariant.0 c.in_ok-territory.ensures
+pub insert-requires-clause-territory : goal.insert-requires-clause-territory
+insert-requires-clause-territory c = copied_within _ _ _ _ _ _ _ (all c) (well_formed c).territories c.loop-code.invariant.0 c.in_ok-territory.ensures
 
 pub loop-code-preserved : goal.loop-code-preserved
 loop-code-preserved c =

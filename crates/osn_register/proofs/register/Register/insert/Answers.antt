@@ -29,7 +29,7 @@ added c =
 pub invariant_of-self-2 : goal.invariant_of-self-2
 invariant_of-self-2 c =
     let before : IsWellFormed c.args.self.now = subst IsWellFormed c.self.view_is c.self.invariant in
-    subst IsWellFormed (sym (added c)) (IsWellFormed-push c.args.self.now (new_land c) before c.requires.absent c.requires.room c.requires.few_changes)
+    subst IsWellFormed (sym (added c)) (IsWellFormed-push c.args.self.now (new_land c) before c.requires.absent c.requires.room c.requires.territory)
 
 pub returns-clause-ok : goal.returns-clause-ok
 returns-clause-ok c = added c
