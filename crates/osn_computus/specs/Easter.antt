@@ -1,6 +1,6 @@
--- Easter, the first Sunday strictly after the paschal full moon: the canons of Inter gravissimas (1582), and for the
--- Julian rule the cycle of 19 years in the Julian calendar.
-use Rattle.std.specs.Prelude.{◌≡◌, ℕ, ◌+◌, ◌≤◌, ◌==◌, ◌&&◌, ◌⊎◌, nat_lt, Option, pos}
+-- Easter, the first Sunday strictly after the paschal full moon: the fifth canon of Inter
+-- gravissimas (1582), and for the Julian rule the cycle of 19 years in the Julian calendar.
+use Rattle.std.specs.Prelude.{◌≡◌, ℕ, ◌+◌, ◌<◌, ◌≤◌, ◌==◌, ◌&&◌, ◌⊎◌, nat_lt, Option, pos}
 use Rattle.std.specs.List.{find}
 use Rattle.std.specs.Option.{option_map, option_and_then}
 use Rattle.osn_days.specs.declared.date.Date.{Date}
@@ -27,13 +27,16 @@ date_in y m = record { year = pos y; month = m.month; day = m.day }
 unfoldable pub day_with : Profile → Calendar → Date → Option ℕ
 day_with p c date = find (λ d. same_date (date_of c d) date) (line p)
 
--- the full moon of the table, or 13 days after the new moon of the labels the fourteenth day of the moon
+-- the full moon of the table, or the fourteenth day of the moon, 13 days after the new moon of the
+-- labels
 unfoldable pub paschal_moon : Profile → Rule → ℕ → Option ℕ
 paschal_moon p Julian y =
-    option_and_then (λ m. day_with p (calendar_of Julian) (date_in y m)) (julian_full_moon (golden_number y))
+    option_and_then (λ m. day_with p (calendar_of Julian) (date_in y m))
+    (julian_full_moon (golden_number y))
 paschal_moon p Gregorian y =
     option_map (λ d. d + 13)
-    (option_and_then (λ m. day_with p (calendar_of Gregorian) (date_in y m)) (gregorian_new_moon (gregorian_epact y)))
+    (option_and_then (λ m. day_with p (calendar_of Gregorian) (date_in y m))
+    (gregorian_new_moon (gregorian_epact y)))
 
 unfoldable pub first_sunday_after : Profile → ℕ → Option ℕ
 first_sunday_after p moon = find (λ d. nat_lt moon d && (weekday d == 0)) (line p)
@@ -41,6 +44,10 @@ first_sunday_after p moon = find (λ d. nat_lt moon d && (weekday d == 0)) (line
 -- the day that is Easter of the year
 unfoldable pub easter_of : Profile → Rule → ℕ → Option ℕ
 easter_of p rule y = option_and_then (first_sunday_after p) (paschal_moon p rule y)
+
+-- one of the seven days after a day
+abbrev pub IsInWeekAfter : ℕ → ℕ → Type 0
+IsInWeekAfter moon d = (moon < d) × (d ≤ moon + 7)
 
 -- a date from 22 March to 25 April of the year
 pub record IsEasterDate (y : ℕ) (d : Date) : Type 0 where

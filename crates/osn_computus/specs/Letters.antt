@@ -1,6 +1,7 @@
--- The Sunday letters, by the calendar of the canons of Inter gravissimas (1582), in which each day of the year stands
--- beside one of the letters A to G.
-use Rattle.std.specs.Prelude.{◌≡◌, ℕ, zero, suc, ◌-◌, ◌==◌, ◌&&◌, Bool, true, false, nat_lt, nat_le, if◌then◌else◌, Option, None, List, pos, codes}
+-- The Sunday letters, by the third canon of Inter gravissimas (1582) and the calendar of the
+-- canons, in which each day of the year stands beside one of the letters A to G.
+use Rattle.std.specs.Prelude.{◌≡◌, ℕ, zero, suc, ◌-◌, ◌==◌, ◌&&◌, nat_lt, nat_le, pos, codes}
+use Rattle.std.specs.Prelude.{Bool, true, false, if◌then◌else◌, Option, None, List}
 use Rattle.std.specs.List.{find}
 use Rattle.std.specs.Option.{option_map, option_and_then}
 use Rattle.std.specs.Ordering.{int_eq}
@@ -9,7 +10,7 @@ use Rattle.osn_days.specs.declared.calendar.Calendar.{Calendar}
 use Rattle.osn_days.specs.declared.calendar.Calendar.TheVariants.{Julian, Gregorian, Swedish}
 use Rattle.osn_days.specs.Profile.{Profile}
 use Rattle.osn_days.specs.Line.{line, weekday, IsDay}
-use Rattle.osn_days.specs.Chain.{chain, date_of}
+use Rattle.osn_days.specs.Chain.{first_date, chain, date_of}
 use Rattle.osn_computus.specs.declared.letter.Letter.{Letter}
 use Rattle.osn_computus.specs.declared.letter.Letter.TheVariants.{A, B, C, D, E, F, G}
 use Rattle.osn_computus.specs.declared.letters.Letters.{Letters}
@@ -58,13 +59,17 @@ has_letters Julian = true
 has_letters Gregorian = true
 has_letters Swedish = false
 
--- the letter of day 1, which is 3 January in the Julian and the Swedish calendar and 1 January in the Gregorian
-abbrev pub first_letter : Calendar → Letter
-first_letter Julian = C
-first_letter Gregorian = A
-first_letter Swedish = C
+-- the letter of the day that many days after 1 January
+abbrev pub letter_in_january : ℕ → Letter
+letter_in_january zero = A
+letter_in_january (suc n) = next_letter (letter_in_january n)
 
--- the letter of the day that many days after day 1, and on 29 February, which has none, that of the day before
+-- the letter of day 1, which is a day of January
+abbrev pub first_letter : Calendar → Letter
+first_letter c = letter_in_january ((first_date c).day - 1)
+
+-- the letter of the day that many days after day 1, and on 29 February, which has none, that of the
+-- day before
 unfoldable pub letter_at : Calendar → ℕ → Letter
 letter_at c zero = first_letter c
 letter_at c (suc n) = letter_after (chain c (suc n)) (letter_at c n)
@@ -76,24 +81,30 @@ letter_of c d = letter_at c (d - 1)
 -- a Sunday in the months of the year from one to another
 abbrev pub is_sunday_of : Calendar → ℕ → ℕ → ℕ → ℕ → Bool
 is_sunday_of c y low high d =
+    let date = date_of c d in
     (weekday d == 0)
-    && (int_eq (date_of c d).year (pos y) && (nat_le low (date_of c d).month && nat_le (date_of c d).month high))
+    && (int_eq date.year (pos y) && (nat_le low date.month && nat_le date.month high))
 
 -- the letter of the first of those Sundays
 unfoldable pub letter_of_sundays : Profile → Calendar → ℕ → ℕ → ℕ → Option Letter
-letter_of_sundays p c y low high = option_map (letter_of c) (find (is_sunday_of c y low high) (line p))
+letter_of_sundays p c y low high =
+    option_map (letter_of c) (find (is_sunday_of c y low high) (line p))
 
--- the letter of the Sundays of January, and of the Sundays from March to December, in a calendar that has letters
+-- the letter of the Sundays of January, and of the Sundays from March to December, in a calendar
+-- that has letters
 unfoldable pub letters_of : Profile → Calendar → ℕ → Option Letters
 letters_of p c y =
     if has_letters c then
     option_and_then
-    (λ january. option_map (λ march. record { january = january; march = march }) (letter_of_sundays p c y 3 12))
+    (λ january.
+    option_map (λ march. record { january = january; march = march })
+    (letter_of_sundays p c y 3 12))
     (letter_of_sundays p c y 1 1)
     else None
 
 -- each Sunday of the year has the letter, save a 29 February
 abbrev pub AreSundayLetters : Profile → Calendar → ℕ → Letters → Type 0
 AreSundayLetters p c y letters =
-    (d : ℕ) → IsDay p d → (date_of c d).year ≡ pos y → weekday d ≡ 0 → is_leap_day (date_of c d) ≡ false
+    (d : ℕ) → IsDay p d → (date_of c d).year ≡ pos y → weekday d ≡ 0
+    → is_leap_day (date_of c d) ≡ false
     → letter_of c d ≡ (if nat_lt (date_of c d).month 3 then letters.january else letters.march)

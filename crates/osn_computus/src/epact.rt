@@ -1,4 +1,5 @@
-/// An epact of the Gregorian reckoning, by the canons of *Inter gravissimas*: the age of the moon on 1 January.
+/// An epact of the Gregorian reckoning, by the second canon of *Inter gravissimas*: the age of the
+/// moon on 1 January, in days.
 #[derive(Clone, Copy, Debug, PartialEq, Eq, Hash)]
 pub struct Epact {
     /// From 0 to 29. The canons write a star for 0.

@@ -1,9 +1,10 @@
 //! Easter by both rules.
-ghost use Rattle.std.specs.Prelude.{◌≡◌, ◌+◌, ◌<◌, ◌≤◌, Some, IsSomeAnd};
+ghost use Rattle.std.specs.Prelude.{◌≡◌, ◌+◌, Some, IsSomeAnd};
 ghost use Rattle.osn_days.specs.Profile.{present};
 ghost use Rattle.osn_days.specs.Line.{IsDay, weekday};
 ghost use Rattle.osn_days.specs.Chain.{date_of};
-ghost use Rattle.osn_computus.specs.Easter.{calendar_of, paschal_moon, first_sunday_after, easter_of, IsEasterDate};
+ghost use Rattle.osn_computus.specs.Easter as feast;
+ghost use Rattle.osn_computus.specs.Easter.{easter_of, IsInWeekAfter, IsEasterDate};
 
 use crate::moon::paschal_moon;
 use crate::rule::Rule;
@@ -12,26 +13,25 @@ use osn_days::{Day, Year};
 /// The first Sunday strictly after a day.
 fn sunday_after(moon: Day) -> Day
     requires { IsDay present (moon + 7) }
-    ensures value { first_sunday_after present moon ≡ Some result }
+    ensures value { feast.first_sunday_after present moon ≡ Some result }
     ensures sunday { weekday result ≡ 0 }
-    ensures within { (moon < result) × (result ≤ moon + 7) }
+    ensures within { IsInWeekAfter moon result }
 {
-    match moon.plus(7 - (moon.number() % 7) as i32) {
-        Some(sunday) => sunday,
-        None => unreachable!(),
-    }
+    let number = moon.number();
+    Day::on_line(i64::from(number + 7 - number % 7))
 }
 
-/// Easter of the year, the first Sunday strictly after the rule's paschal moon: by the Julian rule from 22 March to
-/// 25 April of the Julian calendar, by the Gregorian rule in the same dates of the Gregorian. Years before 1583
-/// are counted by the same rules.
+/// Easter of the year, the first Sunday strictly after the rule's paschal moon (the fifth canon of
+/// *Inter gravissimas*): by the Julian rule from 22 March to 25 April of the Julian calendar, by
+/// the Gregorian rule in the same dates of the Gregorian. Years before 1583 are counted by the
+/// same rules.
 pub fn easter(rule: Rule, year: Year) -> Day
     ensures value { easter_of present rule year ≡ Some result }
     // in the subject's own words
     ensures sunday { weekday result ≡ 0 }
-    ensures season { IsEasterDate year (date_of (calendar_of rule) result) }
-    ensures moon { IsSomeAnd (paschal_moon present rule year)
-        (λ moon. (moon < result) × (result ≤ moon + 7)) }
+    ensures season { IsEasterDate year (date_of (feast.calendar_of rule) result) }
+    ensures moon { IsSomeAnd (feast.paschal_moon present rule year)
+        (λ moon. IsInWeekAfter moon result) }
 {
     sunday_after(paschal_moon(rule, year))
 }

@@ -6,7 +6,8 @@ ghost use Rattle.osn_computus.specs.Moon.{julian_full_moon};
 use crate::epact::Epact;
 use osn_days::Year;
 
-/// The golden number, the year's place in the cycle of 19 years, from 1 to 19.
+/// The golden number, the year's place in the cycle of 19 years, from 1 to 19: the first canon of
+/// *Inter gravissimas*.
 pub fn golden_number(year: Year) -> u8
     ensures value { result ≡ figure.golden_number year }
     // each golden number has its full moon in the table of the Julian cycle
@@ -15,21 +16,22 @@ pub fn golden_number(year: Year) -> u8
     (year.number() % 19) as u8 + 1
 }
 
-/// The indiction, the year's place in the cycle of 15 years, from 1 to 15.
+/// The indiction, the year's place in the cycle of 15 years, from 1 to 15: the fourth canon.
 pub fn indiction(year: Year) -> u8
     ensures { result ≡ figure.indiction year }
 {
     ((year.number() + 2) % 15) as u8 + 1
 }
 
-/// The epact of the Julian reckoning, from 0 to 29.
+/// The epact of the Julian reckoning, from 0 to 29: 0 in the first year of the cycle of 19 years.
 pub fn julian_epact(year: Year) -> u8
     ensures { result ≡ figure.julian_epact year }
 {
     ((golden_number(year) as u32 - 1) * 11 % 30) as u8
 }
 
-/// The epact of the Gregorian reckoning. Years before 1583 are counted by the same rule.
+/// The epact of the Gregorian reckoning, by the second canon. Years before 1583 are counted by the
+/// same rule.
 pub fn gregorian_epact(year: Year) -> Epact
     ensures { result ≡ figure.gregorian_epact year }
 {

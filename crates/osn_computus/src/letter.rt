@@ -1,7 +1,7 @@
 ghost use Rattle.std.specs.Prelude.{◌≡◌, ◌<◌};
 ghost use Rattle.osn_computus.specs.Letters.{letter_name, letter_number};
 
-/// One of the seven letters that stand beside the days of the year in the canons' calendar.
+/// One of the seven letters that stand beside the days of the year in the calendar of the canons.
 #[derive(Clone, Copy, Debug, PartialEq, Eq, Hash)]
 pub enum Letter {
     A,

@@ -1,14 +1,16 @@
 //! The Sunday letters.
-ghost use Rattle.std.specs.Prelude.{◌≡◌, ◌↔◌, ◌+◌, ◌%◌, ◌<◌, pos, false, IsNone, IfSome};
+ghost use Rattle.std.specs.Prelude.{◌≡◌, ◌≢◌, ◌↔◌, ◌+◌, ◌%◌, pos, false, Some, IsNone, IfSome};
 ghost use Rattle.osn_days.specs.Profile.{present};
 ghost use Rattle.osn_days.specs.Chain as chain;
 ghost use Rattle.osn_days.specs.declared.calendar.Calendar.TheVariants.{Swedish};
+ghost use Rattle.osn_computus.specs.declared.letter.Letter.TheVariants.{D};
 ghost use Rattle.osn_computus.specs.Letters.{letter_number, letters_of, AreSundayLetters};
 
 use crate::letter::Letter;
-use osn_days::{Calendar, Year};
+use crate::year_date::date_in;
+use osn_days::{Calendar, Day, Year, day_of};
 
-/// The Sunday letters of a year.
+/// The Sunday letters of a year, by the third canon of *Inter gravissimas*.
 #[derive(Clone, Copy, Debug, PartialEq, Eq, Hash)]
 pub struct Letters {
     /// That of the Sundays of January and of February before the 29th.
@@ -17,13 +19,30 @@ pub struct Letters {
     pub march: Letter,
 }
 
-/// Every fourth year, and in the Gregorian calendar of the centuries only every fourth.
-fn is_leap(calendar: Calendar, year: u32) -> bool
-    ensures { result ≡ chain.is_leap calendar (pos year) }
+/// The places from A to D, which stands beside 1 February and 1 March in every year.
+const PLACE_OF_D: u32 = 3;
+
+/// The letter of the next Sundays, from a day that stands beside D: a Sunday that is so many days
+/// later stands beside the letter so many places after D.
+fn sunday_letter(day: Day) -> Letter
+    ensures { (letter_number result + day) % 7 ≡ letter_number D }
 {
-    match calendar {
-        Calendar::Julian | Calendar::Swedish => year % 4 == 0,
-        Calendar::Gregorian => year % 4 == 0 && (year % 100 != 0 || year % 400 == 0),
+    Letter::at((PLACE_OF_D + 7 - day.number() % 7) % 7)
+}
+
+/// The Sunday letters in a calendar that has them. Both days are on the line in every year.
+fn letters_of_year(calendar: Calendar, year: Year) -> Letters
+    requires { calendar ≢ Swedish }
+    ensures value { letters_of present calendar year ≡ Some result }
+    ensures sundays { AreSundayLetters present calendar year result }
+    ensures common_year { chain.is_leap calendar (pos year) ≡ false
+        → result.january ≡ result.march }
+{
+    let february_1 = day_of(calendar, date_in(year, 2, 1)).unwrap();
+    let march_1 = day_of(calendar, date_in(year, 3, 1)).unwrap();
+    Letters {
+        january: sunday_letter(february_1),
+        march: sunday_letter(march_1),
     }
 }
 
@@ -33,22 +52,11 @@ pub fn sunday_letters(calendar: Calendar, year: Year) -> Option<Letters>
     ensures none { IsNone result ↔ (calendar ≡ Swedish) }
     // in the subject's own words
     ensures sundays { IfSome result (AreSundayLetters present calendar year) }
-    ensures common_year { IfSome result
-        (λ letters. chain.is_leap calendar (pos year) ≡ false → letters.january ≡ letters.march) }
+    ensures common_year { IfSome result (λ letters. chain.is_leap calendar (pos year) ≡ false
+        → letters.january ≡ letters.march) }
 {
-    let y = year.number();
-    // each year moves the letter of March back by one place, and each leap day by one more
-    let moved = match calendar {
-        Calendar::Julian => y + y / 4 + 5,
-        Calendar::Gregorian => y + y / 4 + y / 400 - y / 100,
-        Calendar::Swedish => return None,
-    };
-    let number = 6 - (moved + 6) % 7;
-    let march = Letter::at(number);
-    let january = if is_leap(calendar, y) {
-        Letter::at((number + 1) % 7)
-    } else {
-        march
-    };
-    Some(Letters { january, march })
+    match calendar {
+        Calendar::Julian | Calendar::Gregorian => Some(letters_of_year(calendar, year)),
+        Calendar::Swedish => None,
+    }
 }

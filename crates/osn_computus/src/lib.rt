@@ -1,7 +1,8 @@
-//! The figures of a year and both Easters: the cycles of the Julian reckoning, and the epacts and the calendar
-//! of *Inter gravissimas* (1582) with its canons; for the arithmetic Reingold and Dershowitz, *Calendrical
-//! Calculations*. What the crate promises to those above is each figure by its table, and Easter as the first
-//! Sunday after the table's full moon.
+//! The figures of a year and both Easters: the cycles of the Julian reckoning, and the epacts and
+//! the calendar of *Inter gravissimas* (1582) with its six canons; for the arithmetic Reingold and
+//! Dershowitz, *Calendrical Calculations*, chapter "The Ecclesiastical Calendars". What the crate
+//! promises to those above is each figure by its table, and Easter as the first Sunday after the
+//! table's full moon.
 #![tactic(auto)]
 
 mod epact;
@@ -10,13 +11,8 @@ mod figures;
 mod letter;
 mod letters;
 mod moon;
-#[cfg(test)]
-mod plain;
-#[cfg(test)]
-mod plain_tests;
 mod rule;
-#[cfg(test)]
-mod tests;
+mod year_date;
 
 pub use epact::Epact;
 pub use feast::easter;

@@ -2,60 +2,51 @@
 ghost use Rattle.std.specs.Prelude.{◌≡◌, ◌+◌, ◌<◌, Some};
 ghost use Rattle.osn_days.specs.Profile.{present};
 ghost use Rattle.osn_days.specs.Line.{IsYear};
-ghost use Rattle.osn_computus.specs.Figures.{golden_number, gregorian_epact};
-ghost use Rattle.osn_computus.specs.Moon.{after_march_1, march, julian_full_moon, gregorian_new_moon};
-ghost use Rattle.osn_computus.specs.Easter as easter;
+ghost use Rattle.osn_computus.specs.Figures as figure;
+ghost use Rattle.osn_computus.specs.Moon.{after_march_1, julian_full_moon, gregorian_new_moon};
+ghost use Rattle.osn_computus.specs.Easter as feast;
 
-use crate::figures::gregorian_epact;
+use crate::epact::Epact;
+use crate::figures::{golden_number, gregorian_epact};
 use crate::rule::Rule;
-use osn_days::{Date, Day, Year, day_of};
+use crate::year_date::date_in;
+use osn_days::{Day, Year, day_of};
 
-/// The days from 21 March to the full moon of the Julian rule.
+/// The days from 21 March to the full moon of the Julian rule. It is 15 days later, on 5 April,
+/// where the golden number is 1, and with each further one 19 days later or 11 days earlier.
 fn julian_moon_days(year: Year) -> u32
-    ensures table { julian_full_moon (golden_number year) ≡ Some (after_march_1 (20 + result)) }
+    ensures table { julian_full_moon (figure.golden_number year)
+        ≡ Some (after_march_1 (20 + result)) }
     ensures bound { result < 29 }
 {
-    (year.number() % 19 * 19 + 15) % 30
+    let golden = u32::from(golden_number(year));
+    (15 + 19 * (golden - 1)) % 30
 }
 
-/// The days from 21 March to the fourteenth day of the moon of the Gregorian rule, 13 days after the new moon.
+/// The days from 21 March to the fourteenth day of the moon of the Gregorian rule, 13 days after
+/// the new moon. Epact 23 has its new moon on 8 March, and each epact that is less by one a day
+/// later; but 24 stands a day before its turn, with 25 on 5 April, and 25 with a prime with 26 on
+/// 4 April.
 fn gregorian_moon_days(year: Year) -> u32
-    ensures table { gregorian_new_moon (gregorian_epact year) ≡ Some (after_march_1 (7 + result)) }
+    ensures table { gregorian_new_moon (figure.gregorian_epact year)
+        ≡ Some (after_march_1 (7 + result)) }
     ensures bound { result < 29 }
 {
-    let epact = gregorian_epact(year);
-    let days = (epact.number as u32 + 6) % 30;
-    let raised = days == 0 || epact.prime;
-    29 - days - u32::from(raised)
+    let Epact { number, prime } = gregorian_epact(year);
+    let days = (30 + 23 - u32::from(number)) % 30;
+    days - u32::from(number == 24 || prime)
 }
 
-/// 21 March in the rule's calendar, from which the paschal moon is counted.
-fn march_21(rule: Rule, year: Year) -> Day
-    ensures value { easter.day_with present (easter.calendar_of rule) (easter.date_in year (march 21)) ≡ Some result }
-    ensures in_range { IsYear present year }
-{
-    let date = Date {
-        year: year.number() as i32,
-        month: 3,
-        day: 21,
-    };
-    match day_of(rule.calendar(), date) {
-        Some(day) => day,
-        None => unreachable!(),
-    }
-}
-
-/// The paschal full moon or the fourteenth day of the paschal moon.
-pub(crate) fn paschal_moon(rule: Rule, year: Year) -> Day
-    ensures value { easter.paschal_moon present rule year ≡ Some result }
+/// The paschal full moon or the fourteenth day of the paschal moon. Every year of the range has its
+/// 21 March on the line.
+pub fn paschal_moon(rule: Rule, year: Year) -> Day
+    ensures value { feast.paschal_moon present rule year ≡ Some result }
     ensures in_range { IsYear present year }
 {
     let days = match rule {
         Rule::Julian => julian_moon_days(year),
         Rule::Gregorian => gregorian_moon_days(year),
     };
-    match march_21(rule, year).plus(days as i32) {
-        Some(moon) => moon,
-        None => unreachable!(),
-    }
+    let march_21 = day_of(rule.calendar(), date_in(year, 3, 21)).unwrap();
+    Day::on_line(i64::from(march_21.number() + days))
 }

@@ -1,17 +1,20 @@
--- History: the calls of the sequential object that a list of steps and outs amounts to, in the order of the steps. It is
--- read from the steps and the outs alone.
-use Rattle.std.specs.Prelude.{◌≡◌, ℕ, ◌≤◌, ◌==◌, if◌then◌else◌, Bool, true, false, List, [], ◌∷◌, ◌++◌, map, Option, Some}
+-- History: the calls of the sequential object that a list of steps and outs amounts to, in the
+-- order of the steps. It is read from the steps and the outs alone.
+use Rattle.std.specs.Prelude.{◌≡◌, ℕ, ◌≤◌, ◌==◌, if◌then◌else◌, Bool, true, false, List, [], ◌∷◌}
+use Rattle.std.specs.Prelude.{◌++◌, map, Option, Some}
 use Rattle.std.specs.List.{filter}
 use Rattle.osn_days.specs.Profile.{Profile}
 use Rattle.osn_register.specs.declared.edit.Edit.{Edit}
 use Rattle.osn_register.specs.declared.query.Query.{Query}
-use Rattle.osn_core.specs.declared.reader.Reader.{Reader}
-use Rattle.osn_core.specs.declared.reader.Reader.TheVariants.{Idle, Looked}
+use Rattle.osn_core.specs.declared.reader.ReaderState.{ReaderState}
+use Rattle.osn_core.specs.declared.reader.ReaderState.TheVariants.{Idle, Looked}
 use Rattle.osn_core.specs.declared.step.Step.{Step}
 use Rattle.osn_core.specs.declared.step.Step.TheVariants.{Look, Answer, Stage, Publish}
 use Rattle.osn_core.specs.declared.step.Out.{Out}
-use Rattle.osn_core.specs.declared.step.Out.TheVariants.{NotNow, Moved, Staged, Published, Refused, Replied}
-use Rattle.osn_core.specs.Sequential.{ObjectState, reply_at, stage_out, stage_after, publish_out, publish_after}
+use Rattle.osn_core.specs.declared.step.Out.TheVariants.{NotNow, Moved, Staged, Published, Refused}
+use Rattle.osn_core.specs.declared.step.Out.TheVariants.{Replied}
+use Rattle.osn_core.specs.Sequential.{ObjectState, reply_at, stage_out, stage_after, publish_out}
+use Rattle.osn_core.specs.Sequential.{publish_after}
 use Rattle.osn_core.specs.Control.{Control, reader_at, set_reader}
 
 pub data Call : Type 0 where
@@ -40,18 +43,19 @@ abbrev pub IsRun : Profile → ObjectState → List Entry → Type 0
 IsRun p s [] = Unit {0}
 IsRun p s (e ∷ es) = (e.told ≡ told_of p s e.call) × IsRun p (state_after p s e.call) es
 
-abbrev pub asked : Option Reader → ℕ → Out → List Entry
+abbrev pub asked : Option ReaderState → ℕ → Out → List Entry
 asked (Some (Looked query)) reader out = record { call = Asks reader query; told = out } ∷ []
 asked at reader out = []
 
--- the call that a step with this out is, if it is one: a stage or a publish that was taken or refused, and an ask at its
--- answer, for the query of the reader's last look that moved
+-- the call that a step with this out is, if it is one: a stage or a publish that was taken or
+-- refused, and an ask at its answer, for the query of the reader's last look that moved
 abbrev pub entry_of : Control → Step → Out → List Entry
 entry_of looked (Stage edit) (Staged n) = record { call = Stages edit; told = Staged n } ∷ []
 entry_of looked (Stage edit) (Refused f) = record { call = Stages edit; told = Refused f } ∷ []
 entry_of looked Publish (Published n) = record { call = Publishes; told = Published n } ∷ []
 entry_of looked Publish (Refused f) = record { call = Publishes; told = Refused f } ∷ []
-entry_of looked (Answer reader) (Replied to reply) = asked (reader_at looked reader) reader (Replied to reply)
+entry_of looked (Answer reader) (Replied to reply) =
+    asked (reader_at looked reader) reader (Replied to reply)
 entry_of looked step out = []
 
 -- what each reader last looked for and was not yet told, after a step with this out
@@ -63,9 +67,11 @@ looked_after looked step out = looked
 abbrev pub history : Control → List Step → List Out → List Entry
 history looked [] outs = []
 history looked (step ∷ steps) [] = []
-history looked (step ∷ steps) (out ∷ outs) = entry_of looked step out ++ history (looked_after looked step out) steps outs
+history looked (step ∷ steps) (out ∷ outs) =
+    entry_of looked step out ++ history (looked_after looked step out) steps outs
 
--- whether an out is what a call was told: a step that is not enabled is no call, and neither is a look
+-- whether an out is what a call was told: a step that is not enabled is no call, and neither is a
+-- look
 abbrev pub is_told : Out → Bool
 is_told NotNow = false
 is_told Moved = false
@@ -76,8 +82,8 @@ abbrev pub told_in : List Entry → List Out
 told_in es = map (λ e. e.told) es
 
 -- the outs that are what a call was told, in order
-abbrev pub told_of_all : List Out → List Out
-told_of_all outs = filter is_told outs
+abbrev pub told_outs : List Out → List Out
+told_outs outs = filter is_told outs
 
 abbrev pub edition_to : ℕ → Out → List ℕ
 edition_to reader (Replied to reply) = if to == reader then reply.edition ∷ [] else []

@@ -1,13 +1,16 @@
 -- The sequential object: batches of published edits, and edits that are pending.
-use Rattle.std.specs.Prelude.{ℕ, ◌≡◌, ◌+◌, ◌-◌, ◌≤◌, ◌<◌, nat_lt, slice_get, unwrap_or, ◌==◌, if◌then◌else◌, List, [], ◌∷◌, ◌++◌, length, Option, Some, None}
+use Rattle.std.specs.Prelude.{ℕ, ◌≡◌, ◌+◌, ◌-◌, ◌≤◌, ◌<◌, nat_lt, slice_get, unwrap_or, ◌==◌}
+use Rattle.std.specs.Prelude.{if◌then◌else◌, List, [], ◌∷◌, ◌++◌, length, Option, Some, None}
 use Rattle.std.specs.List.{sum_by}
 use Rattle.osn_days.specs.Profile.{Profile}
 use Rattle.osn_register.specs.declared.limits.Limits.{Limits}
 use Rattle.osn_register.specs.declared.edit.Edit.{Edit}
 use Rattle.osn_register.specs.declared.query.Query.{Query}
 use Rattle.osn_register.specs.declared.refusal.Refusal.{Refusal}
-use Rattle.osn_register.specs.declared.refusal.Refusal.TheVariants.{NothingPending, JournalFull, EditionsFull}
-use Rattle.osn_register.specs.Plain.{PlainLand, or_else, refusal, effect, applied_all}
+use Rattle.osn_register.specs.declared.refusal.Refusal.TheVariants.{NothingPending, JournalFull}
+use Rattle.osn_register.specs.declared.refusal.Refusal.TheVariants.{EditionsFull}
+use Rattle.osn_register.specs.Refusal.{or_else}
+use Rattle.osn_register.specs.Plain.{PlainLand, refusal, effect, applied_all}
 use Rattle.osn_register.specs.Answer.{answer}
 use Rattle.osn_core.specs.declared.step.Reply.{Reply}
 use Rattle.osn_core.specs.declared.step.Out.{Out}
@@ -35,8 +38,8 @@ abbrev pub lands_of : Profile → Limits → List (List Edit) → List PlainLand
 lands_of p limits batches = applied_all p limits [] (joined batches)
 
 -- the territories of all published and pending edits
-abbrev pub drafted : Profile → ObjectState → List PlainLand
-drafted p s = applied_all p s.limits [] (joined s.batches ++ s.pending)
+abbrev pub draft_lands : Profile → ObjectState → List PlainLand
+draft_lands p s = applied_all p s.limits [] (joined s.batches ++ s.pending)
 
 -- how many edits there are, published and pending
 abbrev pub edits_in : ObjectState → ℕ
@@ -44,18 +47,21 @@ edits_in s = sum_by (λ b. length b) s.batches + length s.pending
 
 abbrev pub stage_refusal : Profile → ObjectState → Edit → Option Refusal
 stage_refusal p s e =
-    or_else (refusal p s.limits (drafted p s) e) (if nat_lt (edits_in s) s.limits.edits then None else Some JournalFull)
+    or_else (refusal p s.limits (draft_lands p s) e)
+    (if nat_lt (edits_in s) s.limits.edits then None else Some JournalFull)
 
 abbrev pub publish_refusal : ObjectState → Option Refusal
 publish_refusal s =
     if length s.pending == 0 then Some NothingPending
     else (if nat_lt (length s.batches) s.limits.editions then None else Some EditionsFull)
 
-abbrev pub staged : ObjectState → Edit → ObjectState
-staged s e = record s { pending = s.pending ++ e ∷ [] }
+-- one edit more that is pending
+abbrev pub with_pending : ObjectState → Edit → ObjectState
+with_pending s e = record s { pending = s.pending ++ e ∷ [] }
 
-abbrev pub published : ObjectState → ObjectState
-published s = record s { batches = s.batches ++ s.pending ∷ []; pending = [] }
+-- the pending edits as the next edition
+abbrev pub with_edition : ObjectState → ObjectState
+with_edition s = record s { batches = s.batches ++ s.pending ∷ []; pending = [] }
 
 abbrev pub state_unless : Option Refusal → ObjectState → ObjectState → ObjectState
 state_unless None new old = new
@@ -70,23 +76,25 @@ abbrev pub stage_out : Profile → ObjectState → Edit → Out
 stage_out p s e = out_unless (stage_refusal p s e) (Staged (length s.pending + 1))
 
 abbrev pub stage_after : Profile → ObjectState → Edit → ObjectState
-stage_after p s e = state_unless (stage_refusal p s e) (staged s e) s
+stage_after p s e = state_unless (stage_refusal p s e) (with_pending s e) s
 
 -- what a publish gives, and what it leaves
 abbrev pub publish_out : ObjectState → Out
 publish_out s = out_unless (publish_refusal s) (Published (length s.batches + 1))
 
 abbrev pub publish_after : ObjectState → ObjectState
-publish_after s = state_unless (publish_refusal s) (published s) s
+publish_after s = state_unless (publish_refusal s) (with_edition s) s
 
 -- what a query is told under these batches
 abbrev pub reply_at : Profile → Limits → List (List Edit) → Query → Reply
-reply_at p limits batches q = record { edition = length batches; answer = answer p (lands_of p limits batches) q }
+reply_at p limits batches q =
+    record { edition = length batches; answer = answer p (lands_of p limits batches) q }
 
 -- each edit is lawful where it stands, from these territories on
 abbrev pub AreLawful : Profile → Limits → List PlainLand → List Edit → Type 0
 AreLawful p limits lands [] = Unit {0}
-AreLawful p limits lands (e ∷ es) = (refusal p limits lands e ≡ None) × AreLawful p limits (effect lands e) es
+AreLawful p limits lands (e ∷ es) =
+    (refusal p limits lands e ≡ None) × AreLawful p limits (effect lands e) es
 
 -- no batch is empty
 abbrev pub NoneEmpty : List (List Edit) → Type 0

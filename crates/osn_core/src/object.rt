@@ -1,7 +1,12 @@
-ghost use Rattle.std.specs.Prelude.{◌≡◌, ◌≤◌, ◌⊎◌, ◌+◌, [], ◌++◌, ◌∷◌, length, drop, Some, None, IfOk, IfErr, OnOk, OnErr, MatchResult};
+ghost use Rattle.std.specs.Prelude.{◌≡◌, ◌≤◌, ◌+◌, [], true, length, drop, None, IfOk, IfErr, OnOk};
+ghost use Rattle.std.specs.Prelude.{OnErr};
 ghost use Rattle.osn_days.specs.Profile.{present};
 ghost use Rattle.osn_register.specs.Plain.{applied_all};
-ghost use Rattle.osn_core.specs.Sequential.{opened, staged, published, stage_refusal, publish_refusal, reply_at, lands_of, drafted, last_batch, IsSound};
+ghost use Rattle.osn_register.specs.Refusal.{IsTestOf, IsRefusalOrNoMemory};
+ghost use Rattle.osn_register.specs.Answer.{refusal_in, query_refusal, takes_memory};
+ghost use Rattle.osn_core.specs.Sequential.{opened, with_pending, with_edition, stage_refusal};
+ghost use Rattle.osn_core.specs.Sequential.{publish_refusal, reply_at, lands_of, draft_lands};
+ghost use Rattle.osn_core.specs.Sequential.{last_batch, AreLawful, IsSound};
 
 use crate::batch::Batch;
 use crate::step::Reply;
@@ -11,15 +16,16 @@ use std::marker::Model;
 
 /// The sequential object: the published batches with their register, and the pending edits.
 ///
-/// A publish makes the draft the published register, and the old one the draft: it takes the batch in
-/// at the next stage. So a publish costs the same however large the register is.
+/// A publish makes the draft the published register, and the old one the draft, to which the batch
+/// is applied at the next stage. So a publish costs the same however large the register is.
 #[derive(Drop)]
 pub struct Object {
     alloc: Global,
     limits: Limits,
     published: Register,
     draft: Register,
-    absorbed: usize,
+    /// How many edits of the last batch the draft has.
+    applied_count: usize,
     batches: Vec<Batch>,
     pending: Vec<Edit>,
     edits: u32,
@@ -37,35 +43,39 @@ impl Model for Object {
     ghost invariant = { IsInStep };
 }
 
-/// Applies to a register the edits of a batch from a place on, and moves the place with them.
-fn absorb(register: &mut Register, batch: &[Edit], place: &mut usize) -> Result<(), AllocError>
+/// Applies to a register the lawful edits of a batch from a place on, and moves the place with them.
+fn apply_from(register: &mut Register, batch: &[Edit], place: &mut usize) -> Result<(), AllocError>
+    requires { AreLawful present register.old.limits register.old.lands (drop place.old batch.now) }
     ensures limits { register.new.limits ≡ register.old.limits }
-    ensures lands { applied_all present register.old.limits register.new.lands (drop place.new batch.now)
-        ≡ applied_all present register.old.limits register.old.lands (drop place.old batch.now) }
+    ensures lands { let limits = register.old.limits in
+        applied_all present limits register.new.lands (drop place.new batch.now)
+        ≡ applied_all present limits register.old.lands (drop place.old batch.now) }
+    ensures lawful { AreLawful present register.old.limits register.new.lands (drop place.new batch.now) }
     ensures forward { place.old ≤ place.new }
     ensures all { OnOk result (drop place.new batch.now ≡ []) }
 {
     while *place < batch.len() {
-        register.apply_if_lawful(&batch[*place])?;
+        register.admit(&batch[*place])?;
         *place += 1;
     }
     Ok(())
 }
 
 /// Applies to a register what it lacks of the last batch.
-fn absorb_last(
-    register: &mut Register,
-    batches: &[Batch],
-    place: &mut usize,
-) -> Result<(), AllocError>
+fn catch_up(register: &mut Register, batches: &[Batch], place: &mut usize) -> Result<(), AllocError>
+    requires { AreLawful present register.old.limits register.old.lands
+        (drop place.old (last_batch batches.now)) }
     ensures limits { register.new.limits ≡ register.old.limits }
-    ensures lands { applied_all present register.old.limits register.new.lands (drop place.new (last_batch batches.now))
-        ≡ applied_all present register.old.limits register.old.lands (drop place.old (last_batch batches.now)) }
+    ensures lands { let last = last_batch batches.now in
+        applied_all present register.old.limits register.new.lands (drop place.new last)
+        ≡ applied_all present register.old.limits register.old.lands (drop place.old last) }
+    ensures lawful { AreLawful present register.old.limits register.new.lands
+        (drop place.new (last_batch batches.now)) }
     ensures forward { place.old ≤ place.new }
     ensures all { OnOk result (drop place.new (last_batch batches.now) ≡ []) }
 {
     match batches.last() {
-        Some(batch) => absorb(register, batch.edits(), place),
+        Some(batch) => apply_from(register, batch.edits(), place),
         None => Ok(()),
     }
 }
@@ -80,7 +90,7 @@ impl Object {
             limits,
             published: Register::new(alloc, limits),
             draft: Register::new(alloc, limits),
-            absorbed: 0,
+            applied_count: 0,
             batches: Vec::new(alloc),
             pending: Vec::new(alloc),
             edits: 0,
@@ -111,8 +121,19 @@ impl Object {
     }
 
     /// What a query is told of the published register.
+    ///
+    /// # Errors
+    ///
+    /// Only where no memory is found, of which a refused query, the figures of a year and an empty
+    /// list of territories take none.
     pub fn ask(&self, query: &Query) -> Result<Reply, AllocError>
-        ensures { IfOk result (λ r. r ≡ reply_at present self.now.limits self.now.batches query.now) }
+        ensures value { IfOk result
+            (λ r. r ≡ reply_at present self.now.limits self.now.batches query.now) }
+        // as a law: nothing but the definition's refusals refuses a query
+        ensures refused { IfOk result (λ r. refusal_in r.answer
+            ≡ query_refusal present (lands_of present self.now.limits self.now.batches) query.now) }
+        ensures memory { OnErr result (takes_memory
+            (reply_at present self.now.limits self.now.batches query.now).answer ≡ true) }
     {
         Ok(Reply {
             edition: self.edition(),
@@ -130,27 +151,14 @@ impl Object {
 }
 
 impl Object {
-    /// Stages an edit, and answers how many are pending then. A refusal changes nothing.
-    pub fn stage(&mut self, edit: &Edit) -> Result<u32, Refusal>
-        ensures lawful { OnOk result (stage_refusal present self.old edit.now ≡ None) }
-        ensures ok { OnOk result (self.new ≡ staged self.old edit.now) }
-        ensures count { IfOk result (λ n. n ≡ length self.new.pending) }
-        ensures refused { IfErr result (λ f. (stage_refusal present self.old edit.now ≡ Some f)
-            ⊎ ((f ≡ Refusal.NoMemory) × (stage_refusal present self.old edit.now ≡ None))) }
-        ensures err { OnErr result (self.new ≡ self.old) }
-    {
-        self.check(edit)?;
-        match self.add(edit) {
-            Ok(pending) => Ok(pending),
-            Err(_) => Err(Refusal::NoMemory),
-        }
-    }
-
-    /// How many edits would be pending if this one were staged now, or else the first refusal that applies.
+    /// How many edits would be pending if this one were staged now.
+    ///
+    /// # Errors
+    ///
+    /// The first refusal that applies.
     pub fn check(&self, edit: &Edit) -> Result<u32, Refusal>
-        ensures { MatchResult result
-            (λ n. (stage_refusal present self.now edit.now ≡ None) × (n ≡ length self.now.pending + 1))
-            (λ f. stage_refusal present self.now edit.now ≡ Some f) }
+        ensures test { IsTestOf (stage_refusal present self.now edit.now) result }
+        ensures count { IfOk result (λ n. n ≡ length self.now.pending + 1) }
     {
         self.latest().check(edit)?;
         if self.edits >= self.limits.edits {
@@ -161,7 +169,7 @@ impl Object {
 
     /// The register of all published and pending edits: the draft may lag where nothing is pending.
     fn latest(&self) -> &Register
-        ensures lands { result.now.lands ≡ drafted present self.now }
+        ensures lands { result.now.lands ≡ draft_lands present self.now }
         ensures limits { result.now.limits ≡ self.now.limits }
     {
         if self.pending.is_empty() {
@@ -171,48 +179,59 @@ impl Object {
         }
     }
 
-    /// Stages what `check` lets in.
-    pub(crate) fn add(&mut self, edit: &Edit) -> Result<u32, AllocError>
-        requires { stage_refusal present self.old edit.now ≡ None }
-        ensures ok { OnOk result (self.new ≡ staged self.old edit.now) }
+    /// Stages an edit, and answers how many are pending then.
+    ///
+    /// # Errors
+    ///
+    /// The first refusal that applies, and else `NoMemory` where none is found. Nothing has changed
+    /// then.
+    pub fn stage(&mut self, edit: &Edit) -> Result<u32, Refusal>
+        ensures lawful { OnOk result (stage_refusal present self.old edit.now ≡ None) }
+        ensures ok { OnOk result (self.new ≡ with_pending self.old edit.now) }
         ensures count { IfOk result (λ n. n ≡ length self.new.pending) }
+        ensures refused { IfErr result
+            (IsRefusalOrNoMemory (stage_refusal present self.old edit.now)) }
         ensures err { OnErr result (self.new ≡ self.old) }
     {
-        absorb_last(&mut self.draft, self.batches.as_slice(), &mut self.absorbed)?;
-        self.pending.push(edit.copy()?)?;
-        match self.draft.apply(edit) {
-            Ok(()) => {
-                self.edits += 1;
-                Ok(self.pending.len() as u32)
-            }
-            Err(_) => {
-                self.pending.pop();
-                Err(AllocError)
-            }
-        }
-    }
-
-    /// Publishes the pending edits as the next edition, and answers its number. A refusal changes nothing.
-    pub fn publish(&mut self) -> Result<u32, Refusal>
-        ensures lawful { OnOk result (publish_refusal self.old ≡ None) }
-        ensures ok { OnOk result (self.new ≡ published self.old) }
-        ensures edition { IfOk result (λ n. n ≡ length self.new.batches) }
-        ensures refused { IfErr result (λ f. (publish_refusal self.old ≡ Some f)
-            ⊎ ((f ≡ Refusal.NoMemory) × (publish_refusal self.old ≡ None))) }
-        ensures err { OnErr result (self.new ≡ self.old) }
-    {
-        self.check_publish()?;
-        match self.turn() {
-            Ok(edition) => Ok(edition),
+        self.check(edit)?;
+        match self.admit(edit) {
+            Ok(pending) => Ok(pending),
             Err(_) => Err(Refusal::NoMemory),
         }
     }
 
-    /// The edition that a publish would make now, or else the first refusal that applies.
+    /// Stages an edit that `check` has let in, and answers how many are pending then.
+    ///
+    /// # Errors
+    ///
+    /// Only where no memory is found. Nothing has changed then.
+    pub fn admit(&mut self, edit: &Edit) -> Result<u32, AllocError>
+        requires { stage_refusal present self.old edit.now ≡ None }
+        ensures ok { OnOk result (self.new ≡ with_pending self.old edit.now) }
+        ensures count { IfOk result (λ n. n ≡ length self.new.pending) }
+        ensures err { OnErr result (self.new ≡ self.old) }
+    {
+        catch_up(
+            &mut self.draft,
+            self.batches.as_slice(),
+            &mut self.applied_count,
+        )?;
+        let copied = edit.copy()?;
+        self.pending.reserve(1)?;
+        self.draft.admit(edit)?;
+        self.pending.push_reserved(copied);
+        self.edits += 1;
+        Ok(self.pending.len() as u32)
+    }
+
+    /// The edition that a publish would make now.
+    ///
+    /// # Errors
+    ///
+    /// The first refusal that applies.
     pub fn check_publish(&self) -> Result<u32, Refusal>
-        ensures { MatchResult result
-            (λ n. (publish_refusal self.now ≡ None) × (n ≡ length self.now.batches + 1))
-            (λ f. publish_refusal self.now ≡ Some f) }
+        ensures test { IsTestOf (publish_refusal self.now) result }
+        ensures edition { IfOk result (λ n. n ≡ length self.now.batches + 1) }
     {
         if self.pending.is_empty() {
             return Err(Refusal::NothingPending);
@@ -223,24 +242,43 @@ impl Object {
         Ok(self.batches.len() as u32 + 1)
     }
 
-    /// Publishes where `check_publish` lets it.
-    pub(crate) fn turn(&mut self) -> Result<u32, AllocError>
+    /// Publishes the pending edits as the next edition, and answers its number.
+    ///
+    /// # Errors
+    ///
+    /// The first refusal that applies, and else `NoMemory` where none is found. Nothing has changed
+    /// then.
+    pub fn publish(&mut self) -> Result<u32, Refusal>
+        ensures lawful { OnOk result (publish_refusal self.old ≡ None) }
+        ensures ok { OnOk result (self.new ≡ with_edition self.old) }
+        ensures edition { IfOk result (λ n. n ≡ length self.new.batches) }
+        ensures refused { IfErr result (IsRefusalOrNoMemory (publish_refusal self.old)) }
+        ensures err { OnErr result (self.new ≡ self.old) }
+    {
+        self.check_publish()?;
+        match self.make_edition() {
+            Ok(edition) => Ok(edition),
+            Err(_) => Err(Refusal::NoMemory),
+        }
+    }
+
+    /// Publishes the pending edits, which `check_publish` has let through, as the next edition, and
+    /// answers its number.
+    ///
+    /// # Errors
+    ///
+    /// Only where no memory is found. Nothing has changed then.
+    pub fn make_edition(&mut self) -> Result<u32, AllocError>
         requires { publish_refusal self.old ≡ None }
-        ensures ok { OnOk result (self.new ≡ published self.old) }
+        ensures ok { OnOk result (self.new ≡ with_edition self.old) }
         ensures edition { IfOk result (λ n. n ≡ length self.new.batches) }
         ensures err { OnErr result (self.new ≡ self.old) }
     {
+        self.batches.reserve(1)?;
         let pending = std::mem::replace(&mut self.pending, Vec::new(self.alloc));
-        match self.batches.push(Batch::new(pending)) {
-            Ok(()) => {
-                std::mem::swap(&mut self.published, &mut self.draft);
-                self.absorbed = 0;
-                Ok(self.edition())
-            }
-            Err(failed) => {
-                self.pending = failed.value.into_edits();
-                Err(AllocError)
-            }
-        }
+        self.batches.push_reserved(Batch::new(pending));
+        std::mem::swap(&mut self.published, &mut self.draft);
+        self.applied_count = 0;
+        Ok(self.edition())
     }
 }

@@ -1,5 +1,7 @@
 -- The chain of dates rises, so a date comes once.
-use Rattle.std.proofs.Common.{◌≡◌, ◌≢◌, ℕ, [], ◌∷◌, zero, suc, ◌+◌, ◌-◌, ◌*◌, ◌<◌, ◌≤◌, ◌⊎◌, inl, inr, Bool, true, false, nat_lt, if◌then◌else◌, refl, sym, ap, ◌∙◌, arith, ℤ, pos, ◌+ℤ◌, ◌*ℤ◌, ◌<ℤ◌, ◌≤ℤ◌}
+use Rattle.std.proofs.Common.{◌≡◌, ◌≢◌, ℕ, [], ◌∷◌, zero, suc, ◌+◌, ◌-◌, ◌*◌, ◌<◌, ◌≤◌, ◌⊎◌, inl}
+use Rattle.std.proofs.Common.{inr, Bool, true, false, nat_lt, if◌then◌else◌, refl, sym, ap, ◌∙◌}
+use Rattle.std.proofs.Common.{arith, ℤ, pos, ◌+ℤ◌, ◌*ℤ◌, ◌<ℤ◌, ◌≤ℤ◌}
 use Rattle.std.proofs.lemmas.Bool.{cases_order}
 use Rattle.std.proofs.lemmas.Bool.Decides.{nat_tests, Decides-and, Decides-eqb, Decides-int_eq}
 use Rattle.std.proofs.lemmas.Int.{ints}
@@ -9,7 +11,8 @@ use Rattle.osn_days.specs.declared.calendar.Calendar.{Calendar}
 use Rattle.osn_days.specs.declared.calendar.Calendar.TheVariants.{Julian, Gregorian, Swedish}
 use Rattle.osn_days.specs.Profile.{Profile}
 use Rattle.osn_days.specs.Line.{line, IsDay}
-use Rattle.osn_days.specs.Chain.{month_length, next, next_by_months, february, march_1, first_date, chain, date_of, same_date, days_with_date}
+use Rattle.osn_days.specs.Chain.{month_length, next, next_by_months, february, march_1, first_date}
+use Rattle.osn_days.specs.Chain.{chain, date_of, same_date, days_with_date}
 use Rattle.osn_days.proofs.FilterFacts.{filter_none, filter_one}
 
 pub chain-zero : (c : Calendar) → chain c 0 ≡ first_date c
@@ -42,16 +45,20 @@ pub record IsSmall (n : ℕ) (d : Date) : Type 0 where
   pub day_high : d.day ≤ 31
 
 -- one of three, as `next` chooses
-pub cases_of_three : {X : Type 0} (P : X → Type 0) (a b : Bool) (x y z : X) → (a ≡ true → P x) → (a ≡ false → b ≡ true → P y) → (a ≡ false → b ≡ false → P z) → P (if a then x else (if b then y else z))
+pub cases_of_three : {X : Type 0} (P : X → Type 0) (a b : Bool) (x y z : X) → (a ≡ true → P x)
+    → (a ≡ false → b ≡ true → P y) → (a ≡ false → b ≡ false → P z)
+    → P (if a then x else (if b then y else z))
 cases_of_three P true b x y z f g h = f refl
 cases_of_three P false true x y z f g h = g refl refl
 cases_of_three P false false x y z f g h = h refl refl
 
-cases_of_two : {X : Type 0} (P : X → Type 0) (a : Bool) (x y : X) → (a ≡ true → P x) → P y → P (if a then x else y)
+cases_of_two : {X : Type 0} (P : X → Type 0) (a : Bool) (x y : X) → (a ≡ true → P x) → P y
+    → P (if a then x else y)
 cases_of_two P true x y f h = f refl
 cases_of_two P false x y f h = h
 
-pub month_length_bounds : (c : Calendar) (y : ℤ) (m : ℕ) → (month_length c y m ≤ 31) × (28 ≤ month_length c y m)
+pub month_length_bounds : (c : Calendar) (y : ℤ) (m : ℕ)
+    → (month_length c y m ≤ 31) × (28 ≤ month_length c y m)
 month_length_bounds c y m = grind arith
 
 pub lt_of : (m n : ℕ) → nat_lt m n ≡ true → m < n
@@ -66,30 +73,63 @@ date_is a b year month day =
     ∙ ap (λ (m : ℕ). let d : Date = record { year = b.year; month = m; day = a.day } in d) month
     ∙ ap (λ (n : ℕ). let d : Date = record { year = b.year; month = b.month; day = n } in d) day
 
-same_date_decides : (a b : Date) → Decides (same_date a b) ((a.year ≡ b.year) × ((a.month ≡ b.month) × (a.day ≡ b.day)))
+same_date_decides : (a b : Date)
+    → Decides (same_date a b) ((a.year ≡ b.year) × ((a.month ≡ b.month) × (a.day ≡ b.day)))
 same_date_decides a b =
-    Decides-and _ _ (Decides-int_eq a.year b.year) (Decides-and _ _ (Decides-eqb a.month b.month) (Decides-eqb a.day b.day))
+    Decides-and _ _ (Decides-int_eq a.year b.year)
+    (Decides-and _ _ (Decides-eqb a.month b.month) (Decides-eqb a.day b.day))
 
 pub same_date_is : (a b : Date) → same_date a b ≡ true → a ≡ b
 same_date_is a b h =
     let parts = (same_date_decides a b).0 h in
     date_is a b parts.0 parts.1.0 parts.1.1
 
-months_small : (c : Calendar) (d : Date) (n : ℕ) → IsSmall n d → IsSmall (suc n) (next_by_months c d)
+months_small : (c : Calendar) (d : Date) (n : ℕ) → IsSmall n d
+    → IsSmall (suc n) (next_by_months c d)
 months_small c d n s =
-    cases_of_three (IsSmall (suc n)) (nat_lt d.day (month_length c d.year d.month)) (nat_lt d.month 12)
-    (record d { day = d.day + 1 }) (record { year = d.year; month = d.month + 1; day = 1 }) (record { year = d.year +ℤ pos 1; month = 1; day = 1 })
+    cases_of_three (IsSmall (suc n)) (nat_lt d.day (month_length c d.year d.month))
+    (nat_lt d.month 12)
+    (record d { day = d.day + 1 }) (record {
+      year = d.year;
+      month = d.month + 1;
+      day = 1;
+    }) (record { year = d.year +ℤ pos 1; month = 1; day = 1 })
     (λ lt. let day = lt_of _ _ lt in let bound = month_length_bounds c d.year d.month in
-    record { year_low = s.year_low; year_high = omega (arith, ints); month_low = s.month_low; month_high = s.month_high; day_low = omega arith; day_high = omega arith })
+    record {
+      year_low = s.year_low;
+      year_high = omega (arith, ints);
+      month_low = s.month_low;
+      month_high = s.month_high;
+      day_low = omega arith;
+      day_high = omega arith;
+    })
     (λ _ lt. let month = lt_of _ _ lt in
-    record { year_low = s.year_low; year_high = omega (arith, ints); month_low = omega arith; month_high = omega arith; day_low = omega arith; day_high = omega arith })
-    (λ _ _. record { year_low = omega (arith, ints); year_high = omega (arith, ints); month_low = omega arith; month_high = omega arith; day_low = omega arith; day_high = omega arith })
+    record {
+      year_low = s.year_low;
+      year_high = omega (arith, ints);
+      month_low = omega arith;
+      month_high = omega arith;
+      day_low = omega arith;
+      day_high = omega arith;
+    })
+    (λ _ _. record {
+      year_low = omega (arith, ints);
+      year_high = omega (arith, ints);
+      month_low = omega arith;
+      month_high = omega arith;
+      day_low = omega arith;
+      day_high =
+          omega arith;
+    })
 
 -- one of four, as `next` chooses in Sweden
-cases_in_sweden : (P : Date → Type 0) (d : Date) → (d ≡ february 1700 28 → P (march_1 1700)) → (d ≡ february 1712 29 → P (february 1712 30)) → (d ≡ february 1712 30 → P (march_1 1712)) → P (next_by_months Julian d) → P (next Swedish d)
+cases_in_sweden : (P : Date → Type 0) (d : Date) → (d ≡ february 1700 28 → P (march_1 1700))
+    → (d ≡ february 1712 29 → P (february 1712 30)) → (d ≡ february 1712 30 → P (march_1 1712))
+    → P (next_by_months Julian d) → P (next Swedish d)
 cases_in_sweden P d f g h k =
     cases_of_three P (same_date d (february 1700 28)) (same_date d (february 1712 29))
-    (march_1 1700) (february 1712 30) (if same_date d (february 1712 30) then march_1 1712 else next_by_months Julian d)
+    (march_1 1700) (february 1712 30)
+    (if same_date d (february 1712 30) then march_1 1712 else next_by_months Julian d)
     (λ is. f (same_date_is d (february 1700 28) is))
     (λ _ is. g (same_date_is d (february 1712 29) is))
     (λ _ _. cases_of_two P (same_date d (february 1712 30)) (march_1 1712) (next_by_months Julian d)
@@ -101,17 +141,65 @@ next_small Gregorian d n s = months_small Gregorian d n s
 next_small Swedish d n s =
     cases_in_sweden (IsSmall (suc n)) d
     (λ is. let year : d.year ≡ pos 1700 = ap (λ (e : Date). e.year) is in
-    record { year_low = search arith; year_high = omega (arith, ints, s.year_high); month_low = omega arith; month_high = omega arith; day_low = omega arith; day_high = omega arith })
+    record {
+      year_low = search arith;
+      year_high = omega (arith, ints, s.year_high);
+      month_low = omega arith;
+      month_high = omega arith;
+      day_low = omega arith;
+      day_high =
+          omega arith;
+    })
     (λ is. let year : d.year ≡ pos 1712 = ap (λ (e : Date). e.year) is in
-    record { year_low = search arith; year_high = omega (arith, ints, s.year_high); month_low = omega arith; month_high = omega arith; day_low = omega arith; day_high = omega arith })
+    record {
+      year_low = search arith;
+      year_high = omega (arith, ints, s.year_high);
+      month_low = omega arith;
+      month_high = omega arith;
+      day_low = omega arith;
+      day_high =
+          omega arith;
+    })
     (λ is. let year : d.year ≡ pos 1712 = ap (λ (e : Date). e.year) is in
-    record { year_low = search arith; year_high = omega (arith, ints, s.year_high); month_low = omega arith; month_high = omega arith; day_low = omega arith; day_high = omega arith })
+    record {
+      year_low = search arith;
+      year_high = omega (arith, ints, s.year_high);
+      month_low = omega arith;
+      month_high = omega arith;
+      day_low = omega arith;
+      day_high =
+          omega arith;
+    })
     (months_small Julian d n s)
 
 first_small : (c : Calendar) → IsSmall 0 (first_date c)
-first_small Julian = record { year_low = search arith; year_high = search arith; month_low = omega arith; month_high = omega arith; day_low = omega arith; day_high = omega arith }
-first_small Gregorian = record { year_low = search arith; year_high = search arith; month_low = omega arith; month_high = omega arith; day_low = omega arith; day_high = omega arith }
-first_small Swedish = record { year_low = search arith; year_high = search arith; month_low = omega arith; month_high = omega arith; day_low = omega arith; day_high = omega arith }
+first_small Julian = record {
+  year_low = search arith;
+  year_high = search arith;
+  month_low = omega arith;
+  month_high = omega arith;
+  day_low = omega arith;
+  day_high =
+      omega arith;
+}
+first_small Gregorian = record {
+  year_low = search arith;
+  year_high = search arith;
+  month_low = omega arith;
+  month_high = omega arith;
+  day_low = omega arith;
+  day_high =
+      omega arith;
+}
+first_small Swedish = record {
+  year_low = search arith;
+  year_high = search arith;
+  month_low = omega arith;
+  month_high = omega arith;
+  day_low = omega arith;
+  day_high =
+      omega arith;
+}
 
 pub chain_small : (c : Calendar) (n : ℕ) → IsSmall n (chain c n)
 chain_small c zero = rw chain-zero (first_small c)
@@ -123,8 +211,13 @@ key d = d.year *ℤ pos 512 +ℤ pos (d.month * 32 + d.day)
 
 months_rise : (c : Calendar) (d : Date) (n : ℕ) → IsSmall n d → key d <ℤ key (next_by_months c d)
 months_rise c d n s =
-    cases_of_three (λ e. key d <ℤ key e) (nat_lt d.day (month_length c d.year d.month)) (nat_lt d.month 12)
-    (record d { day = d.day + 1 }) (record { year = d.year; month = d.month + 1; day = 1 }) (record { year = d.year +ℤ pos 1; month = 1; day = 1 })
+    cases_of_three (λ e. key d <ℤ key e) (nat_lt d.day (month_length c d.year d.month))
+    (nat_lt d.month 12)
+    (record d { day = d.day + 1 }) (record {
+      year = d.year;
+      month = d.month + 1;
+      day = 1;
+    }) (record { year = d.year +ℤ pos 1; month = 1; day = 1 })
     (λ lt. omega (arith, ints))
     (λ _ lt. omega (arith, ints))
     (λ _ _. omega (arith, ints))
@@ -170,26 +263,34 @@ not_true true h = absurd (h refl)
 not_true false h = refl
 
 -- a date is that of no other day
-pub date_apart : (c : Calendar) (date : Date) (d e : ℕ) → 1 ≤ d → 1 ≤ e → same_date (date_of c d) date ≡ true → e < d ⊎ (d < e) → same_date (date_of c e) date ≡ false
+pub date_apart : (c : Calendar) (date : Date) (d e : ℕ) → 1 ≤ d → 1 ≤ e
+    → same_date (date_of c d) date ≡ true → e < d ⊎ (d < e) → same_date (date_of c e) date ≡ false
 date_apart c date d e dl el is apart =
     not_true (same_date (date_of c e) date) (λ too. chain_apart c (e - 1) (d - 1)
     (elim apart [ inl lt ↦ inl (omega arith) | inr gt ↦ inr (omega arith) ])
     (same_date_is (date_of c e) date too ∙ sym (same_date_is (date_of c d) date is)))
 
 -- the days with a date are the one that has it
-pub days_one : (p : Profile) (c : Calendar) (date : Date) (d : ℕ) → IsDay p d → same_date (date_of c d) date ≡ true → days_with_date p c date ≡ d ∷ []
+pub days_one : (p : Profile) (c : Calendar) (date : Date) (d : ℕ) → IsDay p d
+    → same_date (date_of c d) date ≡ true → days_with_date p c date ≡ d ∷ []
 unfolding days_with_date line
 days_one p c date d on is =
-    filter_one (λ e. same_date (date_of c e) date) 1 p.high d on.0 (omega arith) is (λ e low high apart. date_apart c date d e on.0 low is apart)
+    filter_one (λ e. same_date (date_of c e) date) 1 p.high d on.0 (omega arith) is
+    (λ e low high apart. date_apart c date d e on.0 low is apart)
 
 -- or none
-pub days_none : (p : Profile) (c : Calendar) (date : Date) → ((d : ℕ) → IsDay p d → same_date (date_of c d) date ≡ false) → days_with_date p c date ≡ []
+pub days_none : (p : Profile) (c : Calendar) (date : Date)
+    → ((d : ℕ) → IsDay p d → same_date (date_of c d) date ≡ false) → days_with_date p c date ≡ []
 unfolding days_with_date line
 days_none p c date none =
-    filter_none (λ e. same_date (date_of c e) date) 1 p.high (λ d low high. none d (low, omega arith))
+    filter_none (λ e. same_date (date_of c e) date) 1 p.high
+    (λ d low high. none d (low, omega arith))
 
 -- a day at which each earlier day and this one have failed
-pub none_before : (c : Calendar) (date : Date) (n : ℕ) → ((d : ℕ) → 1 ≤ d → d < n → same_date (date_of c d) date ≡ false) → same_date (date_of c n) date ≡ false → (d : ℕ) → 1 ≤ d → d < n + 1 → same_date (date_of c d) date ≡ false
+pub none_before : (c : Calendar) (date : Date) (n : ℕ)
+    → ((d : ℕ) → 1 ≤ d → d < n → same_date (date_of c d) date ≡ false)
+    → same_date (date_of c n) date ≡ false → (d : ℕ) → 1 ≤ d → d < n + 1
+    → same_date (date_of c d) date ≡ false
 none_before c date n before here d low high =
     elim (cases_order d n) [
       | inl same ↦ rw same here

@@ -1,3 +1,4 @@
+pub mod KnownDays
 pub mod ChainFacts
 pub mod CountFacts
 pub mod FilterFacts

@@ -1,6 +1,9 @@
--- The calendars as chains of dates, each the successor of the one before: the leap years and lengths of months of
--- Reingold and Dershowitz, Calendrical Calculations, who have the Swedish calendar of 1700 to 1712 too.
-use Rattle.std.specs.Prelude.{ℕ, zero, suc, ◌+◌, ◌-◌, ◌%◌, Bool, not, ◌&&◌, ◌||◌, ◌==◌, nat_lt, if◌then◌else◌, ℤ, pos, ◌+ℤ◌, unsigned_abs, List, filter}
+-- The calendars as chains of dates, each the successor of the one before. The leap years and the
+-- lengths of months are those of Reingold and Dershowitz, Calendrical Calculations: of the
+-- Gregorian calendar in chapter 2, of the Julian in chapter 3. The Swedish calendar of 1700 to 1712
+-- is stated by the three dates that Sweden changed.
+use Rattle.std.specs.Prelude.{ℕ, zero, suc, ◌+◌, ◌-◌, ◌%◌, ◌==◌, nat_lt, ℤ, pos, ◌+ℤ◌, unsigned_abs}
+use Rattle.std.specs.Prelude.{Bool, not, ◌&&◌, ◌||◌, if◌then◌else◌, List, filter}
 use Rattle.std.specs.Ordering.{int_eq}
 use Rattle.osn_days.specs.declared.date.Date.{Date}
 use Rattle.osn_days.specs.declared.calendar.Calendar.{Calendar}
@@ -8,8 +11,8 @@ use Rattle.osn_days.specs.declared.calendar.Calendar.TheVariants.{Julian, Gregor
 use Rattle.osn_days.specs.Profile.{Profile}
 use Rattle.osn_days.specs.Line.{line}
 
--- every fourth year, and in the Gregorian calendar of the centuries only every fourth. The Swedish calendar has the
--- Julian months, but for the three successors below
+-- every fourth year, and in the Gregorian calendar of the centuries only every fourth. The Swedish
+-- calendar has the Julian months, but for the three successors below
 abbrev pub is_leap : Calendar → ℤ → Bool
 is_leap Julian y = unsigned_abs y % 4 == 0
 is_leap Gregorian y =
@@ -39,8 +42,8 @@ next_by_months c d =
     else (if nat_lt d.month 12 then record { year = d.year; month = d.month + 1; day = 1 }
     else record { year = d.year +ℤ pos 1; month = 1; day = 1 })
 
--- the date after a date. The Swedish calendar is the Julian with three successors changed: 1700 has no 29 February,
--- and 1712 has a 30 February
+-- the date after a date. The Swedish calendar is the Julian with three successors changed: 1700 has
+-- no 29 February, and 1712 has a 30 February
 abbrev pub next : Calendar → Date → Date
 next Julian d = next_by_months Julian d
 next Gregorian d = next_by_months Gregorian d

@@ -1,5 +1,5 @@
--- The line of days: the fixed dates (Rata Die) of Reingold and Dershowitz, Calendrical Calculations, from
--- 1 January of year 1 Gregorian, a Monday.
+-- The line of days: the fixed dates (Rata Die) of Reingold and Dershowitz, Calendrical
+-- Calculations, chapter 1, from 1 January of year 1 Gregorian, a Monday.
 use Rattle.std.specs.Prelude.{ℕ, ◌+◌, ◌%◌, ◌≤◌, ℤ, pos, ◌≤ℤ◌, List}
 use Rattle.std.specs.List.{range_with_len}
 use Rattle.osn_days.specs.Profile.{Profile}
@@ -20,7 +20,7 @@ line p = range_with_len 1 p.high
 abbrev pub weekday : ℕ → ℕ
 weekday d = d % 7
 
--- the Julian day number of astronomers, at noon of the day
+-- the Julian day number of astronomers, at noon of the day (the same chapter)
 abbrev pub julian_day : ℕ → ℕ
 julian_day d = d + 1721425
 

@@ -1,4 +1,5 @@
--- The numbers and words of the rules, which a later version of the rules may change: this project's profile.
+-- The numbers and words of the rules, which a later version of the rules may change: this project's
+-- profile.
 use Rattle.std.specs.Prelude.{ℕ, List, [], ◌∷◌, codes}
 
 pub record Profile : Type 0 where
@@ -10,8 +11,6 @@ pub record Profile : Type 0 where
   pub last_label_year : ℕ
   -- the words of `style` in a line
   pub style_words : List (List ℕ)
-  -- the version of a journal that is written
-  pub journal_version : ℕ
 
 -- the rules as they are
 abbrev pub present : Profile
@@ -19,6 +18,6 @@ present = record {
   high = 1095362;
   last_year = 2999;
   last_label_year = 3000;
-  style_words = codes "january" ∷ codes "annunciation" ∷ codes "nativity" ∷ codes "september" ∷ [];
-  journal_version = 1;
+  style_words =
+      codes "january" ∷ codes "annunciation" ∷ codes "nativity" ∷ codes "september" ∷ [];
 }

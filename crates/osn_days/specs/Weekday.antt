@@ -1,7 +1,9 @@
--- The seven weekdays, with their numbers in Calendrical Calculations and their English names.
+-- The seven weekdays, with their numbers in Calendrical Calculations, chapter 1, and their English
+-- names.
 use Rattle.std.specs.Prelude.{ℕ, List, codes}
 use Rattle.osn_days.specs.declared.weekday.Weekday.{Weekday}
-use Rattle.osn_days.specs.declared.weekday.Weekday.TheVariants.{Sunday, Monday, Tuesday, Wednesday, Thursday, Friday, Saturday}
+use Rattle.osn_days.specs.declared.weekday.Weekday.TheVariants.{Sunday, Monday, Tuesday, Wednesday}
+use Rattle.osn_days.specs.declared.weekday.Weekday.TheVariants.{Thursday, Friday, Saturday}
 
 abbrev pub weekday_number : Weekday → ℕ
 weekday_number Sunday = 0

@@ -1,24 +1,28 @@
 ghost use Rattle.std.specs.Prelude.{◌≡◌};
 ghost use Rattle.std.specs.Option.{option_to_list};
 ghost use Rattle.osn_days.specs.Profile.{present};
+ghost use Rattle.osn_days.specs.Line.{IsYearNumber};
 ghost use Rattle.osn_days.specs.Chain as chain;
 
 use crate::date::Date;
 use crate::day::Day;
 use crate::{gregorian, julian, swedish};
 
-/// A calendar on the line of days.
+/// A calendar on the line of days. Its years begin on 1 January.
 #[derive(Clone, Copy, Debug, PartialEq, Eq, Hash)]
 pub enum Calendar {
     Julian,
     Gregorian,
-    /// The Julian calendar without 29 February 1700, and so a day ahead of it, until a 30 February 1712 brought it back.
+    /// The Julian calendar without 29 February 1700, and so a day ahead of it, until a 30 February
+    /// 1712 brought it back.
     Swedish,
 }
 
-/// The date of a day in a calendar.
+/// The date of a day in a calendar: in the Gregorian by *Calendrical Calculations*, chapter 2, in
+/// the Julian by chapter 3. Its year is from 1 to 2999.
 pub fn date_of(calendar: Calendar, day: Day) -> Date
-    ensures { result ≡ chain.date_of calendar day }
+    ensures value { result ≡ chain.date_of calendar day }
+    ensures year { IsYearNumber present result.year }
 {
     match calendar {
         Calendar::Julian => julian::date_of(day),

@@ -6,14 +6,14 @@ ghost use Rattle.osn_days.specs.Weekday.{weekday_number};
 use crate::weekday::Weekday;
 use std::marker::Model;
 
-/// The last day of the line, 31 December 2999 Gregorian. The first is 1.
+/// The number of the last day of the line, 31 December 2999 Gregorian. That of the first is 1.
 pub const HIGH: u32 = 1_095_362;
 
 /// The Julian day number of the day before the first.
 const JULIAN_DAY_OFFSET: u32 = 1_721_425;
 
-/// A day of the line, numbered as the fixed dates (Rata Die) of *Calendrical Calculations*: day 1 is
-/// Monday 1 January of year 1 Gregorian, which is 3 January of year 1 Julian.
+/// A day of the line, numbered as the fixed dates (Rata Die) of *Calendrical Calculations*,
+/// chapter 1: day 1 is Monday 1 January of year 1 Gregorian, which is 3 January of year 1 Julian.
 #[derive(Clone, Copy, Debug, PartialEq, Eq, PartialOrd, Ord, Hash)]
 pub struct Day {
     number: u32,
@@ -45,18 +45,20 @@ impl Day {
         ensures on_line { IsSome result ↔ IsOnLine present number }
         ensures value { IfSome result (λ d. pos d ≡ number) }
     {
-        if number < 1 || number > HIGH as i64 {
+        if number < 1 || number > i64::from(HIGH) {
             return None;
         }
-        Some(Day::at(number as u32))
+        Some(Day::on_line(number))
     }
 
-    /// The day of a number that is known to be on the line.
-    pub(crate) fn at(number: u32) -> Day
-        requires { IsDay present number }
-        ensures { result ≡ number }
+    /// The day of that number, for callers who know that it is on the line: `new` is the test.
+    pub fn on_line(number: i64) -> Day
+        requires { IsOnLine present number }
+        ensures { pos result ≡ number }
     {
-        Day { number }
+        Day {
+            number: number as u32,
+        }
     }
 
     /// The number, from 1.
@@ -67,7 +69,8 @@ impl Day {
         self.number
     }
 
-    /// The Julian day number of astronomers, at noon of the day.
+    /// The Julian day number of astronomers, at noon of the day: *Calendrical Calculations*,
+    /// chapter 1.
     pub fn julian_day_number(self) -> u32
         ensures { result ≡ julian_day self }
     {
@@ -89,11 +92,20 @@ impl Day {
         }
     }
 
-    /// The day that many days later, or earlier for a negative number, or `None` where that is off the line.
+    /// The day that many days later, or earlier for a negative number, or `None` where that is off
+    /// the line.
     pub fn plus(self, days: i32) -> Option<Day>
         ensures on_line { IsSome result ↔ IsOnLine present (pos self +ℤ days) }
         ensures value { IfSome result (λ d. pos d ≡ pos self +ℤ days) }
     {
-        Day::new(self.number as i64 + days as i64)
+        Day::new(i64::from(self.number) + i64::from(days))
     }
+}
+
+/// The law of the constants: they are the ends of the line. Nothing calls it.
+fn ends() -> (Day, Day)
+    ensures first { result.0 ≡ 1 }
+    ensures last { result.1 ≡ present.high }
+{
+    (Day::FIRST, Day::LAST)
 }

@@ -1,39 +1,49 @@
 //! The Gregorian calendar, which is `jiff`'s, with the count of the days between two of its dates.
-ghost use Rattle.std.specs.Prelude.{◌≡◌};
+ghost use Rattle.std.specs.Prelude.{◌≡◌, ◌↔◌, pos, IsSome, IfSome};
 ghost use Rattle.std.specs.Option.{option_to_list};
 ghost use Rattle.osn_days.specs.Profile.{present};
+ghost use Rattle.osn_days.specs.Line.{IsYearNumber};
 ghost use Rattle.osn_days.specs.Chain as chain;
+ghost use Rattle.jiff_core.specs.Calendar.{IsDate};
+ghost use Rattle.jiff_core.specs.Date.{IsYmd};
 ghost use Rattle.osn_days.specs.declared.calendar.Calendar.TheVariants.{Gregorian};
 
 use crate::date::Date;
 use crate::day::Day;
-use crate::year::Year;
 use jiff::civil;
 
-/// How many days the day before day 1 lies after 1 January of the year -9999, from which `jiff`'s plain dates count.
+/// How many days the day before day 1 lies after 1 January of the year -9999, from which `jiff`'s
+/// plain dates count.
 const DAYS_BEFORE: u32 = 3_652_424;
 
 /// The date of a day.
 pub fn date_of(day: Day) -> Date
-    ensures { result ≡ chain.date_of Gregorian day }
+    ensures value { result ≡ chain.date_of Gregorian day }
+    ensures year { IsYearNumber present result.year }
 {
     let date = jiff_core::civil::Date::from_days_since_min(day.number() + DAYS_BEFORE);
     Date {
-        year: date.year as i32,
+        year: i32::from(date.year),
         month: date.month,
         day: date.day,
     }
+}
+
+/// The date as `jiff` makes it, or `None` where the calendar lacks it or `jiff` its year.
+fn civil_date(date: Date) -> Option<civil::Date>
+    ensures value { IfSome result (IsYmd date.year (pos date.month) (pos date.day)) }
+    ensures exists { IsSome result ↔ IsDate date.year (pos date.month) (pos date.day) }
+{
+    let year = i16::try_from(date.year).ok()?;
+    let month = i8::try_from(date.month).ok()?;
+    let day = i8::try_from(date.day).ok()?;
+    civil::Date::new(year, month, day).ok()
 }
 
 /// The one day that has the date, or `None` where no day of the line has it.
 pub fn day_of(date: Date) -> Option<Day>
     ensures { option_to_list result ≡ chain.days_with_date present Gregorian date }
 {
-    if date.year < 1 || date.year > Year::LAST as i32 || date.month > 12 || date.day > 31 {
-        return None;
-    }
-    match civil::Date::new(date.year as i16, date.month as i8, date.day as i8) {
-        Ok(date) => Some(Day::at(date.to_plain().days_since_min() - DAYS_BEFORE)),
-        Err(_) => None,
-    }
+    let days = civil_date(date)?.to_plain().days_since_min();
+    Day::new(i64::from(days) - i64::from(DAYS_BEFORE))
 }

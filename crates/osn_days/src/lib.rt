@@ -1,6 +1,7 @@
-//! The line of days and the calendars on it: the fixed dates of Reingold and Dershowitz, *Calendrical
-//! Calculations*, with the Julian, the Gregorian and the Swedish calendar as chains of dates. What the crate
-//! promises to those above is `date_of` and `day_of`: a calendar's chain, both ways.
+//! The line of days and the calendars on it: the fixed dates of Reingold and Dershowitz,
+//! *Calendrical Calculations* (chapter 1), with the Gregorian (chapter 2), the Julian (chapter 3)
+//! and the Swedish calendar as chains of dates. What the crate promises to those above is `date_of`
+//! and `day_of`: a calendar's chain, both ways.
 #![tactic(auto)]
 
 mod calendar;
@@ -8,11 +9,7 @@ mod date;
 mod day;
 mod gregorian;
 mod julian;
-#[cfg(test)]
-mod plain;
 mod swedish;
-#[cfg(test)]
-mod tests;
 mod weekday;
 mod year;
 

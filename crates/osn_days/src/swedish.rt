@@ -1,8 +1,10 @@
-//! The Swedish calendar by the Julian. From 1 March 1700 to 29 February 1712 it is a day ahead: the date of a day is
-//! that of the next day in the Julian calendar. Then comes 30 February 1712, and the two agree again.
+//! The Swedish calendar by the Julian. From 1 March 1700 to 29 February 1712 it is a day ahead: the
+//! date of a day is that of the next day in the Julian calendar. Then comes 30 February 1712, and
+//! the two agree again.
 ghost use Rattle.std.specs.Prelude.{◌≡◌};
 ghost use Rattle.std.specs.Option.{option_to_list};
 ghost use Rattle.osn_days.specs.Profile.{present};
+ghost use Rattle.osn_days.specs.Line.{IsYearNumber};
 ghost use Rattle.osn_days.specs.Chain as chain;
 ghost use Rattle.osn_days.specs.declared.calendar.Calendar.TheVariants.{Swedish};
 
@@ -11,25 +13,26 @@ use crate::day::Day;
 use crate::julian;
 
 /// The day of 1 March 1700, which is 29 February in the Julian calendar.
-const FIRST_AHEAD: u32 = 620_617;
+const MARCH_1_1700: u32 = 620_617;
 
 /// The day of 30 February 1712, which is 29 February in the Julian calendar.
-const EXTRA: u32 = 625_000;
+const FEBRUARY_30_1712: u32 = 625_000;
 
 /// The date of a day.
 pub fn date_of(day: Day) -> Date
-    ensures { result ≡ chain.date_of Swedish day }
+    ensures value { result ≡ chain.date_of Swedish day }
+    ensures year { IsYearNumber present result.year }
 {
     let number = day.number();
-    if number == EXTRA {
+    if number == FEBRUARY_30_1712 {
         return Date {
             year: 1712,
             month: 2,
             day: 30,
         };
     }
-    if number >= FIRST_AHEAD && number < EXTRA {
-        return julian::date_of(Day::at(number + 1));
+    if number >= MARCH_1_1700 && number < FEBRUARY_30_1712 {
+        return julian::date_of(Day::on_line(i64::from(number + 1)));
     }
     julian::date_of(day)
 }
@@ -39,18 +42,15 @@ pub fn day_of(date: Date) -> Option<Day>
     ensures { option_to_list result ≡ chain.days_with_date present Swedish date }
 {
     if date.year == 1712 && date.month == 2 && date.day == 30 {
-        return Some(Day::at(EXTRA));
+        return Some(Day::on_line(i64::from(FEBRUARY_30_1712)));
     }
-    let day = match julian::day_of(date) {
-        Some(day) => day,
-        None => return None,
-    };
+    let day = julian::day_of(date)?;
     let number = day.number();
-    if number == FIRST_AHEAD {
+    if number == MARCH_1_1700 {
         return None;
     }
-    if number > FIRST_AHEAD && number <= EXTRA {
-        return Some(Day::at(number - 1));
+    if number > MARCH_1_1700 && number <= FEBRUARY_30_1712 {
+        return Some(Day::on_line(i64::from(number - 1)));
     }
     Some(day)
 }

@@ -4,7 +4,7 @@ ghost use Rattle.osn_days.specs.Line.{IsYear, IsYearNumber};
 
 use std::marker::Model;
 
-/// A year counted from 1 January, from 1 to 2999.
+/// A year counted from 1 January, from 1 to 2999: the years that have figures.
 #[derive(Clone, Copy, Debug, PartialEq, Eq, PartialOrd, Ord, Hash)]
 pub struct Year {
     number: u32,
@@ -25,20 +25,31 @@ impl Model for Year {
 }
 
 impl Year {
-    /// The last year, whose 31 December Gregorian is the last day of the line. The first is 1.
-    pub const LAST: u32 = 2999;
+    /// The first year.
+    pub const FIRST: Year = Year { number: 1 };
+
+    /// The last year, whose 31 December Gregorian is the last day of the line.
+    pub const LAST: Year = Year { number: 2_999 };
 
     /// The year of that number, or `None` outside the range.
     pub fn new(number: i64) -> Option<Year>
         ensures in_range { IsSome result ↔ IsYearNumber present number }
         ensures value { IfSome result (λ y. pos y ≡ number) }
     {
-        if number < 1 || number > Year::LAST as i64 {
+        if number < 1 || number > i64::from(Year::LAST.number) {
             return None;
         }
-        Some(Year {
+        Some(Year::in_range(number))
+    }
+
+    /// The year of that number, for callers who know that it is in the range: `new` is the test.
+    pub fn in_range(number: i64) -> Year
+        requires { IsYearNumber present number }
+        ensures { pos result ≡ number }
+    {
+        Year {
             number: number as u32,
-        })
+        }
     }
 
     /// The number, from 1.
@@ -48,4 +59,12 @@ impl Year {
     {
         self.number
     }
+}
+
+/// The law of the constants: they are the ends of the range. Nothing calls it.
+fn ends() -> (Year, Year)
+    ensures first { result.0 ≡ 1 }
+    ensures last { result.1 ≡ present.last_year }
+{
+    (Year::FIRST, Year::LAST)
 }

@@ -1,45 +1,201 @@
--- Easter by the rule of a period is the one day that is Easter in it, or lies outside it; and over the periods in order.
-use Rattle.std.proofs.Common.{◌≡◌, ℕ, ◌+◌, ◌-◌, ◌≤◌, ◌<◌, inl, inr, false, ◌==◌, List, [], ◌∷◌, ◌++◌, map, drop, length, Some, None, refl, sym, ap, ◌∙◌, arith}
-use Rattle.std.proofs.lemmas.Bool.Decides.{Decides-eqb, nat_tests}
-use Rattle.std.specs.List.{flat_map}
-use Rattle.std.specs.Ordering.{is_le, nat_cmp}
-use Rattle.osn_computus.specs.Easter.{easter_of}
+-- The Easters by both rules, each where its rule is in force, are those of the territory.
+use Rattle.std.proofs.Common.{◌≡◌, ℕ, zero, suc, nat_lt, ◌+◌, ◌<◌, ◌≤◌, inl, inr, Bool, true, false}
+use Rattle.std.proofs.Common.{◌==◌, ◌&&◌, ◌||◌, nat_le, [], ◌∷◌, ◌++◌, filter, Option, Some, None}
+use Rattle.std.proofs.Common.{if◌then◌else◌, refl, sym, ap, ◌∙◌, arith, eqb-true}
+use Rattle.std.proofs.Math.Bool.{or-false}
+use Rattle.std.proofs.lemmas.Bool.{and_parts, and_from, cases_order, leb-true, leb-false, both_ways}
+use Rattle.std.proofs.lemmas.Bool.Decides.{Decides-eqb}
+use denote.Enum.Bare.{sameb}
+use Rattle.std.specs.List.{range_with_len, list_any, find}
+use Rattle.std.specs.Option.{option_to_list, option_and_then}
+use Rattle.osn_computus.specs.declared.rule.Rule.{Rule}
+use Rattle.osn_computus.specs.declared.rule.Rule.TheVariants.{Julian, Gregorian}
+use Rattle.osn_computus.specs.contracts.rule.Rule.{the_type}
+use Rattle.osn_computus.specs.Easter.{easter_of, first_sunday_after, paschal_moon}
 use Rattle.osn_days.specs.Profile.{Profile}
+use Rattle.osn_days.specs.Line.{line, IsDay, weekday}
 use Rattle.osn_days.proofs.ChainFacts.{not_true}
-use Rattle.osn_days.proofs.FilterFacts.{filter_none, filter_one}
-use Rattle.osn_lands.specs.declared.period.Period.{Period}
-use Rattle.osn_lands.specs.Territory.{PlainTerritory, Covers}
+use Rattle.osn_days.proofs.FilterFacts.{filter_none, filter_one, filter_is}
+use Rattle.osn_lands.specs.Territory.{PlainTerritory, regime_at}
 use Rattle.osn_lands.specs.Easters.{is_on, is_easter, easters_by_rule, unless_listed, easters}
 use Rattle.osn_lands.specs.Exceptions.{exception_of}
-use Rattle.osn_lands.specs.Inside.{start_of, easters_in}
-use Rattle.osn_lands.proofs.ReadingFacts.{found_in_all}
+use Rattle.osn_lands.specs.Inside.{is_rule, easters_in_force, days_in_order}
+use Rattle.osn_lands.proofs.MemberFacts.{any_from}
+use Rattle.osn_lands.proofs.OrderFacts.{filter_or}
 
-is_that_day : (p : Profile) (y : ℕ) (q : Period) (e d : ℕ) → easter_of p q.regime.rule y ≡ Some e → is_easter p q.regime.rule y d ≡ (e == d)
-is_that_day p y q e d is = ap (λ o. is_on o d) is
+-- the comparison of two rules
+pub same_rule : (a b : Rule) → is_rule a b ≡ sameb the_type a b
+same_rule Julian Julian = refl
+same_rule Julian Gregorian = refl
+same_rule Gregorian Julian = refl
+same_rule Gregorian Gregorian = refl
 
-is_no_other : (p : Profile) (y : ℕ) (q : Period) (e d : ℕ) → easter_of p q.regime.rule y ≡ Some e → (e ≡ d → ⊥) → is_easter p q.regime.rule y d ≡ false
-is_no_other p y q e d is apart = is_that_day p y q e d is ∙ not_true (e == d) (λ same. apart ((Decides-eqb e d).0 same))
+-- an Easter is a day of the line
 
--- a period that holds the Easter of its rule has that day
-pub easter_held : (p : Profile) (y : ℕ) (q : Period) (e : ℕ) → easter_of p q.regime.rule y ≡ Some e → q.first ≤ e → e ≤ q.last → easters_in p y q ≡ e ∷ []
-easter_held p y q e is low high =
-    filter_one (λ d. is_easter p q.regime.rule y d) q.first (q.last + 1 - q.first) e low (omega arith)
-    (is_that_day p y q e e is ∙ (Decides-eqb e e).1 refl)
-    (λ d from until apart. is_no_other p y q e d is (λ same. elim apart [ inl before ↦ omega arith | inr after ↦ omega arith ]))
+find_step : (here : Bool) (a n e : ℕ) (rest : Option ℕ) →
+    (rest ≡ Some e → (a + 1 ≤ e) × (e < a + 1 + n)) → (if here then Some a else rest) ≡ Some e →
+    (a ≤ e) × (e < a + suc n)
+find_step true a n e rest later found = let same : a ≡ e = cc in (omega arith, omega arith)
+find_step false a n e rest later found = let more = later found in
+    (omega (arith, more.0), omega (arith, more.1))
 
--- one that does not has none
-pub easter_not_held : (p : Profile) (y : ℕ) (q : Period) (e : ℕ) → easter_of p q.regime.rule y ≡ Some e → (q.first ≤ e → e ≤ q.last → ⊥) → easters_in p y q ≡ []
-easter_not_held p y q e is outside =
-    filter_none (λ d. is_easter p q.regime.rule y d) q.first (q.last + 1 - q.first)
-    (λ d from until. is_no_other p y q e d is (λ same. outside (omega arith) (omega arith)))
+find_in : (f : ℕ → Bool) (a n e : ℕ) → find f (range_with_len a n) ≡ Some e → (a ≤ e) × (e < a + n)
+find_in f a zero e found = absurd cc
+find_in f a (suc n) e found = find_step (f a) a n e (find f (range_with_len (a + 1) n))
+    (find_in f (a + 1) n e) found
 
--- a comparison that fails
-pub lt_from_not_le : (a b : ℕ) → is_le (nat_cmp a b) ≡ false → b < a
-lt_from_not_le a b fails = grind (arith, nat_tests)
+sunday_on_line : (p : Profile) (moon : Option ℕ) (e : ℕ) →
+    option_and_then (first_sunday_after p) moon ≡ Some e → IsDay p e
+unfolding first_sunday_after line
+sunday_on_line p None e found = absurd cc
+sunday_on_line p (Some m) e found =
+    let bounds = find_in (λ d. nat_lt m d && (weekday d == 0)) 1 p.high e found in
+    (bounds.0, omega (arith, bounds.1))
 
--- all periods have been seen, where none is listed
-pub easters_are : (es : List (ℕ × ℕ)) (p : Profile) (t : PlainTerritory) (y : ℕ) (found : List ℕ) (items ps : List Period) (i : ℕ) → exception_of t y ≡ None → items ≡ ps → record { starts = map start_of ps; exceptions = es } ≡ t → Covers 1 p.high ps → length items ≤ i → found ++ flat_map (easters_in p y) (drop i items) ≡ flat_map (easters_in p y) items → found ≡ easters p t y
-unfolding easters_by_rule
-easters_are es p t y found items ps i none same view covers all invariant =
-    found_in_all (λ r d. is_easter p r.rule y d) es p t found items ps i same view covers all invariant
+on_line : (p : Profile) (rule : Rule) (y e : ℕ) → easter_of p rule y ≡ Some e → IsDay p e
+unfolding easter_of
+on_line p rule y e found = sunday_on_line p (paschal_moon p rule y) e found
+
+is_that_day : (p : Profile) (rule : Rule) (y e d : ℕ) → easter_of p rule y ≡ Some e →
+    is_easter p rule y d ≡ (e == d)
+is_that_day p rule y e d is = ap (λ o. is_on o d) is
+
+-- the Easter of a rule, on a day on which it is in force
+pub in_force : (p : Profile) (t : PlainTerritory) (rule : Rule) (y e : ℕ) →
+    easter_of p rule y ≡ Some e → is_rule (regime_at t e).rule rule ≡ true → e
+    ∷ [] ≡ easters_in_force p t rule y
+unfolding easters_in_force line
+in_force p t rule y e is held =
+    let on = on_line p rule y e is in
+    sym (filter_one (λ d. is_rule (regime_at t d).rule rule && is_easter p rule y d) 1 p.high e on.0
+    (omega (arith, on.1))
+    (and_from (is_rule (regime_at t e).rule rule) (is_easter p rule y e) held
+    (is_that_day p rule y e e is ∙ (Decides-eqb e e).1 refl))
+    (λ d from until apart. not_true (is_rule (regime_at t d).rule rule && is_easter p rule y d)
+    (λ passes.
+    let same : e ≡ d = eqb-true e d (sym (is_that_day p rule y e d is)
+    ∙ (and_parts (is_rule (regime_at t d).rule rule) (is_easter p rule y d) passes).1) in
+    elim apart [ inl before ↦ omega arith | inr after ↦ omega arith ])))
+
+-- and on one on which it is not
+pub not_in_force : (p : Profile) (t : PlainTerritory) (rule : Rule) (y e : ℕ) →
+    easter_of p rule y ≡ Some e → is_rule (regime_at t e).rule rule ≡ false →
+    [] ≡ easters_in_force p t rule y
+unfolding easters_in_force line
+not_in_force p t rule y e is off =
+    sym (filter_none (λ d. is_rule (regime_at t d).rule rule && is_easter p rule y d) 1 p.high
+    (λ d from until. not_true (is_rule (regime_at t d).rule rule && is_easter p rule y d) (λ passes.
+    let parts = and_parts (is_rule (regime_at t d).rule rule) (is_easter p rule y d) passes in
+    let same : e ≡ d = eqb-true e d (sym (is_that_day p rule y e d is) ∙ parts.1) in
+    both_ways (is_rule (regime_at t d).rule rule)
+    (ap (λ n. is_rule (regime_at t n).rule rule) (sym same) ∙ off) parts.0)))
+
+-- a filter that passes one day passes no other
+passes_one : (f : ℕ → Bool) (n a d : ℕ) → a ∷ [] ≡ filter f (range_with_len 1 n) → 1 ≤ d →
+    d < 1 + n → f d ≡ true → a ≡ d
+passes_one f n a d only low high passes =
+    let found : list_any (λ e. e == d) (filter f (range_with_len 1 n)) ≡ true =
+    any_from (λ e. e == d) f 1 n d low high passes ((Decides-eqb d d).1 refl) in
+    let here : ((a == d) || false) ≡ true = ap (list_any (λ e. e == d)) only ∙ found in
+    eqb-true a d (sym (or-false (a == d)) ∙ here)
+
+passes_none : (f : ℕ → Bool) (n d : ℕ) → [] ≡ filter f (range_with_len 1 n) → 1 ≤ d → d < 1 + n →
+    f d ≡ true → ⊥
+passes_none f n d none low high passes =
+    let found : list_any (λ e. e == d) (filter f (range_with_len 1 n)) ≡ true =
+    any_from (λ e. e == d) f 1 n d low high passes ((Decides-eqb d d).1 refl) in
+    let nothing : false ≡ true = ap (list_any (λ e. e == d)) none ∙ found in
+    cc
+
+or_turned : (a b : Bool) → (a || b) ≡ (b || a)
+or_turned true true = refl
+or_turned true false = refl
+or_turned false true = refl
+or_turned false false = refl
+
+-- two days, in order
+in_order : (f g h : ℕ → Bool) (n a b : ℕ) → ((d : ℕ) → h d ≡ (f d || g d)) → a
+    ∷ [] ≡ filter f (range_with_len 1 n) → b ∷ [] ≡ filter g (range_with_len 1 n) → a < b → a ∷ b
+    ∷ [] ≡ filter h (range_with_len 1 n)
+in_order f g h n a b either first second less =
+    ap (λ l. l ++ b ∷ []) first
+    ∙ ap (λ l. filter f (range_with_len 1 n) ++ l) second
+    ∙ sym (filter_or f g h 1 n (λ d low high. either d)
+    (λ d e low_d high_d low_e high_e here there.
+    let one = passes_one f n a d first low_d high_d here in
+    let other = passes_one g n b e second low_e high_e there in
+    omega (arith, less, one, other)))
+
+-- they are two where no day passes both tests
+apart_days : (f g : ℕ → Bool) (n a b : ℕ) → ((d : ℕ) → f d ≡ true → g d ≡ true → ⊥) → a
+    ∷ [] ≡ filter f (range_with_len 1 n) → b ∷ [] ≡ filter g (range_with_len 1 n) → a ≡ b → ⊥
+apart_days f g n a b apart first second same =
+    let here = filter_is f 1 n a (sym first) in
+    let there = filter_is g 1 n b (sym second) in
+    apart a here.2 (ap g same ∙ there.2)
+
+merge_two : (f g h : ℕ → Bool) (n a b : ℕ) (before : Bool) → ((d : ℕ) → h d ≡ (f d || g d)) →
+    ((d : ℕ) → f d ≡ true → g d ≡ true → ⊥) → a ∷ [] ≡ filter f (range_with_len 1 n) → b
+    ∷ [] ≡ filter g (range_with_len 1 n) → nat_le a b ≡ before →
+    (if before then a ∷ b ∷ [] else b ∷ a ∷ []) ≡ filter h (range_with_len 1 n)
+merge_two f g h n a b true either apart first second is =
+    let le = leb-true a b is in
+    elim (cases_order a b) [
+      | inl same ↦ absurd (apart_days f g n a b apart first second same)
+      | inr (inl lt) ↦ in_order f g h n a b either first second lt
+      | inr (inr gt) ↦ absurd (omega (arith, le, gt))
+    ]
+merge_two f g h n a b false either apart first second is =
+    in_order g f h n b a (λ d. either d ∙ or_turned (f d) (g d)) second first (leb-false a b is)
+
+merged_is : (f g h : ℕ → Bool) (n : ℕ) (one other : Option ℕ) → ((d : ℕ) → h d ≡ (f d || g d)) →
+    ((d : ℕ) → f d ≡ true → g d ≡ true → ⊥) → option_to_list one ≡ filter f (range_with_len 1 n) →
+    option_to_list other ≡ filter g (range_with_len 1 n) →
+    days_in_order one other ≡ filter h (range_with_len 1 n)
+merged_is f g h n None None either apart first second =
+    ap (λ l. l ++ []) first
+    ∙ ap (λ l. filter f (range_with_len 1 n) ++ l) second
+    ∙ sym (filter_or f g h 1 n (λ d low high. either d)
+    (λ d e low_d high_d low_e high_e here there.
+    absurd (passes_none g n e second low_e high_e there)))
+merged_is f g h n None (Some b) either apart first second =
+    ap (λ l. l ++ b ∷ []) first
+    ∙ ap (λ l. filter f (range_with_len 1 n) ++ l) second
+    ∙ sym (filter_or f g h 1 n (λ d low high. either d)
+    (λ d e low_d high_d low_e high_e here there.
+    absurd (passes_none f n d first low_d high_d here)))
+merged_is f g h n (Some a) None either apart first second =
+    ap (λ l. l ++ []) first
+    ∙ ap (λ l. filter f (range_with_len 1 n) ++ l) second
+    ∙ sym (filter_or f g h 1 n (λ d low high. either d)
+    (λ d e low_d high_d low_e high_e here there.
+    absurd (passes_none g n e second low_e high_e there)))
+merged_is f g h n (Some a) (Some b) either apart first second =
+    merge_two f g h n a b (nat_le a b) either apart first second refl
+
+-- a rule in force is the one or the other
+by_rule : (p : Profile) (rule : Rule) (y d : ℕ) →
+    is_easter p rule y d ≡ ((is_rule rule Julian && is_easter p Julian y d)
+    || (is_rule rule Gregorian && is_easter p Gregorian y d))
+by_rule p Julian y d = sym (or-false (is_easter p Julian y d))
+by_rule p Gregorian y d = refl
+
+not_both : (rule : Rule) → is_rule rule Julian ≡ true → is_rule rule Gregorian ≡ true → ⊥
+not_both Julian first second = let clash : false ≡ true = second in cc
+not_both Gregorian first second = let clash : false ≡ true = first in cc
+
+-- so where none is listed, the Easters are those two
+pub easters_are : (p : Profile) (t : PlainTerritory) (y : ℕ) (one other : Option ℕ) →
+    exception_of t y ≡ None → option_to_list one ≡ easters_in_force p t Julian y →
+    option_to_list other ≡ easters_in_force p t Gregorian y → days_in_order one other ≡ easters p t y
+unfolding easters_in_force easters_by_rule line
+easters_are p t y one other none first second =
+    merged_is (λ d. is_rule (regime_at t d).rule Julian && is_easter p Julian y d) (λ d.
+    is_rule (regime_at t d).rule Gregorian && is_easter p Gregorian y d) (λ d.
+    is_easter p (regime_at t d).rule y d) p.high one other
+    (λ d. by_rule p (regime_at t d).rule y d)
+    (λ d here there. not_both (regime_at t d).rule (and_parts (is_rule (regime_at t d).rule Julian)
+    (is_easter p Julian y d) here).0 (and_parts (is_rule (regime_at t d).rule Gregorian)
+    (is_easter p Gregorian y d) there).0)
+    first second
     ∙ sym (ap (λ o. unless_listed o (easters_by_rule p t y)) none)

@@ -1,3 +1,4 @@
+pub mod OrderFacts
 pub mod LabelFacts
 pub mod YearDigits
 pub mod PeriodFacts
@@ -5,7 +6,8 @@ pub mod RegimeFacts
 pub mod CoverFacts
 pub mod ChangeFacts
 pub mod ReadingFacts
-pub mod EasterFacts
 pub mod MemberFacts
+pub mod EasterFacts
 pub mod SkippedFacts
 pub mod ExplainedFacts
+pub mod ExceptionFacts

@@ -1,9 +1,12 @@
--- Which changes of regime a territory takes, and what they do to its starts: this project's profile.
-use Rattle.std.specs.Prelude.{ℕ, Bool, not, ◌==◌, nat_lt, if◌then◌else◌, List, [], ◌∷◌, map, filter, Option, Some, None}
+-- Which changes of regime a territory takes, and what they do to its starts: this project's
+-- profile.
+use Rattle.std.specs.Prelude.{ℕ, Bool, not, ◌==◌, nat_lt, if◌then◌else◌, List, [], ◌∷◌, map, filter}
+use Rattle.std.specs.Prelude.{Option, Some, None}
 use Rattle.std.specs.List.{list_any}
 use Rattle.osn_lands.specs.declared.regime.Regime.{Regime}
 use Rattle.osn_lands.specs.declared.fault.LandFault.{LandFault}
-use Rattle.osn_lands.specs.declared.fault.LandFault.TheVariants.{ChangeExists, NoSuchChange, OpeningPeriod}
+use Rattle.osn_lands.specs.declared.fault.LandFault.TheVariants.{ChangeExists, NoSuchChange}
+use Rattle.osn_lands.specs.declared.fault.LandFault.TheVariants.{OpeningPeriod}
 use Rattle.osn_lands.specs.Territory.{PlainTerritory}
 
 -- a period starts on the day
@@ -12,7 +15,8 @@ starts_on t d = list_any (λ s. s.0 == d) t.starts
 
 -- why a change is not added on a day, if it is not
 abbrev pub add_fault : PlainTerritory → ℕ → Option LandFault
-add_fault t d = if d == 1 then Some OpeningPeriod else (if starts_on t d then Some ChangeExists else None)
+add_fault t d =
+    if d == 1 then Some OpeningPeriod else (if starts_on t d then Some ChangeExists else None)
 
 -- why the regime that starts on a day is not altered
 abbrev pub alter_fault : PlainTerritory → ℕ → Option LandFault
@@ -20,12 +24,14 @@ alter_fault t d = if starts_on t d then None else Some NoSuchChange
 
 -- why the change on a day is not dropped
 abbrev pub drop_fault : PlainTerritory → ℕ → Option LandFault
-drop_fault t d = if d == 1 then Some OpeningPeriod else (if starts_on t d then None else Some NoSuchChange)
+drop_fault t d =
+    if d == 1 then Some OpeningPeriod else (if starts_on t d then None else Some NoSuchChange)
 
 -- ascending starts with one more, in its place
 abbrev pub with_start : ℕ → Regime → List (ℕ × Regime) → List (ℕ × Regime)
 with_start d regime [] = (d, regime) ∷ []
-with_start d regime (s ∷ rest) = if nat_lt d s.0 then (d, regime) ∷ s ∷ rest else s ∷ with_start d regime rest
+with_start d regime (s ∷ rest) =
+    if nat_lt d s.0 then (d, regime) ∷ s ∷ rest else s ∷ with_start d regime rest
 
 -- a further regime from a day on
 abbrev pub with_change : PlainTerritory → ℕ → Regime → PlainTerritory
@@ -33,7 +39,8 @@ with_change t d regime = record t { starts = with_start d regime t.starts }
 
 -- another regime from the same day on
 abbrev pub with_altered : PlainTerritory → ℕ → Regime → PlainTerritory
-with_altered t d regime = record t { starts = map (λ s. if s.0 == d then (d, regime) else s) t.starts }
+with_altered t d regime =
+    record t { starts = map (λ s. if s.0 == d then (d, regime) else s) t.starts }
 
 -- no change on that day, so that the regime before it goes on
 abbrev pub without_change : PlainTerritory → ℕ → PlainTerritory

@@ -31,18 +31,23 @@ from_difference (x ∷ xs) (y ∷ ys) = if x == y then from_difference xs ys els
 
 -- the digits of the later of two years, without those that the earlier one has already shown
 abbrev pub later_digits : List ℕ → List ℕ → List ℕ
-later_digits earlier later = if length earlier == length later then from_difference earlier later else later
+later_digits earlier later =
+    if length earlier == length later then from_difference earlier later else later
 
 -- a style's year and the year counted from 1 January, where that is later: 1731/2, 1699/700, 0/1
 abbrev pub year_text : ℤ → ℤ → List ℕ
 year_text style_year year =
-    if int_lt style_year year then signed_decimal style_year ++ (codes "/" ++ later_digits (signed_decimal style_year) (signed_decimal year))
+    if int_lt style_year year then
+    signed_decimal style_year
+    ++ (codes "/" ++ later_digits (signed_decimal style_year) (signed_decimal year))
     else signed_decimal style_year
 
 -- the text of a date under a style, without leading zeros
 abbrev pub date_text : Style → Date → List ℕ
 date_text style date =
-    decimal date.day ++ (codes " " ++ (month_name date.month ++ (codes " " ++ year_text (style_year style date) date.year)))
+    decimal date.day
+    ++ (codes " "
+    ++ (month_name date.month ++ (codes " " ++ year_text (style_year style date) date.year)))
 
 -- the text of a day under a regime
 abbrev pub dual_text : Regime → ℕ → List ℕ

@@ -15,7 +15,8 @@ is_on (Some easter) d = easter == d
 abbrev pub is_easter : Profile → Rule → ℕ → ℕ → Bool
 is_easter p rule y d = is_on (easter_of p rule y) d
 
--- the days that are Easter of the year by the rule in force on that very day, in order: none, one or two
+-- the days that are Easter of the year by the rule in force on that very day, in order: none, one
+-- or two
 unfoldable pub easters_by_rule : Profile → PlainTerritory → ℕ → List ℕ
 easters_by_rule p t y = filter (λ d. is_easter p (regime_at t d).rule y d) (line p)
 

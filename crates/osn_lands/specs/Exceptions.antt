@@ -1,7 +1,9 @@
--- The years of a territory whose Easter is a listed day in place of the rule's: this project's profile.
-use Rattle.std.specs.Prelude.{ℕ, ◌==◌, if◌then◌else◌, is_some, Option, Some, None}
+-- The years of a territory whose Easter is a listed day in place of the rule's: this project's
+-- profile.
+use Rattle.std.specs.Prelude.{ℕ, ◌≡◌, ◌==◌, if◌then◌else◌, is_some, Option, Some, None}
 use Rattle.std.specs.Ordering.{nat_cmp}
-use Rattle.std.specs.Map.{lookup, remove_entry}
+use Rattle.std.specs.List.Sorted.{IsStrictlyIncreasing}
+use Rattle.std.specs.Map.{lookup, remove_entry, keys_of}
 use Rattle.std.specs.BTreeMap.{insert_entry}
 use Rattle.osn_lands.specs.declared.fault.LandFault.{LandFault}
 use Rattle.osn_lands.specs.declared.fault.LandFault.TheVariants.{ExceptionExists, NoSuchException}
@@ -26,3 +28,12 @@ with_exception t y d = record t { exceptions = insert_entry nat_cmp t.exceptions
 -- no day listed for that year
 abbrev pub without_exception : PlainTerritory → ℕ → PlainTerritory
 without_exception t y = record t { exceptions = remove_entry (λ year. y == year) t.exceptions }
+
+-- the years with an exception ascend, so that each is listed once
+abbrev pub HasAscendingYears : PlainTerritory → Type 0
+HasAscendingYears t = IsStrictlyIncreasing (keys_of t.exceptions)
+
+-- every year but this one has the same exception after as before
+abbrev pub KeepsOtherYears : PlainTerritory → PlainTerritory → ℕ → Type 0
+KeepsOtherYears before after y = (other : ℕ) → (other ≡ y → ⊥) →
+    exception_of after other ≡ exception_of before other

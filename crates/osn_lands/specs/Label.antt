@@ -12,7 +12,8 @@ use Rattle.osn_lands.specs.Style.{style_year}
 
 -- the label of a date under a style
 abbrev pub label_of_date : Style → Date → Label
-label_of_date style date = record { year = style_year style date; month = date.month; day = date.day }
+label_of_date style date =
+    record { year = style_year style date; month = date.month; day = date.day }
 
 -- the label of a day: of its date in the regime's calendar, under the regime's style
 abbrev pub local : Regime → ℕ → Label

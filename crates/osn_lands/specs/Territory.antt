@@ -1,5 +1,7 @@
--- Territories as lists of start days with their regimes, and what is read in them: this project's profile.
-use Rattle.std.specs.Prelude.{◌≡◌, ℕ, ◌+◌, ◌-◌, ◌≤◌, Bool, true, false, not, ◌&&◌, ◌||◌, nat_le, nat_lt, if◌then◌else◌, List, [], ◌∷◌, filter, fold}
+-- Territories as lists of start days with their regimes, and what is read in them: this project's
+-- profile.
+use Rattle.std.specs.Prelude.{◌≡◌, ℕ, ◌+◌, ◌-◌, ◌*◌, ◌^◌, ◌≤◌, Bool, true, false, not, ◌&&◌, ◌||◌}
+use Rattle.std.specs.Prelude.{nat_le, nat_lt, if◌then◌else◌, List, [], ◌∷◌, filter, fold}
 use Rattle.std.specs.List.{list_any}
 use Rattle.osn_computus.specs.declared.rule.Rule.TheVariants as Easter
 use Rattle.osn_days.specs.declared.calendar.Calendar.TheVariants as Calendar
@@ -11,8 +13,8 @@ use Rattle.osn_lands.specs.declared.label.Label.{Label}
 use Rattle.osn_lands.specs.declared.period.Period.{Period}
 use Rattle.osn_lands.specs.Label.{local, same_label, days_with_label}
 
--- the start days in ascending order, each with the regime that comes into force, the first on day 1; and the years with
--- a listed exception in ascending order, each with the day that is its Easter
+-- the start days in ascending order, each with the regime that comes into force, the first on day
+-- 1; and the years with a listed exception in ascending order, each with the day that is its Easter
 pub record PlainTerritory : Type 0 where
   pub starts : List (ℕ × Regime)
   pub exceptions : List (ℕ × ℕ)
@@ -36,9 +38,11 @@ last_before high (next ∷ rest) = next.0 - 1
 
 abbrev pub periods_from : ℕ → List (ℕ × Regime) → List Period
 periods_from high [] = []
-periods_from high (s ∷ rest) = record { first = s.0; last = last_before high rest; regime = s.1 } ∷ periods_from high rest
+periods_from high (s ∷ rest) =
+    record { first = s.0; last = last_before high rest; regime = s.1 } ∷ periods_from high rest
 
--- the periods, in order: each from its start to the day before the next start, or to the end of the line
+-- the periods, in order: each from its start to the day before the next start, or to the end of the
+-- line
 abbrev pub periods_of : Profile → PlainTerritory → List Period
 periods_of p t = periods_from p.high t.starts
 
@@ -51,26 +55,31 @@ Covers first last (p ∷ ps) = (p.first ≡ first) × (p.first ≤ p.last) × Co
 abbrev pub CoversLine : Profile → List Period → Type 0
 CoversLine p ps = Covers 1 p.high ps
 
+-- the count is at most the number of binary digits of n, which are k from 2 ^ (k - 1) to 2 ^ k - 1
+abbrev pub IsWithinBinaryDigits : ℕ → ℕ → Type 0
+IsWithinBinaryDigits count n = 2 ^ count ≤ 2 * n
+
 -- the days that the territory dates with the label, in order
 unfoldable pub reading : Profile → PlainTerritory → Label → List ℕ
 reading p t label = filter (λ d. same_label (local (regime_at t d) d) label) (line p)
 
-abbrev pub is_nowhere : List ℕ → Bool
-is_nowhere [] = true
-is_nowhere (d ∷ ds) = false
+abbrev pub is_empty : List ℕ → Bool
+is_empty [] = true
+is_empty (d ∷ ds) = false
 
--- whether the label is skipped at the change from an old period to a new one, where the two regimes have it on these
--- days and it is read on those
+-- whether the label is skipped at the change from an old period to a new one, where the two regimes
+-- have it on these days and it is read on those
 abbrev pub is_skipped_between : Period → Period → List ℕ → List ℕ → List ℕ → Bool
 is_skipped_between old new old_days new_days read_days =
-    (list_any (λ d. nat_le new.first d) old_days || is_nowhere old_days)
-    && ((list_any (λ d. nat_lt d new.first) new_days || is_nowhere new_days)
-    && (not (is_nowhere old_days && is_nowhere new_days)
+    (list_any (λ d. nat_le new.first d) old_days || is_empty old_days)
+    && ((list_any (λ d. nat_lt d new.first) new_days || is_empty new_days)
+    && (not (is_empty old_days && is_empty new_days)
     && not (list_any (λ d. nat_le old.first d && nat_le d new.last) read_days)))
 
 abbrev pub is_skipped_at : Profile → PlainTerritory → Label → Period → Period → Bool
 is_skipped_at p t label old new =
-    is_skipped_between old new (days_with_label p old.regime label) (days_with_label p new.regime label) (reading p t label)
+    is_skipped_between old new (days_with_label p old.regime label)
+    (days_with_label p new.regime label) (reading p t label)
 
 -- the start days, of the periods that follow an old one, at which the label is skipped
 abbrev pub skipped_after : Profile → PlainTerritory → Label → Period → List Period → List ℕ
@@ -89,10 +98,10 @@ skipped p t label = skipped_among p t label (periods_of p t)
 
 -- the regime of some period has the label on some day of the line
 abbrev pub is_dated : Profile → PlainTerritory → Label → Bool
-is_dated p t label = list_any (λ s. not (is_nowhere (days_with_label p s.1 label))) t.starts
+is_dated p t label = list_any (λ s. not (is_empty (days_with_label p s.1 label))) t.starts
 
--- a date that is missing is explained: one that is read on no day, and that some regime of the territory has, is
--- skipped at a change
+-- a date that is missing is explained: one that is read on no day, and that some regime of the
+-- territory has, is skipped at a change
 abbrev pub IsExplained : Profile → PlainTerritory → Label → List ℕ → Type 0
 IsExplained p t label skipped_at =
-    is_nowhere (reading p t label) ≡ true → is_dated p t label ≡ true → is_nowhere skipped_at ≡ false
+    is_empty (reading p t label) ≡ true → is_dated p t label ≡ true → is_empty skipped_at ≡ false

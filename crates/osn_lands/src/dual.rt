@@ -3,8 +3,8 @@ ghost use Rattle.std.specs.Fmt.{decimal};
 ghost use Rattle.osn_lands.specs.Dual as dual;
 
 use crate::regime::Regime;
-use crate::style::{line_date, year_of};
-use osn_days::Day;
+use crate::style::year_of;
+use osn_days::{Day, date_of};
 use std::alloc::{AllocError, Global};
 
 /// The English name of a month from 1 to 12.
@@ -27,8 +27,8 @@ fn month_name(month: u8) -> &'static str
     }
 }
 
-/// The later of two years from its first digit that differs from the earlier one's, or in full where their lengths
-/// differ: 2 for 1731 and 1732, 700 for 1699 and 1700, 10 for 9 and 10.
+/// The later of two years from its first digit that differs from the earlier one's, or in full
+/// where their lengths differ: 2 for 1731 and 1732, 700 for 1699 and 1700, 10 for 9 and 10.
 fn later_part(earlier: u32, later: u32) -> u32
     requires { earlier < later }
     ensures digits { decimal result ≡ dual.later_digits (decimal earlier) (decimal later) }
@@ -43,12 +43,16 @@ fn later_part(earlier: u32, later: u32) -> u32
     }
 }
 
-/// The day as the regime dates it, in English, with both years where the style's is the lesser: `3 January 1700`,
-/// `11 February 1731/2`.
+/// The day as the regime dates it, in English, with both years where the style's is the lesser:
+/// `3 January 1700`, `11 February 1731/2`.
+///
+/// # Errors
+///
+/// `AllocError` where there is no memory for the text.
 pub fn dual_text(alloc: Global, regime: Regime, day: Day) -> Result<String, AllocError>
     ensures { IfOk result (λ s. string_bytes s ≡ dual.dual_text regime day) }
 {
-    let date = line_date(regime.calendar, day);
+    let date = date_of(regime.calendar, day);
     let name = month_name(date.month);
     let year = year_of(regime.style, date);
     if year < date.year {

@@ -1,24 +1,29 @@
-//! The Easters that the periods hold.
+//! The Easters of both rules, in order.
 ghost use Rattle.std.specs.Prelude.{◌≡◌, ◌++◌, OnOk};
-ghost use Rattle.osn_days.specs.Profile.{present};
-ghost use Rattle.osn_lands.specs.Inside.{easters_in};
+ghost use Rattle.osn_lands.specs.Inside.{days_in_order};
 
-use crate::period::Period;
-use osn_computus::easter;
-use osn_days::{Day, Year};
+use osn_days::Day;
 use std::alloc::AllocError;
 
-/// Puts the Easter of a year by the rule of a period behind the days found so far, where the period holds it.
-pub(crate) fn push_easter(
-    period: &Period,
-    year: Year,
+/// Puts one day and another, where they are, in order behind the days found so far.
+pub(crate) fn push_in_order(
+    one: Option<Day>,
+    other: Option<Day>,
     days: &mut Vec<Day>,
 ) -> Result<(), AllocError>
-    ensures { OnOk result (days.new.items ≡ days.old.items ++ easters_in present year period.now) }
+    ensures { OnOk result (days.new.items ≡ days.old.items ++ days_in_order one other) }
 {
-    let day = easter(period.regime.rule, year);
-    if period.first <= day && day <= period.last {
-        days.push(day)?;
+    match (one, other) {
+        (None, None) => Ok(()),
+        (Some(day), None) | (None, Some(day)) => Ok(days.push(day)?),
+        (Some(one), Some(other)) => {
+            if one <= other {
+                days.push(one)?;
+                Ok(days.push(other)?)
+            } else {
+                days.push(other)?;
+                Ok(days.push(one)?)
+            }
+        }
     }
-    Ok(())
 }

@@ -1,3 +1,8 @@
+ghost use Rattle.std.specs.Prelude.{◌≡◌};
+ghost use Rattle.osn_lands.specs.declared.fault.LandFault.TheVariants.{NoMemory};
+
+use std::alloc::AllocError;
+
 /// Why a territory refuses a call, and is as before.
 #[derive(Clone, Copy, Debug, PartialEq, Eq, Hash)]
 pub enum LandFault {
@@ -13,4 +18,12 @@ pub enum LandFault {
     NoSuchException,
     /// A growth of memory was refused; the call may be tried again.
     NoMemory,
+}
+
+impl From<AllocError> for LandFault {
+    ghost from_gives = { λ _ fault. fault ≡ NoMemory };
+
+    fn from(_refused: AllocError) -> LandFault {
+        LandFault::NoMemory
+    }
 }

@@ -1,58 +1,44 @@
 //! What a period reads, and what is skipped between two.
-ghost use Rattle.std.specs.Prelude.{◌≡◌, ◌++◌, [], OnOk};
-ghost use Rattle.osn_days.specs.Profile.{present};
-ghost use Rattle.osn_days.specs.Line.{IsDay};
-ghost use Rattle.osn_lands.specs.Label.{days_with_label};
-ghost use Rattle.osn_lands.specs.Territory as plain;
-ghost use Rattle.osn_lands.specs.Inside.{days_read};
+ghost use Rattle.std.specs.Prelude.{◌≡◌, ◌++◌, ◌≤◌, IfOk, OnOk};
+ghost use Rattle.osn_lands.specs.Inside.{IsWithinLine, days_found, days_read, is_named};
 
-use crate::label::{Label, day_of_label, label_of};
+use crate::label::Label;
+use crate::label_days::{LabelDays, days_of_label};
 use crate::period::Period;
 use osn_days::Day;
 use std::alloc::AllocError;
 
-/// The day of a number of the line.
-fn day_at(number: u32) -> Day
-    requires { IsDay present number }
-    ensures { result ≡ number }
-{
-    match Day::new(number as i64) {
-        Some(day) => day,
-        None => unreachable!(),
-    }
-}
-
-/// Puts the days of a period that have the label behind those found so far.
+/// Puts the days of a period that have the label behind those found so far, and tells how many days
+/// were tested.
 pub(crate) fn read_period(
     period: &Period,
     label: Label,
     days: &mut Vec<Day>,
-) -> Result<(), AllocError>
-    ensures { OnOk result (days.new.items ≡ days.old.items ++ days_read label period.now) }
+) -> Result<u32, AllocError>
+    requires { IsWithinLine period.now }
+    ensures value { OnOk result (days.new.items ≡ days.old.items ++ days_read label period.now) }
+    ensures tested { IfOk result (λ n. n ≤ 3) }
 {
-    for number in period.first.number()..period.last.number() + 1 {
-        let day = day_at(number);
-        if label_of(period.regime, day) == label {
-            days.push(day)?;
-        }
-    }
-    Ok(())
+    let found = days_of_label(period.regime, label);
+    found.push_in(period, days)?;
+    Ok(found.tested)
 }
 
-/// Whether a label is skipped at the change from one period to the next, where it has at most one day under each
-/// regime: the old regime has it too late or never, the new one too early or never, and one of them has it.
-pub(crate) fn is_skipped_between(old: &Period, new: &Period, label: Label) -> bool
-    ensures { result ≡ plain.is_skipped_between old.now new.now (days_with_label present old.now.regime label)
-        (days_with_label present new.now.regime label) [] }
+/// Whether a label is skipped at the change from one period to the next, of whose regimes the days
+/// with the label are given: the old regime has it too late or never, the new one too early or
+/// never, one of them has it, and neither in its own period.
+pub(crate) fn is_skipped_between(
+    old: &Period,
+    new: &Period,
+    old_days: &LabelDays,
+    new_days: &LabelDays,
+) -> bool
+    ensures { result
+        ≡ is_named old.now new.now (days_found old_days.now) (days_found new_days.now) }
 {
     let change = new.first;
-    match (
-        day_of_label(old.regime, label),
-        day_of_label(new.regime, label),
-    ) {
-        (None, None) => false,
-        (Some(old_day), None) => old_day >= change,
-        (None, Some(new_day)) => new_day < change,
-        (Some(old_day), Some(new_day)) => old_day >= change && new_day < change,
-    }
+    (old_days.has_from(change) || old_days.is_empty())
+        && (new_days.has_before(change) || new_days.is_empty())
+        && !(old_days.is_empty() && new_days.is_empty())
+        && !(old_days.has_in(old) || new_days.has_in(new))
 }

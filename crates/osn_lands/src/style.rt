@@ -1,10 +1,9 @@
 ghost use Rattle.std.specs.Prelude.{◌≡◌};
 ghost use Rattle.osn_days.specs.Profile.{present};
 ghost use Rattle.osn_days.specs.Line.{IsYearNumber};
-ghost use Rattle.osn_days.specs.Chain as chain;
 ghost use Rattle.osn_lands.specs.Style as plain;
 
-use osn_days::{Calendar, Date, Day, date_of};
+use osn_days::Date;
 
 /// Where a year begins. The names are this project's, and claim no place's practice.
 #[derive(Clone, Copy, Debug, PartialEq, Eq, Hash)]
@@ -19,32 +18,22 @@ pub enum Style {
     September,
 }
 
-/// The date of a day, in a year of the line.
-pub(crate) fn line_date(calendar: Calendar, day: Day) -> Date
-    ensures value { result ≡ chain.date_of calendar day }
-    ensures year { IsYearNumber present result.year }
-{
-    // read for its clause, that the day is on the line
-    let _number = day.number();
-    date_of(calendar, day)
-}
-
 /// Whether a day of a year is before the 25 March that begins the year of the Annunciation.
-pub(crate) fn is_before_25_march(month: u8, day: u8) -> bool
+fn is_before_25_march(month: u8, day: u8) -> bool
     ensures { result ≡ plain.is_before_25_march month day }
 {
     month < 3 || month == 3 && day < 25
 }
 
 /// Whether a day of a year is in the year of the Nativity that its 25 December begins.
-pub(crate) fn is_from_25_december(month: u8, day: u8) -> bool
+fn is_from_25_december(month: u8, day: u8) -> bool
     ensures { result ≡ plain.is_from_25_december month day }
 {
     month == 12 && day >= 25
 }
 
 /// Whether a month is in the year of the style that its 1 September begins.
-pub(crate) fn is_from_september(month: u8) -> bool
+fn is_from_september(month: u8) -> bool
     ensures { result ≡ plain.is_from_september month }
 {
     month >= 9

@@ -1,24 +1,31 @@
-ghost use Rattle.std.specs.Prelude.{◌≡◌, ◌⊎◌, ◌∷◌, [], Some, None, IfOk, IfErr, OnOk, OnErr, MatchResult, length};
+ghost use Rattle.std.specs.Prelude.{◌≡◌, ◌⊎◌, ◌≤◌, ◌<◌, ◌*◌, Some, None, IfOk, IfErr, OnOk, OnErr};
+ghost use Rattle.std.specs.Prelude.{MatchResult, length};
+ghost use Rattle.std.specs.List.{HoldsAt};
+ghost use Rattle.std.specs.Option.{option_to_list};
 ghost use Rattle.osn_days.specs.Profile.{present};
 ghost use Rattle.osn_lands.specs.Territory as plain;
 ghost use Rattle.osn_lands.specs.Changes as changes;
-ghost use Rattle.osn_lands.specs.Easters as easter;
+ghost use Rattle.osn_lands.specs.Easters as feast;
+ghost use Rattle.osn_lands.specs.Inside.{easters_in_force};
 ghost use Rattle.osn_lands.specs.Exceptions as exceptions;
 ghost use Rattle.osn_lands.specs.declared.fault.LandFault.TheVariants.{NoMemory};
 
-use crate::cover::{join, place_of, split};
-use crate::easters::push_easter;
+use crate::cover::{alter, find_period, is_start, join, split};
+use crate::easters::push_in_order;
 use crate::fault::LandFault;
 use crate::label::Label;
+use crate::label_days::days_of_label;
 use crate::period::Period;
 use crate::reading::{is_skipped_between, read_period};
 use crate::regime::Regime;
+use osn_computus::{Rule, easter};
 use osn_days::{Day, Year};
 use std::alloc::{AllocError, Global};
 use std::collections::BTreeMap;
 use std::marker::Model;
 
-/// A territory: the regimes that were in force in it, each from its start day on, and the years whose Easter is listed.
+/// A territory: the regimes that were in force in it, each from its start day on, and the years
+/// whose Easter is listed.
 #[derive(Drop)]
 pub struct Territory {
     alloc: Global,
@@ -40,6 +47,10 @@ impl Model for Territory {
 
 impl Territory {
     /// A territory with one regime on every day of the line.
+    ///
+    /// # Errors
+    ///
+    /// `AllocError` where there is no memory for the first period.
     pub fn new(alloc: Global, regime: Regime) -> Result<Territory, AllocError>
         ensures { IfOk result (λ t. t ≡ plain.opened regime) }
     {
@@ -60,7 +71,8 @@ impl Territory {
     ///
     /// # Errors
     ///
-    /// `OpeningPeriod` for day 1, then `ChangeExists` where a period starts on the day, then `NoMemory`.
+    /// `OpeningPeriod` for day 1, then `ChangeExists` where a period starts on the day, then
+    /// `NoMemory`.
     pub fn add_change(&mut self, day: Day, regime: Regime) -> Result<(), LandFault>
         ensures lawful { OnOk result (changes.add_fault self.old day ≡ None) }
         ensures ok { OnOk result (self.new ≡ changes.with_change self.old day regime) }
@@ -71,11 +83,24 @@ impl Territory {
         if day == Day::FIRST {
             return Err(LandFault::OpeningPeriod);
         }
-        let place = place_of(&self.periods, day);
-        if self.periods[place].first == day {
+        if self.starts_on(day) {
             return Err(LandFault::ChangeExists);
         }
-        split(&mut self.periods, place, day, regime)
+        self.insert_change(day, regime)?;
+        Ok(())
+    }
+
+    /// Changes the regime from a day on which no period starts.
+    ///
+    /// # Errors
+    ///
+    /// `AllocError` where there is no memory for one period more; the call may be tried again.
+    pub fn insert_change(&mut self, day: Day, regime: Regime) -> Result<(), AllocError>
+        requires { changes.add_fault self.old day ≡ None }
+        ensures ok { OnOk result (self.new ≡ changes.with_change self.old day regime) }
+        ensures unchanged { OnErr result (self.new ≡ self.old) }
+    {
+        split(&mut self.periods, day, regime)
     }
 
     /// Alters the regime that starts on a day, on day 1 that of the opening period.
@@ -90,13 +115,19 @@ impl Territory {
         ensures ok { OnOk result (self.new ≡ changes.with_altered self.old day regime) }
         ensures unchanged { OnErr result (self.new ≡ self.old) }
     {
-        let place = place_of(&self.periods, day);
-        let period = &mut self.periods[place];
-        if period.first != day {
+        if !self.starts_on(day) {
             return Err(LandFault::NoSuchChange);
         }
-        period.regime = regime;
+        self.set_regime(day, regime);
         Ok(())
+    }
+
+    /// Alters the regime of the period that starts on a day.
+    pub fn set_regime(&mut self, day: Day, regime: Regime)
+        requires { changes.alter_fault self.old day ≡ None }
+        ensures { self.new ≡ changes.with_altered self.old day regime }
+    {
+        alter(&mut self.periods, day, regime);
     }
 
     /// Drops the change on a day: the period before it goes on to where the dropped one ended.
@@ -111,15 +142,22 @@ impl Territory {
         ensures ok { OnOk result (self.new ≡ changes.without_change self.old day) }
         ensures unchanged { OnErr result (self.new ≡ self.old) }
     {
-        let place = place_of(&self.periods, day);
-        if self.periods[place].first != day {
-            return Err(LandFault::NoSuchChange);
-        }
-        if place == 0 {
+        if day == Day::FIRST {
             return Err(LandFault::OpeningPeriod);
         }
-        join(&mut self.periods, place);
+        if !self.starts_on(day) {
+            return Err(LandFault::NoSuchChange);
+        }
+        self.remove_change(day);
         Ok(())
+    }
+
+    /// Drops the change on a day on which a period starts that is not the opening one.
+    pub fn remove_change(&mut self, day: Day)
+        requires { changes.drop_fault self.old day ≡ None }
+        ensures { self.new ≡ changes.without_change self.old day }
+    {
+        join(&mut self.periods, day);
     }
 
     /// Lists a day as the Easter of a year, in place of the rule's.
@@ -130,6 +168,8 @@ impl Territory {
     pub fn add_exception(&mut self, year: Year, day: Day) -> Result<(), LandFault>
         ensures lawful { OnOk result (exceptions.add_exception_fault self.old year ≡ None) }
         ensures ok { OnOk result (self.new ≡ exceptions.with_exception self.old year day) }
+        ensures listed { OnOk result (exceptions.exception_of self.new year ≡ Some day) }
+        ensures others { OnOk result (exceptions.KeepsOtherYears self.old self.new year) }
         ensures refused { IfErr result (λ f. (exceptions.add_exception_fault self.old year ≡ Some f)
             ⊎ ((f ≡ NoMemory) × (exceptions.add_exception_fault self.old year ≡ None))) }
         ensures unchanged { OnErr result (self.new ≡ self.old) }
@@ -137,9 +177,23 @@ impl Territory {
         if self.exception(year).is_some() {
             return Err(LandFault::ExceptionExists);
         }
-        if let Err(_) = self.exceptions.insert(year, day) {
-            return Err(LandFault::NoMemory);
-        }
+        self.insert_exception(year, day)?;
+        Ok(())
+    }
+
+    /// Lists a day as the Easter of a year that has none listed.
+    ///
+    /// # Errors
+    ///
+    /// `AllocError` where there is no memory for one entry more; the call may be tried again.
+    pub fn insert_exception(&mut self, year: Year, day: Day) -> Result<(), AllocError>
+        requires { exceptions.add_exception_fault self.old year ≡ None }
+        ensures ok { OnOk result (self.new ≡ exceptions.with_exception self.old year day) }
+        ensures listed { OnOk result (exceptions.exception_of self.new year ≡ Some day) }
+        ensures others { OnOk result (exceptions.KeepsOtherYears self.old self.new year) }
+        ensures unchanged { OnErr result (self.new ≡ self.old) }
+    {
+        self.exceptions.insert(year, day)?;
         Ok(())
     }
 
@@ -153,27 +207,52 @@ impl Territory {
             (λ _. exceptions.drop_exception_fault self.old year ≡ None)
             (λ f. exceptions.drop_exception_fault self.old year ≡ Some f) }
         ensures ok { OnOk result (self.new ≡ exceptions.without_exception self.old year) }
+        ensures gone { OnOk result (exceptions.exception_of self.new year ≡ None) }
+        ensures others { OnOk result (exceptions.KeepsOtherYears self.old self.new year) }
         ensures unchanged { OnErr result (self.new ≡ self.old) }
     {
         if self.exception(year).is_none() {
             return Err(LandFault::NoSuchException);
         }
-        self.exceptions.remove(&year);
+        self.remove_exception(year);
         Ok(())
+    }
+
+    /// Drops the exception that is listed for a year.
+    pub fn remove_exception(&mut self, year: Year)
+        requires { exceptions.drop_exception_fault self.old year ≡ None }
+        ensures value { self.new ≡ exceptions.without_exception self.old year }
+        ensures gone { exceptions.exception_of self.new year ≡ None }
+        ensures others { exceptions.KeepsOtherYears self.old self.new year }
+    {
+        self.exceptions.remove(&year);
     }
 
     /// Whether a period starts on a day.
     pub fn starts_on(&self, day: Day) -> bool
         ensures { result ≡ changes.starts_on self.now day }
     {
-        self.periods.iter().any(|period| period.first == day)
+        is_start(&self.periods, day)
+    }
+
+    /// The place in `periods()`, from 0, of the period that holds a day, and how many start days
+    /// were tested to find it: at most as many as the number of periods has binary digits.
+    pub fn period_at(&self, day: Day) -> (usize, u32)
+        ensures within { result.0 < length (plain.periods_of present self.now) }
+        ensures holds { HoldsAt (λ p. (p.first ≤ day) × (day ≤ p.last))
+            (plain.periods_of present self.now) result.0 }
+        ensures tested { plain.IsWithinBinaryDigits result.1
+            (length (plain.periods_of present self.now)) }
+    {
+        find_period(&self.periods, day)
     }
 
     /// The regime in force on a day.
     pub fn regime_at(&self, day: Day) -> Regime
         ensures { result ≡ plain.regime_at self.now day }
     {
-        self.periods[place_of(&self.periods, day)].regime
+        let (place, _) = self.period_at(day);
+        self.periods()[place].regime
     }
 
     /// The periods, in order.
@@ -185,28 +264,54 @@ impl Territory {
     }
 
     /// The days that the territory dates with the label, in order.
+    ///
+    /// # Errors
+    ///
+    /// `AllocError` where there is no memory for the list.
     pub fn read(&self, label: Label) -> Result<Vec<Day>, AllocError>
         ensures { IfOk result (λ days. days.items ≡ plain.reading present self.now label) }
     {
-        let mut days = Vec::new(self.alloc);
-        for period in &self.periods {
-            read_period(period, label, &mut days)?;
-        }
+        let (days, _) = self.read_counted(label)?;
         Ok(days)
     }
 
+    /// The same, and how many days were tested to find them: at most three a period.
+    ///
+    /// # Errors
+    ///
+    /// `AllocError` where there is no memory for the list.
+    pub fn read_counted(&self, label: Label) -> Result<(Vec<Day>, u32), AllocError>
+        ensures value { IfOk result (λ read. read.0.items ≡ plain.reading present self.now label) }
+        ensures tested { IfOk result (λ read.
+            read.1 ≤ 3 * length (plain.periods_of present self.now)) }
+    {
+        let mut days = Vec::new(self.alloc);
+        let mut tested = 0;
+        for period in &self.periods {
+            tested += read_period(period, label, &mut days)?;
+        }
+        Ok((days, tested))
+    }
+
     /// The days of the changes at which the label is skipped, in order.
+    ///
+    /// # Errors
+    ///
+    /// `AllocError` where there is no memory for the list.
     pub fn skipped(&self, label: Label) -> Result<Vec<Day>, AllocError>
         ensures value { IfOk result (λ days. days.items ≡ plain.skipped present self.now label) }
-        ensures explained { IfOk result (λ days. plain.IsExplained present self.now label days.items) }
+        ensures explained { IfOk result (λ days.
+            plain.IsExplained present self.now label days.items) }
     {
         let mut days = Vec::new(self.alloc);
         let periods: &[Period] = &self.periods;
+        let mut old_days = days_of_label(periods[0].regime, label);
         for i in 1..periods.len() {
-            let new = &periods[i];
-            if is_skipped_between(&periods[i - 1], new, label) {
-                days.push(new.first)?;
+            let new_days = days_of_label(periods[i].regime, label);
+            if is_skipped_between(&periods[i - 1], &periods[i], &old_days, &new_days) {
+                days.push(periods[i].first)?;
             }
+            old_days = new_days;
         }
         Ok(days)
     }
@@ -220,28 +325,50 @@ impl Territory {
 
     /// How many years have a listed exception.
     pub fn exception_count(&self) -> usize
-        ensures { result ≡ length self.now.exceptions }
+        ensures value { result ≡ length self.now.exceptions }
+        ensures ascending { exceptions.HasAscendingYears self.now }
     {
         self.exceptions.len()
     }
 
-    /// The days that were Easter of a year in the territory, in order: the listed day alone where one is listed, else
-    /// each day that is the year's Easter by the rule in force on it. So a year may have none, one or two.
+    /// Easter of a year by a rule, where that rule is in force on the day.
+    fn easter_in_force(&self, rule: Rule, year: Year) -> Option<Day>
+        ensures { option_to_list result ≡ easters_in_force present self.now rule year }
+    {
+        let day = easter(rule, year);
+        if self.regime_at(day).rule == rule {
+            Some(day)
+        } else {
+            None
+        }
+    }
+
+    /// The days that were Easter of a year in the territory, in order: the listed day alone where
+    /// one is listed, else each day that is the year's Easter by the rule in force on it. So a year
+    /// may have none, one or two.
+    ///
+    /// # Errors
+    ///
+    /// `AllocError` where there is no memory for the list.
     pub fn easters(&self, year: Year) -> Result<Vec<Day>, AllocError>
-        ensures { IfOk result (λ days. days.items ≡ easter.easters present self.now year) }
+        ensures { IfOk result (λ days. days.items ≡ feast.easters present self.now year) }
     {
         let mut days = Vec::new(self.alloc);
         if let Some(day) = self.exception(year) {
             days.push(day)?;
             return Ok(days);
         }
-        for period in &self.periods {
-            push_easter(period, year, &mut days)?;
-        }
+        let julian = self.easter_in_force(Rule::Julian, year);
+        let gregorian = self.easter_in_force(Rule::Gregorian, year);
+        push_in_order(julian, gregorian, &mut days)?;
         Ok(days)
     }
 
     /// An equal territory.
+    ///
+    /// # Errors
+    ///
+    /// `AllocError` where there is no memory for as many periods and exceptions.
     pub fn copy(&self) -> Result<Territory, AllocError>
         ensures { IfOk result (λ t. t ≡ self.now) }
     {

@@ -1,126 +1,187 @@
 -- What is kept by code, seen as the plain list of territories.
-use Rattle.std.proofs.Common.{◌≡◌, ℕ, ◌<◌, ◌≤◌, Bool, true, false, cond, List, [], ◌∷◌, ◌++◌, length, map, Option, Some, None, option_map, is_some, refl, sym, ap, subst, ◌∙◌, arith, length-append, append_assoc, append-nil}
+use Rattle.std.proofs.Common.{◌≡◌, ℕ, ◌<◌, ◌≤◌, Bool, true, false, cond, List, [], ◌∷◌, ◌++◌}
+use Rattle.std.proofs.Common.{length, map, Option, Some, None, option_map, is_some, refl, sym, ap}
+use Rattle.std.proofs.Common.{subst, ◌∙◌, arith, length-append, append_assoc, append-nil}
 use Rattle.std.proofs.lemmas.Bool.{false≢true}
 use Rattle.std.proofs.lemmas.Slice.Eq.{bytes_eq-Decides}
 use Rattle.std.specs.Str.{bytes_eq}
 use Rattle.std.specs.Map.{lookup}
+use Rattle.osn_days.specs.Profile.{Profile}
 use Rattle.osn_lands.specs.Territory.{PlainTerritory}
 use Rattle.osn_register.specs.declared.limits.Limits.{Limits}
-use Rattle.osn_register.specs.Plain.{PlainLand, PlainRegister, land_of, territory_of, AreDistinct, IsWithinLimits, AreWithinLimits, IsWellFormed}
+use Rattle.osn_register.specs.Plain.{PlainLand, PlainRegister, land_of, territory_of, AreDistinct}
+use Rattle.osn_register.specs.Plain.{IsSoundTerritory, AreSound, IsWellFormed}
 use Rattle.osn_register.specs.Inside.{land_in}
 
-module _ {K V : Type 0} (text : K → List ℕ) (name : V → List ℕ) (territory : V → PlainTerritory) where
-  pub land_of-map : (code : List ℕ) (es : List (K × V)) → is_some (land_of code (map (land_in text name territory) es)) ≡ is_some (lookup (λ k. bytes_eq code (text k)) es)
-  land_of-map code [] = refl
-  land_of-map code (e ∷ es) =
-      elim (bytes_eq code (text e.0)) as (λ b. is_some (cond b (Some (land_in text name territory e)) (land_of code (map (land_in text name territory) es))) ≡ is_some (cond b (Some e.1) (lookup (λ k. bytes_eq code (text k)) es))) [
-        | true ↦ refl
-        | false ↦ land_of-map code es
-      ]
+module _ {K V : Type 0} (text : K → List ℕ) (name : V → List ℕ) (territory : V → PlainTerritory)
+  where
+    pub land_of-map : (code : List ℕ) (es : List (K × V)) →
+        is_some (land_of code (map (land_in text name territory) es)) ≡ is_some
+        (lookup (λ k. bytes_eq code (text k)) es)
+    land_of-map code [] = refl
+    land_of-map code (e ∷ es) =
+        elim (bytes_eq code (text e.0)) as (λ b. is_some (cond b
+        (Some (land_in text name territory e)) (land_of code
+        (map (land_in text name territory) es))) ≡ is_some
+        (cond b (Some e.1) (lookup (λ k. bytes_eq code (text k)) es))) [
+          | true ↦ refl
+          | false ↦ land_of-map code es
+        ]
 
-  pub territory_of-map : (code : List ℕ) (es : List (K × V)) → territory_of code (map (land_in text name territory) es) ≡ option_map territory (lookup (λ k. bytes_eq code (text k)) es)
-  territory_of-map code [] = refl
-  territory_of-map code (e ∷ es) =
-      elim (bytes_eq code (text e.0)) as (λ b. option_map (λ (l : PlainLand). l.territory) (cond b (Some (land_in text name territory e)) (land_of code (map (land_in text name territory) es))) ≡ option_map territory (cond b (Some e.1) (lookup (λ k. bytes_eq code (text k)) es))) [
-        | true ↦ refl
-        | false ↦ territory_of-map code es
-      ]
+    pub territory_of-map : (code : List ℕ) (es : List (K × V)) →
+        territory_of code (map (land_in text name territory) es) ≡ option_map territory
+        (lookup (λ k. bytes_eq code (text k)) es)
+    territory_of-map code [] = refl
+    territory_of-map code (e ∷ es) =
+        elim (bytes_eq code (text e.0)) as (λ b. option_map (λ (l : PlainLand). l.territory)
+        (cond b (Some (land_in text name territory e))
+        (land_of code (map (land_in text name territory) es))) ≡ option_map territory
+        (cond b (Some e.1) (lookup (λ k. bytes_eq code (text k)) es))) [
+          | true ↦ refl
+          | false ↦ territory_of-map code es
+        ]
 
-  pub land_of-none : (code : List ℕ) (es : List (K × V)) → land_of code (map (land_in text name territory) es) ≡ None → lookup (λ k. bytes_eq code (text k)) es ≡ None
-  land_of-none code es none = by (lookup (λ k. bytes_eq code (text k)) es) (sym (land_of-map code es) ∙ ap is_some none)
-    where
-      by : (o : Option V) → is_some o ≡ false → o ≡ None
-      by None h = refl
-      by (Some v) h = absurd (false≢true (sym h))
+    pub land_of-none : (code : List ℕ) (es : List (K × V)) →
+        land_of code (map (land_in text name territory) es) ≡ None →
+        lookup (λ k. bytes_eq code (text k)) es ≡ None
+    land_of-none code es none = by (lookup (λ k. bytes_eq code (text k)) es)
+        (sym (land_of-map code es) ∙ ap is_some none)
+      where
+        by : (o : Option V) → is_some o ≡ false → o ≡ None
+        by None h = refl
+        by (Some v) h = absurd (false≢true (sym h))
 
-  pub map-push : (es : List (K × V)) (e : K × V) → map (land_in text name territory) (es ++ e ∷ []) ≡ map (land_in text name territory) es ++ land_in text name territory e ∷ []
-  map-push [] e = refl
-  map-push (d ∷ es) e = ap (λ ls. land_in text name territory d ∷ ls) (map-push es e)
+    pub map-push : (es : List (K × V)) (e : K × V) →
+        map (land_in text name territory) (es ++ e ∷ [])
+        ≡ map (land_in text name territory) es ++ land_in text name territory e ∷ []
+    map-push [] e = refl
+    map-push (d ∷ es) e = ap (λ ls. land_in text name territory d ∷ ls) (map-push es e)
 
 other_way : (x y : List ℕ) → bytes_eq x y ≡ false → bytes_eq y x ≡ false
 other_way x y h = by (bytes_eq y x) refl
   where
     by : (b : Bool) → bytes_eq y x ≡ b → b ≡ false
-    by true e = absurd (false≢true (sym h ∙ (bytes_eq-Decides x y).1 (sym ((bytes_eq-Decides y x).0 e))))
+    by true e = absurd (false≢true (sym h ∙ (bytes_eq-Decides x y).1
+        (sym ((bytes_eq-Decides y x).0 e))))
     by false e = refl
 
-pub apart_first : (code : List ℕ) (l : PlainLand) (ls : List PlainLand) → land_of code (l ∷ ls) ≡ None → (bytes_eq code l.code ≡ false) × (land_of code ls ≡ None)
+pub apart_first : (code : List ℕ) (l : PlainLand) (ls : List PlainLand) →
+    land_of code (l ∷ ls) ≡ None → (bytes_eq code l.code ≡ false) × (land_of code ls ≡ None)
 apart_first code l ls none = by (bytes_eq code l.code) refl none
   where
-    by : (b : Bool) → bytes_eq code l.code ≡ b → cond b (Some l) (land_of code ls) ≡ None → (bytes_eq code l.code ≡ false) × (land_of code ls ≡ None)
+    by : (b : Bool) → bytes_eq code l.code ≡ b → cond b (Some l) (land_of code ls) ≡ None →
+        (bytes_eq code l.code ≡ false) × (land_of code ls ≡ None)
     by true e h = absurd (false≢true (sym (ap is_some h)))
     by false e h = (e, h)
 
-land_of-push : (code : List ℕ) (ls : List PlainLand) (l : PlainLand) → land_of code ls ≡ None → bytes_eq code l.code ≡ false → land_of code (ls ++ l ∷ []) ≡ None
+land_of-push : (code : List ℕ) (ls : List PlainLand) (l : PlainLand) → land_of code ls ≡ None →
+    bytes_eq code l.code ≡ false → land_of code (ls ++ l ∷ []) ≡ None
 land_of-push code [] l none apart = ap (λ b. cond b (Some l) None) apart
 land_of-push code (k ∷ ls) l none apart =
     let first = apart_first code k ls none in
-    ap (λ b. cond b (Some k) (land_of code (ls ++ l ∷ []))) first.0 ∙ land_of-push code ls l first.1 apart
+    ap (λ b. cond b (Some k) (land_of code (ls ++ l ∷ []))) first.0 ∙ land_of-push code ls l first.1
+    apart
 
-AreDistinct-push : (ls : List PlainLand) (l : PlainLand) → AreDistinct ls → land_of l.code ls ≡ None → AreDistinct (ls ++ l ∷ [])
+AreDistinct-push : (ls : List PlainLand) (l : PlainLand) → AreDistinct ls →
+    land_of l.code ls ≡ None → AreDistinct (ls ++ l ∷ [])
 AreDistinct-push [] l distinct none = (refl, tt)
 AreDistinct-push (k ∷ ls) l distinct none =
-    let first = apart_first l.code k ls none in
-    (land_of-push k.code ls l distinct.0 (other_way l.code k.code first.0), AreDistinct-push ls l distinct.1 first.1)
+    let first = apart_first l.code k ls none in (
+      land_of-push k.code ls l distinct.0 (other_way l.code k.code first.0),
+      AreDistinct-push ls l
+          distinct.1 first.1,
+    )
 
-AreWithinLimits-push : (limits : Limits) (ls : List PlainLand) (l : PlainLand) → AreWithinLimits limits ls → IsWithinLimits limits l.territory → AreWithinLimits limits (ls ++ l ∷ [])
-AreWithinLimits-push limits [] l few here = (here, tt)
-AreWithinLimits-push limits (k ∷ ls) l few here = (few.0, AreWithinLimits-push limits ls l few.1 here)
+AreSound-push : (p : Profile) (limits : Limits) (ls : List PlainLand) (l : PlainLand) →
+    AreSound p limits ls → IsSoundTerritory p limits l.territory → AreSound p limits (ls ++ l ∷ [])
+AreSound-push p limits [] l few here = (here, tt)
+AreSound-push p limits (k ∷ ls) l few here = (few.0, AreSound-push p limits ls l few.1 here)
 
 -- a new territory under a new code keeps a register well formed
-pub IsWellFormed-push : (r : PlainRegister) (l : PlainLand) → IsWellFormed r → land_of l.code r.lands ≡ None → length r.lands < r.limits.lands → IsWithinLimits r.limits l.territory → IsWellFormed (record r { lands = r.lands ++ l ∷ [] })
-IsWellFormed-push r l w none room few = record {
+pub IsWellFormed-push : (p : Profile) (r : PlainRegister) (l : PlainLand) → IsWellFormed p r →
+    land_of l.code r.lands ≡ None → length r.lands < r.limits.lands →
+    IsSoundTerritory p r.limits l.territory → IsWellFormed p
+    (record r { lands = r.lands ++ l ∷ [] })
+IsWellFormed-push p r l w none room few = record {
   distinct = AreDistinct-push r.lands l w.distinct none;
   within = omega (arith, length-append r.lands (l ∷ []));
-  territories = AreWithinLimits-push r.limits r.lands l w.territories few;
+  territories = AreSound-push p r.limits r.lands l w.territories few;
 }
 
 -- what is kept after one new key, seen as the plain list
-module _ {K V : Type 0} (text : K → List ℕ) (name : V → List ℕ) (territory : V → PlainTerritory) where
-  pub kept_new : (old new : List (K × V)) (k : K) (v : V) (l : PlainLand) → new ≡ old ++ (k, v) ∷ [] → text k ≡ l.code → name v ≡ l.name → territory v ≡ l.territory → map (land_in text name territory) new ≡ map (land_in text name territory) old ++ l ∷ []
-  kept_new old new k v l e code called land =
-      ap (map (land_in text name territory)) e ∙ map-push text name territory old (k, v)
-      ∙ ap (λ (c : List ℕ). map (land_in text name territory) old ++ record { code = c; name = name v; territory = territory v } ∷ []) code
-      ∙ ap (λ (n : List ℕ). map (land_in text name territory) old ++ record { code = l.code; name = n; territory = territory v } ∷ []) called
-      ∙ ap (λ (t : PlainTerritory). map (land_in text name territory) old ++ record { code = l.code; name = l.name; territory = t } ∷ []) land
+module _ {K V : Type 0} (text : K → List ℕ) (name : V → List ℕ) (territory : V → PlainTerritory)
+  where
+    pub kept_new : (old new : List (K × V)) (k : K) (v : V) (l : PlainLand) →
+        new ≡ old ++ (k, v) ∷ [] → text k ≡ l.code → name v ≡ l.name → territory v ≡ l.territory →
+        map (land_in text name territory) new ≡ map (land_in text name territory) old ++ l ∷ []
+    kept_new old new k v l e code called land =
+        ap (map (land_in text name territory)) e ∙ map-push text name territory old (k, v)
+        ∙ ap (λ (c : List ℕ). map (land_in text name territory) old ++ record
+        { code = c; name = name v; territory = territory v } ∷ []) code
+        ∙ ap (λ (n : List ℕ). map (land_in text name territory) old ++ record
+        { code = l.code; name = n; territory = territory v } ∷ []) called
+        ∙ ap (λ (t : PlainTerritory). map (land_in text name territory) old ++ record
+        { code = l.code; name = l.name; territory = t } ∷ []) land
 
-apart_within : (code : List ℕ) (front : List PlainLand) (l : PlainLand) (rest : List PlainLand) → land_of code (front ++ l ∷ rest) ≡ None → bytes_eq code l.code ≡ false
+apart_within : (code : List ℕ) (front : List PlainLand) (l : PlainLand) (rest : List PlainLand) →
+    land_of code (front ++ l ∷ rest) ≡ None → bytes_eq code l.code ≡ false
 apart_within code [] l rest none = (apart_first code l rest none).0
-apart_within code (k ∷ front) l rest none = apart_within code front l rest (apart_first code k (front ++ l ∷ rest) none).1
+apart_within code (k ∷ front) l rest none = apart_within code front l rest
+    (apart_first code k (front ++ l ∷ rest) none).1
 
 -- of territories with distinct codes, none before one has its code
-pub AreDistinct-within : (front : List PlainLand) (l : PlainLand) (rest : List PlainLand) → AreDistinct (front ++ l ∷ rest) → land_of l.code front ≡ None
+pub AreDistinct-within : (front : List PlainLand) (l : PlainLand) (rest : List PlainLand) →
+    AreDistinct (front ++ l ∷ rest) → land_of l.code front ≡ None
 AreDistinct-within [] l rest distinct = refl
 AreDistinct-within (k ∷ front) l rest distinct =
-    ap (λ b. cond b (Some k) (land_of l.code front)) (other_way k.code l.code (apart_within k.code front l rest distinct.0))
+    ap (λ b. cond b (Some k) (land_of l.code front)) (other_way k.code l.code
+    (apart_within k.code front l rest distinct.0))
     ∙ AreDistinct-within front l rest distinct.1
 
 -- a copy so far, with a territory and what follows it, is all
-pub copied_absent : (copied : List PlainLand) (l : PlainLand) (rest lands : List PlainLand) (code : List ℕ) → copied ++ l ∷ rest ≡ lands → AreDistinct lands → code ≡ l.code → land_of code copied ≡ None
+pub copied_absent : (copied : List PlainLand) (l : PlainLand) (rest lands : List PlainLand)
+    (code : List ℕ) → copied ++ l ∷ rest ≡ lands → AreDistinct lands → code ≡ l.code →
+    land_of code copied ≡ None
 copied_absent copied l rest lands code e distinct same =
-    subst (λ c. land_of c copied ≡ None) (sym same) (AreDistinct-within copied l rest (subst AreDistinct (sym e) distinct))
+    subst (λ c. land_of c copied ≡ None) (sym same) (AreDistinct-within copied l rest
+    (subst AreDistinct (sym e) distinct))
 
-pub copied_room : (copied : List PlainLand) (l : PlainLand) (rest lands : List PlainLand) (limit room : ℕ) → copied ++ l ∷ rest ≡ lands → length lands ≤ limit → room ≡ limit → length copied < room
-copied_room copied l rest lands limit room e within same = omega (arith, ap length e, length-append copied (l ∷ rest))
+pub copied_room : (copied : List PlainLand) (l : PlainLand) (rest lands : List PlainLand)
+    (limit room : ℕ) → copied ++ l ∷ rest ≡ lands → length lands ≤ limit → room ≡ limit →
+    length copied < room
+copied_room copied l rest lands limit room e within same = omega
+    (arith, ap length e, length-append copied (l ∷ rest))
 
-AreWithinLimits-within : (limits : Limits) (front : List PlainLand) (l : PlainLand) (rest : List PlainLand) → AreWithinLimits limits (front ++ l ∷ rest) → IsWithinLimits limits l.territory
-AreWithinLimits-within limits [] l rest few = few.0
-AreWithinLimits-within limits (k ∷ front) l rest few = AreWithinLimits-within limits front l rest few.1
+AreSound-within : (p : Profile) (limits : Limits) (front : List PlainLand) (l : PlainLand)
+    (rest : List PlainLand) → AreSound p limits (front ++ l ∷ rest) →
+    IsSoundTerritory p limits l.territory
+AreSound-within p limits [] l rest few = few.0
+AreSound-within p limits (k ∷ front) l rest few = AreSound-within p limits front l rest few.1
 
-pub copied_within : (copied : List PlainLand) (l : PlainLand) (rest lands : List PlainLand) (limits room : Limits) (t : PlainTerritory) → copied ++ l ∷ rest ≡ lands → AreWithinLimits limits lands → room ≡ limits → t ≡ l.territory → IsWithinLimits room t
-copied_within copied l rest lands limits room t e few same land =
-    subst (λ m. IsWithinLimits m t) (sym same)
-    (subst (IsWithinLimits limits) (sym land) (AreWithinLimits-within limits copied l rest (subst (AreWithinLimits limits) (sym e) few)))
+pub copied_within : (p : Profile) (copied : List PlainLand) (l : PlainLand)
+    (rest lands : List PlainLand) (limits room : Limits) (t : PlainTerritory) →
+    copied ++ l ∷ rest ≡ lands → AreSound p limits lands → room ≡ limits → t ≡ l.territory →
+    IsSoundTerritory p room t
+copied_within p copied l rest lands limits room t e few same land =
+    subst (λ m. IsSoundTerritory p m t) (sym same)
+    (subst (IsSoundTerritory p limits) (sym land) (AreSound-within p limits copied l rest
+    (subst (AreSound p limits) (sym e) few)))
 
-pub copied_more : (copied : List PlainLand) (l k : PlainLand) (rest lands : List PlainLand) → copied ++ l ∷ rest ≡ lands → k.code ≡ l.code → k.name ≡ l.name → k.territory ≡ l.territory → (copied ++ k ∷ []) ++ rest ≡ lands
+pub copied_more : (copied : List PlainLand) (l k : PlainLand) (rest lands : List PlainLand) →
+    copied ++ l ∷ rest ≡ lands → k.code ≡ l.code → k.name ≡ l.name → k.territory ≡ l.territory →
+    (copied ++ k ∷ []) ++ rest ≡ lands
 copied_more copied l k rest lands e code called land =
     append_assoc copied (k ∷ []) rest
-    ∙ ap (λ (c : List ℕ). copied ++ record { code = c; name = k.name; territory = k.territory } ∷ rest) code
-    ∙ ap (λ (n : List ℕ). copied ++ record { code = l.code; name = n; territory = k.territory } ∷ rest) called
-    ∙ ap (λ (t : PlainTerritory). copied ++ record { code = l.code; name = l.name; territory = t } ∷ rest) land
+    ∙ ap (λ (c : List ℕ). copied ++ record { code = c; name = k.name; territory = k.territory } ∷
+    rest) code
+    ∙ ap (λ (n : List ℕ). copied ++ record { code = l.code; name = n; territory = k.territory } ∷
+    rest) called
+    ∙ ap (λ (t : PlainTerritory). copied ++ record { code = l.code; name = l.name; territory = t } ∷
+    rest) land
     ∙ e
 
 pub same_register : (a b : PlainRegister) → a.limits ≡ b.limits → a.lands ++ [] ≡ b.lands → a ≡ b
 same_register a b limits lands =
     ap (λ (m : Limits). let r : PlainRegister = record { limits = m; lands = a.lands } in r) limits
-    ∙ ap (λ (ls : List PlainLand). let r : PlainRegister = record { limits = b.limits; lands = ls } in r) (sym (append-nil a.lands) ∙ lands)
+    ∙ ap (λ (ls : List PlainLand). let r : PlainRegister = record { limits = b.limits; lands = ls }
+    in r) (sym (append-nil a.lands) ∙ lands)

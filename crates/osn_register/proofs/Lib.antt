@@ -1,3 +1,4 @@
+pub mod CoverFacts
 pub mod Kept
 pub mod PeriodCount
 pub mod TerritoryFacts

@@ -3,6 +3,7 @@ use Rattle.std.proofs.Common.{◌≡◌, ℕ, List, [], ◌∷◌, length, suc, 
 use Rattle.osn_lands.specs.declared.regime.Regime.{Regime}
 use Rattle.osn_lands.specs.Territory.{periods_from}
 
-pub length-periods_from : (high : ℕ) (starts : List (ℕ × Regime)) → length (periods_from high starts) ≡ length starts
+pub length-periods_from : (high : ℕ) (starts : List (ℕ × Regime)) →
+    length (periods_from high starts) ≡ length starts
 length-periods_from high [] = refl
 length-periods_from high (s ∷ rest) = ap suc (length-periods_from high rest)

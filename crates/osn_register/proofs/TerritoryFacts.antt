@@ -1,7 +1,10 @@
 -- One territory of the list changed in its place.
-use Rattle.std.proofs.Common.{◌≡◌, ℕ, suc, ◌<◌, ◌≤◌, Bool, true, false, cond, not, nat_lt, nat_le, ◌==◌, if◌then◌else◌, List, [], ◌∷◌, length, map, filter, Option, Some, None, option_map, is_some, is_none, refl, sym, ap, ◌∙◌, arith, unsigned_abs}
+use Rattle.std.proofs.Common.{◌≡◌, ℕ, suc, ◌<◌, ◌≤◌, Bool, true, false, cond, not, nat_lt, nat_le}
+use Rattle.std.proofs.Common.{◌==◌, if◌then◌else◌, List, [], ◌∷◌, length, map, filter, Option, Some}
+use Rattle.std.proofs.Common.{None, option_map, is_some, is_none, refl, sym, ap, ◌∙◌, arith, pos}
 use Rattle.std.proofs.lemmas.Bool.{false≢true}
 use Rattle.std.proofs.lemmas.Bool.Decides.{nat_tests}
+use Rattle.std.proofs.lemmas.Int.{ints}
 use Rattle.std.proofs.lemmas.List.{length-map}
 use Rattle.std.specs.Str.{bytes_eq}
 use Rattle.std.specs.BTreeMap.{insert_entry}
@@ -14,11 +17,18 @@ use Rattle.osn_lands.specs.Territory.{PlainTerritory}
 use Rattle.osn_lands.specs.Changes.{with_start, starts_on}
 use Rattle.osn_lands.specs.Exceptions.{exception_of}
 use Rattle.osn_register.specs.declared.limits.Limits.{Limits}
-use Rattle.osn_register.specs.declared.edit.Edit.{Edit}
-use Rattle.osn_register.specs.declared.edit.Edit.TheVariants.{AddLand, AddChange, AlterChange, DropChange, AddException, DropException}
+use Rattle.osn_register.specs.declared.change.Change.{Change}
+use Rattle.osn_register.specs.declared.change.Change.TheVariants.{Add, Alter, Drop, AddException}
+use Rattle.osn_register.specs.declared.change.Change.TheVariants.{DropException}
 use Rattle.osn_register.specs.declared.refusal.Refusal.{Refusal}
 use Rattle.osn_register.specs.Code.{is_code}
-use Rattle.osn_register.specs.Plain.{PlainLand, PlainRegister, land_of, territory_of, code_refusal, is_off_line, is_off_years, refusal_in, inside, or_else, change_refusal, changed, with_territory, AreDistinct, IsWithinLimits, AreWithinLimits, IsWellFormed}
+use Rattle.osn_register.specs.Plain.{PlainLand, PlainRegister, land_of, territory_of, code_refusal}
+use Rattle.osn_register.specs.Plain.{is_off_line, is_off_years, refusal_in, inside, with_territory}
+use Rattle.osn_register.specs.Plain.{AreDistinct, IsSoundTerritory, AreSound, IsWellFormed}
+use Rattle.osn_register.specs.Refusal.{or_else}
+use Rattle.osn_register.specs.InsideChange.{change_refusal, territory_after}
+use Rattle.osn_register.proofs.CoverFacts.{covers-with_change, covers-with_altered}
+use Rattle.osn_register.proofs.CoverFacts.{covers-without_change}
 use Rattle.osn_register.specs.Inside.{land_in}
 use Rattle.osn_register.proofs.Kept.{apart_first}
 
@@ -29,81 +39,130 @@ not_none : {X Y : Type 0} {x : X} → Some x ≡ None → Y
 not_none h = absurd (false≢true (sym (ap is_some h)))
 
 -- what is written under a key, seen as the plain list
-module _ {K V : Type 0} (text : K → List ℕ) (name : V → List ℕ) (territory : V → PlainTerritory) where
-  pub map-set_value : (code : List ℕ) (f : PlainTerritory → PlainTerritory) (es : List (K × V)) (v w : V) → lookup (λ k. bytes_eq code (text k)) es ≡ Some v → name w ≡ name v → territory w ≡ f (territory v) → map (land_in text name territory) (set_value (λ k. bytes_eq code (text k)) es w) ≡ with_territory code f (map (land_in text name territory) es)
-  map-set_value code f [] v w found called land = not_none (sym found)
-  map-set_value code f (e ∷ es) v w found called land =
-      elim (bytes_eq code (text e.0)) as (λ b. cond b (Some e.1) (lookup (λ k. bytes_eq code (text k)) es) ≡ Some v → map (land_in text name territory) (cond b ((e.0, w) ∷ es) (e ∷ set_value (λ k. bytes_eq code (text k)) es w)) ≡ cond b (record (land_in text name territory e) { territory = f (territory e.1) } ∷ map (land_in text name territory) es) (land_in text name territory e ∷ with_territory code f (map (land_in text name territory) es))) [
-        | true ↦ λ h. ap (λ (n : List ℕ). let l : PlainLand = record { code = text e.0; name = n; territory = territory w } in l ∷ map (land_in text name territory) es) (called ∙ ap name (sym (some_is h)))
-            ∙ ap (λ (t : PlainTerritory). let l : PlainLand = record { code = text e.0; name = name e.1; territory = t } in l ∷ map (land_in text name territory) es) (land ∙ ap (λ x. f (territory x)) (sym (some_is h)))
-        | false ↦ λ h. ap (λ ls. land_in text name territory e ∷ ls) (map-set_value code f es v w h called land)
-      ] found
+module _ {K V : Type 0} (text : K → List ℕ) (name : V → List ℕ) (territory : V → PlainTerritory)
+  where
+    pub map-set_value : (code : List ℕ) (f : PlainTerritory → PlainTerritory) (es : List (K × V))
+        (v w : V) → lookup (λ k. bytes_eq code (text k)) es ≡ Some v → name w ≡ name v →
+        territory w ≡ f (territory v) → map (land_in text name territory)
+        (set_value (λ k. bytes_eq code (text k)) es w) ≡ with_territory code f
+        (map (land_in text name territory) es)
+    map-set_value code f [] v w found called land = not_none (sym found)
+    map-set_value code f (e ∷ es) v w found called land =
+        elim (bytes_eq code (text e.0)) as (λ b. cond b (Some e.1)
+        (lookup (λ k. bytes_eq code (text k)) es) ≡ Some v →
+        map (land_in text name territory) (cond b ((e.0, w) ∷ es)
+        (e ∷ set_value (λ k. bytes_eq code (text k)) es w)) ≡ cond b
+        (record (land_in text name territory e) { territory = f (territory e.1) } ∷ map
+        (land_in text name territory) es) (land_in text name territory e ∷ with_territory code f
+        (map (land_in text name territory) es))) [
+          | true ↦ λ h. ap (λ (n : List ℕ). let l : PlainLand = record
+              { code = text e.0; name = n; territory = territory w } in l ∷ map
+              (land_in text name territory) es) (called ∙ ap name (sym (some_is h)))
+              ∙ ap (λ (t : PlainTerritory). let l : PlainLand = record
+              { code = text e.0; name = name e.1; territory = t } in l ∷ map
+              (land_in text name territory) es) (land ∙ ap (λ x. f (territory x))
+              (sym (some_is h)))
+          | false ↦ λ h. ap (λ ls. land_in text name territory e ∷ ls)
+              (map-set_value code f es v w h called land)
+        ] found
 
-land_of-with : (code other : List ℕ) (f : PlainTerritory → PlainTerritory) (ls : List PlainLand) → land_of other ls ≡ None → land_of other (with_territory code f ls) ≡ None
+land_of-with : (code other : List ℕ) (f : PlainTerritory → PlainTerritory) (ls : List PlainLand) →
+    land_of other ls ≡ None → land_of other (with_territory code f ls) ≡ None
 land_of-with code other f [] none = refl
 land_of-with code other f (l ∷ ls) none =
     let first = apart_first other l ls none in
-    elim (bytes_eq code l.code) as (λ b. land_of other (cond b (record l { territory = f l.territory } ∷ ls) (l ∷ with_territory code f ls)) ≡ None) [
-      | true ↦ ap (λ b. cond b (Some (record l { territory = f l.territory })) (land_of other ls)) first.0 ∙ first.1
-      | false ↦ ap (λ b. cond b (Some l) (land_of other (with_territory code f ls))) first.0 ∙ land_of-with code other f ls first.1
+    elim (bytes_eq code l.code) as (λ b. land_of other (cond b
+    (record l { territory = f l.territory } ∷ ls) (l ∷ with_territory code f ls)) ≡ None) [
+      | true ↦ ap (λ b. cond b (Some (record l { territory = f l.territory })) (land_of other ls))
+          first.0 ∙ first.1
+      | false ↦ ap (λ b. cond b (Some l) (land_of other (with_territory code f ls))) first.0 ∙
+          land_of-with code other f ls first.1
     ]
 
-AreDistinct-with : (code : List ℕ) (f : PlainTerritory → PlainTerritory) (ls : List PlainLand) → AreDistinct ls → AreDistinct (with_territory code f ls)
+AreDistinct-with : (code : List ℕ) (f : PlainTerritory → PlainTerritory) (ls : List PlainLand) →
+    AreDistinct ls → AreDistinct (with_territory code f ls)
 AreDistinct-with code f [] distinct = tt
 AreDistinct-with code f (l ∷ ls) distinct =
-    elim (bytes_eq code l.code) as (λ b. AreDistinct (cond b (record l { territory = f l.territory } ∷ ls) (l ∷ with_territory code f ls))) [
+    elim (bytes_eq code l.code) as (λ b. AreDistinct (cond b
+    (record l { territory = f l.territory } ∷ ls) (l ∷ with_territory code f ls))) [
       | true ↦ distinct
       | false ↦ (land_of-with code l.code f ls distinct.0, AreDistinct-with code f ls distinct.1)
     ]
 
-length-with : (code : List ℕ) (f : PlainTerritory → PlainTerritory) (ls : List PlainLand) → length (with_territory code f ls) ≡ length ls
+length-with : (code : List ℕ) (f : PlainTerritory → PlainTerritory) (ls : List PlainLand) →
+    length (with_territory code f ls) ≡ length ls
 length-with code f [] = refl
 length-with code f (l ∷ ls) =
-    elim (bytes_eq code l.code) as (λ b. length (cond b (record l { territory = f l.territory } ∷ ls) (l ∷ with_territory code f ls)) ≡ suc (length ls)) [
+    elim (bytes_eq code l.code) as (λ b. length (cond b (record l { territory = f l.territory } ∷
+    ls) (l ∷ with_territory code f ls)) ≡ suc (length ls)) [
       | true ↦ refl
       | false ↦ ap suc (length-with code f ls)
     ]
 
-AreWithinLimits-with : (limits : Limits) (code : List ℕ) (f : PlainTerritory → PlainTerritory) (ls : List PlainLand) → AreWithinLimits limits ls → ((t : PlainTerritory) → territory_of code ls ≡ Some t → IsWithinLimits limits t → IsWithinLimits limits (f t)) → AreWithinLimits limits (with_territory code f ls)
-AreWithinLimits-with limits code f [] few still = tt
-AreWithinLimits-with limits code f (l ∷ ls) few still =
-    elim (bytes_eq code l.code) as (λ b. ((t : PlainTerritory) → option_map (λ (k : PlainLand). k.territory) (cond b (Some l) (land_of code ls)) ≡ Some t → IsWithinLimits limits t → IsWithinLimits limits (f t)) → AreWithinLimits limits (cond b (record l { territory = f l.territory } ∷ ls) (l ∷ with_territory code f ls))) [
+AreSound-with : (p : Profile) (limits : Limits) (code : List ℕ)
+    (f : PlainTerritory → PlainTerritory) (ls : List PlainLand) → AreSound p limits ls →
+    ((t : PlainTerritory) → territory_of code ls ≡ Some t → IsSoundTerritory p limits t →
+    IsSoundTerritory p limits (f t)) → AreSound p limits (with_territory code f ls)
+AreSound-with p limits code f [] few still = tt
+AreSound-with p limits code f (l ∷ ls) few still =
+    elim (bytes_eq code l.code) as (λ b. ((t : PlainTerritory) →
+    option_map (λ (k : PlainLand). k.territory) (cond b (Some l) (land_of code ls)) ≡ Some t →
+    IsSoundTerritory p limits t → IsSoundTerritory p limits (f t)) →
+    AreSound p limits (cond b (record l { territory = f l.territory } ∷ ls)
+    (l ∷ with_territory code f ls))) [
       | true ↦ λ here. (here l.territory refl few.0, few.1)
-      | false ↦ λ later. (few.0, AreWithinLimits-with limits code f ls few.1 later)
+      | false ↦ λ later. (few.0, AreSound-with p limits code f ls few.1 later)
     ] still
 
 -- a register stays well formed where one of its territories is changed within the limit
-pub IsWellFormed-with : (r : PlainRegister) (code : List ℕ) (f : PlainTerritory → PlainTerritory) → IsWellFormed r → ((t : PlainTerritory) → territory_of code r.lands ≡ Some t → IsWithinLimits r.limits t → IsWithinLimits r.limits (f t)) → IsWellFormed (record r { lands = with_territory code f r.lands })
-IsWellFormed-with r code f w still = record {
+pub IsWellFormed-with : (p : Profile) (r : PlainRegister) (code : List ℕ)
+    (f : PlainTerritory → PlainTerritory) → IsWellFormed p r →
+    ((t : PlainTerritory) → territory_of code r.lands ≡ Some t → IsSoundTerritory p r.limits t →
+    IsSoundTerritory p r.limits (f t)) → IsWellFormed p (record r
+    { lands = with_territory code f r.lands })
+IsWellFormed-with p r code f w still = record {
   distinct = AreDistinct-with code f r.lands w.distinct;
   within = omega (arith, length-with code f r.lands, w.within);
-  territories = AreWithinLimits-with r.limits code f r.lands w.territories still;
+  territories = AreSound-with p r.limits code f r.lands w.territories still;
 }
 
 -- what is lawful in a territory of a known code
-pub lawful_in : (lands : List PlainLand) (code : List ℕ) (refused : PlainTerritory → Option Refusal) → refusal_in lands code refused ≡ None → (t : PlainTerritory) → territory_of code lands ≡ Some t → refused t ≡ None
-lawful_in lands code refused h t known = by (code_refusal lands code) (territory_of code lands) h known
+pub lawful_in : (lands : List PlainLand) (code : List ℕ) (refused : PlainTerritory → Option Refusal)
+    → refusal_in lands code refused ≡ None → (t : PlainTerritory) →
+    territory_of code lands ≡ Some t → refused t ≡ None
+lawful_in lands code refused h t known = by (code_refusal lands code) (territory_of code lands) h
+    known
   where
-    by : (o : Option Refusal) (u : Option PlainTerritory) → or_else o (inside refused u) ≡ None → u ≡ Some t → refused t ≡ None
+    by : (o : Option Refusal) (u : Option PlainTerritory) → or_else o (inside refused u) ≡ None →
+        u ≡ Some t → refused t ≡ None
     by (Some f) u h known = not_none h
     by None u h known = rw known at h
 
 -- a known code has a territory
-pub no_territory : (lands : List PlainLand) (code : List ℕ) (refused : PlainTerritory → Option Refusal) → refusal_in lands code refused ≡ None → territory_of code lands ≡ None → ⊥
+pub no_territory : (lands : List PlainLand) (code : List ℕ)
+    (refused : PlainTerritory → Option Refusal) → refusal_in lands code refused ≡ None →
+    territory_of code lands ≡ None → ⊥
 no_territory lands code refused h none = by (not (is_code code)) (land_of code lands) h none
   where
-    by : (b : Bool) (o : Option PlainLand) → or_else (if b then Some Refusal.BadCode else (if is_none o then Some Refusal.UnknownLand else None)) (inside refused (option_map (λ l. l.territory) o)) ≡ None → option_map (λ (l : PlainLand). l.territory) o ≡ None → ⊥
+    by : (b : Bool) (o : Option PlainLand) → or_else (if b then Some Refusal.BadCode else
+        (if is_none o then Some Refusal.UnknownLand else None))
+        (inside refused (option_map (λ l. l.territory) o)) ≡ None →
+        option_map (λ (l : PlainLand). l.territory) o ≡ None → ⊥
     by true o h none = not_none h
     by false None h none = not_none h
     by false (Some l) h none = not_none none
 
--- of four tests the last has not applied
-last_passed : (a b c d : Bool) (f g h k : Refusal) → (if a then Some f else (if b then Some g else (if c then Some h else (if d then Some k else None)))) ≡ None → d ≡ false
-last_passed true b c d f g h k none = not_none none
-last_passed false true c d f g h k none = not_none none
-last_passed false false true d f g h k none = not_none none
-last_passed false false false true f g h k none = not_none none
-last_passed false false false false f g h k none = refl
+-- of tests in order none has applied
+first_passed : (a : Bool) (f : Refusal) (rest : Option Refusal) →
+    (if a then Some f else rest) ≡ None → (a ≡ false) × (rest ≡ None)
+first_passed true f rest none = not_none none
+first_passed false f rest none = (refl, none)
+
+in_line : (p : Profile) (d : ℕ) → is_off_line p (pos d) ≡ false → (1 ≤ d) × (d ≤ p.high)
+in_line p d h = (grind (arith, ints, nat_tests), grind (arith, ints, nat_tests))
+
+not_first : (d : ℕ) → (d == 1) ≡ false → 1 ≤ d → 1 < d
+not_first d h low = grind (arith, nat_tests)
 
 not_lt : (m n : ℕ) → nat_lt m n ≡ false → n ≤ m
 not_lt m n h = grind (arith, nat_tests)
@@ -111,10 +170,12 @@ not_lt m n h = grind (arith, nat_tests)
 not_le : (m n : ℕ) → nat_le m n ≡ false → n < m
 not_le m n h = grind (arith, nat_tests)
 
-length-with_start : (d : ℕ) (r : Regime) (starts : List (ℕ × Regime)) → length (with_start d r starts) ≡ suc (length starts)
+length-with_start : (d : ℕ) (r : Regime) (starts : List (ℕ × Regime)) →
+    length (with_start d r starts) ≡ suc (length starts)
 length-with_start d r [] = refl
 length-with_start d r (s ∷ rest) =
-    elim (nat_lt d s.0) as (λ b. length (cond b ((d, r) ∷ s ∷ rest) (s ∷ with_start d r rest)) ≡ suc (suc (length rest))) [
+    elim (nat_lt d s.0) as (λ b. length (cond b ((d, r) ∷ s ∷ rest) (s ∷ with_start d r rest)) ≡ suc
+    (suc (length rest))) [
       | true ↦ refl
       | false ↦ ap suc (length-with_start d r rest)
     ]
@@ -127,16 +188,19 @@ length-filter p (x ∷ xs) =
       | false ↦ omega (arith, length-filter p xs)
     ]
 
-length-insert_entry : (es : List (ℕ × ℕ)) (y d : ℕ) → length (insert_entry nat_cmp es y d) ≤ suc (length es)
+length-insert_entry : (es : List (ℕ × ℕ)) (y d : ℕ) → length (insert_entry nat_cmp es y d) ≤ suc
+    (length es)
 length-insert_entry [] y d = omega arith
 length-insert_entry (e ∷ es) y d =
-    elim (nat_cmp y e.0) as (λ o. length (match_ordering o ((y, d) ∷ e ∷ es) ((e.0, d) ∷ es) (e ∷ insert_entry nat_cmp es y d)) ≤ suc (suc (length es))) [
+    elim (nat_cmp y e.0) as (λ o. length (match_ordering o ((y, d) ∷ e ∷ es) ((e.0, d) ∷ es)
+    (e ∷ insert_entry nat_cmp es y d)) ≤ suc (suc (length es))) [
       | Less ↦ omega arith
       | Equal ↦ omega arith
       | Greater ↦ omega (arith, length-insert_entry es y d)
     ]
 
-length-remove_entry : (test : ℕ → Bool) (es : List (ℕ × ℕ)) → length (remove_entry test es) ≤ length es
+length-remove_entry : (test : ℕ → Bool) (es : List (ℕ × ℕ)) →
+    length (remove_entry test es) ≤ length es
 length-remove_entry test [] = omega arith
 length-remove_entry test (e ∷ es) =
     elim (test e.0) as (λ b. length (cond b es (e ∷ remove_entry test es)) ≤ suc (length es)) [
@@ -144,36 +208,90 @@ length-remove_entry test (e ∷ es) =
       | false ↦ omega (arith, length-remove_entry test es)
     ]
 
--- a lawful change leaves the territory within the limits
-pub still_within : (p : Profile) (limits : Limits) (e : Edit) (t : PlainTerritory) → change_refusal p limits e t ≡ None → IsWithinLimits limits t → IsWithinLimits limits (changed e t)
-still_within p limits (AddLand code name regime) t lawful few = few
-still_within p limits (AddChange code day regime) t lawful few =
-    let room = last_passed (is_off_line p day) (unsigned_abs day == 1) (starts_on t (unsigned_abs day)) (nat_lt limits.changes (length t.starts)) Refusal.DayOffLine Refusal.OpeningPeriod Refusal.ChangeExists Refusal.TooManyChanges lawful in
-    let at_most : length t.starts ≤ limits.changes = not_lt limits.changes (length t.starts) room in
-    (omega (arith, length-with_start (unsigned_abs day) regime t.starts), few.1)
-still_within p limits (AlterChange code day regime) t lawful few =
-    (omega (arith, few.0, length-map t.starts (λ s. if s.0 == unsigned_abs day then (unsigned_abs day, regime) else s)), few.1)
-still_within p limits (DropChange code day) t lawful few =
-    (omega (arith, few.0, length-filter (λ s. not (s.0 == unsigned_abs day)) t.starts), few.1)
-still_within p limits (AddException code year day) t lawful few =
-    let room = last_passed (is_off_line p day) (is_off_years p year) (is_some (exception_of t (unsigned_abs year))) (nat_le limits.exceptions (length t.exceptions)) Refusal.DayOffLine Refusal.YearOffRange Refusal.ExceptionExists Refusal.TooManyExceptions lawful in
-    let below : length t.exceptions < limits.exceptions = not_le limits.exceptions (length t.exceptions) room in
-    (few.0, omega (arith, below, length-insert_entry t.exceptions (unsigned_abs year) (unsigned_abs day)))
-still_within p limits (DropException code year) t lawful few =
-    let fewer : length (changed (DropException code year) t).exceptions ≤ length t.exceptions = length-remove_entry (λ y. unsigned_abs year == y) t.exceptions in
-    (few.0, omega (arith, few.1, fewer))
+-- a lawful change leaves the territory sound
+pub still_sound : (p : Profile) (limits : Limits) (change : Change) (t : PlainTerritory) →
+    change_refusal p limits change t ≡ None → IsSoundTerritory p limits t →
+    IsSoundTerritory p limits (territory_after change t)
+still_sound p limits (Add d regime) t lawful sound =
+    let line = first_passed (is_off_line p (pos d)) Refusal.DayOffLine _ lawful in
+    let later = first_passed (d == 1) Refusal.OpeningPeriod _ line.1 in
+    let free = first_passed (starts_on t d) Refusal.ChangeExists _ later.1 in
+    let room = first_passed (nat_lt limits.changes (length t.starts)) Refusal.TooManyChanges None
+    free.1 in
+    let within = in_line p d line.0 in
+    let at_most : length t.starts ≤ limits.changes = not_lt limits.changes (length t.starts) room.0
+    in
+    record {
+      changes = omega (arith, length-with_start d regime t.starts);
+      exceptions = sound.exceptions;
+      periods = covers-with_change p t d regime sound.periods (not_first d later.0 within.0)
+          within.1 free.0;
+    }
+still_sound p limits (Alter d regime) t lawful sound = record {
+  changes = omega (
+    arith,
+    sound.changes,
+    length-map t.starts
+        (λ s. if s.0 == d then (d, regime) else s),
+  );
+  exceptions = sound.exceptions;
+  periods = covers-with_altered p t d regime sound.periods;
+}
+still_sound p limits (Drop d) t lawful sound =
+    let line = first_passed (is_off_line p (pos d)) Refusal.DayOffLine _ lawful in
+    let later = first_passed (d == 1) Refusal.OpeningPeriod _ line.1 in
+    let within = in_line p d line.0 in
+    record {
+      changes = omega (arith, sound.changes, length-filter (λ s. not (s.0 == d)) t.starts);
+      exceptions = sound.exceptions;
+      periods = covers-without_change p t d sound.periods (not_first d later.0 within.0);
+    }
+still_sound p limits (AddException y d) t lawful sound =
+    let line = first_passed (is_off_line p (pos d)) Refusal.DayOffLine _ lawful in
+    let range = first_passed (is_off_years p (pos y)) Refusal.YearOffRange _ line.1 in
+    let free = first_passed (is_some (exception_of t y)) Refusal.ExceptionExists _ range.1 in
+    let room = first_passed (nat_le limits.exceptions (length t.exceptions))
+    Refusal.TooManyExceptions None free.1 in
+    let below : length t.exceptions < limits.exceptions = not_le limits.exceptions
+    (length t.exceptions) room.0 in
+    record {
+      changes = sound.changes;
+      exceptions = omega (arith, below, length-insert_entry t.exceptions y d);
+      periods = sound.periods;
+    }
+still_sound p limits (DropException y) t lawful sound =
+    let fewer : length (territory_after (DropException y) t).exceptions ≤ length t.exceptions =
+    length-remove_entry (λ other. y == other) t.exceptions in
+    record {
+      changes = sound.changes;
+      exceptions = omega (arith, sound.exceptions, fewer);
+      periods = sound.periods;
+    }
 
 pub with_same : (code : List ℕ) (ls : List PlainLand) → with_territory code (λ t. t) ls ≡ ls
 with_same code [] = refl
 with_same code (l ∷ ls) =
-    elim (bytes_eq code l.code) as (λ b. cond b (l ∷ ls) (l ∷ with_territory code (λ t. t) ls) ≡ l ∷ ls) [
+    elim (bytes_eq code l.code) as (λ b. cond b (l ∷ ls) (l ∷ with_territory code (λ t. t) ls) ≡ l ∷
+    ls) [
       | true ↦ refl
       | false ↦ ap (λ ks. l ∷ ks) (with_same code ls)
     ]
 
 -- the register once a territory was written under its key
-pub register-with : {K V : Type 0} (text : K → List ℕ) (name : V → List ℕ) (territory : V → PlainTerritory) (limits : Limits) (es new : List (K × V)) (now : PlainRegister) (code : List ℕ) (f : PlainTerritory → PlainTerritory) (v w : V) → record { limits = limits; lands = map (land_in text name territory) es } ≡ now → new ≡ set_value (λ k. bytes_eq code (text k)) es w → lookup (λ k. bytes_eq code (text k)) es ≡ Some v → name w ≡ name v → territory w ≡ f (territory v) → record { limits = limits; lands = map (land_in text name territory) new } ≡ record now { lands = with_territory code f now.lands }
+pub register-with : {K V : Type 0} (text : K → List ℕ) (name : V → List ℕ)
+    (territory : V → PlainTerritory) (limits : Limits) (es new : List (K × V)) (now : PlainRegister)
+    (code : List ℕ) (f : PlainTerritory → PlainTerritory) (v w : V) →
+    record { limits = limits; lands = map (land_in text name territory) es } ≡ now →
+    new ≡ set_value (λ k. bytes_eq code (text k)) es w →
+    lookup (λ k. bytes_eq code (text k)) es ≡ Some v → name w ≡ name v →
+    territory w ≡ f (territory v) → record {
+      limits = limits;
+      lands = map
+          (land_in text name territory) new;
+    } ≡ record now { lands = with_territory code f now.lands }
 register-with text name territory limits es new now code f v w is written found called land =
-    ap (λ (ls : List PlainLand). let r : PlainRegister = record { limits = limits; lands = ls } in r)
-    (ap (map (land_in text name territory)) written ∙ map-set_value text name territory code f es v w found called land)
+    ap (λ (ls : List PlainLand). let r : PlainRegister = record { limits = limits; lands = ls } in
+    r)
+    (ap (map (land_in text name territory)) written ∙ map-set_value text name territory code f es v
+    w found called land)
     ∙ ap (λ (r : PlainRegister). record r { lands = with_territory code f r.lands }) is

@@ -1,5 +1,6 @@
 -- What the register answers to a query.
-use Rattle.std.specs.Prelude.{ℕ, Bool, not, ◌&&◌, nat_le, ℤ, pos, unsigned_abs, List, [], ◌∷◌, map, find, Option, Some, None, is_some}
+use Rattle.std.specs.Prelude.{ℕ, Bool, true, false, not, ◌&&◌, nat_le, ℤ, pos, unsigned_abs, List}
+use Rattle.std.specs.Prelude.{[], ◌∷◌, map, find, Option, Some, None, is_some}
 use Rattle.osn_days.specs.Profile.{Profile}
 use Rattle.osn_days.specs.declared.calendar.Calendar.TheVariants as calendar
 use Rattle.osn_computus.specs.declared.rule.Rule.TheVariants as rule
@@ -7,6 +8,7 @@ use Rattle.osn_computus.specs.declared.letters.Letters.{Letters}
 use Rattle.osn_computus.specs.Figures.{golden_number, indiction, julian_epact, gregorian_epact}
 use Rattle.osn_computus.specs.Letters.{letters_of}
 use Rattle.osn_computus.specs.Easter.{easter_of}
+use Rattle.osn_lands.specs.declared.regime.Regime.{Regime}
 use Rattle.osn_lands.specs.declared.label.Label.{Label}
 use Rattle.osn_lands.specs.Label.{local}
 use Rattle.osn_lands.specs.Dual.{dual_text}
@@ -17,12 +19,16 @@ use Rattle.osn_lands.specs.Easters.{easters}
 use Rattle.osn_register.specs.declared.query.Query.{Query}
 use Rattle.osn_register.specs.declared.query.Query.TheVariants as queries
 use Rattle.osn_register.specs.declared.answer.Answer.{Answer}
-use Rattle.osn_register.specs.declared.answer.Answer.TheVariants.{Reading, OnDay, Easters, Figures, Lands, Periods, Refused}
+use Rattle.osn_register.specs.declared.answer.Answer.TheVariants.{Reading, OnDay, Easters, Figures}
+use Rattle.osn_register.specs.declared.answer.Answer.TheVariants.{Lands, Periods, Refused}
 use Rattle.osn_register.specs.declared.answer.Found.{Found}
 use Rattle.osn_register.specs.declared.answer.Land.{Land}
 use Rattle.osn_register.specs.declared.refusal.Refusal.{Refusal}
-use Rattle.osn_register.specs.declared.refusal.Refusal.TheVariants.{UnknownLand, DayOffLine, YearOffRange, BadDate}
-use Rattle.osn_register.specs.Plain.{PlainLand, territory_of, first_refusal, or_else, code_refusal, is_between, is_off_line, is_off_years}
+use Rattle.osn_register.specs.declared.refusal.Refusal.TheVariants.{UnknownLand, DayOffLine}
+use Rattle.osn_register.specs.declared.refusal.Refusal.TheVariants.{YearOffRange, BadDate}
+use Rattle.osn_register.specs.Refusal.{first_refusal, or_else}
+use Rattle.osn_register.specs.Plain.{PlainLand, territory_of, code_refusal, is_between, is_off_line}
+use Rattle.osn_register.specs.Plain.{is_off_years}
 
 -- why a reading is refused for its date
 abbrev pub date_refusal : Profile → ℤ → ℤ → ℤ → Option Refusal
@@ -33,11 +39,13 @@ date_refusal p year month day = first_refusal (
 
 -- why a reading is refused, if it is
 abbrev pub read_refusal : Profile → List PlainLand → List ℕ → ℤ → ℤ → ℤ → Option Refusal
-read_refusal p lands code year month day = or_else (code_refusal lands code) (date_refusal p year month day)
+read_refusal p lands code year month day =
+    or_else (code_refusal lands code) (date_refusal p year month day)
 
 -- why a query of a day is refused
 abbrev pub day_refusal : Profile → List PlainLand → List ℕ → ℤ → Option Refusal
-day_refusal p lands code day = or_else (code_refusal lands code) (first_refusal ((is_off_line p day, DayOffLine) ∷ []))
+day_refusal p lands code day =
+    or_else (code_refusal lands code) (first_refusal ((is_off_line p day, DayOffLine) ∷ []))
 
 -- why the figures of a year are refused
 abbrev pub year_refusal : Profile → ℤ → Option Refusal
@@ -56,12 +64,17 @@ query_refusal p lands (queries.YearFigures year) = year_refusal p year
 query_refusal p lands queries.Lands = None
 query_refusal p lands (queries.Periods code) = code_refusal lands code
 
--- a day as the territory names it
+-- a day as a regime names it
+abbrev pub found_under : Regime → ℕ → Found
+found_under r d = record { day = d; label = local r d; dual = dual_text r d }
+
+-- a day as the territory names it, by the regime in force on it
 abbrev pub found_on : PlainTerritory → ℕ → Found
-found_on t d = record { day = d; label = local (regime_at t d) d; dual = dual_text (regime_at t d) d }
+found_on t d = found_under (regime_at t d) d
 
 abbrev pub label_from : ℤ → ℤ → ℤ → Label
-label_from year month day = record { year = year; month = unsigned_abs month; day = unsigned_abs day }
+label_from year month day =
+    record { year = year; month = unsigned_abs month; day = unsigned_abs day }
 
 abbrev pub reading_answer : Profile → Option PlainTerritory → Label → Answer
 reading_answer p None label = Refused UnknownLand
@@ -85,7 +98,8 @@ day_answer p (Some t) d = on_day (period_on (periods_of p t) d) (found_on t d)
 -- the Easters of a year, and whether they are listed
 abbrev pub easters_answer : Profile → Option PlainTerritory → ℕ → Answer
 easters_answer p None y = Refused UnknownLand
-easters_answer p (Some t) y = Easters (map (found_on t) (easters p t y)) (is_some (exception_of t y))
+easters_answer p (Some t) y =
+    Easters (map (found_on t) (easters p t y)) (is_some (exception_of t y))
 
 -- the figures of a year with its letters and Easters, of which each year in the range has both
 abbrev pub figures_with : ℕ → Option Letters → Option Letters → Option ℕ → Option ℕ → Answer
@@ -94,7 +108,8 @@ figures_with y (Some julian) None julian_easter gregorian_easter = Refused YearO
 figures_with y (Some julian) (Some gregorian) None gregorian_easter = Refused YearOffRange
 figures_with y (Some julian) (Some gregorian) (Some julian_easter) None = Refused YearOffRange
 figures_with y (Some julian) (Some gregorian) (Some julian_easter) (Some gregorian_easter) =
-    Figures y (golden_number y) (indiction y) (julian_epact y) (gregorian_epact y) julian gregorian julian_easter gregorian_easter
+    Figures y (golden_number y) (indiction y) (julian_epact y) (gregorian_epact y)
+    julian gregorian julian_easter gregorian_easter
 
 -- the figures of a year
 abbrev pub figures_of : Profile → ℕ → Answer
@@ -120,18 +135,22 @@ read_answer p lands code year month day =
 
 abbrev pub day_in_answer : Profile → List PlainLand → List ℕ → ℤ → Answer
 day_in_answer p lands code day =
-    unless (day_refusal p lands code day) (day_answer p (territory_of code lands) (unsigned_abs day))
+    unless (day_refusal p lands code day)
+    (day_answer p (territory_of code lands) (unsigned_abs day))
 
 abbrev pub easter_answer : Profile → List PlainLand → List ℕ → ℤ → Answer
 easter_answer p lands code year =
-    unless (easter_refusal p lands code year) (easters_answer p (territory_of code lands) (unsigned_abs year))
+    unless (easter_refusal p lands code year)
+    (easters_answer p (territory_of code lands) (unsigned_abs year))
 
 abbrev pub figures_answer : Profile → ℤ → Answer
 figures_answer p year = unless (year_refusal p year) (figures_of p (unsigned_abs year))
 
 abbrev pub periods_in_answer : Profile → List PlainLand → List ℕ → Answer
-periods_in_answer p lands code = unless (code_refusal lands code) (periods_answer p (territory_of code lands))
+periods_in_answer p lands code =
+    unless (code_refusal lands code) (periods_answer p (territory_of code lands))
 
+-- what is answered to a query
 abbrev pub answer : Profile → List PlainLand → Query → Answer
 answer p lands (queries.Read code year month day) = read_answer p lands code year month day
 answer p lands (queries.DayIn code day) = day_in_answer p lands code day
@@ -139,3 +158,16 @@ answer p lands (queries.Easter code year) = easter_answer p lands code year
 answer p lands (queries.YearFigures year) = figures_answer p year
 answer p lands queries.Lands = Lands (map listed lands)
 answer p lands (queries.Periods code) = periods_in_answer p lands code
+
+-- the refusal that an answer is, if it is one
+abbrev pub refusal_in : Answer → Option Refusal
+refusal_in (Refused f) = Some f
+refusal_in answer = None
+
+-- whether an answer takes memory: a refusal, the figures of a year and an empty list of territories
+-- take none
+abbrev pub takes_memory : Answer → Bool
+takes_memory (Refused f) = false
+takes_memory (Figures y golden cycle julian gregorian letters others easter other) = false
+takes_memory (Lands []) = false
+takes_memory answer = true

@@ -5,8 +5,10 @@ use Rattle.osn_register.specs.declared.register.Register.TheInside.{Inside}
 use Rattle.osn_register.specs.Plain.{PlainLand, PlainRegister}
 
 -- the territory that is kept under a key
-abbrev pub land_in : {K V : Type 0} → (K → List ℕ) → (V → List ℕ) → (V → PlainTerritory) → K × V → PlainLand
-land_in text name territory e = record { code = text e.0; name = name e.1; territory = territory e.1 }
+abbrev pub land_in : {K V : Type 0}
+    → (K → List ℕ) → (V → List ℕ) → (V → PlainTerritory) → K × V → PlainLand
+land_in text name territory e =
+    record { code = text e.0; name = name e.1; territory = territory e.1 }
 
 abbrev pub register_in : Inside → PlainRegister
 register_in r = record {

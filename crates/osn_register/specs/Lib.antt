@@ -1,6 +1,9 @@
 pub mod Limits
 pub mod Refusal
 pub mod Code
+pub mod Query
 pub mod Plain
 pub mod Answer
 pub mod Inside
+pub mod InsideChange
+pub mod InsideQuery

@@ -1,16 +1,29 @@
--- The plain register: territories in the order in which they were added, which edits are lawful, and what they do.
--- The rules are this project's profile.
-use Rattle.std.specs.Prelude.{ℕ, ◌≡◌, ◌≤◌, ◌+◌, Bool, true, false, not, ◌&&◌, ◌==◌, nat_le, nat_lt, if◌then◌else◌, ℤ, pos, int_le, unsigned_abs, List, [], ◌∷◌, ◌++◌, length, fold, find, Option, Some, None, is_some, is_none, option_map}
+-- The plain register: territories in the order in which they were added, which edits are lawful,
+-- and what they do. The rules are this project's profile.
+use Rattle.std.specs.Prelude.{ℕ, ◌≡◌, ◌≤◌, ◌+◌, Bool, true, false, not, ◌&&◌, ◌||◌, ◌==◌, nat_le}
+use Rattle.std.specs.Prelude.{nat_lt, if◌then◌else◌, ℤ, pos, int_le, unsigned_abs, List, [], ◌∷◌}
+use Rattle.std.specs.Prelude.{◌++◌, length, fold, find, Option, Some, None, is_some, is_none}
+use Rattle.std.specs.Prelude.{option_map}
 use Rattle.std.specs.Str.{bytes_eq}
 use Rattle.osn_days.specs.Profile.{Profile}
-use Rattle.osn_lands.specs.Territory.{PlainTerritory, opened}
+use Rattle.osn_lands.specs.Territory.{PlainTerritory, opened, periods_of, CoversLine}
 use Rattle.osn_lands.specs.Changes.{starts_on, with_change, with_altered, without_change}
 use Rattle.osn_lands.specs.Exceptions.{exception_of, with_exception, without_exception}
 use Rattle.osn_register.specs.declared.limits.Limits.{Limits}
 use Rattle.osn_register.specs.declared.edit.Edit.{Edit}
-use Rattle.osn_register.specs.declared.edit.Edit.TheVariants.{AddLand, AddChange, AlterChange, DropChange, AddException, DropException}
+use Rattle.osn_register.specs.declared.edit.Edit.TheVariants.{AddLand, AddChange, AlterChange}
+use Rattle.osn_register.specs.declared.edit.Edit.TheVariants.{DropChange, AddException}
+use Rattle.osn_register.specs.declared.edit.Edit.TheVariants.{DropException}
 use Rattle.osn_register.specs.declared.refusal.Refusal.{Refusal}
-use Rattle.osn_register.specs.declared.refusal.Refusal.TheVariants.{BadCode, BadName, UnknownLand, LandExists, DayOffLine, ChangeExists, NoSuchChange, OpeningPeriod, YearOffRange, ExceptionExists, NoSuchException, TooManyLands, TooManyChanges, TooManyExceptions}
+use Rattle.osn_register.specs.declared.refusal.Refusal.TheVariants.{BadCode, BadName, UnknownLand}
+use Rattle.osn_register.specs.declared.refusal.Refusal.TheVariants.{LandExists, DayOffLine}
+use Rattle.osn_register.specs.declared.refusal.Refusal.TheVariants.{ChangeExists, NoSuchChange}
+use Rattle.osn_register.specs.declared.refusal.Refusal.TheVariants.{OpeningPeriod, YearOffRange}
+use Rattle.osn_register.specs.declared.refusal.Refusal.TheVariants.{ExceptionExists}
+use Rattle.osn_register.specs.declared.refusal.Refusal.TheVariants.{NoSuchException, TooManyLands}
+use Rattle.osn_register.specs.declared.refusal.Refusal.TheVariants.{TooManyChanges}
+use Rattle.osn_register.specs.declared.refusal.Refusal.TheVariants.{TooManyExceptions}
+use Rattle.osn_register.specs.Refusal.{first_refusal, or_else}
 use Rattle.osn_register.specs.Code.{is_code, is_name}
 
 -- a territory with its code and name
@@ -31,15 +44,6 @@ land_of code lands = find (λ l. bytes_eq code l.code) lands
 abbrev pub territory_of : List ℕ → List PlainLand → Option PlainTerritory
 territory_of code lands = option_map (λ l. l.territory) (land_of code lands)
 
--- of tests with what each would refuse by, the first that applies
-abbrev pub first_refusal : List (Bool × Refusal) → Option Refusal
-first_refusal [] = None
-first_refusal (t ∷ ts) = if t.0 then Some t.1 else first_refusal ts
-
-abbrev pub or_else : Option Refusal → Option Refusal → Option Refusal
-or_else None second = second
-or_else (Some f) second = Some f
-
 abbrev pub is_between : ℤ → ℤ → ℤ → Bool
 is_between low high n = int_le low n && int_le n high
 
@@ -53,7 +57,8 @@ add_land_refusal limits lands code name = first_refusal (
 
 -- why an edit or a query of a territory is refused for its code
 abbrev pub code_refusal : List PlainLand → List ℕ → Option Refusal
-code_refusal lands code = first_refusal ((not (is_code code), BadCode) ∷ (is_none (land_of code lands), UnknownLand) ∷ [])
+code_refusal lands code =
+    first_refusal ((not (is_code code), BadCode) ∷ (is_none (land_of code lands), UnknownLand) ∷ [])
 
 abbrev pub is_off_line : Profile → ℤ → Bool
 is_off_line p day = not (is_between (pos 1) (pos p.high) day)
@@ -97,31 +102,27 @@ drop_exception_refusal p year t = first_refusal (
     ∷ (is_none (exception_of t (unsigned_abs year)), NoSuchException)
     ∷ [])
 
--- why an edit of a territory is refused by what the territory holds
-abbrev pub change_refusal : Profile → Limits → Edit → PlainTerritory → Option Refusal
-change_refusal p limits (AddLand code name regime) t = None
-change_refusal p limits (AddChange code day regime) t = add_change_refusal p limits day t
-change_refusal p limits (AlterChange code day regime) t = alter_change_refusal p day t
-change_refusal p limits (DropChange code day) t = drop_change_refusal p day t
-change_refusal p limits (AddException code year day) t = add_exception_refusal p limits year day t
-change_refusal p limits (DropException code year) t = drop_exception_refusal p year t
-
 abbrev pub inside : (PlainTerritory → Option Refusal) → Option PlainTerritory → Option Refusal
 inside refused None = None
 inside refused (Some t) = refused t
 
 -- for its code, and else by what the territory of the code holds
 abbrev pub refusal_in : List PlainLand → List ℕ → (PlainTerritory → Option Refusal) → Option Refusal
-refusal_in lands code refused = or_else (code_refusal lands code) (inside refused (territory_of code lands))
+refusal_in lands code refused =
+    or_else (code_refusal lands code) (inside refused (territory_of code lands))
 
 -- why an edit is refused, if it is
 abbrev pub refusal : Profile → Limits → List PlainLand → Edit → Option Refusal
 refusal p limits lands (AddLand code name regime) = add_land_refusal limits lands code name
-refusal p limits lands (AddChange code day regime) = refusal_in lands code (change_refusal p limits (AddChange code day regime))
-refusal p limits lands (AlterChange code day regime) = refusal_in lands code (change_refusal p limits (AlterChange code day regime))
-refusal p limits lands (DropChange code day) = refusal_in lands code (change_refusal p limits (DropChange code day))
-refusal p limits lands (AddException code year day) = refusal_in lands code (change_refusal p limits (AddException code year day))
-refusal p limits lands (DropException code year) = refusal_in lands code (change_refusal p limits (DropException code year))
+refusal p limits lands (AddChange code day regime) =
+    refusal_in lands code (add_change_refusal p limits day)
+refusal p limits lands (AlterChange code day regime) =
+    refusal_in lands code (alter_change_refusal p day)
+refusal p limits lands (DropChange code day) = refusal_in lands code (drop_change_refusal p day)
+refusal p limits lands (AddException code year day) =
+    refusal_in lands code (add_exception_refusal p limits year day)
+refusal p limits lands (DropException code year) =
+    refusal_in lands code (drop_exception_refusal p year)
 
 -- only what adds a territory, a change or an exception takes memory
 abbrev pub takes_memory : Edit → Bool
@@ -132,31 +133,32 @@ takes_memory (DropChange code day) = false
 takes_memory (AddException code year day) = true
 takes_memory (DropException code year) = false
 
--- the territory of a lawful edit, after it
-abbrev pub changed : Edit → PlainTerritory → PlainTerritory
-changed (AddLand code name regime) t = t
-changed (AddChange code day regime) t = with_change t (unsigned_abs day) regime
-changed (AlterChange code day regime) t = with_altered t (unsigned_abs day) regime
-changed (DropChange code day) t = without_change t (unsigned_abs day)
-changed (AddException code year day) t = with_exception t (unsigned_abs year) (unsigned_abs day)
-changed (DropException code year) t = without_exception t (unsigned_abs year)
-
 -- the territories, with a change of the one that has the code
-abbrev pub with_territory : List ℕ → (PlainTerritory → PlainTerritory) → List PlainLand → List PlainLand
+abbrev pub with_territory : List ℕ
+    → (PlainTerritory → PlainTerritory) → List PlainLand → List PlainLand
 with_territory code change [] = []
 with_territory code change (l ∷ ls) =
     if bytes_eq code l.code then record l { territory = change l.territory } ∷ ls
     else l ∷ with_territory code change ls
 
+-- the territories, with one more
+abbrev pub with_land : List PlainLand → List ℕ → List ℕ → PlainTerritory → List PlainLand
+with_land lands code name territory =
+    lands ++ record { code = code; name = name; territory = territory } ∷ []
+
 -- the territories after a lawful edit
 abbrev pub effect : List PlainLand → Edit → List PlainLand
-effect lands (AddLand code name regime) =
-    lands ++ record { code = code; name = name; territory = opened regime } ∷ []
-effect lands (AddChange code day regime) = with_territory code (changed (AddChange code day regime)) lands
-effect lands (AlterChange code day regime) = with_territory code (changed (AlterChange code day regime)) lands
-effect lands (DropChange code day) = with_territory code (changed (DropChange code day)) lands
-effect lands (AddException code year day) = with_territory code (changed (AddException code year day)) lands
-effect lands (DropException code year) = with_territory code (changed (DropException code year)) lands
+effect lands (AddLand code name regime) = with_land lands code name (opened regime)
+effect lands (AddChange code day regime) =
+    with_territory code (λ t. with_change t (unsigned_abs day) regime) lands
+effect lands (AlterChange code day regime) =
+    with_territory code (λ t. with_altered t (unsigned_abs day) regime) lands
+effect lands (DropChange code day) =
+    with_territory code (λ t. without_change t (unsigned_abs day)) lands
+effect lands (AddException code year day) =
+    with_territory code (λ t. with_exception t (unsigned_abs year) (unsigned_abs day)) lands
+effect lands (DropException code year) =
+    with_territory code (λ t. without_exception t (unsigned_abs year)) lands
 
 abbrev pub unless_refused : Option Refusal → List PlainLand → List PlainLand → List PlainLand
 unless_refused None new old = new
@@ -174,27 +176,35 @@ applied_all p limits lands es = fold (applied p limits) lands es
 abbrev pub folded : Profile → Limits → List Edit → PlainRegister
 folded p limits es = record { limits = limits; lands = applied_all p limits [] es }
 
+-- whether applying an edit takes memory: a lawful one that adds
+abbrev pub apply_takes_memory : Profile → Limits → List PlainLand → Edit → Bool
+apply_takes_memory p limits lands e = is_none (refusal p limits lands e) && takes_memory e
+
+-- whether applying edits in turn takes memory
+abbrev pub fold_takes_memory : Profile → Limits → List PlainLand → List Edit → Bool
+fold_takes_memory p limits lands [] = false
+fold_takes_memory p limits lands (e ∷ es) =
+    apply_takes_memory p limits lands e || fold_takes_memory p limits (applied p limits lands e) es
+
 -- no two territories have one code
 abbrev pub AreDistinct : List PlainLand → Type 0
 AreDistinct [] = Unit {0}
 AreDistinct (l ∷ ls) = (land_of l.code ls ≡ None) × AreDistinct ls
 
--- a territory has at most one period more than its changes
-abbrev pub HasFewChanges : Limits → PlainTerritory → Type 0
-HasFewChanges limits t = length t.starts ≤ limits.changes + 1
+-- what holds of every territory of a register
+pub record IsSoundTerritory (p : Profile) (limits : Limits) (t : PlainTerritory) : Type 0 where
+  -- it has one period more than changes
+  pub changes : length t.starts ≤ limits.changes + 1
+  pub exceptions : length t.exceptions ≤ limits.exceptions
+  pub periods : CoversLine p (periods_of p t)
 
-abbrev pub HasFewExceptions : Limits → PlainTerritory → Type 0
-HasFewExceptions limits t = length t.exceptions ≤ limits.exceptions
+abbrev pub AreSound : Profile → Limits → List PlainLand → Type 0
+AreSound p limits [] = Unit {0}
+AreSound p limits (l ∷ ls) = IsSoundTerritory p limits l.territory × AreSound p limits ls
 
-abbrev pub IsWithinLimits : Limits → PlainTerritory → Type 0
-IsWithinLimits limits t = HasFewChanges limits t × HasFewExceptions limits t
-
-abbrev pub AreWithinLimits : Limits → List PlainLand → Type 0
-AreWithinLimits limits [] = Unit {0}
-AreWithinLimits limits (l ∷ ls) = IsWithinLimits limits l.territory × AreWithinLimits limits ls
-
--- codes are distinct, and the territories, their changes and their exceptions within their limits
-pub record IsWellFormed (r : PlainRegister) : Type 0 where
+-- codes are distinct; the territories, their changes and their exceptions are within their limits;
+-- and the periods of each territory cover the line
+pub record IsWellFormed (p : Profile) (r : PlainRegister) : Type 0 where
   pub distinct : AreDistinct r.lands
   pub within : length r.lands ≤ r.limits.lands
-  pub territories : AreWithinLimits r.limits r.lands
+  pub territories : AreSound p r.limits r.lands

@@ -1,7 +1,18 @@
--- The refusals by number and name: this project's profile.
-use Rattle.std.specs.Prelude.{ℕ, List, codes}
+-- The refusals by number and name, and how a call answers them: this project's profile.
+use Rattle.std.specs.Prelude.{◌≡◌, ℕ, Bool, ◌⊎◌, if◌then◌else◌, List, [], ◌∷◌, codes, Option, Some}
+use Rattle.std.specs.Prelude.{None, Result, MatchResult}
 use Rattle.osn_register.specs.declared.refusal.Refusal.{Refusal}
-use Rattle.osn_register.specs.declared.refusal.Refusal.TheVariants.{BadCode, BadName, UnknownLand, LandExists, DayOffLine, ChangeExists, NoSuchChange, OpeningPeriod, YearOffRange, ExceptionExists, NoSuchException, TooManyLands, TooManyChanges, TooManyExceptions, NothingPending, JournalFull, EditionsFull, BadDate, NoMemory, BadCount}
+use Rattle.osn_register.specs.declared.refusal.Refusal.TheVariants.{BadCode, BadName, UnknownLand}
+use Rattle.osn_register.specs.declared.refusal.Refusal.TheVariants.{LandExists, DayOffLine}
+use Rattle.osn_register.specs.declared.refusal.Refusal.TheVariants.{ChangeExists, NoSuchChange}
+use Rattle.osn_register.specs.declared.refusal.Refusal.TheVariants.{OpeningPeriod, YearOffRange}
+use Rattle.osn_register.specs.declared.refusal.Refusal.TheVariants.{ExceptionExists}
+use Rattle.osn_register.specs.declared.refusal.Refusal.TheVariants.{NoSuchException, TooManyLands}
+use Rattle.osn_register.specs.declared.refusal.Refusal.TheVariants.{TooManyChanges}
+use Rattle.osn_register.specs.declared.refusal.Refusal.TheVariants.{TooManyExceptions}
+use Rattle.osn_register.specs.declared.refusal.Refusal.TheVariants.{NothingPending, JournalFull}
+use Rattle.osn_register.specs.declared.refusal.Refusal.TheVariants.{EditionsFull, BadDate, NoMemory}
+use Rattle.osn_register.specs.declared.refusal.Refusal.TheVariants.{BadCount}
 
 abbrev pub refusal_number : Refusal → ℕ
 refusal_number BadCode = 1
@@ -46,3 +57,20 @@ refusal_name EditionsFull = codes "EditionsFull"
 refusal_name BadDate = codes "BadDate"
 refusal_name NoMemory = codes "NoMemory"
 refusal_name BadCount = codes "BadCount"
+
+-- of tests with what each would refuse by, the first that applies
+abbrev pub first_refusal : List (Bool × Refusal) → Option Refusal
+first_refusal [] = None
+first_refusal (t ∷ ts) = if t.0 then Some t.1 else first_refusal ts
+
+abbrev pub or_else : Option Refusal → Option Refusal → Option Refusal
+or_else None second = second
+or_else (Some f) second = Some f
+
+-- the call is a test: it passes where nothing refuses, and else answers what refuses
+abbrev pub IsTestOf : {T : Type 0} → Option Refusal → Result T Refusal → Type 0
+IsTestOf refused result = MatchResult result (λ _. refused ≡ None) (λ f. refused ≡ Some f)
+
+-- what refuses, or want of memory where nothing does
+abbrev pub IsRefusalOrNoMemory : Option Refusal → Refusal → Type 0
+IsRefusalOrNoMemory refused f = (refused ≡ Some f) ⊎ ((f ≡ NoMemory) × (refused ≡ None))

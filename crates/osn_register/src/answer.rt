@@ -47,8 +47,8 @@ pub enum Answer {
         found: FoundList,
         listed: bool,
     },
-    /// The figures of a year, its Sunday letters in both calendars and its Easters by both rules. The golden number is
-    /// from 1 to 19, the indiction from 1 to 15, an epact from 0 to 29.
+    /// The figures of a year, its Sunday letters in both calendars and its Easters by both rules.
+    /// The golden number is from 1 to 19, the indiction from 1 to 15, an epact from 0 to 29.
     Figures {
         year: Year,
         golden: u8,

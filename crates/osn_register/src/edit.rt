@@ -30,7 +30,8 @@ pub enum Edit {
         code: Text,
         day: i64,
     },
-    /// Lists a day as the Easter of a year from 1 to 2999, in place of the rule's. It may be any day of the line.
+    /// Lists a day as the Easter of a year from 1 to 2999, in place of the rule's. It may be any
+    /// day of the line.
     AddException {
         code: Text,
         year: i64,
@@ -45,6 +46,10 @@ pub enum Edit {
 
 impl Edit {
     /// An edit equal to this one.
+    ///
+    /// # Errors
+    ///
+    /// Only where no memory is found.
     pub fn copy(&self) -> Result<Edit, AllocError>
         ensures { IfOk result (λ e. e ≡ self.now) }
     {

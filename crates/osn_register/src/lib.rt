@@ -1,35 +1,24 @@
-//! The register of territories: edits with their refusals, queries with their answers. What the crate
-//! promises to those above: `apply` is the edit's effect on a plain list of territories, a refusal is the
-//! first that applies and changes nothing, and `answer` is the definition's answer.
+//! The register of territories: edits with their refusals, queries with their answers. What the
+//! crate promises to those above: `check` is the first refusal that applies, `apply` the edit's
+//! effect on a plain list of territories, a refusal changes nothing, and `answer` is the
+//! definition's answer, a refusal exactly where the definition refuses.
 #![tactic(auto)]
 
 mod answer;
-mod answers;
-#[cfg(test)]
-mod change_tests;
-mod changes;
+mod change;
 mod code;
 mod edit;
-#[cfg(test)]
-mod exception_tests;
-mod exceptions;
-#[cfg(test)]
-mod figure_tests;
+mod edit_checks;
 mod figures;
 mod limits;
 mod listing;
-#[cfg(test)]
-mod opening_tests;
 mod query;
+mod range;
 mod refusal;
 mod register;
-#[cfg(test)]
-mod samples;
-#[cfg(test)]
-mod style_tests;
-#[cfg(test)]
-mod tests;
+mod territory_answer;
 mod text;
+mod unanswered;
 
 pub use answer::{Answer, Found, FoundList, Land, LandList, PeriodList};
 pub use edit::Edit;

@@ -1,4 +1,5 @@
-ghost use Rattle.std.specs.Prelude.{◌≡◌, IfOk};
+ghost use Rattle.std.specs.Prelude.{◌≡◌, true, IfOk, OnErr};
+ghost use Rattle.osn_register.specs.Query.{names_land};
 
 use crate::text::Text;
 use std::alloc::AllocError;
@@ -6,8 +7,8 @@ use std::alloc::AllocError;
 /// A question to the register.
 #[derive(Debug, Drop)]
 pub enum Query {
-    /// Which days a date names in a territory: the year as its documents count it, 0 to 3000, a month from
-    /// 1 to 12 and a day from 1 to 31.
+    /// Which days a date names in a territory: the year as its documents count it, 0 to 3000, a
+    /// month from 1 to 12 and a day from 1 to 31.
     Read {
         code: Text,
         year: i64,
@@ -38,8 +39,13 @@ pub enum Query {
 
 impl Query {
     /// A query equal to this one.
+    ///
+    /// # Errors
+    ///
+    /// Only where no memory is found, of which a query that names no territory takes none.
     pub fn copy(&self) -> Result<Query, AllocError>
-        ensures { IfOk result (λ q. q ≡ self.now) }
+        ensures value { IfOk result (λ q. q ≡ self.now) }
+        ensures memory { OnErr result (names_land self.now ≡ true) }
     {
         match self {
             Query::Read {

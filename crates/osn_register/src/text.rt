@@ -1,4 +1,4 @@
-ghost use Rattle.std.specs.Prelude.{◌≡◌, string_bytes, IfOk};
+ghost use Rattle.std.specs.Prelude.{◌≡◌, string_bytes, IfOk, IsUtf8};
 
 use std::alloc::{AllocError, Global};
 use std::marker::Model;
@@ -10,11 +10,13 @@ pub struct Text {
 }
 
 impl Model for Text {
-    ghost use Rattle.std.specs.Prelude.{List, ℕ, string_bytes};
+    ghost use Rattle.std.specs.Prelude.{List, ℕ, string_bytes, IsUtf8};
 
     ghost Value = { List ℕ };
 
     ghost view = { λ t. string_bytes t.text };
+
+    ghost invariant = { λ t. IsUtf8 (string_bytes t.text) };
 }
 
 impl Text {
@@ -26,6 +28,10 @@ impl Text {
     }
 
     /// A text of the same bytes.
+    ///
+    /// # Errors
+    ///
+    /// Only where no memory is found.
     pub fn from_str(alloc: Global, text: &str) -> Result<Text, AllocError>
         ensures { IfOk result (λ t. t ≡ text.now) }
     {
@@ -36,7 +42,8 @@ impl Text {
 
     /// The text, to read.
     pub fn as_str(&self) -> &str
-        ensures { result.now ≡ self.now }
+        ensures value { result.now ≡ self.now }
+        ensures utf8 { IsUtf8 self.now }
     {
         self.text.as_str()
     }
@@ -49,6 +56,10 @@ impl Text {
     }
 
     /// A text equal to this one.
+    ///
+    /// # Errors
+    ///
+    /// Only where no memory is found.
     pub fn copy(&self) -> Result<Text, AllocError>
         ensures { IfOk result (λ t. t ≡ self.now) }
     {

@@ -1,9 +1,9 @@
-pub mod ByteLemmas
-pub mod InputLemmas
-pub mod LineLemmas
-pub mod ReplyLemmas
-pub mod ServeLemmas
+pub mod WriteLemmas
 pub mod WeekdayFacts
-pub mod NoFloat
 pub mod Padded
-pub mod ServedLemmas
+pub mod FrontLemmas
+pub mod WaitLemmas
+pub mod PartLemmas
+pub mod ServeLemmas
+pub mod StopLemmas
+pub mod ClauseLemmas

@@ -1,156 +1,233 @@
--- How what is served goes on behind what was served.
-use Rattle.std.proofs.Common.{◌≡◌, ◌≤◌, ℕ, ◌+◌, List, [], ◌++◌, Option, length, take, refl, sym, ap, subst, ◌∙◌, append_assoc, append-nil, length-append, fold, arith}
-use Rattle.std.proofs.lemmas.List.{take_at}
-use Rattle.std.proofs.Math.Seq.{take-append-add}
-use Rattle.std.proofs.lemmas.List.Sums.{fold-append}
+-- How a session goes on.
+use Rattle.std.proofs.Common.{◌≡◌, ◌≤◌, ◌+◌, ℕ, Bool, List, [], ◌∷◌, ◌++◌, Option, Some, None, Result, Err, IfErr, length, take, fold, IfSome, refl, sym, ap, subst, ◌∙◌, length-append, arith, ⊎_elim, inl, inr}
+use Rattle.std.proofs.lemmas.List.{take_all}
 use Rattle.std.specs.Io.KnownBytes.{Appends}
-use Rattle.std.specs.Prelude.{⊤}
-use Rattle.osn_wire.specs.Lines.{lines, IsKept}
-use Rattle.osn_wire.specs.Replies.{replies, Answers, IsAnswered, Serves, ServesFirst, ServesInPart, ServesSome, IsServed, IsServedInPart}
-use Rattle.osn_wire.proofs.ByteLemmas.{Appends-nothing, Appends-then}
-use Rattle.osn_wire.proofs.LineLemmas.{Cuts-nothing, Cuts-then}
-use Rattle.osn_wire.proofs.ReplyLemmas.{replies-append}
+use Rattle.osn_days.specs.Profile.{present}
+use Rattle.osn_core.specs.Sequential.{ObjectState}
+use Rattle.osn_lines.specs.Lines.{lines, front_of}
+use Rattle.osn_lines.specs.Taking.{TakesAll, TakesFirst, StopsAfter}
+use Rattle.osn_lines.proofs.InputLemmas.{if_err_at}
+use Rattle.osn_wire.specs.declared.session.Session.{Session}
+use Rattle.osn_wire.specs.declared.fault.ServeFault.{ServeFault}
+use Rattle.osn_wire.specs.declared.fault.ServeFault.TheVariants.{NoMemory as FaultNoMemory, ReadFault, WriteFault}
+use Rattle.osn_wire.specs.declared.stop.Stop.{Stop}
+use Rattle.osn_wire.specs.declared.stop.Stop.TheVariants.{NoMemory, WriteFailed}
+use Rattle.osn_wire.specs.declared.stop.Unfinished.{Unfinished}
+use Rattle.osn_wire.specs.Faults.{MatchFault}
+use Rattle.osn_wire.specs.declared.waiting.Waiting.{Waiting}
+use Rattle.osn_wire.specs.Served.{line_text, outputs}
+use Rattle.osn_wire.specs.ServiceInside.{Writes, WritesSome, Adds, Settles, FailsAt, InPart}
+use Rattle.osn_wire.specs.Session.{line_after}
+use Rattle.osn_wire.specs.SessionInside.{IsSame, Serving, Failing, StopsServing, AnswersAll, AnswersFirst, AnswersInPart}
+use Rattle.osn_wire.proofs.FrontLemmas.{line_text_of_front, line_after_front}
+use Rattle.osn_wire.proofs.PartLemmas.{PartOf-from}
+use Rattle.osn_wire.proofs.WaitLemmas.{length-ends, Waits-nothing, Waits-add, Waits-all, Waits-settle, Waits-written}
 
-pub Serves-nothing : {S : Type 0} (text : S → List ℕ → List ℕ) (after : S → List ℕ → S) (s : S) (a : Option (List ℕ)) → Serves text after s s a a []
-Serves-nothing text after s a = record { written = Appends-nothing a; reached = refl }
+-- a failed write of what waits is one of the replies
+pub FailsAt-all : (old mid new : Bool) (some all : List ℕ) → mid ≡ old → length some ≤ length all → FailsAt mid new some → FailsAt old new all
+FailsAt-all old mid new some all same le h =
+    ⊎_elim (λ k. inl k) (λ k. inr (k.0 ∙ same, omega (arith, k.1))) h
 
-pub Serves-then : {S : Type 0} (text : S → List ℕ → List ℕ) (after : S → List ℕ → S) (s t u : S) (a b c : Option (List ℕ)) (xs ys : List (List ℕ)) → Serves text after s t a b xs → Serves text after t u b c ys → Serves text after s u a c (xs ++ ys)
-Serves-then text after s t u a b c xs ys h k = record {
-  written =
-      subst (Appends a c)
-      (ap (λ v. replies text after s xs ++ replies text after v ys) h.reached ∙ sym (replies-append text after s xs ys))
-      (Appends-then a b c (replies text after s xs) (replies text after t ys) h.written k.written);
-  reached = k.reached ∙ (ap (λ v. fold after v ys) h.reached ∙ sym (fold-append after s xs ys));
+-- one session is another with its references kept
+pub IsSame-then : {W : Type 0} (begun s t : Session W) → IsSame begun s → IsSame s t → IsSame begun t
+IsSame-then begun s t h k = record {
+  readers = k.readers ∙ h.readers;
+  object = k.object ∙ h.object;
+  sink = k.sink ∙ h.sink;
 }
 
--- what was answered was written whole
-pub IsServed-from_answered : {S : Type 0} (text : S → List ℕ → List ℕ) (after : S → List ℕ → S) (s t : S) (old new bytes : List ℕ) (a b : Option (List ℕ)) (n m : ℕ) (Left : List ℕ → Type 0) → old ≡ [] → IsAnswered text after s t old new bytes n m Left → Appends a b new → IsServed text after s t a b bytes n m Left
-IsServed-from_answered text after s t old new bytes a b n m Left empty h w = record {
-  done = h.done;
-  left = h.left;
-  cuts = h.cuts;
-  serves = record { written = subst (Appends a b) (h.answers.written ∙ ap (λ l. l ++ replies text after s h.done) empty) w; reached = h.answers.reached };
+-- nothing was written, or all that waited, and then again
+pub Serving-settle : {W : Type 0} (contents : W → Option (List ℕ)) (has_failed : W → Bool) (begun s t : Session W) (lines : List (List ℕ)) (mid : Option (List ℕ)) (w : Waiting) → Serving contents has_failed begun lines s → IsSame s t → t.object.now ≡ s.object.now → Settles (contents s.sink.now) mid s.waiting.now w → Settles mid (contents t.sink.now) w t.waiting.now → has_failed t.sink.now ≡ has_failed s.sink.now → Serving contents has_failed begun lines t
+Serving-settle contents has_failed begun s t lines mid w h lent same settled again sound =
+    let text = line_text present begun.readers in
+    let after = line_after present begun.readers in
+    let first = Waits-settle text after begun.object.now s.object.now s.object.now lines _ _ mid s.waiting.now w h.waits settled refl in
+    record {
+      same = IsSame-then begun s t h.same lent;
+      waits = Waits-settle text after begun.object.now s.object.now t.object.now lines _ mid _ w t.waiting.now first again same;
+      sound = sound ∙ h.sound;
+    }
+
+-- a line was answered, behind what was settled
+pub Serving-add : {W : Type 0} (contents : W → Option (List ℕ)) (has_failed : W → Bool) (begun s t : Session W) (before : List (List ℕ)) (given whole : List ℕ) (mid : Option (List ℕ)) (w : Waiting) → Serving contents has_failed begun before s → IsSame s t → Settles (contents s.sink.now) mid s.waiting.now w → Adds s.object.now t.object.now (line_text present s.readers s.object.now given) mid (contents t.sink.now) w t.waiting.now → t.object.now ≡ line_after present s.readers s.object.now given → given ≡ front_of whole → has_failed t.sink.now ≡ has_failed s.sink.now → Serving contents has_failed begun (before ++ whole ∷ []) t
+Serving-add contents has_failed begun s t before given whole mid w h lent settled adds e front sound =
+    let readers = begun.readers in
+    let text = line_text present readers in
+    let after = line_after present readers in
+    let now = s.object.now in
+    let first = Waits-settle text after begun.object.now now now before _ _ mid s.waiting.now w h.waits settled refl in
+    let reply : line_text present s.readers now given ≡ text now whole =
+    ap (λ r. line_text present r now given) h.same.readers ∙ line_text_of_front readers now given whole front in
+    let stands : line_after present s.readers now given ≡ after now whole =
+    ap (λ r. line_after present r now given) h.same.readers ∙ line_after_front readers now given whole front in
+    record {
+      same = IsSame-then begun s t h.same lent;
+      waits = Waits-add text after begun.object.now now t.object.now _ before whole _ mid _ w t.waiting.now first adds reply (e ∙ stands);
+      sound = sound ∙ h.sound;
+    }
+
+-- a write failed, behind what was settled
+pub Failing-from : {W : Type 0} (contents : W → Option (List ℕ)) (has_failed : W → Bool) (begun s t : Session W) (lines : List (List ℕ)) (unwritten : ℕ) (mid : Option (List ℕ)) (failed : Bool) (w : Waiting) → Serving contents has_failed begun lines s → IsSame s t → t.object.now ≡ s.object.now → Settles (contents s.sink.now) mid s.waiting.now w → failed ≡ has_failed s.sink.now → WritesSome mid (contents t.sink.now) w unwritten → FailsAt failed (has_failed t.sink.now) w.text.items → Failing contents has_failed begun lines t unwritten
+Failing-from contents has_failed begun s t lines unwritten mid failed w h lent same settled sound some reason =
+    let text = line_text present begun.readers in
+    let after = line_after present begun.readers in
+    let old = contents begun.sink.now in
+    let new = contents t.sink.now in
+    let now = s.object.now in
+    let first = Waits-settle text after begun.object.now now now lines _ _ mid s.waiting.now w h.waits settled refl in
+    let part = PartOf-from text after begun.object.now now lines old mid new w unwritten first some in
+    let all = Waits-all text after begun.object.now now lines old mid w first in
+    let size = length-append (outputs present begun.readers begun.object.now first.done) w.text.items in
+    record {
+      whole = part.n;
+      count = part.count;
+      same = IsSame-then begun s t h.same lent;
+      part =
+          subst (λ (v : ObjectState). InPart text after begun.object.now v lines old new part.n) (sym same) part.part;
+      reason = FailsAt-all _ _ _ _ _ (sound ∙ h.sound) (omega (arith, ap length all, size)) reason;
+    }
+
+-- nothing is answered yet
+pub Serving-nothing : {W : Type 0} (contents : W → Option (List ℕ)) (has_failed : W → Bool) (s : Session W) → s.waiting.now.text.items ≡ [] → s.waiting.now.ends.items ≡ [] → Serving contents has_failed s [] s
+Serving-nothing contents has_failed s text ends = record {
+  same = record { readers = refl; object = refl; sink = refl };
+  waits = Waits-nothing _ _ s.object.now (contents s.sink.now) s.waiting.now text ends;
+  sound = refl;
+}
+
+-- no more replies wait than lines were taken
+pub Serving-few : {W : Type 0} (contents : W → Option (List ℕ)) (has_failed : W → Bool) (begun s : Session W) (lines : List (List ℕ)) → Serving contents has_failed begun lines s → length s.waiting.now.ends.items ≤ length lines
+Serving-few contents has_failed begun s lines h =
+    let w = h.waits in
+    omega (arith, ap length w.split, length-append w.done w.rest, ap length w.places, length-ends (line_text present begun.readers) (line_after present begun.readers) 0 (fold (line_after present begun.readers) begun.object.now w.done) w.rest)
+
+-- all that waits is written
+pub Serving-written : {W : Type 0} (contents : W → Option (List ℕ)) (has_failed : W → Bool) (begun s t : Session W) (lines : List (List ℕ)) → Serving contents has_failed begun lines s → Writes (contents s.sink.now) (contents t.sink.now) s.waiting.now t.waiting.now → Appends (contents begun.sink.now) (contents t.sink.now) (outputs present begun.readers begun.object.now lines)
+Serving-written contents has_failed begun s t lines h k =
+    Waits-written _ _ begun.object.now s.object.now lines _ _ _ s.waiting.now h.waits k.all
+
+-- all lines of the input are its first ones
+pub first_of_all : (input : Option (List ℕ)) (taken : List (List ℕ)) → IfSome input (λ bytes. lines bytes ≡ taken) → IfSome input (λ bytes. take (length taken) (lines bytes) ≡ taken)
+first_of_all None taken h = tt
+first_of_all (Some bytes) taken h = ap (take (length taken)) h ∙ take_all (length taken) taken (omega arith)
+
+pub first_counted : (input : Option (List ℕ)) (taken : List (List ℕ)) (n : ℕ) → n ≡ length taken → IfSome input (λ bytes. take n (lines bytes) ≡ taken) → IfSome input (λ bytes. take (length taken) (lines bytes) ≡ taken)
+first_counted input taken n e h =
+    subst (λ (i : ℕ). IfSome input (λ bytes. take i (lines bytes) ≡ taken)) e h
+
+-- a write failed while lines were taken
+pub AnswersInPart-from : {W : Type 0} (contents : W → Option (List ℕ)) (has_failed : W → Bool) (begun t : Session W) (input : Option (List ℕ)) (taken : List (List ℕ)) (n unwritten : ℕ) → Failing contents has_failed begun taken t unwritten → n + unwritten ≡ length taken → IfSome input (λ bytes. take (length taken) (lines bytes) ≡ taken) → AnswersInPart contents begun t input has_failed n
+AnswersInPart-from contents has_failed begun t input taken n unwritten h count first =
+    let same : h.whole ≡ n = omega (arith, h.count, count) in
+    record {
+      taken = taken;
+      part =
+          subst (λ (i : ℕ). InPart (line_text present begun.readers) (line_after present begun.readers) begun.object.now t.object.now taken (contents begun.sink.now) (contents t.sink.now) i) same h.part;
+      reason = h.reason;
+      first = first;
+    }
+
+-- the write of what waited at the end failed
+pub AnswersInPart-rest : {W : Type 0} (contents : W → Option (List ℕ)) (has_failed : W → Bool) (begun s t : Session W) (input : Option (List ℕ)) (taken : List (List ℕ)) (n m unwritten : ℕ) → Serving contents has_failed begun taken s → m ≡ length taken → IfSome input (λ bytes. take (length taken) (lines bytes) ≡ taken) → IsSame s t → t.object.now ≡ s.object.now → n + unwritten ≡ m → WritesSome (contents s.sink.now) (contents t.sink.now) s.waiting.now unwritten → FailsAt (has_failed s.sink.now) (has_failed t.sink.now) s.waiting.now.text.items → AnswersInPart contents begun t input has_failed n
+AnswersInPart-rest contents has_failed begun s t input taken n m unwritten serving count first lent same left some reason =
+    AnswersInPart-from contents has_failed begun t input taken n unwritten
+    (Failing-from contents has_failed begun s t taken unwritten _ _ _ serving lent same (inl (refl, refl, refl)) refl some reason)
+    (left ∙ count) first
+
+-- so many lines were taken, and their replies are written or wait
+pub record Behind {W : Type 0} (contents : W → Option (List ℕ)) (has_failed : W → Bool) (begun now : Session W) (input : Option (List ℕ)) (n : ℕ) : Type 0 where
+  pub taken : List (List ℕ)
+  pub serving : Serving contents has_failed begun taken now
+  pub count : n ≡ length taken
+  pub first : IfSome input (λ bytes. take (length taken) (lines bytes) ≡ taken)
+
+pub Behind-all : {W : Type 0} (contents : W → Option (List ℕ)) (has_failed : W → Bool) (s t : Session W) (input : Option (List ℕ)) (n : ℕ) → s.waiting.now.text.items ≡ [] → s.waiting.now.ends.items ≡ [] → TakesAll (Serving contents has_failed) s t input n → Behind contents has_failed s t input n
+Behind-all contents has_failed s t input n text ends h = record {
+  taken = h.taken;
+  serving = h.takes s [] (Serving-nothing contents has_failed s text ends);
   count = h.count;
-  rest = h.rest;
+  first = first_of_all input h.taken h.all;
 }
 
--- what was answered was written in part
-pub IsServedInPart-from_answered : {S : Type 0} (text : S → List ℕ → List ℕ) (after : S → List ℕ → S) (s t : S) (old new bytes : List ℕ) (a b : Option (List ℕ)) (n m k : ℕ) (Left : List ℕ → Type 0) → old ≡ [] → IsAnswered text after s t old new bytes n m Left → k ≤ length new → Appends a b (take k new) → IsServedInPart text after s t a b bytes
-IsServedInPart-from_answered text after s t old new bytes a b n m k Left empty h le w =
-    let all = h.answers.written ∙ ap (λ l. l ++ replies text after s h.done) empty in
+pub Behind-first : {W : Type 0} (contents : W → Option (List ℕ)) (has_failed : W → Bool) (s t : Session W) (input : Option (List ℕ)) (n : ℕ) → s.waiting.now.text.items ≡ [] → s.waiting.now.ends.items ≡ [] → TakesFirst (Serving contents has_failed) s t input n → Behind contents has_failed s t input n
+Behind-first contents has_failed s t input n text ends h = record {
+  taken = h.taken;
+  serving = h.takes s [] (Serving-nothing contents has_failed s text ends);
+  count = h.count;
+  first = first_counted input h.taken n h.count h.first;
+}
+
+pub Behind-stopped : {W : Type 0} (contents : W → Option (List ℕ)) (has_failed : W → Bool) (s t : Session W) (input : Option (List ℕ)) (n : ℕ) (why : Stop) → s.waiting.now.text.items ≡ [] → s.waiting.now.ends.items ≡ [] → why ≡ NoMemory → StopsAfter (Serving contents has_failed) (λ begun taken at now why. StopsServing contents has_failed begun taken now why) s t input n why → Behind contents has_failed s t input n
+Behind-stopped contents has_failed s t input n why text ends is_memory h = record {
+  taken = h.taken;
+  serving =
+      subst (StopsServing contents has_failed s h.taken t) is_memory
+      (h.stops s [] (Serving-nothing contents has_failed s text ends));
+  count = h.count;
+  first = first_counted input h.taken n h.count h.first;
+}
+
+-- as many replies wait as lines were taken, at most
+pub Behind-few : {W : Type 0} (contents : W → Option (List ℕ)) (has_failed : W → Bool) (s t : Session W) (input : Option (List ℕ)) (n : ℕ) → Behind contents has_failed s t input n → length t.waiting.now.ends.items ≤ n
+Behind-few contents has_failed s t input n h =
+    omega (arith, h.count, Serving-few contents has_failed s t h.taken h.serving)
+
+-- what waited is written then
+pub Behind-written : {W : Type 0} (contents : W → Option (List ℕ)) (has_failed : W → Bool) (s t u : Session W) (input : Option (List ℕ)) (n : ℕ) → Behind contents has_failed s t input n → Writes (contents t.sink.now) (contents u.sink.now) t.waiting.now u.waiting.now → u.object.now ≡ t.object.now → AnswersFirst contents s u input n
+Behind-written contents has_failed s t u input n h k same = record {
+  taken = h.taken;
+  count = h.count;
+  written = Serving-written contents has_failed s t u h.taken h.serving k;
+  reached = same ∙ h.serving.waits.reached;
+  first = h.first;
+}
+
+pub Behind-all_written : {W : Type 0} (contents : W → Option (List ℕ)) (has_failed : W → Bool) (s t u : Session W) (input : Option (List ℕ)) (n : ℕ) → s.waiting.now.text.items ≡ [] → s.waiting.now.ends.items ≡ [] → TakesAll (Serving contents has_failed) s t input n → Writes (contents t.sink.now) (contents u.sink.now) t.waiting.now u.waiting.now → u.object.now ≡ t.object.now → AnswersAll contents s u input n
+Behind-all_written contents has_failed s t u input n text ends h k same =
+    let serving = h.takes s [] (Serving-nothing contents has_failed s text ends) in
     record {
-      done = h.done;
-      left = h.left;
-      cuts = h.cuts;
-      serves = record { most = k; written = subst (Appends a b) (ap (take k) all) w; within = omega (arith, le, ap length all); reached = h.answers.reached };
+      taken = h.taken;
+      count = h.count;
+      written = Serving-written contents has_failed s t u h.taken serving k;
+      reached = same ∙ serving.waits.reached;
+      all = h.all;
     }
 
--- nothing was read
-pub IsServed-nothing : {S : Type 0} (text : S → List ℕ → List ℕ) (after : S → List ℕ → S) (s : S) (a : Option (List ℕ)) (n : ℕ) (Left : List ℕ → Type 0) → Left [] → IsServed text after s s a a [] n n Left
-IsServed-nothing text after s a n Left h = record { done = []; left = []; cuts = Cuts-nothing []; serves = Serves-nothing text after s a; count = omega arith; rest = h }
+-- the write of what waited failed
+abbrev pub RestFails : {W : Type 0} → (W → Option (List ℕ)) → Session W → Session W → ℕ → ℕ → Type 0
+RestFails contents t u m n =
+    (unwritten : ℕ) × (n + unwritten ≡ m) × WritesSome (contents t.sink.now) (contents u.sink.now) t.waiting.now unwritten
 
--- a further piece was read
-pub IsServed-then : {S : Type 0} (text : S → List ℕ → List ℕ) (after : S → List ℕ → S) (s t u : S) (a b c : Option (List ℕ)) (bytes given piece kept : List ℕ) (n m q : ℕ) (Left : List ℕ → Type 0) → IsServed text after s t a b bytes n m (IsKept kept) → given ≡ piece → ((part : List ℕ) → IsKept kept part → IsServed text after t u b c (part ++ given) m q Left) → IsServed text after s u a c (bytes ++ piece) n q Left
-IsServed-then text after s t u a b c bytes given piece kept n m q Left h same next =
-    let k = subst (λ (l : List ℕ). IsServed text after t u b c (h.left ++ l) m q Left) same (next h.left h.rest) in
-    record {
-      done = h.done ++ k.done;
-      left = k.left;
-      cuts = Cuts-then bytes h.left piece k.left h.done k.done h.cuts k.cuts;
-      serves = Serves-then text after s t u a b c h.done k.done h.serves k.serves;
-      count = omega (arith, h.count, k.count, length-append h.done k.done);
-      rest = k.rest;
-    }
+pub Behind-failed : {W : Type 0} (contents : W → Option (List ℕ)) (has_failed : W → Bool) (s t u : Session W) (input : Option (List ℕ)) (n m : ℕ) → Behind contents has_failed s t input m → IsSame t u → u.object.now ≡ t.object.now → FailsAt (has_failed t.sink.now) (has_failed u.sink.now) t.waiting.now.text.items → RestFails contents t u m n → AnswersInPart contents s u input has_failed n
+Behind-failed contents has_failed s t u input n m h lent same reason k =
+    AnswersInPart-rest contents has_failed s t u input h.taken n m k.0 h.serving h.count h.first lent same k.1 k.2 reason
 
--- of all that comes the first lines were served
-pub ServesFirst-from : {S : Type 0} (text : S → List ℕ → List ℕ) (after : S → List ℕ → S) (s t : S) (a b : Option (List ℕ)) (bytes more : List ℕ) (m : ℕ) (Left : List ℕ → Type 0) → IsServed text after s t a b bytes 0 m Left → ServesFirst text after s t a b (lines (bytes ++ more)) m
-ServesFirst-from text after s t a b bytes more m Left h =
-    let all = h.cuts.whole more in
-    record {
-      enough = omega (arith, h.count, ap length all, length-append h.done (lines (h.left ++ more)));
-      first =
-          subst (Serves text after s t a b)
-          (sym (ap (take m) all ∙ take_at h.done (lines (h.left ++ more)) m (omega (arith, h.count)))) h.serves;
-    }
+-- a failed write of the rest is passed on
+pub if_err_rest : {T : Type 0} (P : ℕ → Type 0) (r : Result T ServeFault) (given fault : ServeFault) (Z : ServeFault → Type 0) → r ≡ Err given → given ≡ fault → MatchFault fault (λ _. ⊥) (λ _. ⊥) P → ((n : ℕ) → P n → Z (WriteFault n)) → IfErr r Z
+if_err_rest P r given (FaultNoMemory n) Z is_err same h k = absurd h
+if_err_rest P r given (ReadFault n) Z is_err same h k = absurd h
+if_err_rest P r given (WriteFault n) Z is_err same h k = if_err_at Z r given (WriteFault n) is_err same (k n h)
 
--- what was answered and written whole
-pub Serves-from_answers : {S : Type 0} (text : S → List ℕ → List ℕ) (after : S → List ℕ → S) (s t : S) (old new : List ℕ) (a b : Option (List ℕ)) (xs ys : List (List ℕ)) → old ≡ [] → ys ≡ xs → Answers text after s t old new xs → Appends a b new → Serves text after s t a b ys
-Serves-from_answers text after s t old new a b xs ys empty same h w =
-    subst (Serves text after s t a b) (sym same)
-    (record { written = subst (Appends a b) (h.written ∙ ap (λ l. l ++ replies text after s xs) empty) w; reached = h.reached })
+-- so many lines were taken, and then a write failed
+pub record BehindFailure {W : Type 0} (contents : W → Option (List ℕ)) (has_failed : W → Bool) (begun now : Session W) (input : Option (List ℕ)) (n unwritten : ℕ) : Type 0 where
+  pub taken : List (List ℕ)
+  pub failing : Failing contents has_failed begun taken now unwritten
+  pub count : n ≡ length taken
+  pub first : IfSome input (λ bytes. take (length taken) (lines bytes) ≡ taken)
 
--- what was answered and written in part
-pub ServesSome-from_answers : {S : Type 0} (text : S → List ℕ → List ℕ) (after : S → List ℕ → S) (s t : S) (old new : List ℕ) (a b : Option (List ℕ)) (k : ℕ) (xs ys : List (List ℕ)) → old ≡ [] → ys ≡ xs → Answers text after s t old new xs → k ≤ length new → Appends a b (take k new) → ServesSome text after s t a b ys
-ServesSome-from_answers text after s t old new a b k xs ys empty same h le w =
-    let all = h.written ∙ ap (λ l. l ++ replies text after s xs) empty in
-    subst (ServesSome text after s t a b) (sym same)
-    (record { most = k; written = subst (Appends a b) (ap (take k) all) w; within = omega (arith, le, ap length all); reached = h.reached })
+pub BehindFailure-from : {W : Type 0} (contents : W → Option (List ℕ)) (has_failed : W → Bool) (s t : Session W) (input : Option (List ℕ)) (n : ℕ) (why : Stop) (failed : Unfinished) → s.waiting.now.text.items ≡ [] → s.waiting.now.ends.items ≡ [] → why ≡ WriteFailed failed → StopsAfter (Serving contents has_failed) (λ begun taken at now why. StopsServing contents has_failed begun taken now why) s t input n why → BehindFailure contents has_failed s t input n failed.unwritten
+BehindFailure-from contents has_failed s t input n why failed text ends is_failed h = record {
+  taken = h.taken;
+  failing =
+      subst (StopsServing contents has_failed s h.taken t) is_failed
+      (h.stops s [] (Serving-nothing contents has_failed s text ends));
+  count = h.count;
+  first = first_counted input h.taken n h.count h.first;
+}
 
--- at the end of the input what is left is the last line
-pub Serves-all : {S : Type 0} (text : S → List ℕ → List ℕ) (after : S → List ℕ → S) (s t u : S) (a b c : Option (List ℕ)) (bytes kept : List ℕ) (m n : ℕ) → IsServed text after s t a b bytes 0 m (IsKept kept) → ((part : List ℕ) → IsKept kept part → Serves text after t u b c (lines part) × (n ≡ m + length (lines part))) → Serves text after s u a c (lines bytes) × (n ≡ length (lines bytes))
-Serves-all text after s t u a b c bytes kept m n h next =
-    let k = next h.left h.rest in
-    let all : lines bytes ≡ h.done ++ lines h.left =
-    ap lines (sym (append-nil bytes)) ∙ (h.cuts.whole [] ∙ ap (λ l. h.done ++ lines l) (append-nil h.left)) in (
-      subst (Serves text after s u a c) (sym all) (Serves-then text after s t u a b c h.done (lines h.left) h.serves k.0),
-      omega (arith, h.count, k.1, ap length all, length-append h.done (lines h.left)),
-    )
+pub BehindFailure-few : {W : Type 0} (contents : W → Option (List ℕ)) (has_failed : W → Bool) (s t : Session W) (input : Option (List ℕ)) (n unwritten : ℕ) → BehindFailure contents has_failed s t input n unwritten → unwritten ≤ n
+BehindFailure-few contents has_failed s t input n unwritten h = omega (arith, h.count, h.failing.count)
 
--- some lines were served whole, and the next ones in part
-pub ServesInPart-from : {S : Type 0} (text : S → List ℕ → List ℕ) (after : S → List ℕ → S) (s t u : S) (a b c : Option (List ℕ)) (xs ys all rest : List (List ℕ)) (n : ℕ) → n ≡ length xs → Serves text after s t a b xs → ServesSome text after t u b c ys → all ≡ (xs ++ ys) ++ rest → ServesInPart text after s u a c all n
-ServesInPart-from text after s t u a b c xs ys all rest n is_n h some is_all =
-    let first = replies text after s xs in
-    let next = replies text after t ys in
-    let both : replies text after s (xs ++ ys) ≡ first ++ next =
-    replies-append text after s xs ys ∙ ap (λ v. first ++ replies text after v ys) (sym h.reached) in
-    let k = length first + some.most in
-    let m = length (xs ++ ys) in
-    let front : take m all ≡ xs ++ ys = ap (take m) is_all ∙ take_at (xs ++ ys) rest m refl in
-    let start : take n all ≡ xs = ap (take n) (is_all ∙ append_assoc xs ys rest) ∙ take_at xs (ys ++ rest) n (sym is_n) in
-    let said : replies text after s (take m all) ≡ first ++ next = ap (replies text after s) front ∙ both in
-    record {
-      answered = m;
-      bytes = k;
-      enough = omega (arith, ap length is_all, length-append (xs ++ ys) rest);
-      fewer = omega (arith, is_n, length-append xs ys);
-      written =
-          subst (Appends a c) (sym (ap (take k) said ∙ take-append-add first next some.most))
-          (Appends-then a b c first (take some.most next) h.written some.written);
-      whole = omega (arith, ap (λ l. length (replies text after s l)) start);
-      within = omega (arith, ap length said, length-append first next, some.within);
-      reached =
-          some.reached ∙ (ap (λ v. fold after v ys) h.reached ∙ (sym (fold-append after s xs ys) ∙ ap (fold after s) (sym front)));
-    }
-
--- where memory runs out on the way
-pub ServesFirst-on_way : {S : Type 0} (text : S → List ℕ → List ℕ) (after : S → List ℕ → S) (s t u : S) (a b c : Option (List ℕ)) (bytes given piece more kept : List ℕ) (count n : ℕ) → IsServed text after s t a b bytes 0 count (IsKept kept) → given ≡ piece → ((part : List ℕ) → IsKept kept part → IsServed text after t u b c (part ++ given) count n (λ _. ⊤)) → ServesFirst text after s u a c (lines ((bytes ++ piece) ++ more)) n
-ServesFirst-on_way text after s t u a b c bytes given piece more kept count n h same next =
-    ServesFirst-from text after s u a c (bytes ++ piece) more n (λ _. ⊤) (IsServed-then text after s t u a b c bytes given piece kept 0 count n (λ _. ⊤) h same next)
-
--- where a write fails on the way
-pub ServesInPart-on_way : {S : Type 0} (text : S → List ℕ → List ℕ) (after : S → List ℕ → S) (s t u : S) (a b c : Option (List ℕ)) (bytes given piece more kept : List ℕ) (count n : ℕ) → IsServed text after s t a b bytes 0 count (IsKept kept) → given ≡ piece → n ≡ count → ((part : List ℕ) → IsKept kept part → IsServedInPart text after t u b c (part ++ given)) → ServesInPart text after s u a c (lines ((bytes ++ piece) ++ more)) n
-ServesInPart-on_way text after s t u a b c bytes given piece more kept count n h same e next =
-    let k = subst (λ (l : List ℕ). IsServedInPart text after t u b c (h.left ++ l)) same (next h.left h.rest) in
-    ServesInPart-from text after s t u a b c h.done k.done _ (lines (k.left ++ more)) n (omega (arith, h.count, e)) h.serves k.serves
-    ((Cuts-then bytes h.left piece k.left h.done k.done h.cuts k.cuts).whole more)
-
--- where the last write fails
-pub ServesInPart-at_end : {S : Type 0} (text : S → List ℕ → List ℕ) (after : S → List ℕ → S) (s t u : S) (a b c : Option (List ℕ)) (bytes kept : List ℕ) (n : ℕ) → IsServed text after s t a b bytes 0 n (IsKept kept) → ((part : List ℕ) → IsKept kept part → ServesSome text after t u b c (lines part)) → ServesInPart text after s u a c (lines bytes) n
-ServesInPart-at_end text after s t u a b c bytes kept n h next =
-    ServesInPart-from text after s t u a b c h.done (lines h.left) _ [] n (omega (arith, h.count)) h.serves (next h.left h.rest)
-    (ap lines (sym (append-nil bytes)) ∙ (h.cuts.whole [] ∙ (ap (λ l. h.done ++ lines l) (append-nil h.left) ∙ sym (append-nil (h.done ++ lines h.left)))))
-
--- where memory runs out at the last line
-pub ServesFirst-at_end : {S : Type 0} (text : S → List ℕ → List ℕ) (after : S → List ℕ → S) (s t u : S) (a b c : Option (List ℕ)) (bytes kept : List ℕ) (n count : ℕ) → IsServed text after s t a b bytes 0 count (IsKept kept) → n ≡ count → c ≡ b → u ≡ t → ServesFirst text after s u a c (lines bytes) n
-ServesFirst-at_end {S} text after s t u a b c bytes kept n count h e same_bytes same_state =
-    let first = ServesFirst-from text after s t a b bytes [] count (IsKept kept) h in
-    subst (λ (v : S). ServesFirst text after s v a c (lines bytes) n) (sym same_state)
-    (subst (λ (o : Option (List ℕ)). ServesFirst text after s t a o (lines bytes) n) (sym same_bytes)
-    (subst (λ (i : ℕ). ServesFirst text after s t a b (lines bytes) i) (sym e)
-    (subst (λ (l : List ℕ). ServesFirst text after s t a b (lines l) count) (append-nil bytes) first)))
-
--- the same with the count of the lines before
-pub ServesInPart-counted : {S : Type 0} (text : S → List ℕ → List ℕ) (after : S → List ℕ → S) (s t u : S) (a b c : Option (List ℕ)) (bytes kept : List ℕ) (n count : ℕ) → IsServed text after s t a b bytes 0 count (IsKept kept) → n ≡ count → ((part : List ℕ) → IsKept kept part → ServesSome text after t u b c (lines part)) → ServesInPart text after s u a c (lines bytes) n
-ServesInPart-counted text after s t u a b c bytes kept n count h e next =
-    subst (λ (i : ℕ). ServesInPart text after s u a c (lines bytes) i) (sym e)
-    (ServesInPart-at_end text after s t u a b c bytes kept count h next)
+pub BehindFailure-part : {W : Type 0} (contents : W → Option (List ℕ)) (has_failed : W → Bool) (s t : Session W) (input : Option (List ℕ)) (n unwritten m : ℕ) → BehindFailure contents has_failed s t input n unwritten → m + unwritten ≡ n → AnswersInPart contents s t input has_failed m
+BehindFailure-part contents has_failed s t input n unwritten m h e =
+    AnswersInPart-from contents has_failed s t input h.taken m unwritten h.failing (e ∙ h.count) h.first

@@ -1,8 +1,8 @@
--- The JSON value of each outcome, and the line that is its text: this project's profile. The members of an object
--- stand in ascending order of their names.
+-- The JSON value of each outcome, and the line that is its text: this project's profile. The members
+-- of an object stand in ascending order of their names.
 use Rattle.std.specs.Prelude.{ℕ, Bool, ◌-◌, ◌==◌, ◌&&◌, if◌then◌else◌, ℤ, unsigned_abs, List, [], ◌∷◌, ◌++◌, length, map, replicate, codes}
 use Rattle.std.specs.Fmt.{decimal}
-use Rattle.serde_json.specs.Data.{Data, boolean, number, unsigned, string, array, object, Members, member, no_members}
+use Rattle.serde_json.specs.Data.{Data, boolean, number, unsigned, string, array, object, member, no_members}
 use Rattle.serde_json.specs.View.{items_of}
 use Rattle.serde_json.specs.Written.{compact_text}
 use Rattle.osn_computus.specs.declared.epact.Epact.{Epact}
@@ -21,10 +21,7 @@ use Rattle.osn_register.specs.declared.answer.Answer.{Answer}
 use Rattle.osn_register.specs.declared.answer.Answer.TheVariants as answers
 use Rattle.osn_register.specs.declared.answer.Found.{Found}
 use Rattle.osn_register.specs.declared.answer.Land.{Land}
-use Rattle.osn_register.specs.declared.refusal.Refusal.{Refusal}
 use Rattle.osn_register.specs.Refusal.{refusal_number, refusal_name}
-use Rattle.osn_core.specs.declared.step.Reply.{Reply}
-use Rattle.osn_wire.specs.declared.member.Member.{Member}
 use Rattle.osn_wire.specs.declared.wire_fault.WireFault.{WireFault}
 use Rattle.osn_wire.specs.declared.wire_fault.WireFault.TheVariants as faults
 use Rattle.osn_wire.specs.declared.outcome.Outcome.{Outcome}
@@ -37,11 +34,14 @@ use Rattle.osn_wire.specs.Words.{calendar_word, style_word, rule_word}
 abbrev pub at_least : ℕ → ℕ → List ℕ
 at_least width n = replicate (width - length (decimal n)) 48 ++ decimal n
 
--- a date: the year in at least four digits, the month in two and the day in two. No year is negative, so a year's
--- digits are those of its absolute value
+-- the year in at least four digits, the month in two and the day in two
+abbrev pub date_digits : ℕ → ℕ → ℕ → List ℕ
+date_digits year month day =
+    at_least 4 year ++ (codes "-" ++ (at_least 2 month ++ (codes "-" ++ at_least 2 day)))
+
+-- a date. No year is negative, so a year's digits are those of its absolute value
 unfoldable pub date_text : ℤ → ℕ → ℕ → List ℕ
-date_text year month day =
-    at_least 4 (unsigned_abs year) ++ (codes "-" ++ (at_least 2 month ++ (codes "-" ++ at_least 2 day)))
+date_text year month day = date_digits (unsigned_abs year) month day
 
 -- the date of a day in a calendar
 abbrev pub text_of_date : Date → List ℕ
@@ -96,7 +96,10 @@ period_data p = object (
 
 -- a territory
 abbrev pub land_data : Land → Data
-land_data l = object (member (codes "code") (string l.code) (member (codes "name") (string l.name) no_members))
+land_data l = object (
+    member (codes "code") (string l.code)
+    (member (codes "name") (string l.name)
+    no_members))
 
 abbrev pub reading_data : List Found → List ℕ → Data
 reading_data found skipped = object (
@@ -120,7 +123,8 @@ easters_data found listed = object (
     (member (codes "listed") (boolean listed)
     no_members))
 
--- an epact of the Gregorian reckoning as the canons write it: a star for 0, and the second of the two of 25 with a prime
+-- an epact of the Gregorian reckoning as the canons write it: a star for 0, and the second of the two
+-- of 25 with a prime
 unfoldable pub epact_text : Epact → List ℕ
 epact_text e =
     if e.number == 0 then codes "*"
@@ -155,7 +159,8 @@ abbrev pub lands_data : List Land → Data
 lands_data lands = object (member (codes "lands") (list_data (map land_data lands)) no_members)
 
 abbrev pub periods_data : List Period → Data
-periods_data periods = object (member (codes "periods") (list_data (map period_data periods)) no_members)
+periods_data periods =
+    object (member (codes "periods") (list_data (map period_data periods)) no_members)
 
 abbrev pub answered_data : ℕ → ℕ → Data → Data
 answered_data reader edition answer = object (
@@ -166,15 +171,21 @@ answered_data reader edition answer = object (
 
 -- what a reader is told under an edition
 abbrev pub replied_data : ℕ → ℕ → Answer → Data
-replied_data reader edition (answers.Reading found skipped) = answered_data reader edition (reading_data found skipped)
-replied_data reader edition (answers.OnDay found period) = answered_data reader edition (on_day_data found period)
-replied_data reader edition (answers.Easters found listed) = answered_data reader edition (easters_data found listed)
-replied_data reader edition (answers.Figures year golden indiction julian_epact gregorian_epact julian_letters gregorian_letters julian_easter gregorian_easter) =
+replied_data reader edition (answers.Reading found skipped) =
+    answered_data reader edition (reading_data found skipped)
+replied_data reader edition (answers.OnDay found period) =
+    answered_data reader edition (on_day_data found period)
+replied_data reader edition (answers.Easters found listed) =
+    answered_data reader edition (easters_data found listed)
+replied_data reader edition
+    (answers.Figures year golden indiction julian_epact gregorian_epact
+    julian_letters gregorian_letters julian_easter gregorian_easter) =
     answered_data reader edition (figures_data year golden indiction
     (reckoning_data gregorian_easter (string (epact_text gregorian_epact)) gregorian_letters)
     (reckoning_data julian_easter (whole julian_epact) julian_letters))
 replied_data reader edition (answers.Lands lands) = answered_data reader edition (lands_data lands)
-replied_data reader edition (answers.Periods periods) = answered_data reader edition (periods_data periods)
+replied_data reader edition (answers.Periods periods) =
+    answered_data reader edition (periods_data periods)
 replied_data reader edition (answers.Refused f) = object (
     member (codes "edition") (whole edition)
     (member (codes "fault") (whole (refusal_number f))
@@ -184,7 +195,10 @@ replied_data reader edition (answers.Refused f) = object (
 
 -- a refusal or a fault by its number and name
 abbrev pub refused_data : ℕ → List ℕ → Data
-refused_data n name = object (member (codes "fault") (whole n) (member (codes "name") (string name) no_members))
+refused_data n name = object (
+    member (codes "fault") (whole n)
+    (member (codes "name") (string name)
+    no_members))
 
 abbrev pub fault_data : WireFault → Data
 fault_data (faults.BadField m) = object (
@@ -196,9 +210,13 @@ fault_data f = refused_data (wire_fault_number f) (wire_fault_name f)
 
 abbrev pub outcome_data : Outcome → Data
 outcome_data (Staged pending) = object (
-    member (codes "ok") (string (codes "staged")) (member (codes "pending") (whole pending) no_members))
+    member (codes "ok") (string (codes "staged"))
+    (member (codes "pending") (whole pending)
+    no_members))
 outcome_data (Published edition) = object (
-    member (codes "edition") (whole edition) (member (codes "ok") (string (codes "published")) no_members))
+    member (codes "edition") (whole edition)
+    (member (codes "ok") (string (codes "published"))
+    no_members))
 outcome_data (Refused f) = refused_data (refusal_number f) (refusal_name f)
 outcome_data (Fault f) = fault_data f
 outcome_data (Replied reader reply) = replied_data reader reply.edition reply.answer

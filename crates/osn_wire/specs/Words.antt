@@ -1,5 +1,6 @@
--- The words of a request line, and of a reply: this project's profile.
-use Rattle.std.specs.Prelude.{ℕ, Bool, if◌then◌else◌, List, [], ◌∷◌, map, codes, Option, Some, None}
+-- The words for calendars, styles of the year and rules of Easter, in a line and in a reply: this
+-- project's profile.
+use Rattle.std.specs.Prelude.{ℕ, if◌then◌else◌, List, [], ◌∷◌, map, codes, Option, Some, None}
 use Rattle.std.specs.List.{list_any}
 use Rattle.std.specs.Str.{bytes_eq}
 use Rattle.osn_computus.specs.declared.rule.Rule.{Rule}
@@ -9,8 +10,6 @@ use Rattle.osn_days.specs.declared.calendar.Calendar.TheVariants as calendars
 use Rattle.osn_days.specs.Profile.{Profile}
 use Rattle.osn_lands.specs.declared.style.Style.{Style}
 use Rattle.osn_lands.specs.declared.style.Style.TheVariants as styles
-use Rattle.osn_wire.specs.declared.words.Op.{Op}
-use Rattle.osn_wire.specs.declared.words.Op.TheVariants as ops
 
 abbrev pub calendar_word : Calendar → List ℕ
 calendar_word calendars.Julian = codes "julian"
@@ -36,30 +35,17 @@ meaning (m ∷ ms) word = if bytes_eq word m.0 then Some m.1 else meaning ms wor
 abbrev pub written_by : {X : Type 0} → (X → List ℕ) → List X → List ℕ → Option X
 written_by word_of xs = meaning (map (λ x. (word_of x, x)) xs)
 
-abbrev pub op_named : List ℕ → Option Op
-op_named = meaning (
-    (codes "add_land", ops.AddLand)
-    ∷ (codes "add_change", ops.AddChange)
-    ∷ (codes "alter_change", ops.AlterChange)
-    ∷ (codes "drop_change", ops.DropChange)
-    ∷ (codes "add_exception", ops.AddException)
-    ∷ (codes "drop_exception", ops.DropException)
-    ∷ (codes "publish", ops.Publish)
-    ∷ (codes "read", ops.Read)
-    ∷ (codes "day", ops.DayIn)
-    ∷ (codes "easter", ops.Easter)
-    ∷ (codes "figures", ops.YearFigures)
-    ∷ (codes "lands", ops.Lands)
-    ∷ (codes "periods", ops.Periods)
-    ∷ [])
-
 abbrev pub calendar_named : List ℕ → Option Calendar
-calendar_named = written_by calendar_word (calendars.Julian ∷ calendars.Gregorian ∷ calendars.Swedish ∷ [])
+calendar_named =
+    written_by calendar_word (calendars.Julian ∷ calendars.Gregorian ∷ calendars.Swedish ∷ [])
 
 -- a style's word, where the rules have it
 abbrev pub style_named : Profile → List ℕ → Option Style
 style_named p word =
-    if list_any (bytes_eq word) p.style_words then written_by style_word (styles.January ∷ styles.Annunciation ∷ styles.Nativity ∷ styles.September ∷ []) word else None
+    if list_any (bytes_eq word) p.style_words
+    then written_by style_word
+    (styles.January ∷ styles.Annunciation ∷ styles.Nativity ∷ styles.September ∷ []) word
+    else None
 
 abbrev pub rule_named : List ℕ → Option Rule
 rule_named = written_by rule_word (rules.Julian ∷ rules.Gregorian ∷ [])

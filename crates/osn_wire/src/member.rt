@@ -4,15 +4,25 @@ ghost use Rattle.osn_wire.specs.Member.{member_name};
 /// A member of a line's object.
 #[derive(Clone, Copy, Debug, PartialEq, Eq, Hash)]
 pub enum Member {
+    /// What the line asks for.
     Op,
+    /// A territory's code.
     Code,
+    /// A territory's name.
     Name,
+    /// The calendar of a regime.
     Calendar,
+    /// The style of a regime: when its year begins.
     Style,
+    /// The rule of Easter of a regime.
     Rule,
+    /// The number of the reader who asks, from 1.
     Reader,
+    /// A year of a label, or one whose Easter or figures are meant.
     Year,
+    /// A month of a label.
     Month,
+    /// A day of a label, or a day of the line by its number.
     Day,
 }
 

@@ -1,19 +1,21 @@
 //! Reads one line into a request, or names its first fault.
-ghost use Rattle.std.specs.Prelude.{◌≡◌, MatchResult, Some};
+ghost use Rattle.std.specs.Prelude.{◌≡◌, ◌<◌, length, MatchResult, IfErr, Ok, Err, Some};
+ghost use Rattle.std.specs.Str.{IsUtf8};
 ghost use Rattle.serde_json.specs.View.{view};
 ghost use Rattle.osn_days.specs.Profile.{present};
 ghost use Rattle.osn_wire.specs.Request as said;
+ghost use Rattle.osn_wire.specs.declared.request.RequestError.TheVariants.{NoMemory};
 
-use crate::edit_request::{
-    add_change_of, add_exception_of, add_land_of, alter_change_of, drop_change_of,
-    drop_exception_of,
-};
-use crate::json_member::text_at;
-use crate::member::Member;
-use crate::query_request::{day_in_of, easter_of, figures_of, lands_of, periods_of, read_of};
+mod edit;
+mod field;
+mod op;
+mod query;
+
 use crate::wire_fault::WireFault;
-use crate::words::{Op, op_named};
+use edit::edit_of;
+use op::{Op, op_of};
 use osn_register::{Edit, Query};
+use query::query_of;
 use serde_json::Value;
 use std::alloc::{AllocError, Global};
 use std::str;
@@ -63,38 +65,12 @@ impl From<WireFault> for RequestError {
     }
 }
 
-fn op_at(value: &Value) -> Result<Op, WireFault>
-    ensures { result ≡ said.op_at (view value.now) }
-{
-    match op_named(text_at(value, Member::Op)?) {
-        Some(op) => Ok(op),
-        None => Err(WireFault::UnknownOp),
-    }
-}
-
-fn request_of(alloc: Global, readers: u32, value: &Value) -> Result<Request, RequestError>
-    ensures { said.Gives result (said.request_of present readers (view value.now)) }
-{
-    match op_at(value)? {
-        Op::AddLand => add_land_of(alloc, value),
-        Op::AddChange => add_change_of(alloc, value),
-        Op::AlterChange => alter_change_of(alloc, value),
-        Op::DropChange => drop_change_of(alloc, value),
-        Op::AddException => add_exception_of(alloc, value),
-        Op::DropException => drop_exception_of(alloc, value),
-        Op::Publish => Ok(Request::Publish),
-        Op::Read => read_of(alloc, readers, value),
-        Op::DayIn => day_in_of(alloc, readers, value),
-        Op::Easter => easter_of(alloc, readers, value),
-        Op::YearFigures => Ok(figures_of(readers, value)?),
-        Op::Lands => Ok(lands_of(readers, value)?),
-        Op::Periods => periods_of(alloc, readers, value),
-    }
-}
-
 /// The value of a line of UTF-8 that is JSON.
 fn value_of(alloc: Global, line: &[u8]) -> Result<Value, RequestError>
-    ensures { MatchResult result
+    ensures text { MatchResult result
+        (λ _. IsUtf8 line.now × (0 < length line.now))
+        (λ e. e ≡ NoMemory → IsUtf8 line.now × (0 < length line.now)) }
+    ensures value { MatchResult result
         (λ v. said.value_of line.now ≡ Some (view v))
         (λ e. said.Fails e (said.no_value (said.value_of line.now))) }
 {
@@ -108,9 +84,17 @@ fn value_of(alloc: Global, line: &[u8]) -> Result<Value, RequestError>
     }
 }
 
-/// The request of a line, where there are so many readers, or its first fault.
-pub fn read_request(alloc: Global, readers: u32, line: &[u8]) -> Result<Request, RequestError>
-    ensures { said.Gives result (said.request present readers line.now) }
+/// The object of a line.
+///
+/// # Errors
+/// Memory is taken for the value of a line alone that is a text and not too long.
+pub(crate) fn object_of(alloc: Global, line: &[u8]) -> Result<Value, RequestError>
+    ensures object { MatchResult result
+        (λ v. said.object_of line.now ≡ Ok (view v))
+        (λ e. said.Fails e (said.object_of line.now)) }
+    ensures memory { MatchResult result
+        (λ _. said.IsReadable line.now)
+        (λ e. e ≡ NoMemory → said.IsReadable line.now) }
 {
     if line.len() > LONGEST_LINE {
         return Err(RequestError::Fault(WireFault::LineTooLong));
@@ -119,5 +103,32 @@ pub fn read_request(alloc: Global, readers: u32, line: &[u8]) -> Result<Request,
     if !value.is_object() {
         return Err(RequestError::Fault(WireFault::NotObject));
     }
+    Ok(value)
+}
+
+/// The request of a line's object.
+fn request_of(alloc: Global, readers: u32, value: &Value) -> Result<Request, RequestError>
+    ensures { said.Gives result (said.request_of present readers (view value.now)) }
+{
+    match op_of(value)? {
+        Op::Edit(op) => Ok(Request::Stage(edit_of(alloc, op, value)?)),
+        Op::Publish => Ok(Request::Publish),
+        Op::Query(op) => {
+            let (reader, query) = query_of(alloc, readers, op, value)?;
+            Ok(Request::Ask { reader, query })
+        }
+    }
+}
+
+/// The request of a line, where there are so many readers, or its first fault.
+///
+/// # Errors
+/// The first fault of the line; or want of memory, for a line alone that is a text, not an empty one
+/// and not too long.
+pub fn read_request(alloc: Global, readers: u32, line: &[u8]) -> Result<Request, RequestError>
+    ensures request { said.Gives result (said.request present readers line.now) }
+    ensures memory { IfErr result (λ e. e ≡ NoMemory → said.IsReadable line.now) }
+{
+    let value = object_of(alloc, line)?;
     request_of(alloc, readers, &value)
 }

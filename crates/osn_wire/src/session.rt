@@ -1,71 +1,89 @@
-//! An object that answers request lines.
+//! What answers request lines: an object, and a sink for the replies.
 //!
-//! Each reply is written before the object changes, and taken back where the change finds no memory: so a line that
-//! is not answered leaves the object as it was.
-ghost use Rattle.std.specs.Prelude.{◌≡◌, ◌++◌, List, OnOk, OnErr};
+//! What waits is written before a line that changes the object, so that of the lines whose replies wait only the first
+//! has changed it.
+ghost use Rattle.std.specs.Prelude.{◌≡◌, IfErr, OnOk, OnErr};
 ghost use Rattle.osn_days.specs.Profile.{present};
 ghost use Rattle.osn_wire.specs.ReplyText.{reply_line};
+ghost use Rattle.osn_wire.specs.ServiceInside.{Pushes, Adds, Settles, WritesSome, FailsAt};
+ghost use Rattle.osn_wire.specs.Served.{line_text};
 ghost use Rattle.osn_wire.specs.Session as said;
+ghost use Rattle.osn_wire.specs.Stop.{MatchStop};
 
 use crate::outcome::Outcome;
-use crate::reply::push_reply;
 use crate::request::{Request, RequestError, read_request};
-use crate::responder::Responder;
+use crate::stop::{Stop, Unfinished};
+use crate::waiting::Waiting;
 use osn_core::Object;
+use osn_lines::{LineTaker, Sink};
 use osn_register::{Edit, Query};
 use std::alloc::{AllocError, Global};
 
-/// An object with the number of its readers.
-#[derive(Drop)]
-pub(crate) struct Session {
-    pub(crate) alloc: Global,
-    pub(crate) readers: u32,
-    pub(crate) object: Object,
-}
-
-fn stage(
+fn stage<W: Sink>(
     alloc: Global,
     object: &mut Object,
+    sink: &mut W,
+    waiting: &mut Waiting,
     edit: &Edit,
-    out: &mut Vec<u8>,
-) -> Result<(), AllocError>
-    ensures reply { OnOk result (out.new.items ≡ out.old.items ++ reply_line (said.stage_outcome present object.old edit.now)) }
+) -> Result<(), Stop>
+    ensures ok { OnOk result (Adds object.old object.new
+        (reply_line (said.stage_outcome present object.old edit.now))
+        (W.contents sink.old) (W.contents sink.new) waiting.old waiting.new) }
     ensures after { OnOk result (object.new ≡ said.stage_after present object.old edit.now) }
-    ensures out_kept { OnErr result (out.new.items ≡ out.old.items) }
+    ensures sound { OnOk result (W.has_failed sink.new ≡ W.has_failed sink.old) }
+    ensures err { IfErr result (λ stop. MatchStop stop
+        (Settles (W.contents sink.old) (W.contents sink.new) waiting.old waiting.new)
+        (WritesSome (W.contents sink.old) (W.contents sink.new) waiting.old)) }
     ensures kept { OnErr result (object.new ≡ object.old) }
+    ensures reason { IfErr result (λ stop. MatchStop stop
+        (W.has_failed sink.new ≡ W.has_failed sink.old)
+        (λ _. FailsAt (W.has_failed sink.old) (W.has_failed sink.new) waiting.old.text.items)) }
 {
     let pending = match object.check(edit) {
         Ok(pending) => pending,
-        Err(refusal) => return push_reply(alloc, &Outcome::Refused(refusal), out),
+        Err(refusal) => return Ok(waiting.push(alloc, &Outcome::Refused(refusal))?),
     };
-    let before = out.len();
-    push_reply(alloc, &Outcome::Staged(pending), out)?;
-    match object.stage(edit) {
+    waiting.write(sink)?;
+    waiting.push(alloc, &Outcome::Staged(pending))?;
+    match object.admit(edit) {
         Ok(_) => Ok(()),
         Err(_) => {
-            out.truncate(before);
-            Err(AllocError)
+            waiting.clear();
+            Err(Stop::NoMemory)
         }
     }
 }
 
-fn publish(alloc: Global, object: &mut Object, out: &mut Vec<u8>) -> Result<(), AllocError>
-    ensures reply { OnOk result (out.new.items ≡ out.old.items ++ reply_line (said.publish_outcome object.old)) }
+fn publish<W: Sink>(
+    alloc: Global,
+    object: &mut Object,
+    sink: &mut W,
+    waiting: &mut Waiting,
+) -> Result<(), Stop>
+    ensures ok { OnOk result (Adds object.old object.new
+        (reply_line (said.publish_outcome object.old))
+        (W.contents sink.old) (W.contents sink.new) waiting.old waiting.new) }
     ensures after { OnOk result (object.new ≡ said.publish_after object.old) }
-    ensures out_kept { OnErr result (out.new.items ≡ out.old.items) }
+    ensures sound { OnOk result (W.has_failed sink.new ≡ W.has_failed sink.old) }
+    ensures err { IfErr result (λ stop. MatchStop stop
+        (Settles (W.contents sink.old) (W.contents sink.new) waiting.old waiting.new)
+        (WritesSome (W.contents sink.old) (W.contents sink.new) waiting.old)) }
     ensures kept { OnErr result (object.new ≡ object.old) }
+    ensures reason { IfErr result (λ stop. MatchStop stop
+        (W.has_failed sink.new ≡ W.has_failed sink.old)
+        (λ _. FailsAt (W.has_failed sink.old) (W.has_failed sink.new) waiting.old.text.items)) }
 {
     let edition = match object.check_publish() {
         Ok(edition) => edition,
-        Err(refusal) => return push_reply(alloc, &Outcome::Refused(refusal), out),
+        Err(refusal) => return Ok(waiting.push(alloc, &Outcome::Refused(refusal))?),
     };
-    let before = out.len();
-    push_reply(alloc, &Outcome::Published(edition), out)?;
-    match object.publish() {
+    waiting.write(sink)?;
+    waiting.push(alloc, &Outcome::Published(edition))?;
+    match object.make_edition() {
         Ok(_) => Ok(()),
         Err(_) => {
-            out.truncate(before);
-            Err(AllocError)
+            waiting.clear();
+            Err(Stop::NoMemory)
         }
     }
 }
@@ -75,50 +93,98 @@ fn ask(
     object: &Object,
     reader: u32,
     query: &Query,
-    out: &mut Vec<u8>,
+    waiting: &mut Waiting,
 ) -> Result<(), AllocError>
-    ensures reply { OnOk result (out.new.items ≡ out.old.items ++ reply_line (said.ask_outcome present object.now reader query.now)) }
-    ensures out_kept { OnErr result (out.new.items ≡ out.old.items) }
+    ensures ok { OnOk result (Pushes waiting.old waiting.new
+        (reply_line (said.ask_outcome present object.now reader query.now))) }
+    ensures err { OnErr result (waiting.new.text.items ≡ waiting.old.text.items) }
+    ensures err_ends { OnErr result (waiting.new.ends.items ≡ waiting.old.ends.items) }
 {
     let reply = object.ask(query)?;
-    push_reply(alloc, &Outcome::Replied { reader, reply }, out)
+    waiting.push(alloc, &Outcome::Replied { reader, reply })
 }
 
-/// Answers a line: writes the reply to its request, or to its first fault, which leaves the object.
-fn answer(
+/// Answers a line: adds the reply to its request, or to its first fault, which leaves the object. A stop leaves the
+/// object too.
+fn answer<W: Sink>(
     alloc: Global,
-    object: &mut Object,
     readers: u32,
+    object: &mut Object,
+    sink: &mut W,
+    waiting: &mut Waiting,
     line: &[u8],
-    out: &mut Vec<u8>,
-) -> Result<(), AllocError>
-    ensures reply { OnOk result (out.new.items ≡ out.old.items ++ reply_line (said.line_outcome present readers object.old line.now)) }
+) -> Result<(), Stop>
+    ensures ok { OnOk result (Adds object.old object.new
+        (line_text present readers object.old line.now)
+        (W.contents sink.old) (W.contents sink.new) waiting.old waiting.new) }
     ensures after { OnOk result (object.new ≡ said.line_after present readers object.old line.now) }
-    ensures out_kept { OnErr result (out.new.items ≡ out.old.items) }
+    ensures sound { OnOk result (W.has_failed sink.new ≡ W.has_failed sink.old) }
+    ensures err { IfErr result (λ stop. MatchStop stop
+        (Settles (W.contents sink.old) (W.contents sink.new) waiting.old waiting.new)
+        (WritesSome (W.contents sink.old) (W.contents sink.new) waiting.old)) }
     ensures kept { OnErr result (object.new ≡ object.old) }
+    ensures reason { IfErr result (λ stop. MatchStop stop
+        (W.has_failed sink.new ≡ W.has_failed sink.old)
+        (λ _. FailsAt (W.has_failed sink.old) (W.has_failed sink.new) waiting.old.text.items)) }
 {
     match read_request(alloc, readers, line) {
-        Ok(Request::Stage(edit)) => stage(alloc, object, &edit, out),
-        Ok(Request::Publish) => publish(alloc, object, out),
-        Ok(Request::Ask { reader, query }) => ask(alloc, object, reader, &query, out),
-        Err(RequestError::Fault(fault)) => push_reply(alloc, &Outcome::Fault(fault), out),
-        Err(RequestError::NoMemory) => Err(AllocError),
+        Ok(Request::Stage(edit)) => stage(alloc, object, sink, waiting, &edit),
+        Ok(Request::Publish) => publish(alloc, object, sink, waiting),
+        Ok(Request::Ask { reader, query }) => Ok(ask(alloc, object, reader, &query, waiting)?),
+        Err(RequestError::Fault(fault)) => Ok(waiting.push(alloc, &Outcome::Fault(fault))?),
+        Err(RequestError::NoMemory) => Err(Stop::NoMemory),
     }
 }
 
-impl Responder for Session {
-    ghost use Rattle.std.specs.Prelude.{◌≡◌, ℕ, List};
-    ghost use Rattle.osn_wire.specs.SessionLines.{line_text, session_after, line_text_of_front, session_after_front};
+/// Writes what waits where it is so much that it is to be written.
+fn make_room<W: Sink>(sink: &mut W, waiting: &mut Waiting) -> Result<(), Unfinished>
+    ensures ok { OnOk result
+        (Settles (W.contents sink.old) (W.contents sink.new) waiting.old waiting.new) }
+    ensures sound { OnOk result (W.has_failed sink.new ≡ W.has_failed sink.old) }
+    ensures err { IfErr result (λ failed.
+        WritesSome (W.contents sink.old) (W.contents sink.new) waiting.old failed.unwritten) }
+    ensures reason { OnErr result
+        (FailsAt (W.has_failed sink.old) (W.has_failed sink.new) waiting.old.text.items) }
+{
+    if waiting.is_full() {
+        return waiting.write(sink);
+    }
+    Ok(())
+}
 
-    ghost text = { line_text };
+/// An object and a sink, with the replies that wait and the number of readers. It owns no memory, so that what it borrows
+/// is known again once it is gone.
+#[derive(Drop)]
+pub(crate) struct Session<'a, W> {
+    pub(crate) alloc: Global,
+    pub(crate) readers: u32,
+    pub(crate) object: &'a mut Object,
+    pub(crate) sink: &'a mut W,
+    pub(crate) waiting: &'a mut Waiting,
+}
 
-    ghost after = { session_after };
+impl<'a, W: Sink> LineTaker for Session<'a, W> {
+    ghost use Rattle.osn_wire.specs.SessionInside.{Serving, StopsServing};
 
-    ghost text_of_front = { line_text_of_front };
+    type Stop = Stop;
 
-    ghost after_front = { session_after_front };
+    ghost after = { λ begun lines now. Serving W.contents W.has_failed begun lines now };
 
-    fn respond(&mut self, line: &[u8], out: &mut Vec<u8>) -> Result<(), AllocError> {
-        answer(self.alloc, &mut self.object, self.readers, line, out)
+    ghost stopped = { λ begun lines _ now why. StopsServing W.contents W.has_failed begun lines now why };
+
+    fn take(&mut self, line: &[u8]) -> Result<(), Stop> {
+        make_room(self.sink, self.waiting)?;
+        answer(
+            self.alloc,
+            self.readers,
+            self.object,
+            self.sink,
+            self.waiting,
+            line,
+        )
+    }
+
+    fn before_read(&mut self) -> Result<(), Stop> {
+        Ok(self.waiting.write(self.sink)?)
     }
 }

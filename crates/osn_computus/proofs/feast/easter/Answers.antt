@@ -5,7 +5,8 @@ use Rattle.osn_computus.proofs.feast.easter.Goals as goal
 
 pub sunday_after-requires : goal.sunday_after-requires
 sunday_after-requires c =
-    let bounds = moon_bounds c.args.rule c.args.year c.paschal_moon.result c.paschal_moon.ensures.in_range c.paschal_moon.ensures.value in
+    let bounds = moon_bounds c.args.rule c.args.year c.paschal_moon.result
+    c.paschal_moon.ensures.in_range c.paschal_moon.ensures.value in
     (omega arith, bounds.2)
 
 pub returns-clause-value : goal.returns-clause-value
@@ -15,4 +16,5 @@ returns-clause-value c = rw c.paschal_moon.ensures.value c.sunday_after.ensures.
 pub returns-clause-season : goal.returns-clause-season
 returns-clause-season c =
     let after = c.sunday_after.ensures.within in
-    season c.args.rule c.args.year c.paschal_moon.result _ c.paschal_moon.ensures.in_range c.paschal_moon.ensures.value after.0 after.1
+    season c.args.rule c.args.year c.paschal_moon.result _ c.paschal_moon.ensures.in_range
+    c.paschal_moon.ensures.value after.0 after.1

@@ -8,17 +8,20 @@ use Rattle.osn_core.proofs.run.replay.Goals as goal
 pub returns-clause-run : goal.returns-clause-run
 returns-clause-run c =
     let first = first_core c.args.limits c.args.readers in
-    let all : c.loop-step.outs.items ≡ outs_of present first c.args.steps.now = grind (arith, common_steps) in
+    let all : c.loop-step.outs.items ≡ outs_of present first c.args.steps.now = grind
+    (arith, common_steps) in
     rw all (outs_run present first c.args.steps.now)
 
 pub returns-clause-told : goal.returns-clause-told
 returns-clause-told c =
     let first = first_core c.args.limits c.args.readers in
-    let all : c.loop-step.outs.items ≡ outs_of present first c.args.steps.now = grind (arith, common_steps) in
+    let all : c.loop-step.outs.items ≡ outs_of present first c.args.steps.now = grind
+    (arith, common_steps) in
     rw all (outs_told present first c.args.steps.now)
 
 pub returns-clause-forward : goal.returns-clause-forward
 returns-clause-forward c reader =
     let first = first_core c.args.limits c.args.readers in
-    let all : c.loop-step.outs.items ≡ outs_of present first c.args.steps.now = grind (arith, common_steps) in
+    let all : c.loop-step.outs.items ≡ outs_of present first c.args.steps.now = grind
+    (arith, common_steps) in
     rw all (outs_rise present reader first c.args.steps.now 0 zero-le)

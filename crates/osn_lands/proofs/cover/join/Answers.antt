@@ -1,4 +1,5 @@
-use Rattle.std.proofs.Common.{◌≡◌, ℕ, ◌+◌, ◌-◌, ◌<◌, ◌∷◌, ◌++◌, List, length, get_or, take, drop, set, map, refl, ap, sym, subst, ◌∙◌, arith}
+use Rattle.std.proofs.Common.{◌≡◌, ℕ, ◌+◌, ◌-◌, ◌<◌, ◌∷◌, ◌++◌, List, length, get_or, take, drop}
+use Rattle.std.proofs.Common.{set, map, refl, ap, sym, subst, ◌∙◌, arith}
 use Rattle.std.specs.List.{remove}
 use Rattle.std.proofs.lemmas.List.{length-take-le, get_or-map, map-set, set-get_or}
 use Rattle.std.proofs.lemmas.List.Edits.{get_or-remove_below, length-remove}
@@ -6,51 +7,79 @@ use Rattle.osn_days.specs.Profile.{present}
 use Rattle.osn_lands.specs.declared.period.Period.{Period}
 use Rattle.osn_lands.specs.Territory.{CoversLine}
 use Rattle.osn_lands.specs.Inside.{start_of}
-use Rattle.osn_lands.proofs.CoverFacts.{at_places, set-remove, covers_join}
+use Rattle.osn_lands.proofs.ChangeFacts.{without-at}
+use Rattle.osn_lands.proofs.CoverFacts.{at_places, set-remove, covers_join, read_at}
 use Rattle.osn_lands.proofs.cover.join.Goals as goal
 
 -- the period before stands in its place when the one behind is removed
-same_place : (ps qs : List Period) (i j : ℕ) (p : Period) → i + 1 ≡ j → j < length ps → qs ≡ remove ps j → p ≡ get_or qs i p → p ≡ get_or ps i p
+same_place : (ps qs : List Period) (i j : ℕ) (p : Period) → i + 1 ≡ j → j < length ps →
+    qs ≡ remove ps j → p ≡ get_or qs i p → p ≡ get_or ps i p
 same_place ps qs i j p next within removed read =
     read ∙ ap (λ l. get_or l i p) removed ∙ get_or-remove_below ps j p i (omega arith) within
 
 -- what is left and joined, by the two that stood there
-left : (ps qs : List Period) (i j : ℕ) (p q joined : Period) → i + 1 ≡ j → j < length ps → p ≡ get_or ps i p → q ≡ get_or ps j q → qs ≡ remove ps j → set qs i joined ≡ take i ps ++ joined ∷ drop (j + 1) ps
+left : (ps qs : List Period) (i j : ℕ) (p q joined : Period) → i + 1 ≡ j → j < length ps →
+    p ≡ get_or ps i p → q ≡ get_or ps j q → qs ≡ remove ps j → set qs i joined ≡ take i ps ++ joined
+    ∷ drop (j + 1) ps
 left ps qs i j p q joined next within first second removed =
     ap (λ l. set l i joined) removed
     ∙ ap (λ l. set (remove l j) i joined) (at_places ps i j p q next within first second)
-    ∙ set-remove (take i ps) (drop (j + 1) ps) p q joined i j (length-take-le i ps (omega arith)) next
+    ∙ set-remove (take i ps) (drop (j + 1) ps) p q joined i j (length-take-le i ps (omega arith))
+    next
 
 -- a period with the same start changes no start
-same_starts : (qs : List Period) (i : ℕ) (p joined : Period) → i < length qs → p ≡ get_or qs i p → start_of joined ≡ start_of p → map start_of (set qs i joined) ≡ map start_of qs
+same_starts : (qs : List Period) (i : ℕ) (p joined : Period) → i < length qs → p ≡ get_or qs i p →
+    start_of joined ≡ start_of p → map start_of (set qs i joined) ≡ map start_of qs
 same_starts qs i p joined within read same =
     map-set start_of qs i joined
-    ∙ ap (λ s. set (map start_of qs) i s) (same ∙ ap start_of read ∙ sym (get_or-map start_of qs i p (start_of p) within))
+    ∙ ap (λ s. set (map start_of qs) i s) (same ∙ ap start_of read
+    ∙ sym (get_or-map start_of qs i p (start_of p) within))
     ∙ set-get_or (map start_of qs) i (start_of p)
 
-next : (c : goal.After-periods-1) → c.args.place - 1 + 1 ≡ c.args.place
-next c = omega (arith, c.requires.within.0)
+inside : (c : goal.After-periods-1) →
+    c.place_of_start-place.result < length c.args.periods.now.items
+inside c =
+    subst (λ l. c.place_of_start-place.result < length l) c.deref.ensures.value
+    c.place_of_start-place.ensures.within
+
+later : (c : goal.After-periods-1) → 0 < c.place_of_start-place.result
+later c = c.place_of_start-place.ensures.later c.requires.later
+
+pub overflow_sub-place : goal.overflow_sub-place
+overflow_sub-place c = c.place_of_start-place.ensures.later c.requires.later
 
 pub returns-clause-covers : goal.returns-clause-covers
 returns-clause-covers c =
     let ps = c.args.periods.now.items in
     let qs = c.remove-removed.new.self.items in
-    let i = c.args.place - 1 in
+    let j = c.place_of_start-place.result in
+    let i = j - 1 in
+    let next : i + 1 ≡ j = omega (arith, later c) in
     let p = c.index_mut-joined.result.now in
     let q = c.remove-removed.result in
-    let joined : Period = record { first = p.first; last = q.last; regime = p.regime } in
-    let read = same_place ps qs i c.args.place p (next c) c.requires.within.1 c.remove-removed.ensures.items c.index_mut-joined.ensures.value in
-    let whole = at_places ps i c.args.place p q (next c) c.requires.within.1 read c.remove-removed.ensures.value in
-    subst (CoversLine present) (sym (left ps qs i c.args.place p q joined (next c) c.requires.within.1 read c.remove-removed.ensures.value c.remove-removed.ensures.items))
-    (covers_join (take i ps) (drop (c.args.place + 1) ps) p q joined 1 present.high refl refl (subst (CoversLine present) whole c.requires.covers))
+    let joined : Period = record p { last = q.last } in
+    let read = same_place ps qs i j p next (inside c) c.remove-removed.ensures.items
+    c.index_mut-joined.ensures.value in
+    let whole = at_places ps i j p q next (inside c) read c.remove-removed.ensures.value in
+    subst (CoversLine present) (sym (left ps qs i j p q joined next (inside c) read
+    c.remove-removed.ensures.value c.remove-removed.ensures.items))
+    (covers_join (take i ps) (drop (j + 1) ps) p q joined 1 present.high refl refl
+    (subst (CoversLine present) whole c.requires.covers))
 
 pub returns-clause-starts : goal.returns-clause-starts
 returns-clause-starts c =
     let ps = c.args.periods.now.items in
     let qs = c.remove-removed.new.self.items in
+    let j = c.place_of_start-place.result in
     let p = c.index_mut-joined.result.now in
-    let joined : Period = record { first = p.first; last = c.remove-removed.result.last; regime = p.regime } in
+    let joined : Period = record p { last = c.remove-removed.result.last } in
     let short = ap length c.remove-removed.ensures.items in
-    let fewer = length-remove ps c.args.place c.requires.within.1 in
-    same_starts qs (c.args.place - 1) p joined (omega (arith, short, fewer, c.requires.within.0, c.requires.within.1)) c.index_mut-joined.ensures.value refl
+    let fewer = length-remove ps j (inside c) in
+    let on = read_at (λ r. r.first ≡ c.args.day) c.deref.result.now ps j
+    c.remove-removed.result c.deref.ensures.value c.remove-removed.ensures.value
+    c.place_of_start-place.ensures.starts in
+    same_starts qs (j - 1) p joined (omega (arith, short, fewer, later c, inside c))
+    c.index_mut-joined.ensures.value refl
     ∙ ap (map start_of) c.remove-removed.ensures.items
+    ∙ without-at ps j 1 present.high c.args.day c.remove-removed.result (inside c)
+    c.remove-removed.ensures.value c.requires.covers on

@@ -1,4 +1,5 @@
-use Rattle.std.proofs.Common.{◌≡◌, ℕ, ◌+◌, ◌<◌, ◌≤◌, List, ◌∷◌, ◌++◌, length, get_or, take, drop, set, map, refl, ap, sym, subst, ◌∙◌, arith}
+use Rattle.std.proofs.Common.{◌≡◌, ℕ, ◌+◌, ◌<◌, ◌≤◌, List, ◌∷◌, ◌++◌, length, get_or, take, drop}
+use Rattle.std.proofs.Common.{set, map, refl, ap, sym, subst, ◌∙◌, arith}
 use Rattle.std.specs.List.{insert}
 use Rattle.std.proofs.lemmas.List.{length-take-le, get_or_default}
 use Rattle.std.proofs.lemmas.List.Edits.{get_or-insert_below}
@@ -7,12 +8,13 @@ use Rattle.osn_lands.specs.declared.period.Period.{Period}
 use Rattle.osn_lands.specs.Territory.{CoversLine}
 use Rattle.osn_lands.specs.Changes.{with_start}
 use Rattle.osn_lands.specs.Inside.{start_of}
-use Rattle.osn_lands.proofs.CoverFacts.{at_place, set-insert, begins, covers_split}
-use Rattle.osn_lands.proofs.ChangeFacts.{with_start-is}
+use Rattle.osn_lands.proofs.CoverFacts.{at_place, set-insert, covers_split, read_at}
+use Rattle.osn_lands.proofs.ChangeFacts.{with_start-is, no_sooner-at}
 use Rattle.osn_lands.proofs.cover.split.Goals as goal
 
 -- the period that is split still stands at its place behind the insertion
-same_place : (ps qs : List Period) (i : ℕ) (p x after : Period) → i < length ps → p ≡ get_or ps i p → qs ≡ insert ps (i + 1) after → x ≡ get_or qs i x → x ≡ p
+same_place : (ps qs : List Period) (i : ℕ) (p x after : Period) → i < length ps →
+    p ≡ get_or ps i p → qs ≡ insert ps (i + 1) after → x ≡ get_or qs i x → x ≡ p
 same_place ps qs i p x after within is inserted read =
     read
     ∙ ap (λ l. get_or l i x) inserted
@@ -20,52 +22,87 @@ same_place ps qs i p x after within is inserted read =
     ∙ get_or_default ps i x p within
     ∙ sym is
 
-halves : (ps qs : List Period) (i : ℕ) (p before after : Period) → i < length ps → p ≡ get_or ps i p → qs ≡ insert ps (i + 1) after → set qs i before ≡ take i ps ++ before ∷ after ∷ drop (i + 1) ps
+halves : (ps qs : List Period) (i : ℕ) (p before after : Period) → i < length ps →
+    p ≡ get_or ps i p → qs ≡ insert ps (i + 1) after → set qs i before ≡ take i ps ++ before ∷ after
+    ∷ drop (i + 1) ps
 halves ps qs i p before after within is inserted =
     ap (λ l. set l i before) inserted
     ∙ ap (λ l. set (insert l (i + 1) after) i before) (at_place ps i p within is)
     ∙ set-insert (take i ps) (drop (i + 1) ps) p before after i (length-take-le i ps (omega arith))
 
-holding : (c : goal.After-periods-1) → (c.index.result.now.first < c.args.day) × (c.args.day ≤ c.index.result.now.last)
-holding c = subst (λ q. (q.first < c.args.day) × (c.args.day ≤ q.last)) (sym c.index.ensures) (c.requires.holds c.index.result.now)
+within : (c : goal.After-periods-1) →
+    c.place_to_split-place.result < length c.args.periods.now.items
+within c =
+    subst (λ l. c.place_to_split-place.result < length l) c.deref.ensures.value
+    c.place_to_split-place.ensures.within
 
-covering : (c : goal.After-periods-1) → CoversLine present (take c.args.place c.args.periods.now.items ++ c.index.result.now ∷ drop (c.args.place + 1) c.args.periods.now.items)
-covering c = subst (CoversLine present) (at_place c.args.periods.now.items c.args.place c.index.result.now c.requires.within c.index.ensures) c.requires.covers
+held : (c : goal.After-periods-1) →
+    (c.index.result.now.first < c.args.day) × (c.args.day ≤ c.index.result.now.last)
+held c =
+    read_at (λ q. (q.first < c.args.day) × (c.args.day ≤ q.last)) c.deref.result.now
+    c.args.periods.now.items c.place_to_split-place.result c.index.result.now
+    c.deref.ensures.value c.index.ensures c.place_to_split-place.ensures.holds
+
+covering : (c : goal.After-periods-1) →
+    CoversLine present (take c.place_to_split-place.result c.args.periods.now.items
+    ++ c.index.result.now
+    ∷ drop (c.place_to_split-place.result + 1) c.args.periods.now.items)
+covering c = subst (CoversLine present)
+    (at_place c.args.periods.now.items c.place_to_split-place.result
+    c.index.result.now (within c) c.index.ensures) c.requires.covers
 
 abbrev started : goal.After-periods-1 → Period
 started c = record { first = c.args.day; last = c.index.result.now.last; regime = c.args.regime }
 
 abbrev ended : goal.After-periods-1 → Period
-ended c = record { first = c.index_mut-ended.result.now.first; last = c.day_before-ended.result; regime = c.index_mut-ended.result.now.regime }
+ended c = record c.index_mut-ended.result.now { last = c.day_before-ended.result }
 
 kept : (c : goal.After-periods-1) → c.index_mut-ended.result.now ≡ c.index.result.now
-kept c = same_place c.args.periods.now.items c.insert.new.self.items c.args.place c.index.result.now c.index_mut-ended.result.now (started c) c.requires.within c.index.ensures c.in_default.ensures.items c.index_mut-ended.ensures.value
+kept c = same_place c.args.periods.now.items c.insert.new.self.items c.place_to_split-place.result
+    c.index.result.now c.index_mut-ended.result.now (started c) (within c) c.index.ensures
+    c.in_ok-insert.ensures.items c.index_mut-ended.ensures.value
 
-made : (c : goal.After-periods-1) → set c.insert.new.self.items c.args.place (ended c) ≡ take c.args.place c.args.periods.now.items ++ ended c ∷ started c ∷ drop (c.args.place + 1) c.args.periods.now.items
-made c = halves c.args.periods.now.items c.insert.new.self.items c.args.place c.index.result.now (ended c) (started c) c.requires.within c.index.ensures c.in_default.ensures.items
+made : (c : goal.After-periods-1) → set c.insert.new.self.items c.place_to_split-place.result
+    (ended c) ≡ take c.place_to_split-place.result c.args.periods.now.items ++ ended c ∷ started c
+    ∷ drop (c.place_to_split-place.result + 1) c.args.periods.now.items
+made c = halves c.args.periods.now.items c.insert.new.self.items c.place_to_split-place.result
+    c.index.result.now (ended c) (started c) (within c) c.index.ensures
+    c.in_ok-insert.ensures.items
 
 pub day_before-ended-requires : goal.day_before-ended-requires
 day_before-ended-requires c =
     let ps = c.args.periods.now.items in
+    let i = c.place_to_split-place.result in
     let p = c.index.result.now in
-    let holds = c.requires.holds p in
-    let begin = begins (take c.args.place ps) (drop (c.args.place + 1) ps) p 1 present.high (subst (CoversLine present) (at_place ps c.args.place p c.requires.within c.index.ensures) c.requires.covers) in
-    let first = subst (λ q. q.first < c.args.day) (sym c.index.ensures) holds.0 in
+    let found = c.place_to_split-place.ensures in
+    let inside = subst (λ l. i < length l) c.deref.ensures.value found.within in
+    let begin = no_sooner-at ps i 1 present.high c.args.day p inside c.index.ensures
+    c.requires.covers in
+    let first = read_at (λ q. q.first < c.args.day) c.deref.result.now ps i p
+    c.deref.ensures.value c.index.ensures (λ q. (found.holds q).0) in
     omega (arith, begin, first)
 
 pub returns-clause-covers : goal.returns-clause-covers
 returns-clause-covers c =
     let ps = c.args.periods.now.items in
-    let held = holding c in
+    let on = held c in
     let begin = ap (λ q. q.first) (kept c) in
     subst (CoversLine present) (sym (made c))
-    (covers_split (take c.args.place ps) (drop (c.args.place + 1) ps) c.index.result.now (ended c) (started c) 1 present.high
-    begin (omega (arith, begin, held.0, c.day_before-ended.ensures)) c.day_before-ended.ensures held.1 refl (covering c))
+    (covers_split (take c.place_to_split-place.result ps)
+    (drop (c.place_to_split-place.result + 1) ps)
+    c.index.result.now (ended c) (started c) 1 present.high
+    begin (omega (arith, begin, on.0, c.day_before-ended.ensures)) c.day_before-ended.ensures
+    on.1 refl (covering c))
 
 pub returns-clause-ok : goal.returns-clause-ok
 returns-clause-ok c =
     let ps = c.args.periods.now.items in
-    let held = holding c in
+    let on = held c in
     ap (map start_of) (made c)
-    ∙ with_start-is (take c.args.place ps) (drop (c.args.place + 1) ps) c.index.result.now (ended c) (started c) 1 present.high c.args.day c.args.regime (covering c) held.0 held.1 (ap start_of (kept c)) refl
-    ∙ ap (λ qs. with_start c.args.day c.args.regime (map start_of qs)) (sym (at_place ps c.args.place c.index.result.now c.requires.within c.index.ensures))
+    ∙ with_start-is (take c.place_to_split-place.result ps)
+    (drop (c.place_to_split-place.result + 1) ps)
+    c.index.result.now (ended c) (started c) 1 present.high c.args.day c.args.regime
+    (covering c) on.0 on.1 (ap start_of (kept c)) refl
+    ∙ ap (λ qs. with_start c.args.day c.args.regime (map start_of qs))
+    (sym (at_place ps c.place_to_split-place.result c.index.result.now (within c)
+    c.index.ensures))

@@ -8,5 +8,6 @@ returns-then-earlier-later-clause-digits t c =
 
 pub returns-else-earlier-later-clause-digits : goal.returns-else-earlier-later-clause-digits
 returns-else-earlier-later-clause-digits t c =
-    earlier_digit_differs c.args.earlier c.args.later c.later_part.result (omega arith) (omega arith) c.if-earlier-later.false
+    earlier_digit_differs c.args.earlier c.args.later c.later_part.result (omega arith)
+    (omega arith) c.if-earlier-later.false
     (omega arith) (omega arith) c.later_part.ensures.digits

@@ -1,8 +1,14 @@
-use Rattle.std.proofs.Common.{sym, ◌∙◌, arith}
+use Rattle.std.proofs.Common.{◌++◌, sym, ap, ◌∙◌}
 use Rattle.osn_days.specs.Profile.{present}
+use Rattle.osn_lands.specs.Inside.{days_in_order}
 use Rattle.osn_lands.proofs.EasterFacts.{easters_are}
 use Rattle.osn_lands.proofs.territory.Territory.easters.Goals as goal
 
 pub returns : goal.returns
 returns c =
-    easters_are c.self.inside.exceptions.entries present c.args.self.now c.args.year c.loop-period.days.items c.deref-period-items.result.now c.self.inside.periods.items c.loop-period.period-index (sym c.exception.ensures ∙ c.in_default.is) c.deref-period-items.ensures.value c.self.view_is c.self.invariant (omega arith) c.loop-period.invariant
+    let one = c.easter_in_force-julian.result in
+    let other = c.easter_in_force-gregorian.result in
+    c.in_ok-push_in_order.ensures
+    ∙ ap (λ ds. ds ++ days_in_order one other) c.new-days.ensures.items
+    ∙ easters_are present c.args.self.now c.args.year one other (sym c.exception.ensures
+    ∙ c.in_default.is) c.easter_in_force-julian.ensures c.easter_in_force-gregorian.ensures

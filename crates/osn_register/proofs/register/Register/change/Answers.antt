@@ -1,34 +1,54 @@
-use Rattle.std.proofs.Common.{◌≡◌, Ok, Err, Some, None, ap, sym, subst, ◌∙◌, refl, option_map, string_bytes}
+use Rattle.std.proofs.Common.{◌≡◌, Ok, Err, Option, Some, None, IsSome, ap, sym, subst, ◌∙◌, refl}
+use Rattle.std.proofs.Common.{option_map, string_bytes}
 use Rattle.std.specs.declared.result.Result.{Result}
 use Rattle.std.specs.Result.{OnOk, OnErr}
+use Rattle.std.specs.Option.{option_copied_mut}
 use Rattle.osn_days.specs.Profile.{present}
 use Rattle.osn_lands.specs.Territory.{PlainTerritory}
-use Rattle.osn_register.specs.Plain.{territory_of, with_territory, change_refusal, changed, IsWellFormed}
+use Rattle.osn_register.specs.declared.register.Entry.{Entry}
+use Rattle.osn_register.specs.Plain.{territory_of, with_territory, IsWellFormed}
+use Rattle.osn_register.specs.InsideChange.{change_refusal, territory_after}
 use Rattle.osn_register.specs.Inside.{register_in}
 use Rattle.osn_register.proofs.Kept.{territory_of-map}
-use Rattle.osn_register.proofs.TerritoryFacts.{register-with, lawful_in, no_territory, still_within, with_same, IsWellFormed-with}
+use Rattle.osn_register.proofs.TerritoryFacts.{register-with, lawful_in, no_territory, still_sound}
+use Rattle.osn_register.proofs.TerritoryFacts.{with_same, IsWellFormed-with}
 use Rattle.osn_register.proofs.register.Register.change.Goals as goal
 
--- where the code is not kept, its territory is not known
-pub returns-in_default-clause-ok : goal.returns-in_default-clause-ok
-returns-in_default-clause-ok c =
-    let none : territory_of c.args.code.now c.args.self.now.lands ≡ None =
-    ap (λ r. territory_of c.args.code.now r.lands) (sym c.self.view_is)
-    ∙ territory_of-map string_bytes (λ v. v.name) (λ v. v.territory) c.args.code.now c.self.inside.lands.entries
-    ∙ ap (option_map (λ v. v.territory)) (sym c.in_default.ensures.value) in
-    absurd (no_territory c.args.self.now.lands c.args.code.now (change_refusal present c.args.self.now.limits c.args.edit.now) c.requires none)
+some_of : {A B : Type 0} (f : Option A → Option B) → f None ≡ None → (o : Option A) →
+    (f o ≡ None → ⊥) → IsSome o
+some_of f none None h = absurd (h none)
+some_of f none (Some x) h = refl
 
-known : (c : goal.After-change-arg-1) → territory_of c.args.code.now c.args.self.now.lands ≡ Some c.in-Some.entry.now.territory
+-- a code that a lawful change names is kept
+pub unwrap-entry-requires : goal.unwrap-entry-requires
+unwrap-entry-requires c =
+    let es = c.self.inside.lands.entries in
+    some_of option_copied_mut refl c.get_mut.result (λ none.
+    no_territory c.args.self.now.lands c.args.code.now (change_refusal present
+    c.args.self.now.limits c.args.change) c.requires
+    (
+    ap (λ r. territory_of c.args.code.now r.lands) (sym c.self.view_is)
+    ∙ territory_of-map string_bytes (λ v. v.name) (λ v. v.territory) c.args.code.now es
+    ∙ ap (option_map (λ v. v.territory)) (sym c.get_mut.ensures.value)
+    ∙ ap (option_map (λ v. v.territory)) none
+    ))
+
+known : (c : goal.After-make-arg-1) → territory_of c.args.code.now c.args.self.now.lands ≡ Some
+    c.unwrap-entry.result.now.territory
 known c =
     ap (λ r. territory_of c.args.code.now r.lands) (sym c.self.view_is)
-    ∙ territory_of-map string_bytes (λ v. v.name) (λ v. v.territory) c.args.code.now c.self.inside.lands.entries
-    ∙ ap (option_map (λ v. v.territory)) (sym c.in-Some.ensures.value)
+    ∙ territory_of-map string_bytes (λ v. v.name) (λ v. v.territory) c.args.code.now
+    c.self.inside.lands.entries
+    ∙ ap (option_map (λ v. v.territory)) (sym c.get_mut.ensures.value)
+    ∙ ap (λ o. option_map (λ v. v.territory) (option_copied_mut o)) c.unwrap-entry.ensures
 
-lawful : (c : goal.After-change-arg-1) → change_refusal present c.args.self.now.limits c.args.edit.now c.in-Some.entry.now.territory ≡ None
-lawful c = lawful_in c.args.self.now.lands c.args.code.now (change_refusal present c.args.self.now.limits c.args.edit.now) c.requires c.in-Some.entry.now.territory (known c)
-
-pub change-requires : goal.change-requires
-change-requires c = (c.args.self.now.limits, lawful c)
+pub make-requires : goal.make-requires
+make-requires c = (
+  c.args.self.now.limits,
+  lawful_in c.args.self.now.lands c.args.code.now (change_refusal present c.args.self.now.limits
+      c.args.change) c.requires
+      c.unwrap-entry.result.now.territory (known c),
+)
 
 ok_by : {X Y : Type 0} {A B : Type 0} (r : Result X Y) → (A → B) → OnOk r A → OnOk r B
 ok_by (Ok x) f a = f a
@@ -38,34 +58,56 @@ err_by : {X Y : Type 0} {A B : Type 0} (r : Result X Y) → (A → B) → OnErr 
 err_by (Ok x) f a = a
 err_by (Err y) f a = f a
 
-either : {X Y : Type 0} {A B C : Type 0} (r : Result X Y) → (A → C) → (B → C) → OnOk r A → OnErr r B → C
+either : {X Y : Type 0} {A B C : Type 0} (r : Result X Y) → (A → C) → (B → C) → OnOk r A →
+    OnErr r B → C
 either (Ok x) f g a b = f a
 either (Err y) f g a b = g b
 
 -- the register with the territory that the change left, as f makes it of the old one
-written : (c : goal.After-self-2-1) (f : PlainTerritory → PlainTerritory) → c.change.new.territory ≡ f c.in-Some.entry.now.territory → register_in (record { alloc = c.self.inside.alloc; limits = c.self.inside.limits; lands = c.get_mut.follows.lender (record { name = c.in-Some.entry.now.name; territory = c.change.new.territory }) }) ≡ record c.args.self.now { lands = with_territory c.args.code.now f c.args.self.now.lands }
+written : (c : goal.After-self-1) (f : PlainTerritory → PlainTerritory) →
+    c.make.new.territory ≡ f c.unwrap-entry.result.now.territory →
+    register_in (record {
+      alloc = c.self.inside.alloc;
+      limits = c.self.inside.limits;
+      lands =
+          c.get_mut.follows.lender (record {
+            name = c.unwrap-entry.result.now.name;
+            territory =
+                c.make.new.territory;
+          });
+    }) ≡ record c.args.self.now {
+      lands = with_territory c.args.code.now f
+          c.args.self.now.lands;
+    }
 written c f land =
-    register-with string_bytes (λ v. v.name) (λ v. v.territory) c.self.inside.limits c.self.inside.lands.entries _ c.args.self.now c.args.code.now f
-    c.in-Some.entry.now (record { name = c.in-Some.entry.now.name; territory = c.change.new.territory }) c.self.view_is
-    (c.get_mut.follows.holds (record { name = c.in-Some.entry.now.name; territory = c.change.new.territory })).0 (sym c.in-Some.ensures.value) refl land
+    let before = c.unwrap-entry.result.now in
+    let after : Entry = record { name = before.name; territory = c.make.new.territory } in
+    let found = sym c.get_mut.ensures.value ∙ ap option_copied_mut c.unwrap-entry.ensures in
+    register-with string_bytes (λ v. v.name) (λ v. v.territory) c.self.inside.limits
+    c.self.inside.lands.entries _ c.args.self.now c.args.code.now f
+    before after c.self.view_is (c.get_mut.follows.holds after).0 found refl land
 
-pub invariant_of-self-2 : goal.invariant_of-self-2
-invariant_of-self-2 c =
-    let before : IsWellFormed c.args.self.now = subst IsWellFormed c.self.view_is c.self.invariant in
-    let refused = change_refusal present c.args.self.now.limits c.args.edit.now in
-    either c.change.result
-    (λ is. subst IsWellFormed (sym (written c (changed c.args.edit.now) is))
-    (IsWellFormed-with c.args.self.now c.args.code.now (changed c.args.edit.now) before
-    (λ t there few. still_within present c.args.self.now.limits c.args.edit.now t (lawful_in c.args.self.now.lands c.args.code.now refused c.requires t there) few)))
-    (λ is. subst IsWellFormed (sym (written c (λ t. t) is))
-    (IsWellFormed-with c.args.self.now c.args.code.now (λ t. t) before (λ t there few. few)))
-    c.change.ensures.ok c.change.ensures.err
+pub invariant_of-self : goal.invariant_of-self
+invariant_of-self c =
+    let before : IsWellFormed present c.args.self.now = subst (IsWellFormed present) c.self.view_is
+    c.self.invariant in
+    let refused = change_refusal present c.args.self.now.limits c.args.change in
+    either c.make.result
+    (λ is. subst (IsWellFormed present) (sym (written c (territory_after c.args.change) is))
+    (IsWellFormed-with present c.args.self.now c.args.code.now (territory_after c.args.change)
+    before
+    (λ t there sound. still_sound present c.args.self.now.limits c.args.change t
+    (lawful_in c.args.self.now.lands c.args.code.now refused c.requires t there) sound)))
+    (λ is. subst (IsWellFormed present) (sym (written c (λ t. t) is))
+    (IsWellFormed-with present c.args.self.now c.args.code.now (λ t. t) before
+    (λ t there sound. sound)))
+    c.make.ensures.ok c.make.ensures.err
 
 pub returns-clause-ok : goal.returns-clause-ok
-returns-clause-ok c = ok_by c.change.result (λ is. written c (changed c.args.edit.now) is) c.change.ensures.ok
+returns-clause-ok c = ok_by c.make.result (λ is. written c (territory_after c.args.change) is)
+    c.make.ensures.ok
 
 pub returns-clause-err : goal.returns-clause-err
-returns-clause-err c = err_by c.change.result (λ is. written c (λ t. t) is ∙ ap (λ ls. record c.args.self.now { lands = ls }) (with_same c.args.code.now c.args.self.now.lands)) c.change.ensures.err
-
-pub returns-clause-memory : goal.returns-clause-memory
-returns-clause-memory c = c.change.ensures.memory
+returns-clause-err c = err_by c.make.result (λ is. written c (λ t. t) is ∙ ap
+    (λ ls. record c.args.self.now { lands = ls }) (with_same c.args.code.now c.args.self.now.lands))
+    c.make.ensures.err

@@ -1,10 +1,16 @@
-use Rattle.std.proofs.Common.{◌≡◌, [], drop}
+use Rattle.std.proofs.Common.{◌≡◌, [], true, drop}
 use Rattle.osn_days.specs.Profile.{present}
-use Rattle.osn_register.specs.Plain.{applied_all}
+use Rattle.osn_register.specs.Plain.{applied_all, fold_takes_memory}
 use Rattle.osn_register.proofs.register.Register.fold.Given as goal
 
--- the edits that are left lead to the same territories
+-- the edits that are left lead to the same territories, and take memory only where all do
 abbrev pub invariant-loop-edit : goal.invariant-loop-edit
 invariant-loop-edit l =
-    (l.register.limits ≡ l.fn.limits)
-    × (applied_all present l.fn.limits l.register.lands (drop l.edit-index l.edits) ≡ applied_all present l.fn.limits [] l.edits)
+    record {
+      limits : l.register.limits ≡ l.fn.limits;
+      lands : applied_all present l.fn.limits l.register.lands (drop l.edit-index l.edits)
+          ≡ applied_all present l.fn.limits [] l.edits;
+      memory : fold_takes_memory present l.fn.limits l.register.lands (drop l.edit-index l.edits) ≡
+          true
+          → fold_takes_memory present l.fn.limits [] l.edits ≡ true;
+    }

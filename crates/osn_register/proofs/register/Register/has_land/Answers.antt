@@ -6,5 +6,6 @@ use Rattle.osn_register.proofs.register.Register.has_land.Goals as goal
 pub returns : goal.returns
 returns c =
     c.contains_key.ensures
-    ∙ sym (land_of-map string_bytes (λ v. v.name) (λ v. v.territory) c.args.code.now c.self.inside.lands.entries)
+    ∙ sym (land_of-map string_bytes (λ v. v.name) (λ v. v.territory) c.args.code.now
+    c.self.inside.lands.entries)
     ∙ ap (λ r. is_some (land_of c.args.code.now r.lands)) c.self.view_is

@@ -1,7 +1,9 @@
-use Rattle.std.proofs.Common.{◌≡◌, List, [], ◌∷◌, ◌++◌, None, ap, sym, subst, ◌∙◌, refl, string_bytes}
+use Rattle.std.proofs.Common.{◌≡◌, List, [], ◌∷◌, ◌++◌, None, ap, sym, subst, ◌∙◌, refl}
+use Rattle.std.proofs.Common.{string_bytes}
 use Rattle.std.specs.String.{string_eq}
 use Rattle.indexmap.specs.IndexMap.{get}
 use Rattle.indexmap.proofs.CallerLemmas.{insert_entry-new}
+use Rattle.osn_days.specs.Profile.{present}
 use Rattle.osn_register.specs.Plain.{PlainLand, PlainRegister, land_of, IsWellFormed}
 use Rattle.osn_register.specs.Inside.{register_in}
 use Rattle.osn_register.proofs.Kept.{land_of-none, kept_new, IsWellFormed-push}
@@ -14,22 +16,34 @@ abbrev with_new : PlainLand → PlainRegister → PlainRegister
 with_new l r = record r { lands = r.lands ++ l ∷ [] }
 
 abbrev new_land : goal.Joined-branch-2 → PlainLand
-new_land c = record { code = string_bytes c.args.code; name = c.args.entry.name; territory = c.args.entry.territory }
+new_land c = record {
+  code = string_bytes c.args.code;
+  name = c.args.entry.name;
+  territory =
+      c.args.entry.territory;
+}
 
 -- the register with the new territory last
-added : (c : goal.Joined-branch-2) → register_in (record { alloc = c.self.inside.alloc; limits = c.self.inside.limits; lands = c.insert.new.self }) ≡ with_new (new_land c) c.args.self.now
+added : (c : goal.Joined-branch-2) → register_in (record
+    { alloc = c.self.inside.alloc; limits = c.self.inside.limits; lands = c.insert.new.self }) ≡
+    with_new (new_land c) c.args.self.now
 added c =
     let es = c.self.inside.lands.entries in
     let none : get string_eq c.self.inside.lands c.args.code ≡ None =
-    land_of-none string_bytes (λ v. v.name) (λ v. v.territory) (string_bytes c.args.code) es (ap (λ r. land_of (string_bytes c.args.code) r.lands) c.self.view_is ∙ c.requires.absent) in
-    let entries = c.in_ok-insert.ensures.entries ∙ insert_entry-new string_eq c.self.inside.lands c.args.code c.args.entry none in
-    let lands = kept_new string_bytes (λ v. v.name) (λ v. v.territory) es c.insert.new.self.entries c.args.code c.args.entry (new_land c) entries refl refl refl in
+    land_of-none string_bytes (λ v. v.name) (λ v. v.territory) (string_bytes c.args.code) es
+    (ap (λ r. land_of (string_bytes c.args.code) r.lands) c.self.view_is ∙ c.requires.absent) in
+    let entries = c.in_ok-insert.ensures.entries ∙ insert_entry-new string_eq c.self.inside.lands
+    c.args.code c.args.entry none in
+    let lands = kept_new string_bytes (λ v. v.name) (λ v. v.territory) es c.insert.new.self.entries
+    c.args.code c.args.entry (new_land c) entries refl refl refl in
     ap (with_lands (register_in c.self.inside)) lands ∙ ap (with_new (new_land c)) c.self.view_is
 
 pub invariant_of-self-2 : goal.invariant_of-self-2
 invariant_of-self-2 c =
-    let before : IsWellFormed c.args.self.now = subst IsWellFormed c.self.view_is c.self.invariant in
-    subst IsWellFormed (sym (added c)) (IsWellFormed-push c.args.self.now (new_land c) before c.requires.absent c.requires.room c.requires.territory)
+    let before : IsWellFormed present c.args.self.now = subst (IsWellFormed present) c.self.view_is
+    c.self.invariant in
+    subst (IsWellFormed present) (sym (added c)) (IsWellFormed-push present c.args.self.now
+    (new_land c) before c.requires.absent c.requires.room c.requires.territory)
 
 pub returns-clause-ok : goal.returns-clause-ok
 returns-clause-ok c = added c

@@ -6,5 +6,7 @@ use Rattle.osn_register.proofs.register.Register.listed.Given as goal
 -- what is listed and what is left are all territories
 abbrev pub invariant-loop-code : goal.invariant-loop-code
 invariant-loop-code l =
-    l.listed.items ++ map said.listed (map (land_in string_bytes (λ v. v.name) (λ v. v.territory)) l.code-iterator)
-    ≡ map said.listed (map (land_in string_bytes (λ v. v.name) (λ v. v.territory)) l.self-inside.lands.entries)
+    l.listed.items ++ map said.listed (map (land_in string_bytes (λ v. v.name) (λ v. v.territory))
+    l.code-iterator)
+    ≡ map said.listed (map (land_in string_bytes (λ v. v.name) (λ v. v.territory))
+    l.self-inside.lands.entries)

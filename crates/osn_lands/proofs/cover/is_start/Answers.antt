@@ -1,0 +1,14 @@
+use Rattle.std.proofs.Common.{◌==◌, sym, ap, ◌∙◌}
+use Rattle.osn_days.specs.Profile.{present}
+use Rattle.osn_lands.proofs.ChangeFacts.{found_start}
+use Rattle.osn_lands.proofs.cover.is_start.Goals as goal
+
+pub returns : goal.returns
+returns c =
+    let ps = c.args.periods.now in
+    let found = c.place_of.ensures in
+    let p = c.index-periods-place_of in
+    c.eq.ensures
+    ∙ ap (λ q. q.first == c.args.day) (sym p.is)
+    ∙ sym (found_start ps c.place_of.result present.high c.args.day p.result c.requires
+    found.within found.holds p.is)

@@ -1,9 +1,0 @@
-use Rattle.std.proofs.Common.{◌≡◌, ◌++◌, drop}
-use Rattle.std.specs.List.{flat_map}
-use Rattle.osn_lands.specs.Inside.{days_read}
-use Rattle.osn_lands.proofs.territory.Territory.read.Given as goal
-
--- the days found so far, and those of the periods that are left
-abbrev pub invariant-loop-period : goal.invariant-loop-period
-invariant-loop-period l =
-    l.days.items ++ flat_map (days_read l.label) (drop l.period-index l.period-items) ≡ flat_map (days_read l.label) l.period-items

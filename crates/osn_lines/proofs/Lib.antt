@@ -1,0 +1,4 @@
+pub mod ByteLemmas
+pub mod LineLemmas
+pub mod TakeLemmas
+pub mod InputLemmas

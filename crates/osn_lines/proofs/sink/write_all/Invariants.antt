@@ -1,0 +1,13 @@
+use Rattle.std.proofs.Common.{◌≡◌, ◌≤◌, length, take}
+use Rattle.std.specs.Io.KnownBytes.{Appends}
+use Rattle.osn_lines.proofs.sink.write_all.Given as goal
+
+abbrev pub invariant-loop-call : goal.invariant-loop-call
+invariant-loop-call g l =
+    let contents = g.W.Sink.contents in
+    record {
+      within : l.written ≤ length l.bytes;
+      calls : l._call ≤ l.written;
+      appends : Appends (contents l.fn.sink) (contents l.sink) (take l.written l.bytes);
+      sound : g.W.Sink.has_failed l.sink ≡ g.W.Sink.has_failed l.fn.sink;
+    }

@@ -1,0 +1,5 @@
+pub mod Lines
+pub mod Plain
+pub mod Taking
+pub mod Faults
+pub mod Inside

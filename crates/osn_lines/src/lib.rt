@@ -1,0 +1,20 @@
+//! Lines of bytes: what they are read from and written to, how they are cut, and the loop that hands each line to
+//! what takes lines. What the crate promises to those above: `take_lines` hands over exactly the lines of the input,
+//! in order, in whatever pieces the bytes come, and says where it ended early and why.
+#![tactic(auto)]
+
+mod cut;
+mod fault;
+mod plain;
+mod sink;
+mod source;
+mod stream;
+mod taker;
+
+pub use cut::LONGEST_LINE;
+pub use fault::TakeFault;
+pub use plain::Plain;
+pub use sink::{Sink, WriteFailed, write_all};
+pub use source::{ReadFailed, Source};
+pub use stream::take_lines;
+pub use taker::LineTaker;

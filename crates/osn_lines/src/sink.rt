@@ -1,0 +1,63 @@
+//! Where bytes go.
+ghost use Rattle.std.specs.Prelude.{◌≡◌, ◌<◌, ◌≤◌, ℕ, List, Option, Bool, true, is_ok, length, take, IfOk, IfErr, OnOk, OnErr, ◌⊎◌, if◌then◌else◌};
+ghost use Rattle.std.specs.Io.{WritesAtMost};
+ghost use Rattle.std.specs.Io.KnownBytes.{Appends, Keeps, WriteAppends};
+
+/// A write that failed. Its sink is failed from then on.
+#[derive(Clone, Copy, Debug, PartialEq, Eq)]
+pub struct WriteFailed;
+
+/// What bytes are written to, one call at a time, and what remembers that a call failed.
+pub trait Sink {
+    // The bytes that have been written, where they are known.
+    ghost contents: { Self → Option (List ℕ) };
+
+    // Whether a write has ever failed.
+    ghost has_failed: { Self → Bool };
+
+    /// Writes once: `Ok(n)` where the first n bytes were taken, of some bytes at least one. A write that takes none
+    /// of them fails. A write that fails marks the sink as failed for good, and nothing else does.
+    fn write(&mut self, bytes: &[u8]) -> Result<usize, WriteFailed>
+        ensures bound { WritesAtMost result bytes.now }
+        ensures some { IfOk result (λ n. 0 < length bytes.now → 0 < n) }
+        ensures bytes { WriteAppends (contents self.old) (contents self.new) result bytes.now }
+        ensures failed { has_failed self.new ≡ (if is_ok result then has_failed self.old else true) };
+
+    /// Passes on whatever the sink still holds back. A call that fails marks the sink as failed for good.
+    fn flush(&mut self) -> Result<(), WriteFailed>
+        ensures bytes { Keeps (contents self.old) (contents self.new) }
+        ensures failed { has_failed self.new ≡ (if is_ok result then has_failed self.old else true) };
+
+    /// Whether a write has ever failed.
+    fn failed(&self) -> bool
+        ensures { result ≡ has_failed self.now };
+}
+
+/// Writes all the bytes, and passes them on.
+///
+/// # Errors
+///
+/// `Err(n)` where the sink took the first n of them and then failed, or where 4,294,967,295 writes did not do.
+pub fn write_all<W: Sink>(sink: &mut W, bytes: &[u8]) -> Result<(), usize>
+    ensures ok { OnOk result (Appends (W.contents sink.old) (W.contents sink.new) bytes.now) }
+    ensures err { IfErr result (λ n. (n ≤ length bytes.now)
+        × Appends (W.contents sink.old) (W.contents sink.new) (take n bytes.now)) }
+    ensures sound { OnOk result (W.has_failed sink.new ≡ W.has_failed sink.old) }
+    ensures reason { OnErr result ((W.has_failed sink.new ≡ true)
+        ⊎ ((W.has_failed sink.new ≡ W.has_failed sink.old) × (4294967295 ≤ length bytes.now))) }
+{
+    let mut written = 0;
+    for _call in 0..u32::MAX {
+        if written == bytes.len() {
+            return match sink.flush() {
+                Ok(()) => Ok(()),
+                Err(_) => Err(written),
+            };
+        }
+        match sink.write(&bytes[written..]) {
+            Ok(n) => written += n,
+            Err(_) => return Err(written),
+        }
+    }
+    Err(written)
+}

@@ -1,0 +1,56 @@
+//! The days, years and labels of numbers that a request gives, where they are in their ranges.
+ghost use Rattle.std.specs.Prelude.{◌≡◌, true, false, IfOk, MatchResult, unsigned_abs};
+ghost use Rattle.osn_days.specs.Profile.{present};
+ghost use Rattle.osn_register.specs.Refusal.{IsTestOf};
+ghost use Rattle.osn_register.specs.declared.refusal.Refusal.TheVariants.{DayOffLine, YearOffRange};
+ghost use Rattle.osn_register.specs.Plain.{is_off_line, is_off_years};
+ghost use Rattle.osn_register.specs.Answer.{date_refusal, label_from};
+
+use crate::refusal::Refusal;
+use osn_days::{Day, Year};
+use osn_lands::Label;
+
+/// The last year that a label may have.
+const LAST_LABEL_YEAR: i64 = 3000;
+
+/// The day of a number, where it is on the line.
+pub(crate) fn day_on_line(number: i64) -> Result<Day, Refusal>
+    ensures { MatchResult result
+        (λ d. (is_off_line present number ≡ false) × (d ≡ unsigned_abs number))
+        (λ f. (is_off_line present number ≡ true) × (f ≡ DayOffLine)) }
+{
+    match Day::new(number) {
+        Some(day) => Ok(day),
+        None => Err(Refusal::DayOffLine),
+    }
+}
+
+/// The year of a number, where it has figures, an Easter and exceptions.
+pub(crate) fn year_in_range(number: i64) -> Result<Year, Refusal>
+    ensures { MatchResult result
+        (λ y. (is_off_years present number ≡ false) × (y ≡ unsigned_abs number))
+        (λ f. (is_off_years present number ≡ true) × (f ≡ YearOffRange)) }
+{
+    match Year::new(number) {
+        Some(year) => Ok(year),
+        None => Err(Refusal::YearOffRange),
+    }
+}
+
+/// The label of a date that is asked for, where it may be one.
+pub(crate) fn asked_label(year: i64, month: i64, day: i64) -> Result<Label, Refusal>
+    ensures test { IsTestOf (date_refusal present year month day) result }
+    ensures value { IfOk result (λ l. l ≡ label_from year month day) }
+{
+    if year < 0 || year > LAST_LABEL_YEAR {
+        return Err(Refusal::YearOffRange);
+    }
+    if month < 1 || month > 12 || day < 1 || day > 31 {
+        return Err(Refusal::BadDate);
+    }
+    Ok(Label {
+        year: year as i32,
+        month: month as u8,
+        day: day as u8,
+    })
+}

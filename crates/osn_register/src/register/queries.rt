@@ -1,0 +1,92 @@
+//! What the register answers to queries.
+ghost use Rattle.std.specs.Prelude.{◌≡◌, true, None, IfOk, IfErr, OnOk, OnErr, ◌<◌, length, map};
+ghost use Rattle.osn_days.specs.Profile.{present};
+ghost use Rattle.osn_register.specs.Answer as said;
+ghost use Rattle.osn_register.specs.InsideQuery.{IsReasonFor, IsWantOfMemory};
+
+use crate::answer::{Answer, Land};
+use crate::figures::figures;
+use crate::listing::Listing;
+use crate::query::Query;
+use crate::range::{asked_label, day_on_line, year_in_range};
+use crate::register::Register;
+use crate::territory_answer::{easters, on_day, periods, reading};
+use crate::text::Text;
+use crate::unanswered::Unanswered;
+use std::alloc::AllocError;
+
+impl Register {
+    /// What the register answers to a query: `Answer::Refused` exactly where the query is refused.
+    ///
+    /// # Errors
+    ///
+    /// Only where no memory is found, of which a refusal, the figures of a year and an empty list
+    /// of territories take none.
+    pub fn answer(&self, query: &Query) -> Result<Answer, AllocError>
+        ensures value { IfOk result (λ a. a ≡ said.answer present self.now.lands query.now) }
+        // as a law: nothing but the definition's refusals refuses a query
+        ensures refused { IfOk result
+            (λ a. said.refusal_in a ≡ said.query_refusal present self.now.lands query.now) }
+        ensures memory { OnErr result
+            (said.takes_memory (said.answer present self.now.lands query.now) ≡ true) }
+    {
+        match self.lawful_answer(query) {
+            Ok(answer) => Ok(answer),
+            Err(Unanswered::Refused(refusal)) => Ok(Answer::Refused(refusal)),
+            Err(Unanswered::NoMemory) => Err(AllocError),
+        }
+    }
+
+    fn lawful_answer(&self, query: &Query) -> Result<Answer, Unanswered>
+        ensures lawful { OnOk result (said.query_refusal present self.now.lands query.now ≡ None) }
+        ensures value { IfOk result (λ a. a ≡ said.answer present self.now.lands query.now) }
+        ensures answered { IfOk result (λ a. said.refusal_in a ≡ None) }
+        ensures refused { IfErr result
+            (IsReasonFor (said.query_refusal present self.now.lands query.now)) }
+        ensures memory { IfErr result
+            (IsWantOfMemory (said.takes_memory (said.answer present self.now.lands query.now))) }
+    {
+        match query {
+            Query::Read {
+                code,
+                year,
+                month,
+                day,
+            } => {
+                let territory = self.known_territory(code.as_str())?;
+                let label = asked_label(*year, *month, *day)?;
+                Ok(reading(self.alloc, territory, label)?)
+            }
+            Query::DayIn { code, day } => {
+                let territory = self.known_territory(code.as_str())?;
+                let day = day_on_line(*day)?;
+                Ok(on_day(self.alloc, territory, day)?)
+            }
+            Query::Easter { code, year } => {
+                let territory = self.known_territory(code.as_str())?;
+                let year = year_in_range(*year)?;
+                Ok(easters(self.alloc, territory, year)?)
+            }
+            Query::YearFigures { year } => Ok(figures(year_in_range(*year)?)),
+            Query::Lands => Ok(Answer::Lands(Listing::new(self.listed()?))),
+            Query::Periods { code } => {
+                let territory = self.known_territory(code.as_str())?;
+                Ok(periods(self.alloc, territory)?)
+            }
+        }
+    }
+
+    fn listed(&self) -> Result<Vec<Land>, AllocError>
+        ensures value { IfOk result (λ v. v.items ≡ map said.listed self.now.lands) }
+        ensures memory { OnErr result (0 < length self.now.lands) }
+    {
+        let mut listed = Vec::with_capacity(self.alloc, self.lands.len())?;
+        for (code, entry) in &self.lands {
+            listed.push(Land {
+                code: Text::from_str(self.alloc, code.as_str())?,
+                name: entry.name.copy()?,
+            })?;
+        }
+        Ok(listed)
+    }
+}

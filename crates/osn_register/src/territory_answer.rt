@@ -1,0 +1,118 @@
+//! Answers about one territory.
+ghost use Rattle.std.specs.Prelude.{◌≡◌, true, Some, None, IfOk, OnErr, All, map};
+ghost use Rattle.osn_days.specs.Profile.{present};
+ghost use Rattle.osn_lands.specs.Territory.{regime_at, periods_of};
+ghost use Rattle.osn_lands.specs.Label.{local};
+ghost use Rattle.osn_register.specs.Answer as said;
+
+use crate::answer::{Answer, Found};
+use crate::listing::Listing;
+use crate::text::Text;
+use osn_days::{Day, Year};
+use osn_lands::{Label, Period, Regime, Territory, dual_text, label_of};
+use std::alloc::{AllocError, Global};
+
+/// The period that holds a day.
+fn period_on(territory: &Territory, day: Day) -> Period
+    ensures value { said.period_on (periods_of present territory.now) day ≡ Some result }
+    ensures regime { result.regime ≡ regime_at territory.now day }
+{
+    let (place, _) = territory.period_at(day);
+    territory.periods()[place]
+}
+
+/// A day as a regime names it, with its label.
+fn found_under(alloc: Global, regime: Regime, day: Day, label: Label) -> Result<Found, AllocError>
+    requires { label ≡ local regime day }
+    ensures { IfOk result (λ f. f ≡ said.found_under regime day) }
+{
+    Ok(Found {
+        day,
+        label,
+        dual: Text::new(dual_text(alloc, regime, day)?),
+    })
+}
+
+/// Days as the territory names them.
+fn found_days(alloc: Global, territory: &Territory, days: &[Day]) -> Result<Vec<Found>, AllocError>
+    ensures { IfOk result (λ v. v.items ≡ map (said.found_on territory.now) days.now) }
+{
+    let mut found = Vec::with_capacity(alloc, days.len())?;
+    for day in days {
+        let regime = territory.regime_at(*day);
+        found.push(found_under(alloc, regime, *day, label_of(regime, *day))?)?;
+    }
+    Ok(found)
+}
+
+/// Days that the territory dates with the label, as it names them.
+fn read_days(
+    alloc: Global,
+    territory: &Territory,
+    days: &[Day],
+    label: Label,
+) -> Result<Vec<Found>, AllocError>
+    requires { All (λ d. label ≡ local (regime_at territory.now d) d) days.now }
+    ensures { IfOk result (λ v. v.items ≡ map (said.found_on territory.now) days.now) }
+{
+    let mut found = Vec::with_capacity(alloc, days.len())?;
+    for day in days {
+        found.push(found_under(alloc, territory.regime_at(*day), *day, label)?)?;
+    }
+    Ok(found)
+}
+
+/// A day as a territory names it, with the period that holds it.
+pub(crate) fn on_day(alloc: Global, territory: &Territory, day: Day) -> Result<Answer, AllocError>
+    ensures value { IfOk result (λ a. a ≡ said.day_answer present (Some territory.now) day) }
+    ensures answered { IfOk result (λ a. said.refusal_in a ≡ None) }
+    ensures memory { OnErr result
+        (said.takes_memory (said.day_answer present (Some territory.now) day) ≡ true) }
+{
+    let period = period_on(territory, day);
+    let label = label_of(period.regime, day);
+    Ok(Answer::OnDay {
+        found: found_under(alloc, period.regime, day, label)?,
+        period,
+    })
+}
+
+/// The periods of a territory.
+pub(crate) fn periods(alloc: Global, territory: &Territory) -> Result<Answer, AllocError>
+    ensures { IfOk result (λ a. a ≡ said.periods_answer present (Some territory.now)) }
+{
+    Ok(Answer::Periods(Listing::new(territory.periods().to_vec(alloc)?)))
+}
+
+/// The Easters of a year in a territory.
+pub(crate) fn easters(
+    alloc: Global,
+    territory: &Territory,
+    year: Year,
+) -> Result<Answer, AllocError>
+    ensures { IfOk result (λ a. a ≡ said.easters_answer present (Some territory.now) year) }
+{
+    let days = territory.easters(year)?;
+    let found = found_days(alloc, territory, days.as_slice())?;
+    Ok(Answer::Easters {
+        found: Listing::new(found),
+        listed: territory.exception(year).is_some(),
+    })
+}
+
+/// The reading of a label in a territory.
+pub(crate) fn reading(
+    alloc: Global,
+    territory: &Territory,
+    label: Label,
+) -> Result<Answer, AllocError>
+    ensures { IfOk result (λ a. a ≡ said.reading_answer present (Some territory.now) label) }
+{
+    let days = territory.read(label)?;
+    let found = read_days(alloc, territory, days.as_slice(), label)?;
+    let skipped = territory.skipped(label)?;
+    Ok(Answer::Reading {
+        found: Listing::new(found),
+        skipped: Listing::new(skipped),
+    })
+}

@@ -1,0 +1,46 @@
+//! Tests of all libraries over their public calls, and nothing else: a library with tests of its
+//! own would be proved twice. What a contract says is not tested again. Here stand values from
+//! outside, worked sessions of the service, each public call once with ample memory, streams that
+//! fail, and the slow programs that the definitions describe, beside the quick ones.
+#![tactic(auto)]
+
+#[cfg(test)]
+mod beginnings;
+#[cfg(test)]
+mod bytes;
+#[cfg(test)]
+mod changes;
+#[cfg(test)]
+mod computus;
+#[cfg(test)]
+mod days;
+#[cfg(test)]
+mod easters;
+#[cfg(test)]
+mod editions;
+#[cfg(test)]
+mod faults;
+#[cfg(test)]
+mod figures;
+#[cfg(test)]
+mod lands;
+#[cfg(test)]
+mod limits;
+#[cfg(test)]
+mod objects;
+#[cfg(test)]
+mod reforms;
+#[cfg(test)]
+mod refusals;
+#[cfg(test)]
+mod register;
+#[cfg(test)]
+mod search;
+#[cfg(test)]
+mod session;
+#[cfg(test)]
+mod streams;
+#[cfg(test)]
+mod tables;
+#[cfg(test)]
+mod walk;

@@ -1,0 +1,248 @@
+//! The calls of `osn_register`: registers folded from edits, copied and changed. Edits and queries
+//! are read from their lines, and answers compared as theirs.
+use osn_core::Reply;
+use osn_register::{Answer, Edit, Limits, Query, Refusal, Register, Text};
+use osn_wire::{Outcome, Request, read_request, reply_text};
+use std::alloc::Global;
+use std::process::Abort;
+use std::test::Fail;
+
+/// The edit of a line.
+pub fn edit_of(alloc: Global, line: &str) -> Result<Edit, Fail> {
+    match read_request(alloc, 1, line.as_bytes())? {
+        Request::Stage(edit) => Ok(edit),
+        _ => Err(Fail::new("no edit")),
+    }
+}
+
+/// The query of a line.
+pub fn query_of(alloc: Global, line: &str) -> Result<Query, Fail> {
+    match read_request(alloc, 1, line.as_bytes())? {
+        Request::Ask { query, .. } => Ok(query),
+        _ => Err(Fail::new("no query")),
+    }
+}
+
+/// The line of an answer that the first reader is told of edition 0.
+fn told(alloc: Global, answer: Answer) -> Result<String, Fail> {
+    let edition = 0;
+    let reply = Reply { edition, answer };
+    Ok(reply_text(alloc, &Outcome::Replied { reader: 1, reply })?)
+}
+
+/// The register of edits, each on a line.
+fn folded(alloc: Global, lines: &str) -> Result<Register, Fail> {
+    let mut edits = Vec::new(alloc);
+    for line in lines.lines() {
+        edits.push(edit_of(alloc, line)?.copy()?)?;
+    }
+    Ok(Register::fold(alloc, Limits::standard(), &edits)?)
+}
+
+/// That a register answers some queries so, each line with the line of its answer.
+fn answers(
+    rt: &impl Abort,
+    alloc: Global,
+    register: &Register,
+    rows: &[(&str, &str)],
+) -> Result<(), Fail> {
+    for (line, wanted) in rows {
+        let query = query_of(alloc, line)?.copy()?;
+        let got = told(alloc, register.answer(&query)?)?;
+        assert_eq!(rt; got.as_str().trim_end(), *wanted);
+    }
+    Ok(())
+}
+
+/// The edits of Great Britain, with a second addition of it among them.
+const EDITS: &str =
+    r#"{"op":"add_land","code":"GB","name":"Great Britain","calendar":"julian","style":"annunciation","rule":"julian"}
+{"op":"add_change","code":"GB","day":639551,"calendar":"julian","style":"january","rule":"julian"}
+{"op":"add_land","code":"GB","name":"Great Britain","calendar":"julian","style":"annunciation","rule":"julian"}
+{"op":"add_change","code":"GB","day":639797,"calendar":"gregorian","style":"january","rule":"gregorian"}
+"#;
+
+/// What its register is asked, and answers.
+const BRITAIN: [(&str, &str); 7] = [
+    (
+        r#"{"op":"read","reader":1,"code":"GB","year":1731,"month":2,"day":11}"#,
+        r#"{"answer":{"days":[{"day":632287,"dual":"11 February 1731/2","gregorian":"1732-02-22","jdn":2353712,"julian":"1732-02-11","label":"1731-02-11","weekday":"Friday"}],"skipped":[]},"edition":0,"reader":1}"#,
+    ),
+    (
+        r#"{"op":"read","reader":1,"code":"GB","year":1752,"month":9,"day":3}"#,
+        r#"{"answer":{"days":[],"skipped":[639797]},"edition":0,"reader":1}"#,
+    ),
+    (
+        r#"{"op":"periods","reader":1,"code":"GB"}"#,
+        r#"{"answer":{"periods":[{"calendar":"julian","first":1,"last":639550,"rule":"julian","style":"annunciation"},{"calendar":"julian","first":639551,"last":639796,"rule":"julian","style":"january"},{"calendar":"gregorian","first":639797,"last":1095362,"rule":"gregorian","style":"january"}]},"edition":0,"reader":1}"#,
+    ),
+    (
+        r#"{"op":"lands","reader":1}"#,
+        r#"{"answer":{"lands":[{"code":"GB","name":"Great Britain"}]},"edition":0,"reader":1}"#,
+    ),
+    (
+        r#"{"op":"figures","reader":1,"year":1753}"#,
+        r#"{"answer":{"golden":6,"gregorian":{"easter":640017,"epact":"25","letters":"G"},"indiction":1,"julian":{"easter":640017,"epact":25,"letters":"C"},"year":1753},"edition":0,"reader":1}"#,
+    ),
+    (
+        r#"{"op":"easter","reader":1,"code":"GB","year":1753}"#,
+        r#"{"answer":{"days":[{"day":640017,"dual":"22 April 1753","gregorian":"1753-04-22","jdn":2361442,"julian":"1753-04-11","label":"1753-04-22","weekday":"Sunday"}],"listed":false},"edition":0,"reader":1}"#,
+    ),
+    (
+        r#"{"op":"day","reader":1,"code":"GB","day":1}"#,
+        r#"{"answer":{"first":1,"found":{"day":1,"dual":"3 January 0/1","gregorian":"0001-01-01","jdn":1721426,"julian":"0001-01-03","label":"0000-01-03","weekday":"Monday"},"last":639550,"regime":{"calendar":"julian","rule":"julian","style":"annunciation"}},"edition":0,"reader":1}"#,
+    ),
+];
+
+/// The territories once Rome is added.
+const WITH_ROME: [(&str, &str); 1] = [(
+    r#"{"op":"lands","reader":1}"#,
+    r#"{"answer":{"lands":[{"code":"GB","name":"Great Britain"},{"code":"RM","name":"Rome"}]},"edition":0,"reader":1}"#,
+)];
+
+const ROME: &str =
+    r#"{"op":"add_land","code":"RM","name":"Rome","calendar":"julian","style":"january","rule":"julian"}"#;
+
+/// A copy of a register, to which an edit is applied.
+fn changed_copy(alloc: Global, register: &Register, line: &str) -> Result<Register, Fail> {
+    let edit = edit_of(alloc, line)?;
+    let mut copied = register.copy()?;
+    copied.apply_if_lawful(&edit)?;
+    Ok(copied)
+}
+
+#[test]
+fn a_copy_answers_as_its_source(rt: HostRuntime) -> Result<(), Fail> {
+    let copied = folded(rt.alloc(), EDITS)?.copy()?;
+    answers(&rt, rt.alloc(), &copied, &BRITAIN)
+}
+
+#[test]
+fn a_changed_copy_is_apart_from_its_source(rt: HostRuntime) -> Result<(), Fail> {
+    let register = folded(rt.alloc(), EDITS)?;
+    let copied = changed_copy(rt.alloc(), &register, ROME)?;
+    answers(&rt, rt.alloc(), &copied, &WITH_ROME)?;
+    answers(&rt, rt.alloc(), &register, &BRITAIN)
+}
+
+/// Edits in turn, and what they are refused by.
+const APPLIED: [(&str, Result<(), Refusal>); 14] = [
+    (
+        r#"{"op":"add_land","code":"GB","name":"Great Britain","calendar":"julian","style":"annunciation","rule":"julian"}"#,
+        Ok(()),
+    ),
+    (
+        r#"{"op":"add_land","code":"GB","name":"Great Britain","calendar":"julian","style":"annunciation","rule":"julian"}"#,
+        Err(Refusal::LandExists),
+    ),
+    (
+        r#"{"op":"add_change","code":"GB","day":1,"calendar":"julian","style":"january","rule":"julian"}"#,
+        Err(Refusal::OpeningPeriod),
+    ),
+    (
+        r#"{"op":"add_change","code":"GB","day":639551,"calendar":"julian","style":"january","rule":"julian"}"#,
+        Ok(()),
+    ),
+    (
+        r#"{"op":"add_change","code":"GB","day":639551,"calendar":"julian","style":"january","rule":"julian"}"#,
+        Err(Refusal::ChangeExists),
+    ),
+    (
+        r#"{"op":"alter_change","code":"GB","day":639551,"calendar":"julian","style":"january","rule":"julian"}"#,
+        Ok(()),
+    ),
+    (
+        r#"{"op":"alter_change","code":"GB","day":5,"calendar":"julian","style":"january","rule":"julian"}"#,
+        Err(Refusal::NoSuchChange),
+    ),
+    (
+        r#"{"op":"add_exception","code":"GB","year":1724,"day":629412}"#,
+        Ok(()),
+    ),
+    (
+        r#"{"op":"add_exception","code":"GB","year":1724,"day":1}"#,
+        Err(Refusal::ExceptionExists),
+    ),
+    (r#"{"op":"drop_exception","code":"GB","year":1724}"#, Ok(())),
+    (
+        r#"{"op":"drop_exception","code":"GB","year":1724}"#,
+        Err(Refusal::NoSuchException),
+    ),
+    (r#"{"op":"drop_change","code":"GB","day":639551}"#, Ok(())),
+    (
+        r#"{"op":"drop_change","code":"GB","day":639551}"#,
+        Err(Refusal::NoSuchChange),
+    ),
+    (
+        r#"{"op":"add_land","code":"RM","name":"Rome","calendar":"julian","style":"january","rule":"julian"}"#,
+        Ok(()),
+    ),
+];
+
+/// What `check` and `apply` answer, where they agree.
+fn applied(
+    alloc: Global,
+    register: &mut Register,
+    line: &str,
+) -> Result<Result<(), Refusal>, Fail> {
+    let edit = edit_of(alloc, line)?;
+    let checked = register.check(&edit);
+    let answer = register.apply(&edit);
+    if answer != checked {
+        return Err(Fail::new("check and apply do not agree"));
+    }
+    Ok(answer)
+}
+
+/// The same by `check` and then `admit`.
+fn admitted(
+    alloc: Global,
+    register: &mut Register,
+    line: &str,
+) -> Result<Result<(), Refusal>, Fail> {
+    let edit = edit_of(alloc, line)?;
+    match register.check(&edit) {
+        Ok(()) => Ok(Ok(register.admit(&edit)?)),
+        Err(refusal) => Ok(Err(refusal)),
+    }
+}
+
+/// A register that answers some edits so, by `apply`, or by `admit`.
+fn made(
+    rt: &impl Abort,
+    alloc: Global,
+    edits: &[(&str, Result<(), Refusal>)],
+    admits: bool,
+) -> Result<Register, Fail> {
+    let mut register = Register::new(alloc, Limits::standard());
+    for (line, answer) in edits {
+        let got = if admits {
+            admitted(alloc, &mut register, line)?
+        } else {
+            applied(alloc, &mut register, line)?
+        };
+        assert_eq!(rt; got, *answer, "at {line}");
+    }
+    Ok(register)
+}
+
+#[test]
+fn edits_are_checked_and_applied(rt: HostRuntime) -> Result<(), Fail> {
+    let register = made(&rt, rt.alloc(), &APPLIED, false)?;
+    answers(&rt, rt.alloc(), &register, &WITH_ROME)
+}
+
+#[test]
+fn edits_are_checked_and_admitted(rt: HostRuntime) -> Result<(), Fail> {
+    let register = made(&rt, rt.alloc(), &APPLIED, true)?;
+    answers(&rt, rt.alloc(), &register, &WITH_ROME)
+}
+
+#[test]
+fn texts_are_read_copied_and_moved(rt: HostRuntime) -> Result<(), Fail> {
+    let text = Text::from_str(rt.alloc(), "Île")?;
+    assert_eq!(rt; text.as_str(), "Île");
+    assert_eq!(rt; text.copy()?.into_string().as_str(), "Île");
+    assert_eq!(rt; Text::new(text.into_string()).as_str(), "Île");
+    Ok(())
+}

@@ -1,0 +1,60 @@
+//! Sessions of the service over memory, written as what is read and what is written.
+use osn_register::Limits;
+use osn_wire::{Plain, serve};
+use std::alloc::{AllocError, Global};
+use std::process::Abort;
+use std::test::Fail;
+
+/// A session's requests and replies apart, a line feed behind each. Every second line of a session
+/// is a reply. Empty lines, and remarks behind a number sign, are passed over.
+fn apart(alloc: Global, session: &str) -> Result<(String, String), AllocError> {
+    let mut requests = String::new(alloc);
+    let mut replies = String::new(alloc);
+    let mut is_reply = false;
+    for line in session.lines() {
+        if line.is_empty() || line.starts_with('#') {
+            continue;
+        }
+        if is_reply {
+            replies.push_str(line)?;
+            replies.push('\n')?;
+        } else {
+            requests.push_str(line)?;
+            requests.push('\n')?;
+        }
+        is_reply = !is_reply;
+    }
+    Ok((requests, replies))
+}
+
+/// What is written for some bytes, and the number of lines.
+pub fn served(
+    alloc: Global,
+    limits: Limits,
+    readers: u32,
+    input: &[u8],
+) -> Result<(Vec<u8>, u64), Fail> {
+    let mut source = Plain::new(input);
+    let mut sink = Plain::new(Vec::new(alloc));
+    let lines = serve(alloc, limits, readers, &mut source, &mut sink)?;
+    Ok((sink.into_inner(), lines))
+}
+
+/// That a session of the service goes so, from an empty object.
+pub fn serves(
+    rt: &impl Abort,
+    alloc: Global,
+    limits: Limits,
+    readers: u32,
+    session: &str,
+) -> Result<(), Fail> {
+    let (requests, replies) = apart(alloc, session)?;
+    let (written, lines) = served(alloc, limits, readers, requests.as_bytes())?;
+    let text = str::from_utf8(&written)?;
+    for (place, (got, wanted)) in text.lines().zip(replies.lines()).enumerate() {
+        assert_eq!(rt; got, wanted, "reply {place}");
+    }
+    assert_eq!(rt; text.len(), replies.len());
+    assert_eq!(rt; lines, replies.lines().count() as u64);
+    Ok(())
+}

@@ -1,0 +1,367 @@
+//! Streams: bytes that come and go in any pieces, and reads, writes and flushes that fail.
+use osn_register::Limits;
+use osn_wire::{Plain, ServeFault, Sink, serve, write_all};
+use std::alloc::{AllocError, Global};
+use std::cell::Cell;
+use std::io;
+use std::io::{ErrorKind, Read, Write};
+use std::process::Abort;
+use std::rc::Rc;
+use std::test::Fail;
+
+/// How many bytes were flushed, in how many writes, and how many of them before the last read.
+#[derive(Drop)]
+struct Notes {
+    flushed: Cell<usize>,
+    writes: Cell<usize>,
+    seen: Cell<usize>,
+}
+
+impl Notes {
+    /// Notes of nothing yet.
+    fn shared(alloc: Global) -> Result<Rc<Notes>, AllocError> {
+        Ok(Rc::new(
+            alloc,
+            Notes {
+                flushed: Cell::new(0),
+                writes: Cell::new(0),
+                seen: Cell::new(0),
+            },
+        )?)
+    }
+}
+
+/// Gives one byte a read, and fails at a place.
+#[derive(Drop)]
+struct OneByte {
+    bytes: Vec<u8>,
+    place: usize,
+    fails_at: usize,
+    notes: Rc<Notes>,
+}
+
+impl Read for OneByte {
+    fn read(&mut self, buffer: &mut [u8]) -> io::Result<usize> {
+        self.notes.seen.set(self.notes.flushed.get());
+        if self.place == self.fails_at {
+            return Err(io::Error::from(ErrorKind::TimedOut));
+        }
+        if buffer.is_empty() || self.place >= self.bytes.len() {
+            return Ok(0);
+        }
+        buffer[0] = self.bytes[self.place];
+        self.place += 1;
+        Ok(1)
+    }
+}
+
+/// Takes at most so many bytes a write, and fails once it has so many.
+#[derive(Drop)]
+struct Bounded {
+    bytes: Vec<u8>,
+    step: usize,
+    fails_at: usize,
+    flush_fails: bool,
+    notes: Rc<Notes>,
+}
+
+impl Write for Bounded {
+    fn write(&mut self, bytes: &[u8]) -> io::Result<usize> {
+        if self.bytes.len() >= self.fails_at {
+            return Err(io::Error::from(ErrorKind::BrokenPipe));
+        }
+        let taken = self.step.min(bytes.len());
+        self.bytes.extend_from_slice(&bytes[..taken])?;
+        self.notes
+            .writes
+            .set(self.notes.writes.get().saturating_add(1));
+        Ok(taken)
+    }
+
+    fn flush(&mut self) -> io::Result<()> {
+        if self.flush_fails {
+            return Err(io::Error::from(ErrorKind::BrokenPipe));
+        }
+        self.notes.flushed.set(self.bytes.len());
+        Ok(())
+    }
+}
+
+/// How the service ended, with the number of lines that it gave.
+#[derive(Clone, Copy, Debug, PartialEq, Eq)]
+enum End {
+    Answered(u64),
+    NoMemory(u64),
+    ReadFault(u64),
+    WriteFault(u64),
+}
+
+/// What came of a try.
+#[derive(Drop)]
+struct Outcome {
+    text: Vec<u8>,
+    end: End,
+    writes: usize,
+    seen: usize,
+}
+
+/// How a try goes: whether one byte is read at a time, how many are written at most, and what
+/// fails.
+#[derive(Clone, Copy)]
+struct Plan {
+    by_bytes: bool,
+    read_fails_at: usize,
+    step: usize,
+    write_fails_at: usize,
+    flush_fails: bool,
+}
+
+const WHOLE: Plan = Plan {
+    by_bytes: false,
+    read_fails_at: usize::MAX,
+    step: usize::MAX,
+    write_fails_at: usize::MAX,
+    flush_fails: false,
+};
+
+const BY_BYTES: Plan = Plan {
+    by_bytes: true,
+    read_fails_at: usize::MAX,
+    step: usize::MAX,
+    write_fails_at: usize::MAX,
+    flush_fails: false,
+};
+
+fn tried(alloc: Global, input: &[u8], plan: Plan) -> Result<Outcome, AllocError> {
+    let notes = Notes::shared(alloc)?;
+    let mut sink = Plain::new(Bounded {
+        bytes: Vec::new(alloc),
+        step: plan.step,
+        fails_at: plan.write_fails_at,
+        flush_fails: plan.flush_fails,
+        notes: notes.clone()?,
+    });
+    let limits = Limits::standard();
+    let answered = if plan.by_bytes {
+        let mut source = Plain::new(OneByte {
+            bytes: Vec::from_slice(alloc, input)?,
+            place: 0,
+            fails_at: plan.read_fails_at,
+            notes: notes.clone()?,
+        });
+        serve(alloc, limits, 8, &mut source, &mut sink)
+    } else {
+        serve(alloc, limits, 8, &mut Plain::new(input), &mut sink)
+    };
+    let end = match answered {
+        Ok(lines) => End::Answered(lines),
+        Err(ServeFault::NoMemory { lines }) => End::NoMemory(lines),
+        Err(ServeFault::ReadFault { lines }) => End::ReadFault(lines),
+        Err(ServeFault::WriteFault { lines }) => End::WriteFault(lines),
+    };
+    Ok(Outcome {
+        text: sink.into_inner().bytes,
+        end,
+        writes: notes.writes.get(),
+        seen: notes.seen.get(),
+    })
+}
+
+/// The session of Rome, on 4 October 1582.
+const READ: &str =
+    r#"{"op":"add_land","code":"RM","name":"Rome","calendar":"julian","style":"january","rule":"julian"}
+{"op":"publish"}
+{"op":"lands","reader":1}
+"#;
+
+const WRITTEN: &str = r#"{"ok":"staged","pending":1}
+{"edition":1,"ok":"published"}
+{"answer":{"lands":[{"code":"RM","name":"Rome"}]},"edition":1,"reader":1}
+"#;
+
+/// What is told of a line that is no JSON.
+const NOT_JSON: &str = "{\"fault\":32,\"name\":\"NotJson\"}\n";
+
+/// The places behind the first and the second line that is read, and behind the first and the
+/// second reply.
+const READ_TO: [usize; 2] = [98, 115];
+
+const WRITTEN_TO: [usize; 2] = [28, 59];
+
+#[test]
+fn bytes_in_any_pieces(rt: HostRuntime) -> Result<(), Fail> {
+    for by_bytes in [false, true] {
+        for step in [1, 7, usize::MAX] {
+            let plan = Plan {
+                by_bytes,
+                step,
+                ..WHOLE
+            };
+            for (input, want, lines) in [("", "", 0), ("\n", NOT_JSON, 1), (READ, WRITTEN, 3)] {
+                let got = tried(rt.alloc(), input.as_bytes(), plan)?;
+                assert_eq!(rt; got.end, End::Answered(lines));
+                assert_eq!(rt; got.text.as_slice(), want.as_bytes());
+            }
+        }
+    }
+    Ok(())
+}
+
+/// The whole lines of each start of the input are answered. What is left of a line that was cut is
+/// no JSON, except where its line feed alone is missing.
+#[test]
+fn each_start_of_an_input(rt: HostRuntime) -> Result<(), Fail> {
+    for (start, end, told, replied) in [
+        (0, READ_TO[0], 0, WRITTEN_TO[0]),
+        (READ_TO[0], READ_TO[1], WRITTEN_TO[0], WRITTEN_TO[1]),
+        (READ_TO[1], READ.len(), WRITTEN_TO[1], WRITTEN.len()),
+    ] {
+        for cut in start..=end {
+            let input = READ.as_bytes().get(..cut).unwrap_or_default();
+            let got = tried(rt.alloc(), input, WHOLE)?;
+            let whole = if cut < end - 1 { told } else { replied };
+            let (front, rest) = got
+                .text
+                .split_at_checked(whole)
+                .ok_or("too little is written")?;
+            assert_eq!(rt; Some(front), WRITTEN.as_bytes().get(..whole), "at {cut}");
+            let is_cut = start < cut && cut < end - 1;
+            assert_eq!(rt;
+                rest,
+                if is_cut { NOT_JSON.as_bytes() } else { b"" },
+                "at {cut}"
+            );
+        }
+    }
+    Ok(())
+}
+
+#[test]
+fn replies_are_written_together_and_before_the_next_read(rt: HostRuntime) -> Result<(), Fail> {
+    let queries = b"{\"op\":\"lands\",\"reader\":1}\n{\"op\":\"lands\",\"reader\":2}\nx\n";
+    let together = tried(rt.alloc(), queries, WHOLE)?;
+    assert_eq!(rt; together.writes, 1, "lines that came together");
+    let alone = tried(rt.alloc(), queries, BY_BYTES)?;
+    assert_eq!(rt; alone.writes, 3, "lines that came alone");
+    assert_eq!(rt;
+        alone.seen,
+        alone.text.len(),
+        "all was flushed before the last read"
+    );
+    Ok(())
+}
+
+/// A partial line before a read that fails is not answered.
+#[test]
+fn a_failed_read_is_no_end(rt: HostRuntime) -> Result<(), Fail> {
+    for (read_fails_at, lines, written) in [
+        (0, 0, 0),
+        (READ_TO[0] - 1, 0, 0),
+        (READ_TO[0], 1, WRITTEN_TO[0]),
+        (READ_TO[1], 2, WRITTEN_TO[1]),
+        (READ_TO[1] + 9, 2, WRITTEN_TO[1]),
+        (READ.len(), 3, WRITTEN.len()),
+    ] {
+        let plan = Plan {
+            read_fails_at,
+            ..BY_BYTES
+        };
+        let got = tried(rt.alloc(), READ.as_bytes(), plan)?;
+        assert_eq!(rt; got.end, End::ReadFault(lines), "at {read_fails_at}");
+        assert_eq!(rt;
+            Some(got.text.as_slice()),
+            WRITTEN.as_bytes().get(..written)
+        );
+    }
+    Ok(())
+}
+
+/// Where writing fails, and how many lines were answered whole then.
+const FAILING: [(usize, u64); 7] = [(0, 0), (1, 0), (27, 0), (28, 1), (29, 1), (59, 2), (132, 2)];
+
+fn fail_in_writing(
+    rt: &impl Abort,
+    alloc: Global,
+    plan: Plan,
+    rows: &[(usize, u64)],
+) -> Result<(), Fail> {
+    for (write_fails_at, lines) in rows {
+        let plan = Plan {
+            step: 1,
+            write_fails_at: *write_fails_at,
+            ..plan
+        };
+        let got = tried(alloc, READ.as_bytes(), plan)?;
+        assert_eq!(rt; got.end, End::WriteFault(*lines), "at {write_fails_at}");
+        let written = WRITTEN.as_bytes().get(..*write_fails_at);
+        assert_eq!(rt; Some(got.text.as_slice()), written);
+    }
+    Ok(())
+}
+
+/// Lines are counted whose replies were written whole.
+#[test]
+fn a_failed_write_ends_it(rt: HostRuntime) -> Result<(), Fail> {
+    fail_in_writing(&rt, rt.alloc(), BY_BYTES, &FAILING)
+}
+
+#[test]
+fn a_writer_that_takes_nothing_has_failed(rt: HostRuntime) -> Result<(), Fail> {
+    for by_bytes in [false, true] {
+        let plan = Plan {
+            by_bytes,
+            step: 0,
+            ..WHOLE
+        };
+        let got = tried(rt.alloc(), READ.as_bytes(), plan)?;
+        assert_eq!(rt; got.end, End::WriteFault(0));
+        assert_eq!(rt; got.text.len(), 0);
+    }
+    Ok(())
+}
+
+#[test]
+fn a_failed_flush_is_a_failed_write(rt: HostRuntime) -> Result<(), Fail> {
+    let plan = Plan {
+        flush_fails: true,
+        ..BY_BYTES
+    };
+    let got = tried(rt.alloc(), READ.as_bytes(), plan)?;
+    assert!(rt; matches!(got.end, End::WriteFault(_)));
+    assert!(rt; WRITTEN.as_bytes().starts_with(&got.text));
+    assert!(rt; got.text.len() < WRITTEN_TO[1]);
+    Ok(())
+}
+
+/// How `write_all` ends for seven bytes, by the bytes a write and where writing fails.
+const WRITTEN_WHOLE: [(usize, usize, Result<(), usize>); 5] = [
+    (1, usize::MAX, Ok(())),
+    (usize::MAX, usize::MAX, Ok(())),
+    (1, 4, Err(4)),
+    (3, 4, Err(6)),
+    (0, usize::MAX, Err(0)),
+];
+
+fn are_written(
+    rt: &impl Abort,
+    alloc: Global,
+    rows: &[(usize, usize, Result<(), usize>)],
+) -> Result<(), AllocError> {
+    for (step, fails_at, want) in rows {
+        let mut sink = Plain::new(Bounded {
+            bytes: Vec::new(alloc),
+            step: *step,
+            fails_at: *fails_at,
+            flush_fails: false,
+            notes: Notes::shared(alloc)?,
+        });
+        assert_eq!(rt; write_all(&mut sink, b"abcdefg"), *want);
+        assert_eq!(rt; sink.failed(), want.is_err());
+    }
+    Ok(())
+}
+
+#[test]
+fn all_bytes_are_written(rt: HostRuntime) -> Result<(), AllocError> {
+    are_written(&rt, rt.alloc(), &WRITTEN_WHOLE)
+}

@@ -1,0 +1,195 @@
+//! The slow program of the calendars, a walk along the chain of dates from day 1, and the quick
+//! calls beside it.
+ghost use Rattle.std.specs.Prelude.{◌≡◌, ◌+◌, ◌<◌, ◌≤◌, ◌^◌, pos, ◌<ℤ◌};
+ghost use Rattle.std.specs.Option.{option_to_list};
+ghost use Rattle.osn_days.specs.Profile.{present};
+ghost use Rattle.osn_days.specs.Line.{IsDay};
+ghost use Rattle.osn_days.specs.Chain as chain;
+ghost use Rattle.osn_days.specs.declared.calendar.Calendar.TheVariants.{Swedish};
+
+use osn_days::{Calendar, Date, Day, HIGH};
+
+/// The day of a number of the line.
+pub fn day_at(number: u32) -> Day
+    requires { IsDay present number }
+    ensures { result ≡ number }
+{
+    Day::on_line(i64::from(number))
+}
+
+fn is_leap(calendar: Calendar, year: i32) -> bool
+    ensures { result ≡ chain.is_leap calendar year }
+{
+    let year = year.unsigned_abs();
+    match calendar {
+        Calendar::Julian | Calendar::Swedish => year % 4 == 0,
+        Calendar::Gregorian => year % 4 == 0 && (year % 100 != 0 || year % 400 == 0),
+    }
+}
+
+fn month_length(calendar: Calendar, year: i32, month: u8) -> u8
+    ensures { result ≡ chain.month_length calendar year month }
+{
+    match month {
+        2 => { if is_leap(calendar, year) { 29 } else { 28 } }
+        4 | 6 | 9 | 11 => 30,
+        _ => 31,
+    }
+}
+
+/// The date after a date.
+pub fn next(calendar: Calendar, date: Date) -> Date
+    requires { date.year <ℤ pos 2_000_000 }
+    ensures { result ≡ chain.next calendar date }
+{
+    match calendar {
+        Calendar::Julian | Calendar::Gregorian => next_by_months(calendar, date),
+        Calendar::Swedish => next_in_sweden(date),
+    }
+}
+
+fn next_in_sweden(date: Date) -> Date
+    requires { date.year <ℤ pos 2_000_000 }
+    ensures { result ≡ chain.next Swedish date }
+{
+    if date == february(1700, 28) {
+        march_1(1700)
+    } else if date == february(1712, 29) {
+        february(1712, 30)
+    } else if date == february(1712, 30) {
+        march_1(1712)
+    } else {
+        next_by_months(Calendar::Julian, date)
+    }
+}
+
+fn february(year: u16, day: u8) -> Date
+    ensures { result ≡ chain.february year day }
+{
+    Date {
+        year: year as i32,
+        month: 2,
+        day,
+    }
+}
+
+fn march_1(year: u16) -> Date
+    ensures { result ≡ chain.march_1 year }
+{
+    Date {
+        year: year as i32,
+        month: 3,
+        day: 1,
+    }
+}
+
+fn next_by_months(calendar: Calendar, date: Date) -> Date
+    requires { date.year <ℤ pos 2_000_000 }
+    ensures { result ≡ chain.next_by_months calendar date }
+{
+    if date.day < month_length(calendar, date.year, date.month) {
+        return Date {
+            year: date.year,
+            month: date.month,
+            day: date.day + 1,
+        };
+    }
+    if date.month < 12 {
+        return Date {
+            year: date.year,
+            month: date.month + 1,
+            day: 1,
+        };
+    }
+    Date {
+        year: date.year + 1,
+        month: 1,
+        day: 1,
+    }
+}
+
+/// The date of day 1.
+pub fn first_date(calendar: Calendar) -> Date
+    ensures { result ≡ chain.first_date calendar }
+{
+    let day = match calendar {
+        Calendar::Julian | Calendar::Swedish => 3,
+        Calendar::Gregorian => 1,
+    };
+    Date {
+        year: 1,
+        month: 1,
+        day,
+    }
+}
+
+/// The date of a day.
+pub fn date_of(calendar: Calendar, day: Day) -> Date
+    ensures { result ≡ chain.date_of calendar day }
+{
+    let mut date = first_date(calendar);
+    for _ in 1..day.number() {
+        date = next(calendar, date);
+    }
+    date
+}
+
+/// The one day that has the date, or `None` where no day of the line has it.
+pub fn day_of(calendar: Calendar, date: Date) -> Option<Day>
+    ensures { option_to_list result ≡ chain.days_with_date present calendar date }
+{
+    let mut here = first_date(calendar);
+    for number in 1..HIGH + 1 {
+        if here == date {
+            return Some(day_at(number));
+        }
+        here = next(calendar, here);
+    }
+    None
+}
+
+#[test]
+fn the_whole_line_in_each_calendar(rt: HostRuntime) {
+    for calendar in [Calendar::Julian, Calendar::Gregorian, Calendar::Swedish] {
+        let mut date = first_date(calendar);
+        for number in 1..HIGH + 1 {
+            let day = day_at(number);
+            assert_eq!(rt; osn_days::date_of(calendar, day), date);
+            assert_eq!(rt; osn_days::day_of(calendar, date), Some(day));
+            assert!(rt; date.year <= 2999);
+            date = next(calendar, date);
+        }
+    }
+}
+
+/// The searches themselves, at a few days.
+#[test]
+fn searches_agree(rt: HostRuntime) {
+    for number in [1, 2, 1_155, 145_791, 620_607, 620_617, 625_000, HIGH] {
+        let day = day_at(number);
+        for calendar in [Calendar::Julian, Calendar::Gregorian, Calendar::Swedish] {
+            let date = date_of(calendar, day);
+            assert_eq!(rt; osn_days::date_of(calendar, day), date);
+            assert_eq!(rt; day_of(calendar, date), Some(day));
+        }
+    }
+}
+
+/// Dates that a calendar lacks, or that come before day 1 or after the last day.
+#[test]
+fn searches_find_no_day(rt: HostRuntime) {
+    for (year, month, day) in [
+        (0, 1, 1),
+        (i32::MIN, 255, 255),
+        (3000, 1, 1),
+        (1700, 13, 1),
+        (1701, 2, 29),
+        (1704, 2, 30),
+    ] {
+        let date = Date { year, month, day };
+        for calendar in [Calendar::Julian, Calendar::Gregorian, Calendar::Swedish] {
+            assert_eq!(rt; osn_days::day_of(calendar, date), None);
+            assert_eq!(rt; day_of(calendar, date), None);
+        }
+    }
+}

@@ -1,0 +1,47 @@
+//! Days and territories in a reply.
+ghost use Rattle.std.specs.Prelude.{◌≡◌};
+ghost use Rattle.osn_days.specs.Line.{weekday};
+ghost use Rattle.osn_days.specs.Weekday.{weekday_name};
+ghost use Rattle.osn_wire.specs.ReplyText.{weekday_numbered, found_data, land_data};
+
+use crate::reply::date::{write_date_of, write_label};
+use crate::reply::write_json::{WriteJson, write_number, write_text};
+use json::Writer;
+use osn_days::{Calendar, Day};
+use osn_register::{Found, Land};
+use std::alloc::{AllocError, Global};
+
+/// The English name of a day's weekday.
+fn weekday_of(day: Day) -> &'static str
+    ensures { result.now ≡ weekday_name (weekday_numbered (weekday day)) }
+{
+    day.weekday().name()
+}
+
+impl WriteJson for Found {
+    ghost shown = { found_data };
+
+    fn write_json(&self, alloc: Global, out: &mut Writer) -> Result<(), AllocError> {
+        let day = self.day;
+        out.begin_object()?;
+        write_number(out, "day", day.number())?;
+        write_text(out, "dual", self.dual.as_str())?;
+        write_date_of(alloc, out, "gregorian", Calendar::Gregorian, day)?;
+        write_number(out, "jdn", day.julian_day_number())?;
+        write_date_of(alloc, out, "julian", Calendar::Julian, day)?;
+        write_label(alloc, out, "label", self.label)?;
+        write_text(out, "weekday", weekday_of(day))?;
+        out.end_object()
+    }
+}
+
+impl WriteJson for Land {
+    ghost shown = { land_data };
+
+    fn write_json(&self, _alloc: Global, out: &mut Writer) -> Result<(), AllocError> {
+        out.begin_object()?;
+        write_text(out, "code", self.code.as_str())?;
+        write_text(out, "name", self.name.as_str())?;
+        out.end_object()
+    }
+}
