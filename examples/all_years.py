@@ -1,8 +1,9 @@
 #!/usr/bin/env python3
 """Holds the figures of all 2,999 years against formulas written apart: examples/all_years.py
 
-Easter by the anonymous algorithm of *Nature* (1876) for the Gregorian rule and by Meeus, *Astronomical Algorithms*, for
-the Julian one; Sunday letters from the weekday of 1 January, which `datetime` gives for the Gregorian calendar.
+Easter by the anonymous algorithm of *Nature* (1876) for the Gregorian rule and by Meeus,
+*Astronomical Algorithms*, for the Julian one; Sunday letters from the weekday of 1 January, which
+`datetime` gives for the Gregorian calendar.
 """
 import datetime
 import json
@@ -48,7 +49,11 @@ def figures(year):
     new_year = datetime.date(year, 1, 1).toordinal()
     return {
         "golden": year % 19 + 1,
-        "gregorian": {"easter": gregorian_easter(year), "epact": text, "letters": letters(new_year, is_leap)},
+        "gregorian": {
+            "easter": gregorian_easter(year),
+            "epact": text,
+            "letters": letters(new_year, is_leap),
+        },
         "indiction": (year + 2) % 15 + 1,
         "julian": {
             "easter": julian_easter(year),
@@ -60,7 +65,8 @@ def figures(year):
 
 
 requests = "".join('{"op":"figures","reader":1,"year":%d}\n' % year for year in YEARS)
-replies = subprocess.run([PROGRAM], input=requests, stdout=subprocess.PIPE, text=True, check=True).stdout.splitlines()
-apart = [year for year, line in zip(YEARS, replies, strict=True) if json.loads(line)["answer"] != figures(year)]
-print(f"{len(replies)} years, {len(apart)} differ")
+run = subprocess.run([PROGRAM], input=requests, stdout=subprocess.PIPE, text=True, check=True)
+answers = [json.loads(line)["answer"] for line in run.stdout.splitlines()]
+apart = [year for year, answer in zip(YEARS, answers, strict=True) if answer != figures(year)]
+print(f"{len(answers)} years, {len(apart)} differ")
 sys.exit(1 if apart else 0)

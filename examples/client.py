@@ -9,7 +9,8 @@ import subprocess
 import sys
 
 PROGRAM = os.path.join(os.path.dirname(os.path.abspath(__file__)), "..", "oldstyle")
-SERVICE = subprocess.Popen([PROGRAM], stdin=subprocess.PIPE, stdout=subprocess.PIPE, text=True, encoding="utf-8")
+PIPE = subprocess.PIPE
+SERVICE = subprocess.Popen([PROGRAM], stdin=PIPE, stdout=PIPE, text=True, encoding="utf-8")
 
 
 def ask(op, **members):
@@ -20,12 +21,14 @@ def ask(op, **members):
 
 
 year, month, day = map(int, sys.argv[1:4] or (1731, 2, 11))
-ask("add_land", code="GB", name="Great Britain", calendar="julian", style="annunciation", rule="julian")
+opening = {"calendar": "julian", "style": "annunciation", "rule": "julian"}
+ask("add_land", code="GB", name="Great Britain", **opening)
 ask("add_change", code="GB", day=639551, calendar="julian", style="january", rule="julian")
 ask("add_change", code="GB", day=639797, calendar="gregorian", style="january", rule="gregorian")
 ask("publish")
 answer = ask("read", reader=1, code="GB", year=year, month=month, day=day)["answer"]
 for found in answer["days"]:
-    print(f"{found['dual']} is {found['weekday']}, {found['gregorian']} Gregorian, Julian day {found['jdn']}")
+    print(f"{found['dual']} is {found['weekday']}, {found['gregorian']} Gregorian", end=", ")
+    print(f"Julian day {found['jdn']}")
 for change in answer["skipped"]:
     print(f"skipped at the change on day {change}")

@@ -1,0 +1,128 @@
+"""What the benchmarks share: requests, the two programs, and what a run of one costs.
+
+Times are processor time, of user and system together, so that other work on the machine counts
+little. Of some rounds the best counts; the programs take turns in each round.
+"""
+import json
+import os
+import subprocess
+import sys
+import tempfile
+
+HERE = os.path.dirname(os.path.abspath(__file__))
+BUILT = os.path.join(HERE, "..", "crates", "oldstyle", "out", "oldstyle")
+PLAIN = os.path.join(HERE, "plain")
+ROUNDS = 5
+
+JULIAN = {"calendar": "julian", "style": "january", "rule": "julian"}
+GREGORIAN = {"calendar": "gregorian", "style": "january", "rule": "gregorian"}
+
+
+def request(op, **members):
+    """A request line, without its line feed."""
+    return json.dumps({"op": op, **members}, separators=(",", ":"))
+
+
+PUBLISH = request("publish")
+
+
+def program():
+    """The program of the command line, or the one that was built."""
+    return sys.argv[1] if len(sys.argv) > 1 else BUILT
+
+
+def is_stale(built, sources):
+    """Whether a program has to be built: it isn't there, or a file of its sources is newer."""
+    if not os.path.exists(built):
+        return True
+    files = [os.path.join(sources, name) for name in os.listdir(sources)]
+    return any(os.path.getmtime(file) > os.path.getmtime(built) for file in files)
+
+
+def plain_program():
+    """The plain Rust program, built first where that is needed."""
+    built = os.path.join(PLAIN, "target", "release", "plain")
+    if is_stale(built, os.path.join(PLAIN, "src")):
+        print("building the plain Rust program", file=sys.stderr)
+        build = ["cargo", "build", "--release", "--offline", "--quiet"]
+        if subprocess.run(build, cwd=PLAIN).returncode != 0:
+            sys.exit("it wants cargo and Debian's package librust-serde-json-dev")
+    return built
+
+
+def programs():
+    """The commands to compare, by name."""
+    return {"oldstyle": program(), "plain": plain_program()}
+
+
+class Load:
+    """Request lines in a file of their own, which ends with the `with`."""
+
+    def __init__(self, lines):
+        self.count = len(lines)
+        self.file = tempfile.NamedTemporaryFile()
+        for line in lines:
+            self.file.write((line if isinstance(line, bytes) else line.encode()) + b"\n")
+        self.file.flush()
+
+    def __enter__(self):
+        return self
+
+    def __exit__(self, *_):
+        self.file.close()
+
+    def run(self, command):
+        """The processor seconds of a run over the file, and the replies."""
+        with open(self.file.name, "rb") as source:
+            return self.run_over(command, source)
+
+    def run_through_pipe(self, command):
+        """The same, the lines coming through a pipe."""
+        with subprocess.Popen(["cat", self.file.name], stdout=subprocess.PIPE) as sender:
+            return self.run_over(command, sender.stdout)
+
+    def run_over(self, command, source):
+        with tempfile.TemporaryFile() as sink:
+            child = subprocess.Popen(command, stdin=source, stdout=sink)
+            _, status, usage = os.wait4(child.pid, 0)
+            child.returncode = os.waitstatus_to_exitcode(status)
+            sink.seek(0)
+            replies = sink.read()
+        count = replies.count(b"\n")
+        if child.returncode != 0 or count != self.count:
+            sys.exit(f"{command}: status {child.returncode}, {count} of {self.count} lines")
+        return usage.ru_utime + usage.ru_stime, replies
+
+    def times(self, commands, run=None, rounds=ROUNDS):
+        """The best time of each command, which all have to write the same bytes; and these."""
+        run = run or self.run
+        best, expected = {}, None
+        for _ in range(rounds):
+            for name, command in commands.items():
+                took, replies = run(command)
+                best[name] = min(took, best.get(name, took))
+                expected = replies if expected is None else expected
+                if replies != expected:
+                    sys.exit(first_difference(name, expected, replies))
+        return best, expected
+
+
+def first_difference(name, expected, replies):
+    pairs = enumerate(zip(expected.splitlines(), replies.splitlines()), 1)
+    number, (one, other) = next((number, pair) for number, pair in pairs if pair[0] != pair[1])
+    return f"line {number}:\n{one.decode()}\nbut {name}:\n{other.decode()}"
+
+
+def peak_memory(child):
+    """The peak of resident memory in MiB of a process that waits for more input."""
+    with open(f"/proc/{child.pid}/status") as status:
+        return next(int(line.split()[1]) for line in status if line.startswith("VmHWM")) / 1024
+
+
+def print_head(title, commands):
+    print(f"{title:28}" + "".join(f"{name:>12}" for name in commands) + f"{'ratio':>8}")
+
+
+def print_rates(title, rates):
+    numbers = "".join(f"{rate:12,.0f}" for rate in rates)
+    print(f"{title:28}{numbers}{rates[0] / rates[1]:8.2f}")

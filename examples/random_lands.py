@@ -1,0 +1,286 @@
+#!/usr/bin/env python3
+"""Holds what 100 random territories answer against a search through every day.
+
+    examples/random_lands.py [SEED [PROGRAM]]      seed 1 and ../oldstyle where none is given
+
+The search shares no rule of conversion with the service. The calendars are laid out month by month
+over all 1,095,362 days, each day is given its label under each calendar and style, and what a label
+means is looked up among all of them: that gives the readings and the skipped dates, the latter by
+the definition in docs/DEFINITIONS.md. Easter is found in the tables of the computus, day by day.
+It takes half a minute, and the time of the program for 10,000 readings and all years' Easters.
+"""
+import json
+import os
+import random
+import subprocess
+import sys
+from array import array
+
+SEED = int(sys.argv[1]) if len(sys.argv) > 1 else 1
+HERE = os.path.dirname(os.path.abspath(__file__))
+PROGRAM = sys.argv[2] if len(sys.argv) > 2 else os.path.join(HERE, "..", "oldstyle")
+LANDS, READINGS = 100, 100
+HIGH, LAST_YEAR = 1_095_362, 2_999
+CALENDARS = ["julian", "gregorian", "swedish"]
+STYLES = ["january", "annunciation", "nativity", "september"]
+RULES = ["julian", "gregorian"]
+
+# Days of the line at which something happens: its ends, and the changes of the Swedish calendar.
+EVENTS = [2, 3, HIGH - 1, HIGH, 620_616, 620_617, 620_618, 624_999, 625_000, 625_001, 625_002]
+
+# The full moons of Easter by golden number, as days from 1 March: 36 is 5 April.
+JULIAN_MOONS = [36, 25, 44, 33, 22, 41, 30, 49, 38, 27, 46, 35, 24, 43, 32, 21, 40, 29, 48]
+
+
+def key(year, month, day):
+    """A date or a label as one number."""
+    return year * 10_000 + month * 100 + day
+
+
+def month_length(calendar, year, month):
+    if month != 2:
+        return 30 if month in (4, 6, 9, 11) else 31
+    if calendar == "swedish" and year in (1700, 1712):
+        return 28 if year == 1700 else 30
+    is_century = year % 100 == 0 and year % 400 != 0
+    return 29 if year % 4 == 0 and not (calendar == "gregorian" and is_century) else 28
+
+
+def chain(calendar):
+    """The date of each day of the line, with nothing at place 0. Day 1 is 1 January of year 1 in
+    the Gregorian calendar, and 3 January in the others."""
+    dates = array("i")
+    for year in range(1, LAST_YEAR + 1):
+        for month in range(1, 13):
+            first = key(year, month, 1)
+            dates.extend(range(first, first + month_length(calendar, year, month)))
+    skipped = 0 if calendar == "gregorian" else 2
+    return array("i", [0]) + dates[skipped : skipped + HIGH]
+
+
+def styled(style, date):
+    """The label of a date: its year is the style's."""
+    place = date % 10_000
+    if style == "annunciation":
+        return date - 10_000 if place < 325 else date
+    start = {"january": 1_300, "nativity": 1_225, "september": 901}[style]
+    return date + 10_000 if place >= start else date
+
+
+def gregorian_moon(year):
+    """The 14th day of the paschal moon, from 1 March: it is 13 days after the day whose label is
+    the epact of the year."""
+    century = year // 100 + 1
+    epact = (8 + 11 * (year % 19) - 3 * century // 4 + (8 * century + 5) // 25) % 30
+    if epact == 25 and year % 19 > 10:
+        epact = "25'"
+    labels = {day: [(31 - day) % 30] for day in range(8, 35)}
+    labels[35], labels[36] = [26, "25'"], [25, 24]
+    return 13 + next(day for day, epacts in labels.items() if epact in epacts)
+
+
+def easter_days(rule, dates):
+    """The first Sunday after the full moon of each year by the rule, `dates` being those of the
+    rule's calendar."""
+    days = {}
+    for first_of_march, date in enumerate(dates):
+        if date % 10_000 != 301:
+            continue
+        year = date // 10_000
+        moon = JULIAN_MOONS[year % 19] if rule == "julian" else gregorian_moon(year)
+        after_moon = first_of_march + moon
+        days[year] = next(day for day in range(after_moon, after_moon + 7) if day % 7 == 0)
+    return days
+
+
+def random_regime(numbers):
+    return numbers.choice(CALENDARS), numbers.choice(STYLES), numbers.choice(RULES)
+
+
+def random_starts(numbers):
+    """The first days of periods with their regimes, ascending: anywhere, or close together."""
+    days = set()
+    count = numbers.choice([0, 1, 2, 5, 10, 20, 40])
+    while len(days) < count:
+        day = numbers.choice(EVENTS) if numbers.random() < 0.1 else numbers.randint(2, HIGH)
+        for _ in range(numbers.choice([1, 1, 1, 2, 3])):
+            if day <= HIGH and len(days) < count:
+                days.add(day)
+            day += numbers.choice([1, 2, 10, 12, 30, 365])
+    return [(day, random_regime(numbers)) for day in [1] + sorted(days)]
+
+
+def random_exceptions(numbers):
+    years = numbers.sample(range(1, LAST_YEAR + 1), 5)
+    return {year: numbers.randint(1, HIGH) for year in years}
+
+
+def random_labels(numbers, starts, labels):
+    """Labels to read: near the changes under both of their regimes, leap days, and any others."""
+    wanted = {key(1712, 2, 30), key(1700, 2, 29), key(0, 1, 3), key(3000, 12, 31)}
+    while len(wanted) < READINGS:
+        place = numbers.randrange(len(starts))
+        regime = starts[numbers.choice([place, place - 1]) if place else 0][1]
+        day = min(HIGH, max(1, starts[place][0] + numbers.randint(-15, 15)))
+        chance = numbers.random()
+        if chance < 0.6:
+            wanted.add(labels[regime[:2]][day])
+        elif chance < 0.8:
+            wanted.add(key(numbers.randint(0, 3000), 2, numbers.choice([29, 29, 30])))
+        else:
+            month, day = numbers.randint(1, 12), numbers.randint(1, 31)
+            wanted.add(key(numbers.randint(0, 3000), month, day))
+    return wanted
+
+
+def days_by_label(line, wanted):
+    """All days of the line whose label is wanted: a search through every day."""
+    days = {label: [] for label in wanted}
+    for day, label in enumerate(line):
+        if label in wanted:
+            days[label].append(day)
+    return days
+
+
+def ends(starts):
+    return [day for day, _ in starts[1:]] + [HIGH + 1]
+
+
+def skipped(starts, label, under, found):
+    """The changes at which the label is skipped, `found` being the days on which it is read, and
+    `under` having the days of each label under each calendar and style."""
+    days = []
+    last = ends(starts)
+    for place in range(1, len(starts)):
+        (before, old_regime), (change, new_regime) = starts[place - 1 : place + 1]
+        old, new = under[old_regime[:2]][label], under[new_regime[:2]][label]
+        old_late = not old or any(day >= change for day in old)
+        new_early = not new or any(day < change for day in new)
+        is_read = any(before <= day < last[place] for day in found)
+        if old_late and new_early and (old or new) and not is_read:
+            days.append(change)
+    return days
+
+
+def expected_easters(starts, exceptions, easters):
+    """The days of Easter of each year, by the rule in force on the very day, or as it is listed."""
+    days = {year: [] for year in range(1, LAST_YEAR + 1)}
+    for rule in RULES:
+        in_force = bytearray(HIGH + 1)
+        for (first, regime), after in zip(starts, ends(starts)):
+            if regime[2] == rule:
+                in_force[first:after] = b"\1" * (after - first)
+        for year, day in easters[rule].items():
+            if in_force[day]:
+                days[year].append(day)
+    listed = {year: [day] for year, day in exceptions.items()}
+    return {year: listed.get(year, sorted(found)) for year, found in days.items()}
+
+
+def edits(code, starts, exceptions):
+    for day, (calendar, style, rule) in starts:
+        words = {"code": code, "calendar": calendar, "style": style, "rule": rule}
+        place = {"op": "add_land", "name": code} if day == 1 else {"op": "add_change", "day": day}
+        yield {**place, **words}
+    for year, day in exceptions.items():
+        yield {"op": "add_exception", "code": code, "year": year, "day": day}
+
+
+def replies(requests):
+    text = "".join(json.dumps(request) + "\n" for request in requests)
+    done = subprocess.run([PROGRAM], input=text, stdout=subprocess.PIPE, text=True, check=True)
+    lines = done.stdout.splitlines()
+    if len(lines) != len(requests):
+        sys.exit(f"{len(lines)} replies to {len(requests)} lines")
+    return [json.loads(line) for line in lines]
+
+
+def label_text(label):
+    return f"{label // 10_000:04}-{label // 100 % 100:02}-{label % 100:02}"
+
+
+def random_lands(numbers, labels):
+    """Codes, with the periods of a territory, its exceptions and the labels to read there."""
+    lands = {}
+    for number in range(LANDS):
+        starts = random_starts(numbers)
+        wanted = random_labels(numbers, starts, labels)
+        lands[f"T{number}"] = starts, random_exceptions(numbers), wanted
+    return lands
+
+
+def territory_line(starts, labels):
+    """The label of each day of the line under the regime in force on it."""
+    line = array("i", [0])
+    for (first, regime), after in zip(starts, ends(starts)):
+        line += labels[regime[:2]][first:after]
+    return line
+
+
+def readings(code, starts, wanted, line, under):
+    """Requests with the days found, their labels and the changes at which the label was skipped."""
+    for label, found in days_by_label(line, wanted).items():
+        year, month, day = label // 10_000, label // 100 % 100, label % 100
+        date = {"year": year, "month": month, "day": day}
+        request = {"op": "read", "reader": 1, "code": code, **date}
+        texts = [label_text(label)] * len(found)
+        yield request, (found, texts, skipped(starts, label, under, found))
+
+
+def easter_queries(code, starts, exceptions, line, easters):
+    """Requests with the days found, their labels and whether an exception is listed."""
+    for year, days in expected_easters(starts, exceptions, easters).items():
+        request = {"op": "easter", "reader": 1, "code": code, "year": year}
+        yield request, (days, [label_text(line[day]) for day in days], year in exceptions)
+
+
+def answered(reply):
+    """What a reply says, in the form that is expected."""
+    answer = reply["answer"]
+    days = [found["day"] for found in answer["days"]]
+    texts = [found["label"] for found in answer["days"]]
+    return days, texts, answer.get("skipped", answer.get("listed"))
+
+
+def report(cases, answers):
+    """Prints what differs, and how many cases say something."""
+    apart = 0
+    for (request, expected), reply in zip(cases, answers):
+        if "fault" in reply or answered(reply) != expected:
+            apart += 1
+            if apart <= 10:
+                print(f"{request}\n  is answered {reply}\n  the search: {expected}")
+    several = sum(len(expected[0]) > 1 for _, expected in cases)
+    lost = sum(isinstance(expected[2], list) and expected[2] != [] for _, expected in cases)
+    print(f"{len(cases)} cases, {several} of several days, {lost} skipped, {apart} differ")
+    return apart
+
+
+def main():
+    numbers = random.Random(SEED)
+    dates = {calendar: chain(calendar) for calendar in CALENDARS}
+    labels = {
+        (calendar, style): array("i", [styled(style, date) for date in dates[calendar]])
+        for calendar in CALENDARS
+        for style in STYLES
+    }
+    easters = {rule: easter_days(rule, dates[rule]) for rule in RULES}
+    lands = random_lands(numbers, labels)
+    asked = set().union(*(wanted for _, _, wanted in lands.values()))
+    under = {names: days_by_label(line, asked) for names, line in labels.items()}
+
+    staged, cases = [], []
+    for code, (starts, exceptions, wanted) in lands.items():
+        staged += edits(code, starts, exceptions)
+        line = territory_line(starts, labels)
+        cases += readings(code, starts, wanted, line, under)
+        cases += easter_queries(code, starts, exceptions, line, easters)
+    staged.append({"op": "publish"})
+
+    lines = replies(staged + [request for request, _ in cases])
+    if any("fault" in line for line in lines[: len(staged)]):
+        sys.exit("an edit was refused")
+    return 1 if report(cases, lines[len(staged) :]) else 0
+
+
+sys.exit(main())
