@@ -1,10 +1,24 @@
-//! The calendar change register, as a service over standard input and output.
+//! The calendar change register, as a program over files and the standard streams.
 #![tactic(auto)]
 
-mod run;
-
+use osn_commands::{run, tell_no_words};
+use osn_wire::Plain;
 use std::process::ExitCode;
+use std::rt::Env;
+use std::{env, io};
+
+/// The words of the command line, of which the first is the program's name.
+fn given_words(rt: &(impl Env + AllocGlobal)) -> io::Result<Vec<String>> {
+    Ok(env::args(rt)?.collect(rt.alloc())?)
+}
 
 fn main(rt: HostRuntime) -> ExitCode {
-    run::run(&rt)
+    let mut input = Plain::new(rt.reader());
+    let mut output = Plain::new(io::writer(&rt));
+    let mut errors = Plain::new(rt.stderr());
+    let status = match given_words(&rt) {
+        Ok(words) => run(&rt, &words, &mut input, &mut output, &mut errors),
+        Err(why) => tell_no_words(rt.alloc(), &why, &mut errors),
+    };
+    ExitCode::from(status.code())
 }

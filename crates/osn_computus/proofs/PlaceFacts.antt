@@ -237,14 +237,24 @@ full_month c y m d low full =
       | inr (inl january) ↦
           let length = length_other c y m (omega arith) in (
             omega (arith, length, mark_month m d (omega arith)),
-            omega
-                (arith, length, ahead_early c y m (omega arith), ahead_early c y (m + 1) (omega arith)),
+            omega (
+              arith,
+              length,
+              ahead_early c y m (omega arith),
+              ahead_early c y (m + 1)
+                  (omega arith),
+            ),
           )
       | inr (inr later) ↦
           let length = length_other c y m (omega arith) in (
             omega (arith, length, mark_month m d (omega arith)),
-            omega
-                (arith, length, ahead_late c y m (omega arith), ahead_late c y (m + 1) (omega arith)),
+            omega (
+              arith,
+              length,
+              ahead_late c y m (omega arith),
+              ahead_late c y (m + 1)
+                  (omega arith),
+            ),
           )
     ]
 

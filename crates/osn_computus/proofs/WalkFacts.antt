@@ -165,6 +165,7 @@ january_8 c months (suc y) low =
     let bound = march_1-bound c (y + 1) (omega arith) (omega arith) in (
       march_1 c (y + 1) + 306 + 7,
       rw more
-          (on_in_month c months (pos (y + 1 + 1)) 1 1 (march_1 c (y + 1) + 306) 7 first (omega arith)),
+          (on_in_month c months (pos (y + 1 + 1)) 1 1 (march_1 c (y + 1) + 306) 7 first
+          (omega arith)),
       omega (arith, bound.1),
     )

@@ -1,96 +1,28 @@
--- What staging and publishing leave of how the object keeps its state.
-use Rattle.std.proofs.Common.{◌≡◌, ℕ, zero, suc, ◌+◌, ◌<◌, ◌≤◌, ◌==◌, inl, inr, Bool, true, false}
-use Rattle.std.proofs.Common.{nat_lt, cond, List, [], ◌∷◌, ◌++◌, length, get_or, drop, slice_get}
-use Rattle.std.proofs.Common.{unwrap_or}
-use Rattle.std.proofs.Common.{◌-◌, Option, Some, None, is_some, refl, sym, ap, subst, ◌∙◌, arith}
-use Rattle.std.proofs.Common.{append_assoc, append-nil, length-append}
+-- What staging, publishing and absorbing leave of how two registers keep the object's state.
+use Rattle.std.proofs.Common.{◌≡◌, ℕ, ◌+◌, ◌-◌, ◌<◌, ◌≤◌, ◌==◌, inl, inr, Bool, true, false, nat_lt}
+use Rattle.std.proofs.Common.{cond, List, [], ◌∷◌, ◌++◌, length, get_or, take, Option, Some, None}
+use Rattle.std.proofs.Common.{is_some, refl, sym, ap, subst, ◌∙◌, arith, append_assoc, append-nil}
+use Rattle.std.proofs.Common.{length-append}
 use Rattle.std.proofs.lemmas.Bool.{false≢true}
 use Rattle.std.proofs.lemmas.Bool.Decides.{nat_tests}
-use Rattle.std.proofs.lemmas.List.{drop_more}
+use Rattle.std.proofs.lemmas.List.{get_or-append-add}
 use Rattle.std.proofs.lemmas.List.Sums.{sum_by-append}
-use Rattle.std.proofs.Math.Seq.{drop-nil}
-use Rattle.osn_days.specs.Profile.{Profile, present}
+use Rattle.osn_days.specs.Profile.{present}
 use Rattle.osn_register.specs.declared.limits.Limits.{Limits}
 use Rattle.osn_register.specs.declared.edit.Edit.{Edit}
 use Rattle.osn_register.specs.declared.refusal.Refusal.{Refusal}
 use Rattle.osn_register.specs.declared.refusal.Refusal.TheVariants.{NothingPending, JournalFull}
 use Rattle.osn_register.specs.declared.refusal.Refusal.TheVariants.{EditionsFull}
 use Rattle.osn_register.specs.Refusal.{or_else}
-use Rattle.osn_register.specs.Plain.{PlainLand, PlainRegister, refusal, effect, applied}
-use Rattle.osn_register.specs.Plain.{applied_all, unless_refused}
+use Rattle.osn_register.specs.Plain.{PlainLand, PlainRegister, refusal, effect, applied_all}
 use Rattle.osn_core.specs.Sequential.{ObjectState, joined, last_batch, draft_lands, edits_in}
 use Rattle.osn_core.specs.Sequential.{stage_refusal, publish_refusal, with_pending, with_edition}
-use Rattle.osn_core.specs.Sequential.{AreLawful, NoneEmpty}
-use Rattle.osn_core.specs.Inside.{AreInStep}
-
-pub joined-push : (bs : List (List Edit)) (b : List Edit) → joined (bs ++ b ∷ []) ≡ joined bs ++ b
-joined-push [] b = append-nil b
-joined-push (c ∷ bs) b = ap (λ es. c ++ es) (joined-push bs b) ∙ sym (append_assoc c (joined bs) b)
-
-slice_get-push : (bs : List (List Edit)) (b : List Edit) →
-    slice_get (bs ++ b ∷ []) (length bs) ≡ Some b
-slice_get-push [] b = refl
-slice_get-push (c ∷ bs) b = slice_get-push bs b
-
-last_batch-push : (bs : List (List Edit)) (b : List Edit) → last_batch (bs ++ b ∷ []) ≡ b
-last_batch-push bs b =
-    let at : length (bs ++ b ∷ []) - 1 ≡ length bs = omega (arith, length-append bs (b ∷ [])) in
-    ap (λ i. unwrap_or (slice_get (bs ++ b ∷ []) i) []) at ∙ ap (λ o. unwrap_or o [])
-    (slice_get-push bs b)
-
-applied_all-append : (p : Profile) (limits : Limits) (lands : List PlainLand) (es fs : List Edit) →
-    applied_all p limits lands (es ++ fs) ≡ applied_all p limits (applied_all p limits lands es) fs
-applied_all-append p limits lands [] fs = refl
-applied_all-append p limits lands (e ∷ es) fs = applied_all-append p limits
-    (applied p limits lands e) es fs
-
-applied-lawful : (p : Profile) (limits : Limits) (lands : List PlainLand) (e : Edit) →
-    refusal p limits lands e ≡ None → applied p limits lands e ≡ effect lands e
-applied-lawful p limits lands e none = ap (λ r. unless_refused r (effect lands e) lands) none
-
-AreLawful-push : (p : Profile) (limits : Limits) (lands : List PlainLand) (es : List Edit)
-    (e : Edit) → AreLawful p limits lands es → refusal p limits (applied_all p limits lands es) e ≡
-    None → AreLawful p limits lands (es ++ e ∷ [])
-AreLawful-push p limits lands [] e lawful none = (none, tt)
-AreLawful-push p limits lands (d ∷ es) e lawful none = (
-  lawful.0,
-  AreLawful-push p limits (effect lands d) es e lawful.1
-      (subst (λ ls. refusal p limits (applied_all p limits ls es) e ≡ None)
-      (applied-lawful p limits lands d lawful.0) none),
-)
-
--- edits that are lawful in turn are so behind those before them
-AreLawful-behind : (p : Profile) (limits : Limits) (lands : List PlainLand) (es fs : List Edit) →
-    AreLawful p limits lands (es ++ fs) → AreLawful p limits (applied_all p limits lands es) fs
-AreLawful-behind p limits lands [] fs lawful = lawful
-AreLawful-behind p limits lands (e ∷ es) fs lawful =
-    AreLawful-behind p limits (applied p limits lands e) es fs
-    (subst (λ ls. AreLawful p limits ls (es ++ fs)) (sym (applied-lawful p limits lands e lawful.0))
-    lawful.1)
-
-left_from : (es : List Edit) (i : ℕ) (e : Edit) → i < length es → e ≡ get_or es i e →
-    drop i es ≡ e ∷ drop (i + 1) es
-left_from es i e within is = drop_more es i e within ∙ ap (λ x. x ∷ drop (i + 1) es) (sym is)
-
--- the next of the edits that are left is lawful, and so are those behind it
-pub lawful-next : (p : Profile) (limits : Limits) (lands : List PlainLand) (es : List Edit) (i : ℕ)
-    (e : Edit) → i < length es → e ≡ get_or es i e → AreLawful p limits lands (drop i es) →
-    (refusal p limits lands e ≡ None) × AreLawful p limits (effect lands e) (drop (i + 1) es)
-lawful-next p limits lands es i e within is lawful = subst (AreLawful p limits lands)
-    (left_from es i e within is) lawful
-
-pub applied-next : (p : Profile) (limits : Limits) (lands : List PlainLand) (es : List Edit) (i : ℕ)
-    (e : Edit) → i < length es → e ≡ get_or es i e → refusal p limits lands e ≡ None →
-    applied_all p limits (effect lands e) (drop (i + 1) es) ≡ applied_all p limits lands (drop i es)
-applied-next p limits lands es i e within is lawful =
-    ap (λ ls. applied_all p limits ls (drop (i + 1) es))
-    (sym (applied-lawful p limits lands e lawful))
-    ∙ sym (ap (applied_all p limits lands) (left_from es i e within is))
-
-NoneEmpty-push : (bs : List (List Edit)) (b : List Edit) → NoneEmpty bs → 0 < length b →
-    NoneEmpty (bs ++ b ∷ [])
-NoneEmpty-push [] b none some = (some, tt)
-NoneEmpty-push (c ∷ bs) b none some = (none.0, NoneEmpty-push bs b none.1 some)
+use Rattle.osn_core.specs.Sequential.{without_last, AreLawful}
+use Rattle.osn_core.specs.CopiesInside.{CopiesState, AreInStep, lagging_lands}
+use Rattle.osn_core.proofs.Batches.{joined-push, last_batch-push, NoneEmpty-push, without_none}
+use Rattle.osn_core.proofs.Batches.{without_part, split_last, some_batches, last_read}
+use Rattle.osn_core.proofs.Lawful.{applied_all-append, applied-lawful, AreLawful-push, lawful_at}
+use Rattle.osn_core.proofs.Lawful.{applied_at}
 
 or_else-none : (a b : Option Refusal) → or_else a b ≡ None → (a ≡ None) × (b ≡ None)
 or_else-none None b h = (refl, h)
@@ -105,61 +37,55 @@ test_failed : (b : Bool) (f : Refusal) (r : Option Refusal) → cond b (Some f) 
 test_failed true f r h = absurd (false≢true (sym (ap is_some h)))
 test_failed false f r h = (refl, h)
 
-drop-past : {X : Type 0} (xs : List X) (m n : ℕ) → drop m xs ≡ [] → m ≤ n → drop n xs ≡ []
-drop-past [] m n e h = drop-nil n
-drop-past (x ∷ xs) zero n e h = absurd (omega (arith, ap length e))
-drop-past (x ∷ xs) (suc m) zero e h = absurd (omega arith)
-drop-past (x ∷ xs) (suc m) (suc n) e h = drop-past xs m n e (omega arith)
+abbrev register_of : Limits → List PlainLand → PlainRegister
+register_of limits lands = record { limits = limits; lands = lands }
 
--- the draft has taken more of the last batch
-pub more_applied : (s : ObjectState) (published draft after : PlainRegister) (place later edits : ℕ)
-    → AreInStep s published draft place edits → after.limits ≡ draft.limits →
-    applied_all present draft.limits after.lands (drop later (last_batch s.batches)) ≡ applied_all
-    present draft.limits draft.lands (drop place (last_batch s.batches)) →
-    AreLawful present draft.limits after.lands (drop later (last_batch s.batches)) → place ≤ later →
-    AreInStep s published after later edits
-more_applied s published draft after place later edits h limits lands lawful forward = record {
-  published_is = h.published_is;
-  draft_limits = limits ∙ h.draft_limits;
-  draft_is = subst (λ m. applied_all present m after.lands (drop later (last_batch s.batches)) ≡
-      applied_all present m draft.lands (drop place (last_batch s.batches))) h.draft_limits lands ∙
-      h.draft_is;
-  rest_lawful = subst (λ m. AreLawful present m after.lands (drop later (last_batch s.batches)))
-      h.draft_limits lawful;
-  caught_up = elim h.caught_up [
-    | inl none ↦ inl none
-    | inr all ↦ inr
-        (drop-past (last_batch s.batches) place later all forward)
-  ];
-  counted = h.counted;
-  sound = h.sound;
-}
+abbrev copies_of : ObjectState → ℕ → CopiesState
+copies_of s lag = record { object = s; lag = lag }
 
--- an edit is staged in a draft that lacks nothing
-pub one_staged : (s : ObjectState) (published draft after : PlainRegister) (place edits : ℕ)
-    (e : Edit) → AreInStep s published draft place edits → drop place (last_batch s.batches) ≡ [] →
-    stage_refusal present s e ≡ None → after ≡ record draft { lands = effect draft.lands e } →
-    AreInStep (with_pending s e) published after place (edits + 1)
-one_staged s published draft after place edits e h all lawful is =
+-- a standby that lacks nothing has all edits
+pub has_all : (s : ObjectState) (lag : ℕ) → lag ≡ 0 →
+    lagging_lands present (copies_of s lag) ≡ draft_lands present s
+has_all s lag none = ap (applied_all present s.limits [])
+    (without_none (joined s.batches ++ s.pending) lag none)
+
+-- an edit that may be staged is lawful in a standby that lacks nothing
+pub lawful_staged : (s : ObjectState) (live standby : PlainRegister) (lag edits : ℕ) (e : Edit) →
+    AreInStep (copies_of s lag) live standby edits → lag ≡ 0 → stage_refusal present s e ≡ None →
+    refusal present standby.limits standby.lands e ≡ None
+lawful_staged s live standby lag edits e h none lawful =
+    let allowed = or_else-none (refusal present s.limits (draft_lands present s) e)
+    (cond (nat_lt (edits_in s) s.limits.edits) None (Some JournalFull)) lawful in
+    ap (λ (r : PlainRegister). refusal present r.limits r.lands e) h.standby_is
+    ∙ ap (λ ls. refusal present s.limits ls e) (has_all s lag none)
+    ∙ allowed.0
+
+-- an edit is staged in a standby that lacks nothing
+pub one_staged : (s : ObjectState) (live standby after : PlainRegister) (lag edits : ℕ) (e : Edit) →
+    AreInStep (copies_of s lag) live standby edits → lag ≡ 0 → stage_refusal present s e ≡ None →
+    after ≡ record standby { lands = effect standby.lands e } →
+    AreInStep (copies_of (with_pending s e) lag) live after (edits + 1)
+one_staged s live standby after lag edits e h none lawful is =
     let allowed = or_else-none (refusal present s.limits (draft_lands present s) e)
     (cond (nat_lt (edits_in s) s.limits.edits) None (Some JournalFull)) lawful in
     let room : nat_lt (edits_in s) s.limits.edits ≡ true = test_passed _ _ allowed.1 in
-    let draft_is : draft.lands ≡ draft_lands present s = ap
-    (applied_all present s.limits draft.lands) (sym all) ∙ h.draft_is in
     let regroup : joined s.batches ++ (s.pending ++ e ∷ []) ≡ (joined s.batches ++ s.pending) ++ e ∷
     [] = sym (append_assoc (joined s.batches) s.pending (e ∷ [])) in
+    let lands : effect (lagging_lands present (copies_of s lag)) e
+    ≡ lagging_lands present (copies_of (with_pending s e) lag) =
+    ap (λ ls. effect ls e) (has_all s lag none)
+    ∙ sym (applied-lawful present s.limits (draft_lands present s) e allowed.0)
+    ∙ sym (applied_all-append present s.limits [] (joined s.batches ++ s.pending) (e ∷ []))
+    ∙ ap (applied_all present s.limits []) (sym regroup)
+    ∙ sym (has_all (with_pending s e) lag none) in
     record {
-      published_is = h.published_is;
-      draft_limits = ap (λ r. r.limits) is ∙ h.draft_limits;
-      draft_is =
-          ap (applied_all present s.limits after.lands) all
-          ∙ ap (λ r. r.lands) is
-          ∙ ap (λ ls. effect ls e) draft_is
-          ∙ sym (applied-lawful present s.limits (draft_lands present s) e allowed.0)
-          ∙ sym (applied_all-append present s.limits [] (joined s.batches ++ s.pending) (e ∷ []))
-          ∙ ap (applied_all present s.limits []) (sym regroup);
-      rest_lawful = subst (AreLawful present s.limits after.lands) (sym all) tt;
-      caught_up = inr all;
+      live_is = h.live_is;
+      standby_is =
+          is
+          ∙ ap (λ (r : PlainRegister). register_of r.limits (effect r.lands e)) h.standby_is
+          ∙ ap (register_of s.limits) lands;
+      lag_is_of_last = h.lag_is_of_last;
+      caught_up = inr none;
       counted = omega (arith, h.counted, length-append s.pending (e ∷ []));
       sound = record {
         lawful = subst (AreLawful present s.limits []) (sym regroup)
@@ -172,44 +98,35 @@ one_staged s published draft after place edits e h all lawful is =
       };
     }
 
--- the draft becomes the published register, and the published one the draft
-pub one_published : (s : ObjectState) (register draft : PlainRegister) (place edits : ℕ) →
-    AreInStep s register draft place edits → publish_refusal s ≡ None →
-    AreInStep (with_edition s) draft register 0 edits
-one_published s register draft place edits h lawful =
+-- the standby becomes the live register, and the other one lacks the batch
+pub one_published : (s : ObjectState) (live standby : PlainRegister) (lag edits : ℕ) →
+    AreInStep (copies_of s lag) live standby edits → publish_refusal s ≡ None →
+    AreInStep (copies_of (with_edition s) (length s.pending)) standby live edits
+one_published s live standby lag edits h lawful =
     let allowed = test_failed (length s.pending == 0) NothingPending
     (cond (nat_lt (length s.batches) s.limits.editions) None (Some EditionsFull)) lawful in
     let room : nat_lt (length s.batches) s.limits.editions ≡ true = test_passed _ _ allowed.1 in
     let some : 0 < length s.pending = grind (arith, nat_tests) in
     let fits : length s.batches < s.limits.editions = grind (arith, nat_tests) in
-    let all : drop place (last_batch s.batches) ≡ [] = elim h.caught_up
-    [ inl none ↦ absurd (omega (arith, ap length none)) | inr caught ↦ caught ] in
-    let draft_is : draft.lands ≡ draft_lands present s = ap
-    (applied_all present s.limits draft.lands) (sym all) ∙ h.draft_is in
+    let none : lag ≡ 0 = elim h.caught_up
+    [ inl nothing ↦ absurd (omega (arith, ap length nothing)) | inr all ↦ all ] in
     let edits_are : joined (s.batches ++ s.pending ∷ []) ≡ joined s.batches ++ s.pending =
     joined-push s.batches s.pending in
     let all_are : joined (s.batches ++ s.pending ∷ []) ++ [] ≡ joined s.batches ++ s.pending =
     append-nil _ ∙ edits_are in
+    let last : last_batch (s.batches ++ s.pending ∷ []) ≡ s.pending =
+    last_batch-push s.batches s.pending in
     record {
-      published_is =
-          ap (λ (m : Limits). let r : PlainRegister = record { limits = m; lands = draft.lands } in
-          r) h.draft_limits
-          ∙ ap (λ (ls : List PlainLand). let r : PlainRegister = record
-          { limits = s.limits; lands = ls } in r) (draft_is ∙ ap
-          (applied_all present s.limits []) (sym edits_are));
-      draft_limits = ap (λ r. r.limits) h.published_is;
-      draft_is =
-          ap (λ b. applied_all present s.limits register.lands b)
-          (last_batch-push s.batches s.pending)
-          ∙ ap (λ r. applied_all present s.limits r.lands s.pending) h.published_is
-          ∙ sym (applied_all-append present s.limits [] (joined s.batches) s.pending)
-          ∙ ap (applied_all present s.limits []) (sym all_are);
-      rest_lawful =
-          subst (AreLawful present s.limits register.lands)
-          (sym (last_batch-push s.batches s.pending))
-          (subst (λ ls. AreLawful present s.limits ls s.pending)
-          (sym (ap (λ r. r.lands) h.published_is))
-          (AreLawful-behind present s.limits [] (joined s.batches) s.pending h.sound.lawful));
+      live_is =
+          h.standby_is
+          ∙ ap (register_of s.limits) (has_all s lag none ∙ ap (applied_all present s.limits [])
+          (sym edits_are));
+      standby_is =
+          h.live_is
+          ∙ ap (λ es. register_of s.limits (applied_all present s.limits [] es))
+          (sym (without_part (joined s.batches) s.pending)
+          ∙ ap (without_last (length s.pending)) (sym all_are));
+      lag_is_of_last = omega (arith, ap length last);
       caught_up = inl refl;
       counted = omega (
         arith,
@@ -228,4 +145,94 @@ one_published s register draft place edits h lawful =
         );
         editions = omega (arith, length-append s.batches (s.pending ∷ []));
       };
+    }
+
+-- the next edit that the standby lacks, in its place among all edits
+pub record IsNext (s : ObjectState) (lag : ℕ) (e : Edit) : Type 0 where
+  pub within : length (joined s.batches ++ s.pending) - lag < length (joined s.batches ++ s.pending)
+  pub is : get_or (joined s.batches ++ s.pending) (length (joined s.batches ++ s.pending) - lag) e
+      ≡ e
+  pub more : length (joined s.batches ++ s.pending) - lag + 1
+      ≡ length (joined s.batches ++ s.pending) - (lag - 1)
+
+-- it is that of the last batch
+next_of_last : (all front last : List Edit) (lag : ℕ) (e : Edit) → all ≡ front ++ last → 0 < lag →
+    lag ≤ length last → e ≡ get_or last (length last - lag) e →
+    (length all - lag < length all) × (get_or all (length all - lag) e ≡ e)
+    × (length all - lag + 1 ≡ length all - (lag - 1))
+next_of_last all front last lag e is some within at =
+    let count : length all ≡ length front + length last =
+    ap length is ∙ length-append front last in
+    let place : length all - lag ≡ length front + (length last - lag) = omega (arith, count) in (
+      omega (arith, count),
+      ap (λ es. get_or es (length all - lag) e) is
+          ∙ ap (λ i. get_or (front ++ last) i e) place
+          ∙ get_or-append-add front last (length last - lag) e
+          ∙ sym at,
+      omega (arith, count),
+    )
+
+next_in : (bs : List (List Edit)) (pending : List Edit) (lag : ℕ) (e : Edit) → pending ≡ [] →
+    0 < lag → lag ≤ length (last_batch bs) →
+    e ≡ get_or (last_batch bs) (length (last_batch bs) - lag) e →
+    (front : List Edit) × (joined bs ++ pending ≡ front ++ last_batch bs)
+next_in [] pending lag e none some within at = absurd (omega (arith, some, within))
+next_in (c ∷ bs) pending lag e none some within at = (
+  joined (take (length bs) (c ∷ bs)),
+  ap (λ es. joined (c ∷ bs) ++ es) none ∙ append-nil (joined (c ∷ bs)) ∙ split_last c bs,
+)
+
+pub next : (s : ObjectState) (live standby : PlainRegister) (lag edits : ℕ) (e : Edit) →
+    AreInStep (copies_of s lag) live standby edits → 0 < lag →
+    e ≡ get_or (last_batch s.batches) (length (last_batch s.batches) - lag) e → IsNext s lag e
+next s live standby lag edits e h some at =
+    let none : s.pending ≡ [] = elim h.caught_up
+    [ inl nothing ↦ nothing | inr all ↦ absurd (omega (arith, some, all)) ] in
+    let split = next_in s.batches s.pending lag e none some h.lag_is_of_last at in
+    let there = next_of_last (joined s.batches ++ s.pending) split.0 (last_batch s.batches) lag e
+    split.1 some h.lag_is_of_last at in
+    record { within = there.0; is = there.1; more = there.2 }
+
+-- as it is read: in the last of the batches
+pub next_read : (s : ObjectState) (live standby : PlainRegister) (lag edits n : ℕ)
+    (b es : List Edit) (e : Edit) → AreInStep (copies_of s lag) live standby edits → 0 < lag →
+    n ≡ length s.batches → b ≡ get_or s.batches (n - 1) b → es ≡ b →
+    e ≡ get_or es (length es - lag) e → IsNext s lag e
+next_read s live standby lag edits n b es e h some all last of at =
+    let any = some_batches s.batches lag some h.lag_is_of_last in
+    let is : es ≡ last_batch s.batches = of ∙ last_read s.batches n b all any last in
+    next s live standby lag edits e h some
+    (subst (λ (fs : List Edit). e ≡ get_or fs (length fs - lag) e) is at)
+
+-- it is lawful there
+pub lawful_next : (s : ObjectState) (live standby : PlainRegister) (lag edits : ℕ) (e : Edit) →
+    AreInStep (copies_of s lag) live standby edits → IsNext s lag e →
+    refusal present standby.limits standby.lands e ≡ None
+lawful_next s live standby lag edits e h at =
+    let all = joined s.batches ++ s.pending in
+    ap (λ (r : PlainRegister). refusal present r.limits r.lands e) h.standby_is
+    ∙ lawful_at present s.limits [] all (length all - lag) e at.within at.is h.sound.lawful
+
+-- the standby has taken it
+pub one_absorbed : (s : ObjectState) (live standby after : PlainRegister) (lag edits : ℕ) (e : Edit)
+    → AreInStep (copies_of s lag) live standby edits → IsNext s lag e →
+    after ≡ record standby { lands = effect standby.lands e } →
+    AreInStep (copies_of s (lag - 1)) live after edits
+one_absorbed s live standby after lag edits e h at is =
+    let all = joined s.batches ++ s.pending in
+    record {
+      live_is = h.live_is;
+      standby_is =
+          is
+          ∙ ap (λ (r : PlainRegister). register_of r.limits (effect r.lands e)) h.standby_is
+          ∙ ap (register_of s.limits)
+          (applied_at present s.limits [] all (length all - lag) e at.within at.is h.sound.lawful
+          ∙ ap (λ n. applied_all present s.limits [] (take n all)) at.more);
+      lag_is_of_last = omega (arith, h.lag_is_of_last);
+      caught_up = elim h.caught_up [
+        | inl nothing ↦ inl nothing
+        | inr all ↦ inr (omega (arith, all))
+      ];
+      counted = h.counted;
+      sound = h.sound;
     }

@@ -1,3 +1,10 @@
+pub mod Batches
+pub mod Lawful
 pub mod InStep
-pub mod Runs
 pub mod Standing
+pub mod Placed
+pub mod Knows
+pub mod Owed
+pub mod Runs
+pub mod Editor
+pub mod Forward

@@ -1,215 +1,319 @@
--- What the core gives is a run of the sequential object, and no reader's editions fall.
-use Rattle.std.proofs.Common.{◌≡◌, ℕ, if◌then◌else◌, ◌≤◌, ◌+◌, ◌==◌, Bool, true, false, List, []}
-use Rattle.std.proofs.Common.{◌∷◌, ◌++◌, length, Option, Some, None, refl, ap, sym, arith}
-use Rattle.std.proofs.Common.{le_refl, length-append}
+-- What the core gives over every list of steps, against the sequential object run on the history:
+-- the editor is told the same, and each reader is told the first of the replies.
+use Rattle.std.proofs.Common.{◌≡◌, ℕ, ◌+◌, ◌==◌, Bool, true, false}
+use Rattle.std.proofs.Common.{List, [], ◌∷◌, ◌++◌, length, Option, Some}
+use Rattle.std.proofs.Common.{None, refl, sym, ap, ◌∙◌, ◌-◌, append_assoc}
+use Rattle.std.proofs.Common.{append-nil}
 use Rattle.osn_days.specs.Profile.{Profile}
 use Rattle.osn_register.specs.declared.refusal.Refusal.{Refusal}
 use Rattle.osn_register.specs.declared.query.Query.{Query}
 use Rattle.osn_register.specs.declared.edit.Edit.{Edit}
+use Rattle.osn_core.specs.declared.phase.Phase.{Phase}
+use Rattle.osn_core.specs.declared.phase.Phase.TheVariants.{Ready, Draining, Claimed}
 use Rattle.osn_core.specs.declared.reader.ReaderState.{ReaderState}
-use Rattle.osn_core.specs.declared.reader.ReaderState.TheVariants.{Idle, Looked}
-use Rattle.osn_core.specs.declared.step.Out.{Out}
-use Rattle.osn_core.specs.declared.step.Out.TheVariants.{Staged, Published, Refused, Replied}
+use Rattle.osn_core.specs.declared.reader.ReaderState.TheVariants.{Idle, Noted, Marked, Entered}
+use Rattle.osn_core.specs.declared.reader.ReaderState.TheVariants.{Answered}
+use Rattle.osn_core.specs.declared.step.Reply.{Reply}
+use Rattle.osn_core.specs.declared.step.Out.TheVariants as Says
 use Rattle.osn_core.specs.declared.step.Step.{Step}
-use Rattle.osn_core.specs.declared.step.Step.TheVariants.{Look, Answer, Stage, Publish}
-use Rattle.osn_core.specs.Sequential.{ObjectState, stage_refusal, publish_refusal, with_pending}
-use Rattle.osn_core.specs.Sequential.{with_edition, reply_at, out_unless, state_unless}
-use Rattle.osn_core.specs.Control.{Control, reader_at, after_look, after_answer, control_after}
-use Rattle.osn_core.specs.Machine.{CoreState, look_out, answer_out, out_of, object_after}
+use Rattle.osn_core.specs.declared.step.Step.TheVariants.{Look, Pin, Check, Answer, Leave, Stage}
+use Rattle.osn_core.specs.declared.step.Step.TheVariants.{Publish, Claim, Absorb}
+use Rattle.osn_core.specs.Sequential.{ObjectState, stage_refusal, publish_refusal}
+use Rattle.osn_core.specs.Sequential.{with_edition, state_unless, out_unless, stage_out}
+use Rattle.osn_core.specs.Sequential.{stage_after, publish_out, publish_after}
+use Rattle.osn_core.specs.Control.{reader_at, set_reader, look, pin, check, entering, leave}
+use Rattle.osn_core.specs.Control.{is_marked, claim_out, absorb_out, out_at, readers_after}
+use Rattle.osn_core.specs.Machine.{CoreState, answer, out_in, out_of, core_in, with_published}
 use Rattle.osn_core.specs.Machine.{core_after, outs_of}
-use Rattle.osn_core.specs.History.{Entry, IsRun, entry_of, looked_after, history, told_in}
-use Rattle.osn_core.specs.History.{told_outs, editions_to, edition_to, NeverFalls}
+use Rattle.osn_core.specs.History.{Call, Stages, Publishes, Looks, looks_after, call_of}
+use Rattle.osn_core.specs.History.{calls_of, asked, told, replies_to, reply_to}
+use Rattle.osn_core.proofs.Knows.{Knows, AllKnown, step_known}
+use Rattle.osn_core.proofs.Owed.{owed, still_owed, enters, answers, owed_staged, owed_published}
 
--- what was looked for after a step, by where the reader stands
-look_kept : (control : Control) (r : ℕ) (q : Query) (at : Option ReaderState) →
-    looked_after control (Look r q) (look_out at) ≡ after_look at control r q
-look_kept control r q None = refl
-look_kept control r q (Some Idle) = refl
-look_kept control r q (Some (Looked earlier)) = refl
+-- what is told and owed after a step is what was owed before, and what the object tells of its call
+abbrev Settles : Profile → ℕ → Looks → CoreState → Step → Type 0
+Settles p r looks c step = (calls : List Call) →
+    reply_to r (out_of p c step)
+    ++ (owed p (core_after p c step).object (reader_at (core_after p c step).control.readers r)
+    ++ replies_to r (told p (core_after p c step).object calls))
+    ≡ owed p c.object (reader_at c.control.readers r)
+    ++ replies_to r (told p c.object (call_of looks step (out_of p c step) ++ calls))
 
-answer_kept : (p : Profile) (s : ObjectState) (control : Control) (r : ℕ) (at : Option ReaderState)
-    → looked_after control (Answer r) (answer_out p at s r) ≡ after_answer at control r
-answer_kept p s control r None = refl
-answer_kept p s control r (Some Idle) = refl
-answer_kept p s control r (Some (Looked q)) = refl
+look_settles : (p : Profile) (s : ObjectState) (readers : List ReaderState) (a r live : ℕ)
+    (q : Query) (looks : Looks) (at : Option ReaderState) → reader_at readers a ≡ at →
+    (calls : List Call) →
+    reply_to r (out_at (look live q) at)
+    ++ (owed p s (reader_at (readers_after (look live q) at readers a) r)
+    ++ replies_to r (told p s calls))
+    ≡ owed p s (reader_at readers r)
+    ++ replies_to r (told p s (call_of looks (Look a q) (out_at (look live q) at) ++ calls))
+look_settles p s readers a r live q looks None is calls = refl
+look_settles p s readers a r live q looks (Some Idle) is calls =
+    still_owed p s readers a r Idle (Noted q live) is refl (replies_to r (told p s calls))
+look_settles p s readers a r live q looks (Some (Noted n side)) is calls =
+    still_owed p s readers a r (Noted n side) (Noted n side) is refl
+    (replies_to r (told p s calls))
+look_settles p s readers a r live q looks (Some (Marked n side)) is calls =
+    still_owed p s readers a r (Marked n side) (Marked n side) is refl
+    (replies_to r (told p s calls))
+look_settles p s readers a r live q looks (Some (Entered n side k)) is calls =
+    still_owed p s readers a r (Entered n side k) (Entered n side k) is refl
+    (replies_to r (told p s calls))
+look_settles p s readers a r live q looks (Some (Answered side k)) is calls =
+    still_owed p s readers a r (Answered side k) (Answered side k) is refl
+    (replies_to r (told p s calls))
 
-stage_kept : (control : Control) (e : Edit) (n : ℕ) (f : Option Refusal) →
-    looked_after control (Stage e) (out_unless f (Staged n)) ≡ control
-stage_kept control e n None = refl
-stage_kept control e n (Some f) = refl
+pin_settles : (p : Profile) (s : ObjectState) (readers : List ReaderState) (a r : ℕ)
+    (looks : Looks) (at : Option ReaderState) → reader_at readers a ≡ at → (calls : List Call) →
+    reply_to r (out_at pin at)
+    ++ (owed p s (reader_at (readers_after pin at readers a) r) ++ replies_to r (told p s calls))
+    ≡ owed p s (reader_at readers r)
+    ++ replies_to r (told p s (call_of looks (Pin a) (out_at pin at) ++ calls))
+pin_settles p s readers a r looks None is calls = refl
+pin_settles p s readers a r looks (Some Idle) is calls =
+    still_owed p s readers a r Idle Idle is refl (replies_to r (told p s calls))
+pin_settles p s readers a r looks (Some (Noted q side)) is calls =
+    still_owed p s readers a r (Noted q side) (Marked q side) is refl
+    (replies_to r (told p s calls))
+pin_settles p s readers a r looks (Some (Marked q side)) is calls =
+    still_owed p s readers a r (Marked q side) (Marked q side) is refl
+    (replies_to r (told p s calls))
+pin_settles p s readers a r looks (Some (Entered q side k)) is calls =
+    still_owed p s readers a r (Entered q side k) (Entered q side k) is refl
+    (replies_to r (told p s calls))
+pin_settles p s readers a r looks (Some (Answered side k)) is calls =
+    still_owed p s readers a r (Answered side k) (Answered side k) is refl
+    (replies_to r (told p s calls))
 
-publish_kept : (control : Control) (n : ℕ) (f : Option Refusal) →
-    looked_after control Publish (out_unless f (Published n)) ≡ control
-publish_kept control n None = refl
-publish_kept control n (Some f) = refl
+entering_settles : (p : Profile) (s : ObjectState) (readers : List ReaderState)
+    (a r live side : ℕ) (q : Query) (looks : Looks) (b : Bool) →
+    reader_at readers a ≡ Some (Marked q side) → looks a ≡ Some q → (calls : List Call) →
+    reply_to r (entering b live (length s.batches) q side).out
+    ++ (owed p s (reader_at (set_reader readers a (entering b live (length s.batches) q side).at) r)
+    ++ replies_to r (told p s calls))
+    ≡ owed p s (reader_at readers r)
+    ++ replies_to r (told p s (call_of looks (Check a) (entering b live (length s.batches) q
+    side).out ++ calls))
+entering_settles p s readers a r live side q looks true is looked calls =
+    enters p s readers a r side q is (replies_to r (told p s calls))
+    ∙ sym (ap (λ l. owed p s (reader_at readers r) ++ replies_to r (told p s (asked l a ++ calls)))
+    looked)
+entering_settles p s readers a r live side q looks false is looked calls =
+    still_owed p s readers a r (Marked q side) (Noted q live) is refl
+    (replies_to r (told p s calls))
 
--- what the history keeps of the looks is control
-control_kept : (p : Profile) (c : CoreState) (s : Step) →
-    looked_after c.control s (out_of p c s) ≡ control_after c.control s
-control_kept p c (Look r q) = look_kept c.control r q (reader_at c.control r)
-control_kept p c (Answer r) = answer_kept p c.object c.control r (reader_at c.control r)
-control_kept p c (Stage e) = stage_kept c.control e (length c.object.pending + 1)
-    (stage_refusal p c.object e)
-control_kept p c Publish = publish_kept c.control (length c.object.batches + 1)
-    (publish_refusal c.object)
+check_settles : (p : Profile) (s : ObjectState) (readers : List ReaderState) (a r live : ℕ)
+    (looks : Looks) (at : Option ReaderState) → reader_at readers a ≡ at →
+    Knows looks (length s.batches) a at → (calls : List Call) →
+    reply_to r (out_at (check live (length s.batches)) at)
+    ++ (owed p s (reader_at (readers_after (check live (length s.batches)) at readers a) r)
+    ++ replies_to r (told p s calls))
+    ≡ owed p s (reader_at readers r)
+    ++ replies_to r (told p s (call_of looks (Check a) (out_at (check live (length s.batches)) at)
+    ++ calls))
+check_settles p s readers a r live looks None is h calls = refl
+check_settles p s readers a r live looks (Some Idle) is h calls =
+    still_owed p s readers a r Idle Idle is refl (replies_to r (told p s calls))
+check_settles p s readers a r live looks (Some (Noted q side)) is h calls =
+    still_owed p s readers a r (Noted q side) (Noted q side) is refl
+    (replies_to r (told p s calls))
+check_settles p s readers a r live looks (Some (Marked q side)) is h calls =
+    entering_settles p s readers a r live side q looks (side == live) is h calls
+check_settles p s readers a r live looks (Some (Entered q side k)) is h calls =
+    still_owed p s readers a r (Entered q side k) (Entered q side k) is refl
+    (replies_to r (told p s calls))
+check_settles p s readers a r live looks (Some (Answered side k)) is h calls =
+    still_owed p s readers a r (Answered side k) (Answered side k) is refl
+    (replies_to r (told p s calls))
 
-look_runs : (p : Profile) (s : ObjectState) (control : Control) (r : ℕ) (q : Query)
-    (at : Option ReaderState) (rest : List Entry) → IsRun p s rest →
-    IsRun p s (entry_of control (Look r q) (look_out at) ++ rest)
-look_runs p s control r q None rest h = h
-look_runs p s control r q (Some Idle) rest h = h
-look_runs p s control r q (Some (Looked earlier)) rest h = h
+answer_settles : (p : Profile) (s : ObjectState) (readers : List ReaderState) (a r : ℕ)
+    (looks : Looks) (at : Option ReaderState) → reader_at readers a ≡ at → (calls : List Call) →
+    reply_to r (out_at (answer p s a) at)
+    ++ (owed p s (reader_at (readers_after (answer p s a) at readers a) r)
+    ++ replies_to r (told p s calls))
+    ≡ owed p s (reader_at readers r)
+    ++ replies_to r (told p s (call_of looks (Answer a) (out_at (answer p s a) at) ++ calls))
+answer_settles p s readers a r looks None is calls = refl
+answer_settles p s readers a r looks (Some Idle) is calls =
+    still_owed p s readers a r Idle Idle is refl (replies_to r (told p s calls))
+answer_settles p s readers a r looks (Some (Noted q side)) is calls =
+    still_owed p s readers a r (Noted q side) (Noted q side) is refl
+    (replies_to r (told p s calls))
+answer_settles p s readers a r looks (Some (Marked q side)) is calls =
+    still_owed p s readers a r (Marked q side) (Marked q side) is refl
+    (replies_to r (told p s calls))
+answer_settles p s readers a r looks (Some (Entered q side k)) is calls =
+    answers p s readers a r side k q is (replies_to r (told p s calls))
+answer_settles p s readers a r looks (Some (Answered side k)) is calls =
+    still_owed p s readers a r (Answered side k) (Answered side k) is refl
+    (replies_to r (told p s calls))
 
-answer_runs : (p : Profile) (s : ObjectState) (control : Control) (r : ℕ) (at : Option ReaderState)
-    → reader_at control r ≡ at → (rest : List Entry) → IsRun p s rest →
-    IsRun p s (entry_of control (Answer r) (answer_out p at s r) ++ rest)
-answer_runs p s control r None e rest h = h
-answer_runs p s control r (Some Idle) e rest h = h
-answer_runs p s control r (Some (Looked q)) e rest h = rw e (refl, h)
+leave_settles : (p : Profile) (s : ObjectState) (readers : List ReaderState) (a r : ℕ)
+    (looks : Looks) (at : Option ReaderState) → reader_at readers a ≡ at → (calls : List Call) →
+    reply_to r (out_at leave at)
+    ++ (owed p s (reader_at (readers_after leave at readers a) r) ++ replies_to r (told p s calls))
+    ≡ owed p s (reader_at readers r)
+    ++ replies_to r (told p s (call_of looks (Leave a) (out_at leave at) ++ calls))
+leave_settles p s readers a r looks None is calls = refl
+leave_settles p s readers a r looks (Some Idle) is calls =
+    still_owed p s readers a r Idle Idle is refl (replies_to r (told p s calls))
+leave_settles p s readers a r looks (Some (Noted q side)) is calls =
+    still_owed p s readers a r (Noted q side) (Noted q side) is refl
+    (replies_to r (told p s calls))
+leave_settles p s readers a r looks (Some (Marked q side)) is calls =
+    still_owed p s readers a r (Marked q side) (Marked q side) is refl
+    (replies_to r (told p s calls))
+leave_settles p s readers a r looks (Some (Entered q side k)) is calls =
+    still_owed p s readers a r (Entered q side k) (Entered q side k) is refl
+    (replies_to r (told p s calls))
+leave_settles p s readers a r looks (Some (Answered side k)) is calls =
+    still_owed p s readers a r (Answered side k) Idle is refl (replies_to r (told p s calls))
 
-stage_runs : (p : Profile) (control : Control) (s : ObjectState) (e : Edit) (f : Option Refusal) →
-    stage_refusal p s e ≡ f → (rest : List Entry) → IsRun p (state_unless f (with_pending s e) s)
-    rest → IsRun p s (entry_of control (Stage e) (out_unless f (Staged (length s.pending + 1))) ++
-    rest)
-stage_runs p control s e None is rest h = (
-  ap (λ f. out_unless f (Staged (length s.pending + 1)))
-      (sym is),
-  rw is h,
-)
-stage_runs p control s e (Some f) is rest h = (
-  ap (λ f. out_unless f
-      (Staged (length s.pending + 1))) (sym is),
-  rw is h,
-)
+pub stage_silent : (r n : ℕ) (f : Option Refusal) → reply_to r (out_unless f (Says.Staged n)) ≡ []
+stage_silent r n None = refl
+stage_silent r n (Some f) = refl
 
-publish_runs : (p : Profile) (control : Control) (s : ObjectState) (f : Option Refusal) →
-    publish_refusal s ≡ f → (rest : List Entry) → IsRun p (state_unless f (with_edition s) s) rest →
-    IsRun p s (entry_of control Publish (out_unless f (Published (length s.batches + 1))) ++ rest)
-publish_runs p control s None is rest h = (
-  ap (λ f. out_unless f (Published (length s.batches + 1)))
-      (sym is),
-  rw is h,
-)
-publish_runs p control s (Some f) is rest h = (
-  ap (λ f. out_unless f
-      (Published (length s.batches + 1))) (sym is),
-  rw is h,
-)
+pub stage_calls : (looks : Looks) (e : Edit) (n : ℕ) (f : Option Refusal) →
+    call_of looks (Stage e) (out_unless f (Says.Staged n)) ≡ Stages e ∷ []
+stage_calls looks e n None = refl
+stage_calls looks e n (Some f) = refl
 
-step_runs : (p : Profile) (c : CoreState) (s : Step) (rest : List Entry) →
-    IsRun p (object_after p c.object s) rest → IsRun p c.object
-    (entry_of c.control s (out_of p c s) ++ rest)
-step_runs p c (Look r q) rest h = look_runs p c.object c.control r q (reader_at c.control r) rest h
-step_runs p c (Answer r) rest h = answer_runs p c.object c.control r (reader_at c.control r) refl
-    rest h
-step_runs p c (Stage e) rest h = stage_runs p c.control c.object e (stage_refusal p c.object e) refl
-    rest h
-step_runs p c Publish rest h = publish_runs p c.control c.object (publish_refusal c.object) refl
-    rest h
+pub publish_silent : (r n : ℕ) (f : Option Refusal) →
+    reply_to r (out_unless f (Says.Published n)) ≡ []
+publish_silent r n None = refl
+publish_silent r n (Some f) = refl
 
--- whatever the steps, the history is a run
-pub outs_run : (p : Profile) (c : CoreState) (steps : List Step) →
-    IsRun p c.object (history c.control steps (outs_of p c steps))
-outs_run p c [] = tt
-outs_run p c (s ∷ ss) = step_runs p c s _ (rw (control_kept p c s)
-    (outs_run p (core_after p c s) ss))
+pub publish_calls : (looks : Looks) (n : ℕ) (f : Option Refusal) →
+    call_of looks Publish (out_unless f (Says.Published n)) ≡ Publishes ∷ []
+publish_calls looks n None = refl
+publish_calls looks n (Some f) = refl
 
-look_told : (control : Control) (r : ℕ) (q : Query) (at : Option ReaderState) (rest : List Entry)
-    (outs : List Out) → told_in rest ≡ told_outs outs → told_in
-    (entry_of control (Look r q) (look_out at) ++ rest) ≡ told_outs (look_out at ∷ outs)
-look_told control r q None rest outs h = h
-look_told control r q (Some Idle) rest outs h = h
-look_told control r q (Some (Looked earlier)) rest outs h = h
+stage_settles : (p : Profile) (r : ℕ) (looks : Looks) (c : CoreState) (e : Edit) (phase : Phase)
+    (calls : List Call) →
+    reply_to r (out_in phase (stage_out p c.object e))
+    ++ (owed p (core_in phase (record c { object = stage_after p c.object e }) c).object
+    (reader_at (core_in phase (record c { object = stage_after p c.object e }) c).control.readers r)
+    ++ replies_to r (told p (core_in phase (record c { object = stage_after p c.object e })
+    c).object calls))
+    ≡ owed p c.object (reader_at c.control.readers r)
+    ++ replies_to r (told p c.object (call_of looks (Stage e) (out_in phase (stage_out p c.object
+    e)) ++ calls))
+stage_settles p r looks c e Ready calls =
+    let n = length c.object.pending + 1 in
+    let f = stage_refusal p c.object e in
+    let at = reader_at c.control.readers r in
+    let rest = replies_to r (told p (stage_after p c.object e) calls) in
+    ap (λ l. l ++ (owed p (stage_after p c.object e) at ++ rest)) (stage_silent r n f)
+    ∙ ap (λ o. o ++ rest) (owed_staged p c.object e f at)
+    ∙ sym (ap (λ l. owed p c.object at ++ (l ++ rest)) (stage_silent r n f))
+    ∙ sym (ap (λ cs. owed p c.object at ++ replies_to r (told p c.object (cs ++ calls)))
+    (stage_calls looks e n f))
+stage_settles p r looks c e Draining calls = refl
+stage_settles p r looks c e Claimed calls = refl
 
-answer_told : (p : Profile) (s : ObjectState) (control : Control) (r : ℕ) (at : Option ReaderState)
-    → reader_at control r ≡ at → (rest : List Entry) (outs : List Out) →
-    told_in rest ≡ told_outs outs → told_in (entry_of control (Answer r) (answer_out p at s r) ++
-    rest) ≡ told_outs (answer_out p at s r ∷ outs)
-answer_told p s control r None e rest outs h = h
-answer_told p s control r (Some Idle) e rest outs h = h
-answer_told p s control r (Some (Looked q)) e rest outs h = rw e
-    (ap (λ told. Replied r (reply_at p s.limits s.batches q) ∷ told) h)
+published_settles : (p : Profile) (r : ℕ) (looks : Looks) (c : CoreState) (f : Option Refusal) →
+    publish_refusal c.object ≡ f →
+    Knows looks (length c.object.batches) r (reader_at c.control.readers r) →
+    (calls : List Call) →
+    reply_to r (publish_out c.object)
+    ++ (owed p (with_published f c).object (reader_at (with_published f c).control.readers r)
+    ++ replies_to r (told p (with_published f c).object calls))
+    ≡ owed p c.object (reader_at c.control.readers r)
+    ++ replies_to r (told p c.object (call_of looks Publish (publish_out c.object) ++ calls))
+published_settles p r looks c None is h calls =
+    let s = c.object in
+    let n = length s.batches + 1 in
+    let at = reader_at c.control.readers r in
+    let rest = replies_to r (told p (publish_after s) calls) in
+    ap (λ l. l ++ (owed p (publish_after s) at ++ rest)) (publish_silent r n (publish_refusal s))
+    ∙ ap (λ f. owed p (state_unless f (with_edition s) s) at ++ rest) is
+    ∙ ap (λ o. o ++ rest) (owed_published p s looks r at h)
+    ∙ sym (ap (λ l. owed p s at ++ (l ++ rest)) (publish_silent r n (publish_refusal s)))
+    ∙ sym (ap (λ cs. owed p s at ++ replies_to r (told p s (cs ++ calls)))
+    (publish_calls looks n (publish_refusal s)))
+published_settles p r looks c (Some g) is h calls =
+    let s = c.object in
+    let n = length s.batches + 1 in
+    let at = reader_at c.control.readers r in
+    let rest = replies_to r (told p (publish_after s) calls) in
+    ap (λ l. l ++ (owed p s at ++ replies_to r (told p s calls)))
+    (publish_silent r n (publish_refusal s))
+    ∙ sym (ap (λ f. owed p s at ++ replies_to r (told p (state_unless f (with_edition s) s) calls))
+    is)
+    ∙ sym (ap (λ l. owed p s at ++ (l ++ rest)) (publish_silent r n (publish_refusal s)))
+    ∙ sym (ap (λ cs. owed p s at ++ replies_to r (told p s (cs ++ calls)))
+    (publish_calls looks n (publish_refusal s)))
 
-stage_told : (control : Control) (e : Edit) (n : ℕ) (f : Option Refusal) (rest : List Entry)
-    (outs : List Out) → told_in rest ≡ told_outs outs → told_in
-    (entry_of control (Stage e) (out_unless f (Staged n)) ++ rest) ≡ told_outs
-    (out_unless f (Staged n) ∷ outs)
-stage_told control e n None rest outs h = ap (λ told. Staged n ∷ told) h
-stage_told control e n (Some f) rest outs h = ap (λ told. Refused f ∷ told) h
+publish_settles : (p : Profile) (r : ℕ) (looks : Looks) (c : CoreState) (phase : Phase) →
+    Knows looks (length c.object.batches) r (reader_at c.control.readers r) →
+    (calls : List Call) →
+    reply_to r (out_in phase (publish_out c.object))
+    ++ (owed p (core_in phase (with_published (publish_refusal c.object) c) c).object
+    (reader_at (core_in phase (with_published (publish_refusal c.object) c) c).control.readers r)
+    ++ replies_to r (told p (core_in phase (with_published (publish_refusal c.object) c) c).object
+    calls))
+    ≡ owed p c.object (reader_at c.control.readers r)
+    ++ replies_to r (told p c.object (call_of looks Publish (out_in phase (publish_out c.object))
+    ++ calls))
+publish_settles p r looks c Ready h calls =
+    published_settles p r looks c (publish_refusal c.object) refl h calls
+publish_settles p r looks c Draining h calls = refl
+publish_settles p r looks c Claimed h calls = refl
 
-publish_told : (control : Control) (n : ℕ) (f : Option Refusal) (rest : List Entry)
-    (outs : List Out) → told_in rest ≡ told_outs outs → told_in
-    (entry_of control Publish (out_unless f (Published n)) ++ rest) ≡ told_outs
-    (out_unless f (Published n) ∷ outs)
-publish_told control n None rest outs h = ap (λ told. Published n ∷ told) h
-publish_told control n (Some f) rest outs h = ap (λ told. Refused f ∷ told) h
+claim_silent : (r : ℕ) (b : Bool) (phase : Phase) → reply_to r (claim_out b phase) ≡ []
+claim_silent r b Ready = refl
+claim_silent r true Draining = refl
+claim_silent r false Draining = refl
+claim_silent r b Claimed = refl
 
-step_told : (p : Profile) (c : CoreState) (s : Step) (rest : List Entry) (outs : List Out) →
-    told_in rest ≡ told_outs outs → told_in (entry_of c.control s (out_of p c s) ++ rest) ≡
-    told_outs (out_of p c s ∷ outs)
-step_told p c (Look r q) rest outs h = look_told c.control r q (reader_at c.control r) rest outs h
-step_told p c (Answer r) rest outs h = answer_told p c.object c.control r (reader_at c.control r)
-    refl rest outs h
-step_told p c (Stage e) rest outs h = stage_told c.control e (length c.object.pending + 1)
-    (stage_refusal p c.object e) rest outs h
-step_told p c Publish rest outs h = publish_told c.control (length c.object.batches + 1)
-    (publish_refusal c.object) rest outs h
+absorb_silent : (r : ℕ) (b : Bool) (phase : Phase) → reply_to r (absorb_out b phase) ≡ []
+absorb_silent r b Ready = refl
+absorb_silent r b Draining = refl
+absorb_silent r true Claimed = refl
+absorb_silent r false Claimed = refl
 
--- whatever the steps, each out that a call was told stands in the history once, in its place
-pub outs_told : (p : Profile) (c : CoreState) (steps : List Step) →
-    told_in (history c.control steps (outs_of p c steps)) ≡ told_outs (outs_of p c steps)
-outs_told p c [] = refl
-outs_told p c (s ∷ ss) =
-    let outs = outs_of p (core_after p c s) ss in
-    step_told p c s (history (looked_after c.control s (out_of p c s)) ss outs) outs
-    (rw (control_kept p c s) (outs_told p (core_after p c s) ss))
+step_settles : (p : Profile) (r : ℕ) (looks : Looks) (c : CoreState) (step : Step) →
+    AllKnown looks (length c.object.batches) c.control.readers → Settles p r looks c step
+step_settles p r looks c (Look a q) h calls =
+    look_settles p c.object c.control.readers a r c.control.side q looks
+    (reader_at c.control.readers a) refl calls
+step_settles p r looks c (Pin a) h calls =
+    pin_settles p c.object c.control.readers a r looks (reader_at c.control.readers a) refl calls
+step_settles p r looks c (Check a) h calls =
+    check_settles p c.object c.control.readers a r c.control.side looks
+    (reader_at c.control.readers a) refl (h a) calls
+step_settles p r looks c (Answer a) h calls =
+    answer_settles p c.object c.control.readers a r looks (reader_at c.control.readers a) refl calls
+step_settles p r looks c (Leave a) h calls =
+    leave_settles p c.object c.control.readers a r looks (reader_at c.control.readers a) refl calls
+step_settles p r looks c (Stage e) h calls =
+    stage_settles p r looks c e c.control.phase calls
+step_settles p r looks c Publish h calls =
+    publish_settles p r looks c c.control.phase (h r) calls
+step_settles p r looks c Claim h calls =
+    ap (λ l. l ++ (owed p c.object (reader_at c.control.readers r)
+    ++ replies_to r (told p c.object calls)))
+    (claim_silent r (is_marked (1 - c.control.side) c.control.readers) c.control.phase)
+step_settles p r looks c Absorb h calls =
+    ap (λ l. l ++ (owed p c.object (reader_at c.control.readers r)
+    ++ replies_to r (told p c.object calls)))
+    (absorb_silent r (c.control.lag == 0) c.control.phase)
 
--- from any floor that the batches reach, the editions never fall
-abbrev pub Rises : ObjectState → List ℕ → Type 0
-Rises s editions = (floor : ℕ) → floor ≤ length s.batches → NeverFalls floor editions
-
-look_rises : (s : ObjectState) (by : ℕ) (at : Option ReaderState) (rest : List ℕ) → Rises s rest →
-    Rises s (edition_to by (look_out at) ++ rest)
-look_rises s by None rest h = h
-look_rises s by (Some Idle) rest h = h
-look_rises s by (Some (Looked earlier)) rest h = h
-
-told_rises : (s : ObjectState) (here : Bool) (rest : List ℕ) → Rises s rest →
-    Rises s ((if here then length s.batches ∷ [] else []) ++ rest)
-told_rises s true rest h floor low = (low, h (length s.batches) (le_refl _))
-told_rises s false rest h floor low = h floor low
-
-answer_rises : (p : Profile) (s : ObjectState) (by r : ℕ) (at : Option ReaderState) (rest : List ℕ)
-    → Rises s rest → Rises s (edition_to by (answer_out p at s r) ++ rest)
-answer_rises p s by r None rest h = h
-answer_rises p s by r (Some Idle) rest h = h
-answer_rises p s by r (Some (Looked q)) rest h = told_rises s (r == by) rest h
-
-stage_rises : (s : ObjectState) (e : Edit) (by n : ℕ) (f : Option Refusal) (rest : List ℕ) →
-    Rises (state_unless f (with_pending s e) s) rest → Rises s
-    (edition_to by (out_unless f (Staged n)) ++ rest)
-stage_rises s e by n None rest h = h
-stage_rises s e by n (Some f) rest h = h
-
-publish_rises : (s : ObjectState) (by n : ℕ) (f : Option Refusal) (rest : List ℕ) →
-    Rises (state_unless f (with_edition s) s) rest → Rises s
-    (edition_to by (out_unless f (Published n)) ++ rest)
-publish_rises s by n None rest h floor low = h floor (omega
-    (arith, length-append s.batches (s.pending ∷ [])))
-publish_rises s by n (Some f) rest h floor low = h floor low
-
-step_rises : (p : Profile) (c : CoreState) (s : Step) (by : ℕ) (rest : List ℕ) →
-    Rises (object_after p c.object s) rest → Rises c.object (edition_to by (out_of p c s) ++ rest)
-step_rises p c (Look r q) by rest h = look_rises c.object by (reader_at c.control r) rest h
-step_rises p c (Answer r) by rest h = answer_rises p c.object by r (reader_at c.control r) rest h
-step_rises p c (Stage e) by rest h = stage_rises c.object e by (length c.object.pending + 1)
-    (stage_refusal p c.object e) rest h
-step_rises p c Publish by rest h = publish_rises c.object by (length c.object.batches + 1)
-    (publish_refusal c.object) rest h
-
--- whatever the steps, no reader's editions fall
-pub outs_rise : (p : Profile) (by : ℕ) (c : CoreState) (steps : List Step) →
-    Rises c.object (editions_to by (outs_of p c steps))
-outs_rise p by c [] floor low = tt
-outs_rise p by c (s ∷ ss) floor low = step_rises p c s by _ (outs_rise p by (core_after p c s) ss)
-    floor low
+-- whatever the steps, a reader is told, first of all, what it is owed and what the object tells it
+pub readers_told : (p : Profile) (r : ℕ) (looks : Looks) (c : CoreState) (steps : List Step) →
+    AllKnown looks (length c.object.batches) c.control.readers →
+    (rest : List Reply) × (replies_to r (outs_of p c steps) ++ rest
+    ≡ owed p c.object (reader_at c.control.readers r)
+    ++ replies_to r (told p c.object (calls_of looks steps (outs_of p c steps))))
+readers_told p r looks c [] h =
+    (owed p c.object (reader_at c.control.readers r), sym (append-nil _))
+readers_told p r looks c (s ∷ ss) h =
+    let out = out_of p c s in
+    let after = core_after p c s in
+    let later = looks_after looks s out in
+    let next = readers_told p r later after ss (step_known p looks c s h) in (
+      next.0,
+      append_assoc (reply_to r out) (replies_to r (outs_of p after ss)) next.0
+          ∙ ap (λ l. reply_to r out ++ l) next.1
+          ∙ step_settles p r looks c s h (calls_of later ss (outs_of p after ss)),
+    )

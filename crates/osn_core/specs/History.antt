@@ -1,31 +1,25 @@
 -- History: the calls of the sequential object that a list of steps and outs amounts to, in the
--- order of the steps. It is read from the steps and the outs alone.
+-- order of the steps. It is read from the steps and the outs alone. An ask stands at the check by
+-- which its reader entered, so what readers are told comes later than their asks.
 use Rattle.std.specs.Prelude.{◌≡◌, ℕ, ◌≤◌, ◌==◌, if◌then◌else◌, Bool, true, false, List, [], ◌∷◌}
-use Rattle.std.specs.Prelude.{◌++◌, map, Option, Some}
+use Rattle.std.specs.Prelude.{◌++◌, map, Option, Some, None}
 use Rattle.std.specs.List.{filter}
 use Rattle.osn_days.specs.Profile.{Profile}
 use Rattle.osn_register.specs.declared.edit.Edit.{Edit}
 use Rattle.osn_register.specs.declared.query.Query.{Query}
-use Rattle.osn_core.specs.declared.reader.ReaderState.{ReaderState}
-use Rattle.osn_core.specs.declared.reader.ReaderState.TheVariants.{Idle, Looked}
+use Rattle.osn_core.specs.declared.step.Reply.{Reply}
 use Rattle.osn_core.specs.declared.step.Step.{Step}
-use Rattle.osn_core.specs.declared.step.Step.TheVariants.{Look, Answer, Stage, Publish}
+use Rattle.osn_core.specs.declared.step.Step.TheVariants.{Look, Check, Stage, Publish}
 use Rattle.osn_core.specs.declared.step.Out.{Out}
-use Rattle.osn_core.specs.declared.step.Out.TheVariants.{NotNow, Moved, Staged, Published, Refused}
-use Rattle.osn_core.specs.declared.step.Out.TheVariants.{Replied}
+use Rattle.osn_core.specs.declared.step.Out.TheVariants.{Moved, Entered, Staged, Published}
+use Rattle.osn_core.specs.declared.step.Out.TheVariants.{Refused, Replied}
 use Rattle.osn_core.specs.Sequential.{ObjectState, reply_at, stage_out, stage_after, publish_out}
 use Rattle.osn_core.specs.Sequential.{publish_after}
-use Rattle.osn_core.specs.Control.{Control, reader_at, set_reader}
 
 pub data Call : Type 0 where
   Stages : Edit → Call
   Publishes : Call
   Asks : ℕ → Query → Call
-
--- a call with what it was told
-pub record Entry : Type 0 where
-  pub call : Call
-  pub told : Out
 
 -- what the sequential object tells a call, and what it leaves
 abbrev pub told_of : Profile → ObjectState → Call → Out
@@ -38,61 +32,73 @@ state_after p s (Stages edit) = stage_after p s edit
 state_after p s Publishes = publish_after s
 state_after p s (Asks reader query) = s
 
--- each call was told what the sequential object tells there
-abbrev pub IsRun : Profile → ObjectState → List Entry → Type 0
-IsRun p s [] = Unit {0}
-IsRun p s (e ∷ es) = (e.told ≡ told_of p s e.call) × IsRun p (state_after p s e.call) es
+-- what the sequential object tells the calls, run on them in order
+abbrev pub told : Profile → ObjectState → List Call → List Out
+told p s [] = []
+told p s (call ∷ calls) = told_of p s call ∷ told p (state_after p s call) calls
 
-abbrev pub asked : Option ReaderState → ℕ → Out → List Entry
-asked (Some (Looked query)) reader out = record { call = Asks reader query; told = out } ∷ []
-asked at reader out = []
+-- the query of each reader's last look that moved
+abbrev pub Looks : Type 0
+Looks = ℕ → Option Query
+
+abbrev pub no_looks : Looks
+no_looks reader = None
+
+abbrev pub looks_after : Looks → Step → Out → Looks
+looks_after looks (Look reader query) Moved =
+    λ other. if reader == other then Some query else looks other
+looks_after looks step out = looks
+
+abbrev pub asked : Option Query → ℕ → List Call
+asked (Some query) reader = Asks reader query ∷ []
+asked None reader = []
 
 -- the call that a step with this out is, if it is one: a stage or a publish that was taken or
--- refused, and an ask at its answer, for the query of the reader's last look that moved
-abbrev pub entry_of : Control → Step → Out → List Entry
-entry_of looked (Stage edit) (Staged n) = record { call = Stages edit; told = Staged n } ∷ []
-entry_of looked (Stage edit) (Refused f) = record { call = Stages edit; told = Refused f } ∷ []
-entry_of looked Publish (Published n) = record { call = Publishes; told = Published n } ∷ []
-entry_of looked Publish (Refused f) = record { call = Publishes; told = Refused f } ∷ []
-entry_of looked (Answer reader) (Replied to reply) =
-    asked (reader_at looked reader) reader (Replied to reply)
-entry_of looked step out = []
+-- refused, and a check that entered, which asks for the query of the reader's last look that moved
+abbrev pub call_of : Looks → Step → Out → List Call
+call_of looks (Stage edit) (Staged n) = Stages edit ∷ []
+call_of looks (Stage edit) (Refused f) = Stages edit ∷ []
+call_of looks Publish (Published n) = Publishes ∷ []
+call_of looks Publish (Refused f) = Publishes ∷ []
+call_of looks (Check reader) Entered = asked (looks reader) reader
+call_of looks step out = []
 
--- what each reader last looked for and was not yet told, after a step with this out
-abbrev pub looked_after : Control → Step → Out → Control
-looked_after looked (Look reader query) Moved = set_reader looked reader (Looked query)
-looked_after looked (Answer reader) (Replied to reply) = set_reader looked reader Idle
-looked_after looked step out = looked
+abbrev pub calls_of : Looks → List Step → List Out → List Call
+calls_of looks [] outs = []
+calls_of looks (step ∷ steps) [] = []
+calls_of looks (step ∷ steps) (out ∷ outs) =
+    call_of looks step out ++ calls_of (looks_after looks step out) steps outs
 
-abbrev pub history : Control → List Step → List Out → List Entry
-history looked [] outs = []
-history looked (step ∷ steps) [] = []
-history looked (step ∷ steps) (out ∷ outs) =
-    entry_of looked step out ++ history (looked_after looked step out) steps outs
+abbrev pub history : List Step → List Out → List Call
+history steps outs = calls_of no_looks steps outs
 
--- whether an out is what a call was told: a step that is not enabled is no call, and neither is a
--- look
-abbrev pub is_told : Out → Bool
-is_told NotNow = false
-is_told Moved = false
-is_told out = true
+-- the outs that the editor was told, in order
+abbrev pub is_editors : Out → Bool
+is_editors (Staged n) = true
+is_editors (Published n) = true
+is_editors (Refused f) = true
+is_editors out = false
 
--- what the calls of a history were told, in order
-abbrev pub told_in : List Entry → List Out
-told_in es = map (λ e. e.told) es
+abbrev pub told_editor : List Out → List Out
+told_editor outs = filter is_editors outs
 
--- the outs that are what a call was told, in order
-abbrev pub told_outs : List Out → List Out
-told_outs outs = filter is_told outs
+abbrev pub reply_to : ℕ → Out → List Reply
+reply_to reader (Replied to reply) = if to == reader then reply ∷ [] else []
+reply_to reader out = []
 
-abbrev pub edition_to : ℕ → Out → List ℕ
-edition_to reader (Replied to reply) = if to == reader then reply.edition ∷ [] else []
-edition_to reader out = []
+-- the replies that a reader was told, in order
+abbrev pub replies_to : ℕ → List Out → List Reply
+replies_to reader [] = []
+replies_to reader (out ∷ outs) = reply_to reader out ++ replies_to reader outs
+
+-- replies are the first of others, and lack some at the end
+pub record Begin (replies all : List Reply) : Type 0 where
+  pub rest : List Reply
+  pub is : replies ++ rest ≡ all
 
 -- the editions that a reader was given, in order
 abbrev pub editions_to : ℕ → List Out → List ℕ
-editions_to reader [] = []
-editions_to reader (out ∷ outs) = edition_to reader out ++ editions_to reader outs
+editions_to reader outs = map (λ (reply : Reply). reply.edition) (replies_to reader outs)
 
 -- from a floor on, no number is less than the one before it
 abbrev pub NeverFalls : ℕ → List ℕ → Type 0

@@ -1,21 +1,26 @@
 -- The machine: what each step gives, and what it leaves, from control and the sequential object.
-use Rattle.std.specs.Prelude.{ℕ, Bool, true, false, ◌&&◌, nat_le, if◌then◌else◌, List, [], ◌∷◌}
-use Rattle.std.specs.Prelude.{Option, Some, None}
+use Rattle.std.specs.Prelude.{ℕ, Bool, true, false, ◌-◌, ◌==◌, ◌&&◌, nat_le, if◌then◌else◌, List}
+use Rattle.std.specs.Prelude.{[], ◌∷◌, length, take, Option, Some, None}
 use Rattle.osn_days.specs.Profile.{Profile}
 use Rattle.osn_register.specs.declared.limits.Limits.{Limits}
 use Rattle.osn_register.specs.declared.refusal.Refusal.{Refusal}
 use Rattle.osn_register.specs.declared.refusal.Refusal.TheVariants.{BadCount}
 use Rattle.osn_register.specs.Query.{names_land}
 use Rattle.osn_register.specs.Answer.{takes_memory}
+use Rattle.osn_core.specs.declared.phase.Phase.{Phase}
+use Rattle.osn_core.specs.declared.phase.Phase.TheVariants.{Ready, Draining}
 use Rattle.osn_core.specs.declared.reader.ReaderState.{ReaderState}
-use Rattle.osn_core.specs.declared.reader.ReaderState.TheVariants.{Idle, Looked}
+use Rattle.osn_core.specs.declared.reader.ReaderState.TheVariants.{Entered, Answered}
 use Rattle.osn_core.specs.declared.step.Step.{Step}
-use Rattle.osn_core.specs.declared.step.Step.TheVariants.{Look, Answer, Stage, Publish}
+use Rattle.osn_core.specs.declared.step.Step.TheVariants.{Look, Pin, Check, Answer, Leave, Stage}
+use Rattle.osn_core.specs.declared.step.Step.TheVariants.{Publish, Claim, Absorb}
 use Rattle.osn_core.specs.declared.step.Out.{Out}
-use Rattle.osn_core.specs.declared.step.Out.TheVariants.{NotNow, Moved, Refused, Replied}
+use Rattle.osn_core.specs.declared.step.Out.TheVariants as Says
 use Rattle.osn_core.specs.Sequential.{ObjectState, opened, reply_at, stage_out, stage_after}
-use Rattle.osn_core.specs.Sequential.{publish_out, publish_after}
-use Rattle.osn_core.specs.Control.{Control, first_control, reader_at, control_after}
+use Rattle.osn_core.specs.Sequential.{publish_out, publish_after, publish_refusal}
+use Rattle.osn_core.specs.Control.{Control, first_control, reader_at, Move, stays, look, pin, check}
+use Rattle.osn_core.specs.Control.{leave, out_at, readers_after, is_marked, claim_out}
+use Rattle.osn_core.specs.Control.{phase_claimed, absorb_out, phase_absorbed, lag_absorbed}
 
 -- why a core is not made: its readers are 1 to 64
 abbrev pub readers_refusal : ℕ → Option Refusal
@@ -28,42 +33,103 @@ pub record CoreState : Type 0 where
 abbrev pub first_core : Limits → ℕ → CoreState
 first_core limits readers = record { object = opened limits; control = first_control readers }
 
--- a look moves where the reader is idle
-abbrev pub look_out : Option ReaderState → Out
-look_out None = NotNow
-look_out (Some Idle) = Moved
-look_out (Some (Looked query)) = NotNow
+-- a reader that has entered is told what the sequential object told under the editions of that time
+abbrev pub answer : Profile → ObjectState → ℕ → ReaderState → Move
+answer p s reader (Entered query side edition) = record {
+  out = Says.Replied reader (reply_at p s.limits (take edition s.batches) query);
+  at = Answered side edition;
+}
+answer p s reader at = stays at
 
--- an answer is the sequential object's reply to what the reader has looked for
-abbrev pub answer_out : Profile → Option ReaderState → ObjectState → ℕ → Out
-answer_out p None s reader = NotNow
-answer_out p (Some Idle) s reader = NotNow
-answer_out p (Some (Looked query)) s reader = Replied reader (reply_at p s.limits s.batches query)
+-- what a step of a reader does with where that reader is; one of the editor does nothing with it
+abbrev pub move_of : Profile → CoreState → Step → ReaderState → Move
+move_of p c (Look reader query) at = look c.control.side query at
+move_of p c (Pin reader) at = pin at
+move_of p c (Check reader) at = check c.control.side (length c.object.batches) at
+move_of p c (Answer reader) at = answer p c.object reader at
+move_of p c (Leave reader) at = leave at
+move_of p c step at = stays at
+
+-- a stage and a publish are taken in Ready alone
+abbrev pub out_in : Phase → Out → Out
+out_in Ready out = out
+out_in phase out = Says.NotNow
+
+abbrev pub reader_out : Profile → CoreState → Step → ℕ → Out
+reader_out p c step reader = out_at (move_of p c step) (reader_at c.control.readers reader)
 
 abbrev pub out_of : Profile → CoreState → Step → Out
-out_of p c (Look reader query) = look_out (reader_at c.control reader)
-out_of p c (Answer reader) = answer_out p (reader_at c.control reader) c.object reader
-out_of p c (Stage edit) = stage_out p c.object edit
-out_of p c Publish = publish_out c.object
+out_of p c (Look reader query) = reader_out p c (Look reader query) reader
+out_of p c (Pin reader) = reader_out p c (Pin reader) reader
+out_of p c (Check reader) = reader_out p c (Check reader) reader
+out_of p c (Answer reader) = reader_out p c (Answer reader) reader
+out_of p c (Leave reader) = reader_out p c (Leave reader) reader
+out_of p c (Stage edit) = out_in c.control.phase (stage_out p c.object edit)
+out_of p c Publish = out_in c.control.phase (publish_out c.object)
+out_of p c Claim =
+    claim_out (is_marked (1 - c.control.side) c.control.readers) c.control.phase
+out_of p c Absorb = absorb_out (c.control.lag == 0) c.control.phase
 
 -- whether a step that gives this takes memory: one that is not enabled or is refused takes none,
--- and neither does a look that notes no code, nor an answer that takes none
+-- and neither does a look that notes no code, an answer that takes none, or a standby that lacks
+-- nothing
 abbrev pub step_takes_memory : Step → Out → Bool
-step_takes_memory step NotNow = false
-step_takes_memory step (Refused f) = false
+step_takes_memory step Says.NotNow = false
+step_takes_memory step (Says.Refused f) = false
+step_takes_memory step Says.Ready = false
 step_takes_memory (Look reader query) out = names_land query
-step_takes_memory step (Replied reader reply) = takes_memory reply.answer
+step_takes_memory (Pin reader) out = false
+step_takes_memory (Check reader) out = false
+step_takes_memory (Leave reader) out = false
+step_takes_memory Claim out = false
+step_takes_memory step (Says.Replied reader reply) = takes_memory reply.answer
 step_takes_memory step out = true
 
-abbrev pub object_after : Profile → ObjectState → Step → ObjectState
-object_after p s (Look reader query) = s
-object_after p s (Answer reader) = s
-object_after p s (Stage edit) = stage_after p s edit
-object_after p s Publish = publish_after s
+abbrev pub core_in : Phase → CoreState → CoreState → CoreState
+core_in Ready new old = new
+core_in phase new old = old
+
+-- a publish that is not refused: the standby becomes the live side, and lacks the batch
+abbrev pub with_published : Option Refusal → CoreState → CoreState
+with_published None c = record {
+  object = publish_after c.object;
+  control = record c.control {
+    side = 1 - c.control.side;
+    phase = Draining;
+    lag = length c.object.pending;
+  };
+}
+with_published (Some f) c = c
+
+abbrev pub with_move : Profile → CoreState → Step → ℕ → CoreState
+with_move p c step reader = record c {
+  control = record c.control {
+    readers = readers_after (move_of p c step) (reader_at c.control.readers reader)
+        c.control.readers reader;
+  };
+}
 
 abbrev pub core_after : Profile → CoreState → Step → CoreState
-core_after p c step =
-    record { object = object_after p c.object step; control = control_after c.control step }
+core_after p c (Look reader query) = with_move p c (Look reader query) reader
+core_after p c (Pin reader) = with_move p c (Pin reader) reader
+core_after p c (Check reader) = with_move p c (Check reader) reader
+core_after p c (Answer reader) = with_move p c (Answer reader) reader
+core_after p c (Leave reader) = with_move p c (Leave reader) reader
+core_after p c (Stage edit) =
+    core_in c.control.phase (record c { object = stage_after p c.object edit }) c
+core_after p c Publish =
+    core_in c.control.phase (with_published (publish_refusal c.object) c) c
+core_after p c Claim = record c {
+  control = record c.control {
+    phase = phase_claimed (is_marked (1 - c.control.side) c.control.readers) c.control.phase;
+  };
+}
+core_after p c Absorb = record c {
+  control = record c.control {
+    phase = phase_absorbed (c.control.lag == 0) c.control.phase;
+    lag = lag_absorbed c.control.lag c.control.phase;
+  };
+}
 
 -- the outs of a list of steps
 abbrev pub outs_of : Profile → CoreState → List Step → List Out

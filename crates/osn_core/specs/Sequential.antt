@@ -1,6 +1,6 @@
 -- The sequential object: batches of published edits, and edits that are pending.
 use Rattle.std.specs.Prelude.{ℕ, ◌≡◌, ◌+◌, ◌-◌, ◌≤◌, ◌<◌, nat_lt, slice_get, unwrap_or, ◌==◌}
-use Rattle.std.specs.Prelude.{if◌then◌else◌, List, [], ◌∷◌, ◌++◌, length, Option, Some, None}
+use Rattle.std.specs.Prelude.{if◌then◌else◌, List, [], ◌∷◌, ◌++◌, length, take, Option, Some, None}
 use Rattle.std.specs.List.{sum_by}
 use Rattle.osn_days.specs.Profile.{Profile}
 use Rattle.osn_register.specs.declared.limits.Limits.{Limits}
@@ -32,6 +32,10 @@ joined (b ∷ bs) = b ++ joined bs
 -- the edits of the last batch, or none
 abbrev pub last_batch : List (List Edit) → List Edit
 last_batch batches = unwrap_or (slice_get batches (length batches - 1)) []
+
+-- edits without the last ones
+abbrev pub without_last : ℕ → List Edit → List Edit
+without_last count edits = take (length edits - count) edits
 
 -- the territories of the published edits
 abbrev pub lands_of : Profile → Limits → List (List Edit) → List PlainLand

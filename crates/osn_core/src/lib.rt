@@ -1,18 +1,24 @@
-//! The sequential object over the register, and the machine that readers and one editor step. What
-//! the crate promises to those above: over every list of steps the history is a run of the
-//! sequential object.
+//! The sequential object over the register, and the machine that readers and one editor step over
+//! two copies of it. What the crate promises to those above: over every list of steps, all are told
+//! what the sequential object tells them, each query at the place where its reader entered.
 #![tactic(auto)]
 
 mod batch;
+mod command;
+mod copies;
 mod machine;
 mod object;
+mod phase;
 mod reader;
+mod readers;
 mod run;
 mod step;
 
 pub use batch::Batch;
+pub use command::Command;
 pub use machine::{Core, MOST_READERS};
 pub use object::Object;
+pub use phase::Phase;
 pub use reader::ReaderState;
 pub use run::replay;
 pub use step::{Out, Reply, Step};

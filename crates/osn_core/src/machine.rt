@@ -1,44 +1,46 @@
-ghost use Rattle.std.specs.Prelude.{◌≡◌, true, None, IfOk, IfErr, OnOk, OnErr};
+ghost use Rattle.std.specs.Prelude.{◌≡◌, ◌<◌, ℕ, true, None, IfOk, IfErr, OnOk, OnErr};
 ghost use Rattle.osn_register.specs.Refusal.{IsRefusalOrNoMemory};
 ghost use Rattle.osn_days.specs.Profile.{present};
-ghost use Rattle.osn_core.specs.Sequential.{stage_out, stage_after, publish_out, publish_after};
-ghost use Rattle.osn_core.specs.Control.{first_control, reader_at, after_look, after_answer};
-ghost use Rattle.osn_core.specs.Machine.{first_core, look_out, answer_out, out_of};
-ghost use Rattle.osn_core.specs.Machine.{step_takes_memory, core_after, readers_refusal};
+ghost use Rattle.osn_core.specs.Control.{reader_at};
+ghost use Rattle.osn_core.specs.Copies.{side_lands, IsSeenBy};
+ghost use Rattle.osn_core.specs.Machine.{first_core, out_of, core_after, step_takes_memory};
+ghost use Rattle.osn_core.specs.Machine.{readers_refusal};
 
-use crate::object::Object;
+use crate::copies::Copies;
+use crate::phase::Phase;
 use crate::reader::ReaderState;
-use crate::step::{Out, Step};
-use osn_register::{Edit, Limits, Query, Refusal};
+use crate::readers::Readers;
+use crate::step::{Out, Reply, Step};
+use osn_register::{Edit, Limits, Query, Refusal, Register};
 use std::alloc::{AllocError, Global};
 use std::marker::Model;
 
 /// The most readers.
 pub const MOST_READERS: u32 = 64;
 
-/// One editor and its readers over the register, a step at a time.
+/// One editor and its readers over two copies of the register, a step at a time.
+///
+/// Readers are in the live side, and the editor works on the other one, the standby. A publish
+/// exchanges the two; those who are still in the side that was live go on there, and the editor
+/// waits until the last of them has left.
 #[derive(Drop)]
 pub struct Core {
-    object: Object,
-    readers: Vec<ReaderState>,
+    copies: Copies,
+    /// The side that is live, 0 or 1.
+    side: u8,
+    phase: Phase,
+    readers: Readers,
 }
 
 impl Model for Core {
     ghost use Rattle.osn_core.specs.Machine.{CoreState};
+    ghost use Rattle.osn_core.specs.CoreInside.{core_in, IsKept};
 
     ghost Value = { CoreState };
 
-    ghost view = { λ c. record { object = c.object; control = c.readers.items } };
-}
+    ghost view = { core_in };
 
-fn idle(alloc: Global, readers: u32) -> Result<Vec<ReaderState>, AllocError>
-    ensures { IfOk result (λ v. v.items ≡ first_control readers) }
-{
-    let mut idle = Vec::new(alloc);
-    for _ in 0..readers {
-        idle.push(ReaderState::Idle)?;
-    }
-    Ok(idle)
+    ghost invariant = { IsKept };
 }
 
 impl Core {
@@ -55,10 +57,29 @@ impl Core {
         if readers == 0 || readers > MOST_READERS {
             return Err(Refusal::BadCount);
         }
-        let object = Object::new(alloc, limits);
-        match idle(alloc, readers) {
-            Ok(readers) => Ok(Core { object, readers }),
-            Err(_) => Err(Refusal::NoMemory),
+        let Ok(readers) = Readers::new(alloc, readers) else {
+            return Err(Refusal::NoMemory);
+        };
+        Ok(Core {
+            copies: Copies::new(alloc, limits),
+            side: 0,
+            phase: Phase::Ready,
+            readers,
+        })
+    }
+
+    /// The copy of a side, 0 or 1.
+    pub fn side(&self, side: u8) -> &Register
+        requires { side < 2 }
+        ensures lands { result.now.lands ≡ side_lands present self.now side }
+        ensures limits { result.now.limits ≡ self.now.object.limits }
+        ensures readers { (reader : ℕ) → IsSeenBy present self.now.object side result.now.lands
+            (reader_at self.now.control.readers reader) }
+    {
+        if side == self.side {
+            self.copies.live()
+        } else {
+            self.copies.standby()
         }
     }
 
@@ -66,8 +87,8 @@ impl Core {
     ///
     /// # Errors
     ///
-    /// Only where no memory is found, of which a step that is not enabled, a refusal, and a query
-    /// of the figures of a year take none.
+    /// Only where no memory is found, of which pins, checks, leaves and claims, a step that is not
+    /// enabled, a refusal, and a query of the figures of a year take none.
     pub fn step(&mut self, step: &Step) -> Result<Out, AllocError>
         ensures out { IfOk result (λ o. o ≡ out_of present self.old step.now) }
         ensures ok { OnOk result (self.new ≡ core_after present self.old step.now) }
@@ -77,71 +98,88 @@ impl Core {
     {
         match step {
             Step::Look { reader, query } => self.look(*reader, query),
+            Step::Pin { reader } => Ok(self.pin(*reader)),
+            Step::Check { reader } => Ok(self.check(*reader)),
             Step::Answer { reader } => self.answer(*reader),
+            Step::Leave { reader } => Ok(self.leave(*reader)),
             Step::Stage(edit) => self.stage(edit),
             Step::Publish => self.publish(),
+            Step::Claim => Ok(self.claim()),
+            Step::Absorb => self.absorb(),
         }
     }
 
     fn look(&mut self, reader: u32, query: &Query) -> Result<Out, AllocError>
-        ensures out { IfOk result (λ o. o ≡ look_out (reader_at self.old.control reader)) }
-        ensures ok { OnOk result (self.new ≡ record self.old {
-          control =
-              after_look (reader_at self.old.control reader) self.old.control reader query.now;
-        }) }
+        ensures out { IfOk result (λ o. o ≡ out_of present self.old (Step.Look reader query.now)) }
+        ensures ok { OnOk result
+            (self.new ≡ core_after present self.old (Step.Look reader query.now)) }
         ensures err { OnErr result (self.new ≡ self.old) }
         ensures memory { OnErr result (step_takes_memory (Step.Look reader query.now)
-            (look_out (reader_at self.old.control reader)) ≡ true) }
+            (out_of present self.old (Step.Look reader query.now)) ≡ true) }
     {
-        if reader == 0 {
-            return Ok(Out::NotNow);
-        }
-        let place = (reader - 1) as usize;
-        match self.readers.get(place) {
-            Some(ReaderState::Idle) => {
-                self.readers[place] = ReaderState::Looked(query.copy()?);
-                Ok(Out::Moved)
-            }
-            _ => Ok(Out::NotNow),
-        }
+        self.readers.look(reader, query, self.side)
     }
 
+    fn pin(&mut self, reader: u32) -> Out
+        ensures out { result ≡ out_of present self.old (Step.Pin reader) }
+        ensures after { self.new ≡ core_after present self.old (Step.Pin reader) }
+    {
+        self.readers.pin(reader)
+    }
+
+    fn check(&mut self, reader: u32) -> Out
+        ensures out { result ≡ out_of present self.old (Step.Check reader) }
+        ensures after { self.new ≡ core_after present self.old (Step.Check reader) }
+    {
+        self.readers.check(reader, self.side, self.copies.edition())
+    }
+
+    #[tactic(auto, using(crate::proofs::Standing::put_same))]
     fn answer(&mut self, reader: u32) -> Result<Out, AllocError>
-        ensures out { IfOk result (λ o.
-            o ≡ answer_out present (reader_at self.old.control reader) self.old.object reader) }
-        ensures ok { OnOk result (self.new ≡ record self.old {
-          control =
-              after_answer (reader_at self.old.control reader) self.old.control reader;
-        }) }
+        ensures out { IfOk result (λ o. o ≡ out_of present self.old (Step.Answer reader)) }
+        ensures ok { OnOk result (self.new ≡ core_after present self.old (Step.Answer reader)) }
         ensures err { OnErr result (self.new ≡ self.old) }
         ensures memory { OnErr result (step_takes_memory (Step.Answer reader)
-            (answer_out present (reader_at self.old.control reader) self.old.object reader)
-            ≡ true) }
+            (out_of present self.old (Step.Answer reader)) ≡ true) }
     {
-        if reader == 0 {
+        let Some(
+            ReaderState::Entered {
+                query,
+                side,
+                edition,
+            },
+        ) = self.readers.get(reader)
+        else {
             return Ok(Out::NotNow);
-        }
-        let place = (reader - 1) as usize;
-        let asked = match self.readers.get(place) {
-            Some(ReaderState::Looked(query)) => self.object.ask(query),
-            _ => return Ok(Out::NotNow),
         };
-        let reply = asked?;
-        self.readers[place] = ReaderState::Idle;
+        let (side, edition) = (*side, *edition);
+        let answer = self.side(side).answer(query)?;
+        self.readers
+            .set(reader, ReaderState::Answered { side, edition });
+        let reply = Reply { edition, answer };
         Ok(Out::Replied { reader, reply })
     }
 
+    fn leave(&mut self, reader: u32) -> Out
+        ensures out { result ≡ out_of present self.old (Step.Leave reader) }
+        ensures after { self.new ≡ core_after present self.old (Step.Leave reader) }
+    {
+        self.readers.leave(reader)
+    }
+
     fn stage(&mut self, edit: &Edit) -> Result<Out, AllocError>
-        ensures out { IfOk result (λ o. o ≡ stage_out present self.old.object edit.now) }
-        ensures ok { OnOk result
-            (self.new ≡ record self.old { object = stage_after present self.old.object edit.now }) }
+        ensures out { IfOk result (λ o. o ≡ out_of present self.old (Step.Stage edit.now)) }
+        ensures ok { OnOk result (self.new ≡ core_after present self.old (Step.Stage edit.now)) }
         ensures err { OnErr result (self.new ≡ self.old) }
         ensures memory { OnErr result (step_takes_memory (Step.Stage edit.now)
-            (stage_out present self.old.object edit.now) ≡ true) }
+            (out_of present self.old (Step.Stage edit.now)) ≡ true) }
     {
-        match self.object.check(edit) {
+        let Phase::Ready = self.phase else {
+            return Ok(Out::NotNow);
+        };
+        match self.copies.check(edit) {
             Ok(_) => {
-                let pending = self.object.admit(edit)?;
+                let pending = self.copies.admit(edit)?;
                 Ok(Out::Staged { pending })
             }
             Err(refusal) => Ok(Out::Refused(refusal)),
@@ -149,19 +187,55 @@ impl Core {
     }
 
     fn publish(&mut self) -> Result<Out, AllocError>
-        ensures out { IfOk result (λ o. o ≡ publish_out self.old.object) }
-        ensures ok { OnOk result
-            (self.new ≡ record self.old { object = publish_after self.old.object }) }
+        ensures out { IfOk result (λ o. o ≡ out_of present self.old Step.Publish) }
+        ensures ok { OnOk result (self.new ≡ core_after present self.old Step.Publish) }
         ensures err { OnErr result (self.new ≡ self.old) }
-        ensures memory { OnErr result
-            (step_takes_memory Step.Publish (publish_out self.old.object) ≡ true) }
+        ensures memory { OnErr result (step_takes_memory Step.Publish
+            (out_of present self.old Step.Publish) ≡ true) }
     {
-        match self.object.check_publish() {
+        let Phase::Ready = self.phase else {
+            return Ok(Out::NotNow);
+        };
+        match self.copies.check_publish() {
             Ok(_) => {
-                let edition = self.object.make_edition()?;
+                let edition = self.copies.make_edition()?;
+                self.side = 1 - self.side;
+                self.phase = Phase::Draining;
                 Ok(Out::Published { edition })
             }
             Err(refusal) => Ok(Out::Refused(refusal)),
         }
+    }
+
+    fn claim(&mut self) -> Out
+        ensures out { result ≡ out_of present self.old Step.Claim }
+        ensures after { self.new ≡ core_after present self.old Step.Claim }
+    {
+        let Phase::Draining = self.phase else {
+            return Out::NotNow;
+        };
+        if self.readers.mark(1 - self.side) {
+            return Out::NotNow;
+        }
+        self.phase = Phase::Claimed;
+        Out::Moved
+    }
+
+    fn absorb(&mut self) -> Result<Out, AllocError>
+        ensures out { IfOk result (λ o. o ≡ out_of present self.old Step.Absorb) }
+        ensures ok { OnOk result (self.new ≡ core_after present self.old Step.Absorb) }
+        ensures err { OnErr result (self.new ≡ self.old) }
+        ensures memory { OnErr result (step_takes_memory Step.Absorb
+            (out_of present self.old Step.Absorb) ≡ true) }
+    {
+        let Phase::Claimed = self.phase else {
+            return Ok(Out::NotNow);
+        };
+        if self.copies.lag() == 0 {
+            self.phase = Phase::Ready;
+            return Ok(Out::Ready);
+        }
+        self.copies.absorb()?;
+        Ok(Out::Moved)
     }
 }

@@ -1,10 +1,130 @@
-use osn_register::Query;
+ghost use Rattle.std.specs.Prelude.{◌≡◌, true, IfOk, OnOk, OnErr};
+ghost use Rattle.osn_register.specs.Query.{names_land};
+ghost use Rattle.osn_core.specs.Control.{look, pin, check, leave, marks};
 
-/// Where a reader stands.
+use crate::step::Out;
+use osn_register::Query;
+use std::alloc::AllocError;
+
+/// Where a reader stands. A side is 0 or 1.
 #[derive(Debug, Drop)]
 pub enum ReaderState {
     /// It has looked for nothing that it was not told.
     Idle,
-    /// It has looked for this, and waits for its answer.
-    Looked(Query),
+    /// It has looked for this while this side was live.
+    Noted {
+        query: Query,
+        side: u8,
+    },
+    /// It marks this side, and has not seen yet whether it is still live.
+    Marked {
+        query: Query,
+        side: u8,
+    },
+    /// It is in this side, which has these editions, and waits for its answer.
+    Entered {
+        query: Query,
+        side: u8,
+        edition: u32,
+    },
+    /// It was answered, and is still in this side.
+    Answered {
+        side: u8,
+        edition: u32,
+    },
+}
+
+impl ReaderState {
+    /// A look.
+    ///
+    /// # Errors
+    ///
+    /// Only where no memory is found.
+    pub fn look(&mut self, query: &Query, live: u8) -> Result<Out, AllocError>
+        ensures out { IfOk result (λ o. o ≡ (look live query.now self.old).out) }
+        ensures ok { OnOk result (self.new ≡ (look live query.now self.old).at) }
+        ensures err { OnErr result (self.new ≡ self.old) }
+        ensures memory { OnErr result (names_land query.now ≡ true) }
+        ensures idle { OnErr result (self.old ≡ ReaderState.Idle) }
+    {
+        match self {
+            ReaderState::Idle => {
+                *self = ReaderState::Noted {
+                    query: query.copy()?,
+                    side: live,
+                };
+                Ok(Out::Moved)
+            }
+            _ => Ok(Out::NotNow),
+        }
+    }
+
+    /// A pin.
+    pub fn pin(&mut self) -> Out
+        ensures out { result ≡ (pin self.old).out }
+        ensures after { self.new ≡ (pin self.old).at }
+    {
+        match std::mem::replace(self, ReaderState::Idle) {
+            ReaderState::Noted { query, side } => {
+                *self = ReaderState::Marked { query, side };
+                Out::Moved
+            }
+            other => {
+                *self = other;
+                Out::NotNow
+            }
+        }
+    }
+
+    /// A check, under a live side that has so many editions.
+    pub fn check(&mut self, live: u8, edition: u32) -> Out
+        ensures out { result ≡ (check live edition self.old).out }
+        ensures after { self.new ≡ (check live edition self.old).at }
+    {
+        match std::mem::replace(self, ReaderState::Idle) {
+            ReaderState::Marked { query, side } if side == live => {
+                *self = ReaderState::Entered {
+                    query,
+                    side,
+                    edition,
+                };
+                Out::Entered
+            }
+            ReaderState::Marked { query, .. } => {
+                *self = ReaderState::Noted { query, side: live };
+                Out::Again
+            }
+            other => {
+                *self = other;
+                Out::NotNow
+            }
+        }
+    }
+
+    /// A leave.
+    pub fn leave(&mut self) -> Out
+        ensures out { result ≡ (leave self.old).out }
+        ensures after { self.new ≡ (leave self.old).at }
+    {
+        match self {
+            ReaderState::Answered { .. } => {
+                *self = ReaderState::Idle;
+                Out::Moved
+            }
+            _ => Out::NotNow,
+        }
+    }
+
+    /// Whether it marks a side.
+    pub fn marks(&self, other: u8) -> bool
+        ensures { result ≡ marks other self.now }
+    {
+        match self {
+            ReaderState::Idle => false,
+            ReaderState::Noted { .. } => false,
+            ReaderState::Marked { side, .. } => *side == other,
+            ReaderState::Entered { side, .. } => *side == other,
+            ReaderState::Answered { side, .. } => *side == other,
+        }
+    }
 }

@@ -2,10 +2,9 @@ ghost use Rattle.std.specs.Prelude.{◌≡◌, ℕ, None, IfOk, IfErr, OnOk};
 ghost use Rattle.osn_register.specs.Refusal.{IsRefusalOrNoMemory};
 ghost use Rattle.osn_days.specs.Profile.{present};
 ghost use Rattle.osn_core.specs.Sequential.{opened};
-ghost use Rattle.osn_core.specs.Control.{first_control};
 ghost use Rattle.osn_core.specs.Machine.{first_core, outs_of, readers_refusal};
-ghost use Rattle.osn_core.specs.History.{history, told_in, told_outs, IsRun, editions_to};
-ghost use Rattle.osn_core.specs.History.{NeverFalls};
+ghost use Rattle.osn_core.specs.History.{history, told, told_editor, replies_to, Begin};
+ghost use Rattle.osn_core.specs.History.{editions_to, NeverFalls};
 
 use crate::machine::Core;
 use crate::step::{Out, Step};
@@ -14,9 +13,10 @@ use std::alloc::Global;
 
 /// Takes a list of steps from the first state, enabled or not, and answers what each gives.
 ///
-/// Whatever the steps, their history is a run of the sequential object from the empty state, it
-/// leaves out nothing that a reader or the editor was told, and the editions that one reader is
-/// given never fall.
+/// Whatever the steps, the sequential object is run on their history from the empty state. It tells
+/// the editor what the editor was told, and its replies to a reader begin with those that the
+/// reader was told: each is the reply at the check by which its reader entered. The editions that
+/// one reader is given never fall.
 ///
 /// # Errors
 ///
@@ -31,10 +31,10 @@ pub fn replay(
     ensures refused { IfErr result (IsRefusalOrNoMemory (readers_refusal readers)) }
     ensures outs { IfOk result
         (λ outs. outs.items ≡ outs_of present (first_core limits readers) steps.now) }
-    ensures run { IfOk result (λ outs.
-        IsRun present (opened limits) (history (first_control readers) steps.now outs.items)) }
-    ensures told { IfOk result (λ outs.
-        told_in (history (first_control readers) steps.now outs.items) ≡ told_outs outs.items) }
+    ensures editor { IfOk result (λ outs. told_editor outs.items
+        ≡ told_editor (told present (opened limits) (history steps.now outs.items))) }
+    ensures readers { IfOk result (λ outs. (reader : ℕ) → Begin (replies_to reader outs.items)
+        (replies_to reader (told present (opened limits) (history steps.now outs.items)))) }
     ensures forward { IfOk result (λ outs.
         (reader : ℕ) → NeverFalls 0 (editions_to reader outs.items)) }
 {

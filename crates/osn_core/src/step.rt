@@ -10,14 +10,25 @@ pub struct Reply {
 /// One step of the editor or of a reader. Readers are counted from 1.
 #[derive(Debug, Drop)]
 pub enum Step {
-    /// A reader notes a query.
+    /// A reader that is idle notes a query and the live side.
     Look { reader: u32, query: Query },
-    /// A reader is told the answer to the query that it noted.
+    /// A reader marks the side that it noted.
+    Pin { reader: u32 },
+    /// A reader enters the side that it marked where that one is still live, and else gives the
+    /// mark up and notes the live side.
+    Check { reader: u32 },
+    /// A reader is told the answer that the side has which it entered.
     Answer { reader: u32 },
+    /// A reader that was answered gives its mark up.
+    Leave { reader: u32 },
     /// The editor stages an edit.
     Stage(Edit),
-    /// The editor publishes what is pending.
+    /// The editor publishes what is pending: the standby becomes the live side.
     Publish,
+    /// The editor takes the standby, which no reader marks.
+    Claim,
+    /// The standby takes in the next edit that it lacks, or is ready where it lacks none.
+    Absorb,
 }
 
 /// What a step gives.
@@ -27,6 +38,12 @@ pub enum Out {
     NotNow,
     /// The step was taken.
     Moved,
+    /// The side that the reader marked is not the live one now. It noted that one.
+    Again,
+    /// The reader is in the side that it marked.
+    Entered,
+    /// The standby lacks nothing more.
+    Ready,
     /// The edit was staged; so many are pending now.
     Staged { pending: u32 },
     /// The pending edits became this edition.

@@ -198,3 +198,12 @@ within_at (q ∷ ps) zero first last p covers within is =
 within_at (q ∷ ps) (suc i) first last p covers within is =
     let later = within_at ps i (q.last + 1) last p covers.2 (omega arith) is in
     (omega (arith, later.0, covers.0, covers.1), later.1, later.2)
+
+-- a period behind another starts behind the first day
+pub later_at : (ps : List Period) (i first last : ℕ) (p : Period) → Covers first last ps → 0 < i →
+    i < length ps → p ≡ get_or ps i p → (first < p.first) × (p.first ≤ last)
+later_at [] i first last p covers later within is = absurd (omega arith)
+later_at (q ∷ ps) zero first last p covers later within is = absurd (omega arith)
+later_at (q ∷ ps) (suc i) first last p covers later within is =
+    let there = within_at ps i (q.last + 1) last p covers.2 (omega arith) is in
+    (omega (arith, there.0, covers.0, covers.1), omega (arith, there.1, there.2))

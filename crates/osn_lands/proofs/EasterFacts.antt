@@ -187,7 +187,8 @@ not_both Gregorian first second = let clash : false ≡ true = first in cc
 -- so where none is listed, the Easters are those two
 pub easters_are : (p : Profile) (t : PlainTerritory) (y : ℕ) (one other : Option ℕ) →
     exception_of t y ≡ None → option_to_list one ≡ easters_in_force p t Julian y →
-    option_to_list other ≡ easters_in_force p t Gregorian y → days_in_order one other ≡ easters p t y
+    option_to_list other ≡ easters_in_force p t Gregorian y →
+    days_in_order one other ≡ easters p t y
 unfolding easters_in_force easters_by_rule line
 easters_are p t y one other none first second =
     merged_is (λ d. is_rule (regime_at t d).rule Julian && is_easter p Julian y d) (λ d.

@@ -28,7 +28,7 @@ use Rattle.osn_lands.specs.declared.label.Label.{Label}
 use Rattle.osn_lands.specs.Style.{is_before_25_march, is_from_25_december, is_from_september}
 use Rattle.osn_lands.specs.Style.{style_year}
 use Rattle.osn_lands.specs.Label.{local, same_label, days_with_label}
-use Rattle.osn_lands.specs.Inside.{has_label, days_in_year}
+use Rattle.osn_lands.specs.Inside.{has_label, days_in_year, date_in}
 use Rattle.osn_lands.proofs.OrderFacts.{filter_or, filter_single}
 
 -- the parts of two labels
@@ -57,6 +57,29 @@ style_is_near January d = inr (inl refl)
 style_is_near Annunciation d = one_less (is_before_25_march d.month d.day) d.year
 style_is_near Nativity d = one_more (is_from_25_december d.month d.day) d.year
 style_is_near September d = one_more (is_from_september d.month) d.year
+
+-- whether a style takes one off the year or adds one, it counts one of three years as the label's
+
+one_less_counts : (s : Bool) (y : ℤ) → ((if s then y -ℤ pos 1 -ℤ pos 1 else y -ℤ pos 1) ≡ y)
+    ⊎ (((if s then y -ℤ pos 1 else y) ≡ y)
+    ⊎ ((if s then y +ℤ pos 1 -ℤ pos 1 else y +ℤ pos 1) ≡ y))
+one_less_counts true y = inr (inr (omega (arith, ints)))
+one_less_counts false y = inr (inl refl)
+
+one_more_counts : (s : Bool) (y : ℤ) → ((if s then y -ℤ pos 1 +ℤ pos 1 else y -ℤ pos 1) ≡ y)
+    ⊎ (((if s then y +ℤ pos 1 else y) ≡ y)
+    ⊎ ((if s then y +ℤ pos 1 +ℤ pos 1 else y +ℤ pos 1) ≡ y))
+one_more_counts true y = inl (omega (arith, ints))
+one_more_counts false y = inr (inl refl)
+
+pub some_year_counts : (s : Style) (l : Label) →
+    (style_year s (date_in (l.year -ℤ pos 1) l) ≡ l.year)
+    ⊎ ((style_year s (date_in l.year l) ≡ l.year)
+    ⊎ (style_year s (date_in (l.year +ℤ pos 1) l) ≡ l.year))
+some_year_counts January l = inr (inl refl)
+some_year_counts Annunciation l = one_less_counts (is_before_25_march l.month l.day) l.year
+some_year_counts Nativity l = one_more_counts (is_from_25_december l.month l.day) l.year
+some_year_counts September l = one_more_counts (is_from_september l.month) l.year
 
 -- a later year is a later day
 pub later_year : (c : Calendar) (d e : ℕ) → 1 ≤ d → 1 ≤ e →
@@ -111,7 +134,7 @@ one_of_three false false false false one = refl
 int_eq_of : (a b : ℤ) → a ≡ b → int_eq a b ≡ true
 int_eq_of a b same = (Decides-int_eq a b).1 same
 
-in_three_years : (r : Regime) (l : Label) (d : ℕ) → has_label l r d ≡ true →
+pub in_three_years : (r : Regime) (l : Label) (d : ℕ) → has_label l r d ≡ true →
     (int_eq (date_of r.calendar d).year (l.year -ℤ pos 1) ≡ true)
     ⊎ ((int_eq (date_of r.calendar d).year l.year ≡ true)
     ⊎ (int_eq (date_of r.calendar d).year (l.year +ℤ pos 1) ≡ true))
@@ -125,7 +148,7 @@ in_three_years r l d has =
     ]
 
 -- the test of a day of one year
-abbrev in_year : Regime → Label → ℤ → ℕ → Bool
+abbrev pub in_year : Regime → Label → ℤ → ℕ → Bool
 in_year r l y d = int_eq (date_of r.calendar d).year y && has_label l r d
 
 in_year_year : (r : Regime) (l : Label) (y : ℤ) (d : ℕ) → in_year r l y d ≡ true →
@@ -199,11 +222,7 @@ no_day_off_the_years r l y z same off =
     let none : false ≡ true = off (rw at_z at found.year_low, rw at_z at found.year_high) in
     absurd cc)))
 
--- the date of the label's month and day in a year
-abbrev pub date_in : ℤ → Label → Date
-date_in y l = record { year = y; month = l.month; day = l.day }
-
-in_year_date : (r : Regime) (l : Label) (y : ℤ) (d : ℕ) → in_year r l y d ≡ true →
+pub in_year_date : (r : Regime) (l : Label) (y : ℤ) (d : ℕ) → in_year r l y d ≡ true →
     (date_of r.calendar d ≡ date_in y l) × (style_year r.style (date_of r.calendar d) ≡ l.year)
 in_year_date r l y d is =
     let both = and_parts (int_eq (date_of r.calendar d).year y) (has_label l r d) is in

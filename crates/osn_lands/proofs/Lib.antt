@@ -10,4 +10,6 @@ pub mod MemberFacts
 pub mod EasterFacts
 pub mod SkippedFacts
 pub mod ExplainedFacts
+pub mod TableFacts
+pub mod SearchFacts
 pub mod ExceptionFacts

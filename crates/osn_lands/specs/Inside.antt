@@ -1,21 +1,27 @@
 -- How a territory keeps its starts and its exceptions, and what is found period by period.
 use Rattle.std.specs.Prelude.{ℕ, ◌+◌, ◌-◌, ◌≤◌, ◌==◌, ◌&&◌, ◌||◌, nat_le, nat_lt, ℤ, Bool, true}
 use Rattle.std.specs.Prelude.{false, not, if◌then◌else◌, Option, Some, None, List, [], ◌∷◌, ◌++◌}
-use Rattle.std.specs.Prelude.{filter, map}
+use Rattle.std.specs.Prelude.{filter, map, ◌≡◌, ◌⊎◌, ◌*◌, ◌+ℤ◌, ◌-ℤ◌, pos, is_none}
+use Rattle.std.specs.Prelude.{IsSome, IsSomeAnd}
 use Rattle.std.specs.List.{range_with_len, list_any}
 use Rattle.std.specs.Option.{option_to_list}
 use Rattle.std.specs.Ordering.{int_eq}
 use Rattle.osn_computus.specs.declared.rule.Rule.{Rule}
 use Rattle.osn_computus.specs.declared.rule.Rule.TheVariants.{Julian, Gregorian}
 use Rattle.osn_days.specs.Profile.{Profile, present}
-use Rattle.osn_days.specs.Line.{line}
-use Rattle.osn_days.specs.Chain.{date_of}
+use Rattle.osn_days.specs.declared.calendar.Calendar.{Calendar}
+use Rattle.osn_days.specs.declared.date.Date.{Date}
+use Rattle.osn_days.specs.Line.{line, IsDay}
+use Rattle.osn_days.specs.Chain.{date_of, days_with_date}
 use Rattle.osn_lands.specs.declared.regime.Regime.{Regime}
 use Rattle.osn_lands.specs.declared.label.Label.{Label}
 use Rattle.osn_lands.specs.declared.label_days.LabelDays.{LabelDays}
+use Rattle.osn_lands.specs.declared.label_table.YearDays.{YearDays}
+use Rattle.osn_lands.specs.declared.label_table.LabelTable.{LabelTable}
+use Rattle.osn_lands.specs.declared.label_search.LabelSearch.{LabelSearch}
 use Rattle.osn_lands.specs.declared.period.Period.{Period}
 use Rattle.osn_lands.specs.declared.territory.Territory.TheInside.{Inside}
-use Rattle.osn_lands.specs.Label.{local, same_label}
+use Rattle.osn_lands.specs.Label.{local, same_label, days_with_label}
 use Rattle.osn_lands.specs.Territory.{PlainTerritory, CoversLine, is_empty, regime_at}
 use Rattle.osn_lands.specs.Easters.{is_easter}
 
@@ -62,6 +68,69 @@ days_read label p =
 unfoldable pub days_in_year : Profile → Regime → Label → ℤ → List ℕ
 days_in_year p r label y =
     filter (λ d. int_eq (date_of r.calendar d).year y && has_label label r d) (line p)
+
+-- the date of the label's month and day in a year counted from 1 January
+abbrev pub date_in : ℤ → Label → Date
+date_in y l = record { year = y; month = l.month; day = l.day }
+
+-- these are the days of a calendar with the label's month and day, in the year before the label's,
+-- in that year and in the one after
+abbrev pub AreInYears : Profile → Calendar → Label → YearDays → Type 0
+AreInYears p c l f =
+    (option_to_list f.before ≡ days_with_date p c (date_in (l.year -ℤ pos 1) l))
+    × (option_to_list f.same ≡ days_with_date p c (date_in l.year l))
+    × (option_to_list f.after ≡ days_with_date p c (date_in (l.year +ℤ pos 1) l))
+
+-- there is none of them
+abbrev pub are_none : YearDays → Bool
+are_none f = is_none f.before && (is_none f.same && is_none f.after)
+
+-- there are three, from the first day to the last
+abbrev pub AreAllWithin : ℕ → ℕ → YearDays → Type 0
+AreAllWithin first last f =
+    IsSomeAnd f.before (λ d. first ≤ d) × IsSome f.same × IsSomeAnd f.after (λ d. d ≤ last)
+
+-- the days of one calendar
+abbrev pub years_of : LabelTable → Calendar → YearDays
+years_of t Calendar.Julian = t.julian
+years_of t Calendar.Gregorian = t.gregorian
+years_of t Calendar.Swedish = t.swedish
+
+-- the table has those days of each calendar
+abbrev pub IsTable : Profile → Label → LabelTable → Type 0
+IsTable p l t = (c : Calendar) → AreInYears p c l (years_of t c)
+
+-- every day that some regime dates with the label is from the first to the last
+abbrev pub AreBetween : Profile → Label → ℕ → ℕ → Type 0
+AreBetween p l first last =
+    (r : Regime) (d : ℕ) → IsDay p d → has_label l r d ≡ true → (first ≤ d) × (d ≤ last)
+
+-- every regime has the label on a day, or none has, or the first and the last are the line's
+abbrev pub IsEven : Profile → Label → ℕ → ℕ → Type 0
+IsEven p l first last =
+    ((r : Regime) → is_empty (days_with_label p r l) ≡ false)
+    ⊎ (((r : Regime) → is_empty (days_with_label p r l) ≡ true)
+    ⊎ ((first ≡ 1) × (last ≡ p.high)))
+
+-- where there is a table, it is that of the label
+abbrev pub IsTableIn : Profile → Label → Option LabelTable → Type 0
+IsTableIn p l None = Unit {0}
+IsTableIn p l (Some t) = IsTable p l t
+
+-- what a search knows of its label
+abbrev pub IsSearch : Profile → LabelSearch → Type 0
+IsSearch p s =
+    IsTableIn p s.label s.table × AreBetween p s.label s.first s.last
+    × IsEven p s.label s.first s.last
+
+-- how many dates are tested for one regime, and for as many periods, at most
+abbrev pub most_for_one : Option LabelTable → ℕ
+most_for_one None = 3
+most_for_one (Some t) = 0
+
+abbrev pub most_tested : Option LabelTable → ℕ → ℕ
+most_tested None n = 3 * n
+most_tested (Some t) n = 9
 
 -- the days that were found for a label, in order
 abbrev pub days_found : LabelDays → List ℕ

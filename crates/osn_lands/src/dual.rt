@@ -8,7 +8,7 @@ use osn_days::{Day, date_of};
 use std::alloc::{AllocError, Global};
 
 /// The English name of a month from 1 to 12.
-fn month_name(month: u8) -> &'static str
+pub fn month_name(month: u8) -> &'static str
     ensures { result.now ≡ dual.month_name month }
 {
     match month {

@@ -10,13 +10,15 @@ mod easters;
 mod fault;
 mod label;
 mod label_days;
+mod label_search;
+mod label_table;
 mod period;
 mod reading;
 mod regime;
 mod style;
 mod territory;
 
-pub use dual::dual_text;
+pub use dual::{dual_text, month_name};
 pub use fault::LandFault;
 pub use label::{Label, day_of_label, label_of};
 pub use period::Period;

@@ -1,25 +1,33 @@
 //! What a period reads, and what is skipped between two.
-ghost use Rattle.std.specs.Prelude.{◌≡◌, ◌++◌, ◌≤◌, IfOk, OnOk};
-ghost use Rattle.osn_lands.specs.Inside.{IsWithinLine, days_found, days_read, is_named};
+ghost use Rattle.std.specs.Prelude.{◌≡◌, ◌++◌, ◌≤◌, ◌<◌, IfOk, OnOk};
+ghost use Rattle.osn_days.specs.Profile.{present};
+ghost use Rattle.osn_lands.specs.Label.{days_with_label};
+ghost use Rattle.osn_lands.specs.Inside.{IsWithinLine, IsSearch, days_found, days_read, is_named};
+ghost use Rattle.osn_lands.specs.Inside.{most_for_one};
 
-use crate::label::Label;
-use crate::label_days::{LabelDays, days_of_label};
+use crate::label_days::LabelDays;
+use crate::label_search::LabelSearch;
 use crate::period::Period;
 use osn_days::Day;
 use std::alloc::AllocError;
 
-/// Puts the days of a period that have the label behind those found so far, and tells how many days
-/// were tested.
+/// Puts the days of a period that have the label behind those found so far, and tells how many
+/// dates were tested for it.
 pub(crate) fn read_period(
     period: &Period,
-    label: Label,
+    search: &LabelSearch,
     days: &mut Vec<Day>,
 ) -> Result<u32, AllocError>
-    requires { IsWithinLine period.now }
-    ensures value { OnOk result (days.new.items ≡ days.old.items ++ days_read label period.now) }
-    ensures tested { IfOk result (λ n. n ≤ 3) }
+    requires line { IsWithinLine period.now }
+    requires search { IsSearch present search.now }
+    ensures value { OnOk result (days.new.items
+        ≡ days.old.items ++ days_read search.now.label period.now) }
+    ensures tested { IfOk result (λ n. n ≤ most_for_one search.now.table) }
 {
-    let found = days_of_label(period.regime, label);
+    if !search.reaches_into(period) {
+        return Ok(0);
+    }
+    let found = search.days(period.regime);
     found.push_in(period, days)?;
     Ok(found.tested)
 }
@@ -41,4 +49,20 @@ pub(crate) fn is_skipped_between(
         && (new_days.has_before(change) || new_days.is_empty())
         && !(old_days.is_empty() && new_days.is_empty())
         && !(old_days.has_in(old) || new_days.has_in(new))
+}
+
+/// Whether the label is skipped at the change from one period to the next.
+pub(crate) fn is_skipped_at(search: &LabelSearch, old: &Period, new: &Period) -> bool
+    requires search { IsSearch present search.now }
+    requires line { (1 < new.now.first) × (new.now.first ≤ present.high) }
+    ensures { result ≡ is_named old.now new.now
+        (days_with_label present old.now.regime search.now.label)
+        (days_with_label present new.now.regime search.now.label) }
+{
+    if !search.reaches_over(new.first) {
+        return false;
+    }
+    let old_days = search.days(old.regime);
+    let new_days = search.days(new.regime);
+    is_skipped_between(old, new, &old_days, &new_days)
 }

@@ -10,13 +10,12 @@ ghost use Rattle.osn_lands.specs.Inside.{easters_in_force};
 ghost use Rattle.osn_lands.specs.Exceptions as exceptions;
 ghost use Rattle.osn_lands.specs.declared.fault.LandFault.TheVariants.{NoMemory};
 
+mod readings;
+
 use crate::cover::{alter, find_period, is_start, join, split};
 use crate::easters::push_in_order;
 use crate::fault::LandFault;
-use crate::label::Label;
-use crate::label_days::days_of_label;
 use crate::period::Period;
-use crate::reading::{is_skipped_between, read_period};
 use crate::regime::Regime;
 use osn_computus::{Rule, easter};
 use osn_days::{Day, Year};
@@ -261,59 +260,6 @@ impl Territory {
         ensures whole { plain.CoversLine present result.now }
     {
         self.periods.as_slice()
-    }
-
-    /// The days that the territory dates with the label, in order.
-    ///
-    /// # Errors
-    ///
-    /// `AllocError` where there is no memory for the list.
-    pub fn read(&self, label: Label) -> Result<Vec<Day>, AllocError>
-        ensures { IfOk result (λ days. days.items ≡ plain.reading present self.now label) }
-    {
-        let (days, _) = self.read_counted(label)?;
-        Ok(days)
-    }
-
-    /// The same, and how many days were tested to find them: at most three a period.
-    ///
-    /// # Errors
-    ///
-    /// `AllocError` where there is no memory for the list.
-    pub fn read_counted(&self, label: Label) -> Result<(Vec<Day>, u32), AllocError>
-        ensures value { IfOk result (λ read. read.0.items ≡ plain.reading present self.now label) }
-        ensures tested { IfOk result (λ read.
-            read.1 ≤ 3 * length (plain.periods_of present self.now)) }
-    {
-        let mut days = Vec::new(self.alloc);
-        let mut tested = 0;
-        for period in &self.periods {
-            tested += read_period(period, label, &mut days)?;
-        }
-        Ok((days, tested))
-    }
-
-    /// The days of the changes at which the label is skipped, in order.
-    ///
-    /// # Errors
-    ///
-    /// `AllocError` where there is no memory for the list.
-    pub fn skipped(&self, label: Label) -> Result<Vec<Day>, AllocError>
-        ensures value { IfOk result (λ days. days.items ≡ plain.skipped present self.now label) }
-        ensures explained { IfOk result (λ days.
-            plain.IsExplained present self.now label days.items) }
-    {
-        let mut days = Vec::new(self.alloc);
-        let periods: &[Period] = &self.periods;
-        let mut old_days = days_of_label(periods[0].regime, label);
-        for i in 1..periods.len() {
-            let new_days = days_of_label(periods[i].regime, label);
-            if is_skipped_between(&periods[i - 1], &periods[i], &old_days, &new_days) {
-                days.push(periods[i].first)?;
-            }
-            old_days = new_days;
-        }
-        Ok(days)
     }
 
     /// The day that is listed as the Easter of a year.

@@ -1,5 +1,7 @@
 -- What follows for the whole input, where it is known, and for each way to end early.
-use Rattle.std.proofs.Common.{◌≡◌, ℕ, ◌+◌, List, [], ◌∷◌, ◌++◌, Option, None, Some, Result, Err, IfSome, IfErr, length, take, refl, sym, ap, subst, ◌∙◌, append-nil, append_assoc, length-append, arith}
+use Rattle.std.proofs.Common.{◌≡◌, ℕ, ◌+◌, List, [], ◌∷◌, ◌++◌, Option, None, Some, Result, Err}
+use Rattle.std.proofs.Common.{IfSome, IfErr, length, take, refl, sym, ap, subst, ◌∙◌, append-nil}
+use Rattle.std.proofs.Common.{append_assoc, length-append, arith}
 use Rattle.std.specs.Prelude.{slice_get}
 use Rattle.std.specs.Io.KnownBytes.{Consumes, IsAtEnd}
 use Rattle.std.proofs.lemmas.List.{take_at}
@@ -13,96 +15,144 @@ use Rattle.osn_lines.proofs.LineLemmas.{lines-feed}
 use Rattle.osn_lines.proofs.TakeLemmas.{Takes-then}
 
 -- the input begins with what was read
-pub known : (P : List ℕ → Type 0) (a b : Option (List ℕ)) (read : List ℕ) → Consumes a b read → ((more : List ℕ) → P (read ++ more)) → IfSome a P
+pub known : (P : List ℕ → Type 0) (a b : Option (List ℕ)) (read : List ℕ) → Consumes a b read →
+    ((more : List ℕ) → P (read ++ more)) → IfSome a P
 known P None b read h f = tt
 known P (Some xs) None read h f = absurd h
 known P (Some xs) (Some ys) read h f = subst P (sym h) (f ys)
 
 -- at the end the input is what was read
-pub known_whole : (P : List ℕ → Type 0) (a b : Option (List ℕ)) (read : List ℕ) → Consumes a b read → IsAtEnd b → P read → IfSome a P
+pub known_whole : (P : List ℕ → Type 0) (a b : Option (List ℕ)) (read : List ℕ) →
+    Consumes a b read → IsAtEnd b → P read → IfSome a P
 known_whole P None b read h e p = tt
 known_whole P (Some xs) None read h e p = absurd h
-known_whole P (Some xs) (Some ys) read h e p = subst P (sym (h ∙ (ap (λ l. read ++ l) e ∙ append-nil read))) p
+known_whole P (Some xs) (Some ys) read h e p =
+    subst P (sym (h ∙ (ap (λ l. read ++ l) e ∙ append-nil read))) p
 
-pub MatchFault-weaker : {S : Type 0} (fault : TakeFault S) (P Q P' Q' : ℕ → Type 0) (R R' : ℕ → S → Type 0) → ((n : ℕ) → P n → P' n) → ((n : ℕ) → Q n → Q' n) → ((n : ℕ) (why : S) → R n why → R' n why) → MatchFault fault P Q R → MatchFault fault P' Q' R'
+pub MatchFault-weaker : {S : Type 0} (fault : TakeFault S) (P Q P' Q' : ℕ → Type 0)
+    (R R' : ℕ → S → Type 0) → ((n : ℕ) → P n → P' n) → ((n : ℕ) → Q n → Q' n) →
+    ((n : ℕ) (why : S) → R n why → R' n why) → MatchFault fault P Q R → MatchFault fault P' Q' R'
 MatchFault-weaker (NoMemory n) P Q P' Q' R R' p q r h = p n h
 MatchFault-weaker (ReadFault n) P Q P' Q' R R' p q r h = q n h
 MatchFault-weaker (Stopped n why) P Q P' Q' R R' p q r h = r n why h
 
-pub if_err_at : {T E : Type 0} (P : E → Type 0) (r : Result T E) (x y : E) → r ≡ Err x → x ≡ y → P y → IfErr r P
+pub if_err_at : {T E : Type 0} (P : E → Type 0) (r : Result T E) (x y : E) → r ≡ Err x → x ≡ y →
+    P y → IfErr r P
 if_err_at {T} {E} P r x y e f p = subst (λ (o : Result T E). IfErr o P) (sym (e ∙ ap Err f)) p
 
-slice_get_seam : (xs : List (List ℕ)) (y : List ℕ) (ys : List (List ℕ)) → slice_get (xs ++ y ∷ ys) (length xs) ≡ Some y
+slice_get_seam : (xs : List (List ℕ)) (y : List ℕ) (ys : List (List ℕ)) →
+    slice_get (xs ++ y ∷ ys) (length xs) ≡ Some y
 slice_get_seam [] y ys = refl
 slice_get_seam (x ∷ xs) y ys = slice_get_seam xs y ys
 
-slice_get_at : (all xs : List (List ℕ)) (y : List ℕ) (ys : List (List ℕ)) (n : ℕ) → n ≡ length xs → all ≡ xs ++ y ∷ ys → slice_get all n ≡ Some y
+slice_get_at : (all xs : List (List ℕ)) (y : List ℕ) (ys : List (List ℕ)) (n : ℕ) → n ≡ length xs →
+    all ≡ xs ++ y ∷ ys → slice_get all n ≡ Some y
 slice_get_at all xs y ys n count same =
-    ap (λ i. slice_get all i) count ∙ (ap (λ (l : List (List ℕ)). slice_get l (length xs)) same ∙ slice_get_seam xs y ys)
+    ap (λ i. slice_get all i) count
+    ∙ (ap (λ (l : List (List ℕ)). slice_get l (length xs)) same ∙ slice_get_seam xs y ys)
 
 take_front : (all xs ys : List (List ℕ)) (n : ℕ) → n ≡ length xs → all ≡ xs ++ ys → take n all ≡ xs
-take_front all xs ys n count same = ap (λ (l : List (List ℕ)). take n l) same ∙ take_at xs ys n (sym count)
+take_front all xs ys n count same =
+    ap (λ (l : List (List ℕ)). take n l) same ∙ take_at xs ys n (sym count)
 
 from_none : (n m : ℕ) → n ≡ 0 + m → n ≡ m
 from_none n m h = omega arith
 
 -- the first lines of all that comes were taken
-pub TakesFirst-from : {S : Type 0} (after : S → List (List ℕ) → S → Type 0) (s t : S) (a b : Option (List ℕ)) (bytes : List ℕ) (n : ℕ) (Left : List ℕ → Type 0) → IsTaken after s t bytes 0 n Left → Consumes a b bytes → TakesFirst after s t a n
+pub TakesFirst-from : {S : Type 0} (after : S → List (List ℕ) → S → Type 0) (s t : S)
+    (a b : Option (List ℕ)) (bytes : List ℕ) (n : ℕ) (Left : List ℕ → Type 0) →
+    IsTaken after s t bytes 0 n Left → Consumes a b bytes → TakesFirst after s t a n
 TakesFirst-from after s t a b bytes n Left h consumed = record {
   taken = h.taken;
   takes = h.takes;
   count = from_none n _ h.count;
-  first = known (λ input. take n (lines input) ≡ h.taken) a b bytes consumed (λ more. take_front _ h.taken _ n (from_none n _ h.count) (h.cuts.whole more));
+  first =
+      known (λ input. take n (lines input) ≡ h.taken) a b bytes consumed
+      (λ more. take_front _ h.taken _ n (from_none n _ h.count) (h.cuts.whole more));
 }
 
 -- of what was read so many lines have ended
-pub HasRead-from : {S : Type 0} (after : S → List (List ℕ) → S → Type 0) (s t : S) (a b : Option (List ℕ)) (bytes kept : List ℕ) (n : ℕ) → IsTaken after s t bytes 0 n (IsKept kept) → Consumes a b bytes → HasRead a b n
+pub HasRead-from : {S : Type 0} (after : S → List (List ℕ) → S → Type 0) (s t : S)
+    (a b : Option (List ℕ)) (bytes kept : List ℕ) (n : ℕ) →
+    IsTaken after s t bytes 0 n (IsKept kept) → Consumes a b bytes → HasRead a b n
 HasRead-from after s t a b bytes kept n h consumed = record {
   read = bytes;
   consumed = consumed;
   ended =
-      omega
-      (arith, h.count, ap length (h.cuts.whole (10 ∷ []) ∙ ap (λ l. h.taken ++ l) (lines-feed h.left [] h.rest.1)), length-append h.taken (h.left ∷ []));
+      omega (
+        arith,
+        h.count,
+        ap length (h.cuts.whole (10 ∷ [])
+            ∙ ap (λ l. h.taken ++ l) (lines-feed h.left [] h.rest.1)),
+        length-append h.taken (h.left ∷ []),
+      );
 }
 
 -- at the end all lines were taken
-lines_at_end : {S : Type 0} (after : S → List (List ℕ) → S → Type 0) (s t : S) (bytes kept : List ℕ) (n : ℕ) (h : IsTaken after s t bytes 0 n (IsKept kept)) → lines bytes ≡ h.taken ++ lines h.left
+lines_at_end : {S : Type 0} (after : S → List (List ℕ) → S → Type 0) (s t : S) (bytes kept : List ℕ)
+    (n : ℕ) (h : IsTaken after s t bytes 0 n (IsKept kept)) → lines bytes ≡ h.taken ++ lines h.left
 lines_at_end after s t bytes kept n h =
-    ap lines (sym (append-nil bytes)) ∙ (h.cuts.whole [] ∙ ap (λ l. h.taken ++ lines l) (append-nil h.left))
+    ap lines (sym (append-nil bytes))
+    ∙ (h.cuts.whole [] ∙ ap (λ l. h.taken ++ lines l) (append-nil h.left))
 
-pub TakesAll-from : {S : Type 0} (after : S → List (List ℕ) → S → Type 0) (s t u : S) (a b : Option (List ℕ)) (bytes kept : List ℕ) (m n : ℕ) → IsTaken after s t bytes 0 m (IsKept kept) → Consumes a b bytes → IsAtEnd b → ((part : List ℕ) → IsKept kept part → Takes after t u (lines part) × (n ≡ m + length (lines part))) → TakesAll after s u a n
+pub TakesAll-from : {S : Type 0} (after : S → List (List ℕ) → S → Type 0) (s t u : S)
+    (a b : Option (List ℕ)) (bytes kept : List ℕ) (m n : ℕ) →
+    IsTaken after s t bytes 0 m (IsKept kept) → Consumes a b bytes → IsAtEnd b →
+    ((part : List ℕ) → IsKept kept part →
+    Takes after t u (lines part) × (n ≡ m + length (lines part))) → TakesAll after s u a n
 TakesAll-from after s t u a b bytes kept m n h consumed end next =
     let k = next h.left h.rest in
     record {
       taken = h.taken ++ lines h.left;
       takes = Takes-then after s t u h.taken (lines h.left) h.takes k.0;
       count = omega (arith, h.count, k.1, length-append h.taken (lines h.left));
-      all = known_whole (λ input. lines input ≡ h.taken ++ lines h.left) a b bytes consumed end (lines_at_end after s t bytes kept m h);
+      all =
+          known_whole (λ input. lines input ≡ h.taken ++ lines h.left) a b bytes consumed end
+          (lines_at_end after s t bytes kept m h);
     }
 
 -- where memory runs out at the last line
-pub TakesFirst-at_end : {S : Type 0} (after : S → List (List ℕ) → S → Type 0) (s t u : S) (a b : Option (List ℕ)) (bytes kept : List ℕ) (m n : ℕ) → IsTaken after s t bytes 0 m (IsKept kept) → Consumes a b bytes → n ≡ m → u ≡ t → TakesFirst after s u a n
+pub TakesFirst-at_end : {S : Type 0} (after : S → List (List ℕ) → S → Type 0) (s t u : S)
+    (a b : Option (List ℕ)) (bytes kept : List ℕ) (m n : ℕ) →
+    IsTaken after s t bytes 0 m (IsKept kept) → Consumes a b bytes → n ≡ m → u ≡ t →
+    TakesFirst after s u a n
 TakesFirst-at_end {S} after s t u a b bytes kept m n h consumed same still =
     subst (λ (v : S). TakesFirst after s v a n) (sym still)
-    (subst (λ (i : ℕ). TakesFirst after s t a i) (sym same) (TakesFirst-from after s t a b bytes m (IsKept kept) h consumed))
+    (subst (λ (i : ℕ). TakesFirst after s t a i) (sym same)
+    (TakesFirst-from after s t a b bytes m (IsKept kept) h consumed))
 
 -- where the taker stops at the last line
-pub StopsAfter-at_end : {S W : Type 0} (after : S → List (List ℕ) → S → Type 0) (stopped : S → List (List ℕ) → Option (List ℕ) → S → W → Type 0) (s t u : S) (a b : Option (List ℕ)) (bytes kept : List ℕ) (m n : ℕ) (why : W) → IsTaken after s t bytes 0 m (IsKept kept) → Consumes a b bytes → IsAtEnd b → n ≡ m → ((part : List ℕ) → IsKept kept part → (lines part ≡ part ∷ []) × Stops after stopped t u (Some part) why) → StopsAfter after stopped s u a n why
+pub StopsAfter-at_end : {S W : Type 0} (after : S → List (List ℕ) → S → Type 0)
+    (stopped : S → List (List ℕ) → Option (List ℕ) → S → W → Type 0) (s t u : S)
+    (a b : Option (List ℕ)) (bytes kept : List ℕ) (m n : ℕ) (why : W) →
+    IsTaken after s t bytes 0 m (IsKept kept) → Consumes a b bytes → IsAtEnd b → n ≡ m →
+    ((part : List ℕ) → IsKept kept part →
+    (lines part ≡ part ∷ []) × Stops after stopped t u (Some part) why) →
+    StopsAfter after stopped s u a n why
 StopsAfter-at_end after stopped s t u a b bytes kept m n why h consumed end same next =
     let k = next h.left h.rest in
     let count = from_none n _ (same ∙ h.count) in
-    let all : lines bytes ≡ h.taken ++ h.left ∷ [] = lines_at_end after s t bytes kept m h ∙ ap (λ l. h.taken ++ l) k.0 in
+    let all : lines bytes ≡ h.taken ++ h.left ∷ [] =
+    lines_at_end after s t bytes kept m h ∙ ap (λ l. h.taken ++ l) k.0 in
     record {
       taken = h.taken;
       at = Some h.left;
       stops = λ begun before x. k.1 begun (before ++ h.taken) (h.takes begun before x);
       count = count;
-      first = known_whole (λ input. take n (lines input) ≡ h.taken) a b bytes consumed end (take_front _ h.taken (h.left ∷ []) n count all);
-      next = known_whole (λ input. slice_get (lines input) n ≡ Some h.left) a b bytes consumed end (slice_get_at _ h.taken h.left [] n count all);
+      first =
+          known_whole (λ input. take n (lines input) ≡ h.taken) a b bytes consumed end
+          (take_front _ h.taken (h.left ∷ []) n count all);
+      next =
+          known_whole (λ input. slice_get (lines input) n ≡ Some h.left) a b bytes consumed end
+          (slice_get_at _ h.taken h.left [] n count all);
     }
 
 -- where the taker stops at a line that has ended
-pub StopsAfter-from : {S W : Type 0} (after : S → List (List ℕ) → S → Type 0) (stopped : S → List (List ℕ) → Option (List ℕ) → S → W → Type 0) (s t : S) (a b : Option (List ℕ)) (bytes : List ℕ) (n : ℕ) (why : W) → IsStopped after stopped s t bytes 0 n why → Consumes a b bytes → StopsAfter after stopped s t a n why
+pub StopsAfter-from : {S W : Type 0} (after : S → List (List ℕ) → S → Type 0)
+    (stopped : S → List (List ℕ) → Option (List ℕ) → S → W → Type 0) (s t : S)
+    (a b : Option (List ℕ)) (bytes : List ℕ) (n : ℕ) (why : W) →
+    IsStopped after stopped s t bytes 0 n why → Consumes a b bytes →
+    StopsAfter after stopped s t a n why
 StopsAfter-from after stopped s t a b bytes n why h consumed =
     let all : (more : List ℕ) → lines (bytes ++ more) ≡ h.taken ++ h.line ∷ lines (h.left ++ more) =
     λ more. h.cuts.whole more ∙ append_assoc h.taken (h.line ∷ []) (lines (h.left ++ more)) in
@@ -111,17 +161,27 @@ StopsAfter-from after stopped s t a b bytes n why h consumed =
       at = Some h.line;
       stops = h.stops;
       count = from_none n _ h.count;
-      first = known (λ input. take n (lines input) ≡ h.taken) a b bytes consumed (λ more. take_front _ h.taken _ n (from_none n _ h.count) (all more));
-      next = known (λ input. slice_get (lines input) n ≡ Some h.line) a b bytes consumed (λ more. slice_get_at _ h.taken h.line _ n (from_none n _ h.count) (all more));
+      first =
+          known (λ input. take n (lines input) ≡ h.taken) a b bytes consumed
+          (λ more. take_front _ h.taken _ n (from_none n _ h.count) (all more));
+      next =
+          known (λ input. slice_get (lines input) n ≡ Some h.line) a b bytes consumed
+          (λ more. slice_get_at _ h.taken h.line _ n (from_none n _ h.count) (all more));
     }
 
 -- where the taker stops before a read
-pub StopsAfter-between : {S W : Type 0} (after : S → List (List ℕ) → S → Type 0) (stopped : S → List (List ℕ) → Option (List ℕ) → S → W → Type 0) (s t u : S) (a b : Option (List ℕ)) (bytes : List ℕ) (n : ℕ) (Left : List ℕ → Type 0) (why : W) → IsTaken after s t bytes 0 n Left → Consumes a b bytes → Stops after stopped t u None why → StopsAfter after stopped s u a n why
+pub StopsAfter-between : {S W : Type 0} (after : S → List (List ℕ) → S → Type 0)
+    (stopped : S → List (List ℕ) → Option (List ℕ) → S → W → Type 0) (s t u : S)
+    (a b : Option (List ℕ)) (bytes : List ℕ) (n : ℕ) (Left : List ℕ → Type 0) (why : W) →
+    IsTaken after s t bytes 0 n Left → Consumes a b bytes → Stops after stopped t u None why →
+    StopsAfter after stopped s u a n why
 StopsAfter-between after stopped s t u a b bytes n Left why h consumed stops = record {
   taken = h.taken;
   at = None;
   stops = λ begun before x. stops begun (before ++ h.taken) (h.takes begun before x);
   count = from_none n _ h.count;
-  first = known (λ input. take n (lines input) ≡ h.taken) a b bytes consumed (λ more. take_front _ h.taken _ n (from_none n _ h.count) (h.cuts.whole more));
+  first =
+      known (λ input. take n (lines input) ≡ h.taken) a b bytes consumed
+      (λ more. take_front _ h.taken _ n (from_none n _ h.count) (h.cuts.whole more));
   next = known (λ input. Unit {0}) a b bytes consumed (λ more. tt);
 }

@@ -1,23 +1,31 @@
 -- How what was taken goes on behind what was taken.
-use Rattle.std.proofs.Common.{◌≡◌, ◌<◌, ◌≤◌, ◌==◌, ℕ, ◌+◌, true, slice_index, take, drop, length-drop, length, subst, arith, List, [], ◌∷◌, ◌++◌, ap, sym, ◌∙◌, append_assoc, append-nil, length-append, Option, Some}
+use Rattle.std.proofs.Common.{◌≡◌, ◌<◌, ◌≤◌, ◌==◌, ℕ, ◌+◌, true, slice_index, take, drop}
+use Rattle.std.proofs.Common.{length-drop, length, subst, arith, List, [], ◌∷◌, ◌++◌, ap, sym, ◌∙◌}
+use Rattle.std.proofs.Common.{append_assoc, append-nil, length-append, Option, Some}
 use Rattle.std.proofs.lemmas.List.{take-append-drop, take_all}
 use Rattle.osn_lines.specs.Inside.{HasNoFeed, IsKept, Cuts, IsTaken, IsStopped}
 use Rattle.osn_lines.specs.Lines.{front_of}
 use Rattle.osn_lines.specs.Taking.{Takes, Rests, Stops}
-use Rattle.osn_lines.proofs.LineLemmas.{front_of-front, front_of-nil, HasNoFeed-append, HasNoFeed-take, seen_line, Cuts-nothing, Cuts-line, Cuts-more, Cuts-then}
+use Rattle.osn_lines.proofs.LineLemmas.{front_of-front, front_of-nil, HasNoFeed-append}
+use Rattle.osn_lines.proofs.LineLemmas.{HasNoFeed-take, seen_line, Cuts-nothing, Cuts-line}
+use Rattle.osn_lines.proofs.LineLemmas.{Cuts-more, Cuts-then}
 
-pub Takes-nothing : {S : Type 0} (after : S → List (List ℕ) → S → Type 0) (s : S) → Takes after s s []
+pub Takes-nothing : {S : Type 0} (after : S → List (List ℕ) → S → Type 0) (s : S) →
+    Takes after s s []
 Takes-nothing {S} after s =
     λ begun before h. subst (λ (l : List (List ℕ)). after begun l s) (sym (append-nil before)) h
 
-pub Takes-then : {S : Type 0} (after : S → List (List ℕ) → S → Type 0) (s t u : S) (xs ys : List (List ℕ)) → Takes after s t xs → Takes after t u ys → Takes after s u (xs ++ ys)
+pub Takes-then : {S : Type 0} (after : S → List (List ℕ) → S → Type 0) (s t u : S)
+    (xs ys : List (List ℕ)) → Takes after s t xs → Takes after t u ys → Takes after s u (xs ++ ys)
 Takes-then {S} after s t u xs ys h k =
     λ begun before b.
     subst (λ (l : List (List ℕ)). after begun l u) (append_assoc before xs ys)
     (k begun (before ++ xs) (h begun before b))
 
 -- nothing is taken yet
-pub IsTaken-nothing : {S : Type 0} (after : S → List (List ℕ) → S → Type 0) (s : S) (part kept : List ℕ) (n : ℕ) → IsKept kept part → IsTaken after s s (part ++ []) n n (IsKept kept)
+pub IsTaken-nothing : {S : Type 0} (after : S → List (List ℕ) → S → Type 0) (s : S)
+    (part kept : List ℕ) (n : ℕ) → IsKept kept part →
+    IsTaken after s s (part ++ []) n n (IsKept kept)
 IsTaken-nothing after s part kept n h =
     subst (λ (l : List ℕ). IsTaken after s s l n n (IsKept kept)) (sym (append-nil part))
     (record {
@@ -30,18 +38,23 @@ IsTaken-nothing after s part kept n h =
     })
 
 -- a line that ends behind what was cut is cut
-Cuts-next : (bytes left end : List ℕ) (done : List (List ℕ)) → Cuts bytes done left → HasNoFeed left → HasNoFeed end → Cuts (bytes ++ (end ++ 10 ∷ [])) (done ++ (left ++ end) ∷ []) []
+Cuts-next : (bytes left end : List ℕ) (done : List (List ℕ)) → Cuts bytes done left →
+    HasNoFeed left → HasNoFeed end →
+    Cuts (bytes ++ (end ++ 10 ∷ [])) (done ++ (left ++ end) ∷ []) []
 Cuts-next bytes left end done h no_feed here =
     Cuts-then bytes left (end ++ 10 ∷ []) [] done ((left ++ end) ∷ []) h
     (subst (λ (l : List ℕ). Cuts l ((left ++ end) ∷ []) []) (append_assoc left end (10 ∷ []))
     (Cuts-line (left ++ end) (HasNoFeed-append left end no_feed here)))
 
 -- the bytes up to a line feed at `place` behind `from`
-cut_bytes : (part piece end : List ℕ) (from place : ℕ) → end ≡ take place (drop from piece) → from + place < length piece → (slice_index (drop from piece) place == 10) ≡ true → (part ++ take from piece) ++ (end ++ 10 ∷ []) ≡ part ++ take (from + place + 1) piece
+cut_bytes : (part piece end : List ℕ) (from place : ℕ) → end ≡ take place (drop from piece) →
+    from + place < length piece → (slice_index (drop from piece) place == 10) ≡ true →
+    (part ++ take from piece) ++ (end ++ 10 ∷ []) ≡ part ++ take (from + place + 1) piece
 cut_bytes part piece end from place is_end long here =
     append_assoc part (take from piece) (end ++ 10 ∷ [])
     ∙ ap (λ l. part ++ l)
-    (ap (λ e. take from piece ++ (e ++ 10 ∷ [])) is_end ∙ sym (seen_line piece from place long here))
+    (ap (λ e. take from piece ++ (e ++ 10 ∷ [])) is_end
+    ∙ sym (seen_line piece from place long here))
 
 -- what a search for a line feed found behind `from`
 pub record Found (piece hay end : List ℕ) (from place : ℕ) : Type 0 where
@@ -51,39 +64,57 @@ pub record Found (piece hay end : List ℕ) (from place : ℕ) : Type 0 where
   pub within : place < length hay
   pub feed : (slice_index hay place == 10) ≡ true
 
-found_no_feed : (piece hay end : List ℕ) (from place : ℕ) → Found piece hay end from place → HasNoFeed end
+found_no_feed : (piece hay end : List ℕ) (from place : ℕ) → Found piece hay end from place →
+    HasNoFeed end
 found_no_feed piece hay end from place f =
     subst HasNoFeed (sym f.is_end)
     (HasNoFeed-take (drop from piece) place
-    (λ i lt. subst (λ (l : List ℕ). (slice_index l i == 10) ≡ true → ⊥) f.is_hay (f.before i (omega arith) lt)))
+    (λ i lt. subst (λ (l : List ℕ). (slice_index l i == 10) ≡ true → ⊥) f.is_hay
+    (f.before i (omega arith) lt)))
 
-found_bytes : (part piece hay end : List ℕ) (from place : ℕ) → Found piece hay end from place → (part ++ take from piece) ++ (end ++ 10 ∷ []) ≡ part ++ take (from + place + 1) piece
+found_bytes : (part piece hay end : List ℕ) (from place : ℕ) → Found piece hay end from place →
+    (part ++ take from piece) ++ (end ++ 10 ∷ []) ≡ part ++ take (from + place + 1) piece
 found_bytes part piece hay end from place f =
-    let long : from + place < length piece = omega (arith, f.within, ap length f.is_hay, length-drop from piece) in
+    let long : from + place < length piece =
+    omega (arith, f.within, ap length f.is_hay, length-drop from piece) in
     let here : (slice_index (drop from piece) place == 10) ≡ true =
     subst (λ (l : List ℕ). (slice_index l place == 10) ≡ true) f.is_hay f.feed in
     cut_bytes part piece end from place f.is_end long here
 
 -- the line that ends at `place` of the rest is taken next
-pub IsTaken-next : {S : Type 0} (after : S → List (List ℕ) → S → Type 0) (s t u : S) (part piece hay end kept kept' : List ℕ) (n m from place : ℕ) → IsTaken after s t (part ++ take from piece) n m (IsKept kept) → ((p : List ℕ) → kept ≡ front_of p → Takes after t u ((p ++ end) ∷ [])) → Found piece hay end from place → kept' ≡ [] → IsTaken after s u (part ++ take (from + place + 1) piece) n (m + 1) (IsKept kept')
+pub IsTaken-next : {S : Type 0} (after : S → List (List ℕ) → S → Type 0) (s t u : S)
+    (part piece hay end kept kept' : List ℕ) (n m from place : ℕ) →
+    IsTaken after s t (part ++ take from piece) n m (IsKept kept) →
+    ((p : List ℕ) → kept ≡ front_of p → Takes after t u ((p ++ end) ∷ [])) →
+    Found piece hay end from place → kept' ≡ [] →
+    IsTaken after s u (part ++ take (from + place + 1) piece) n (m + 1) (IsKept kept')
 IsTaken-next after s t u part piece hay end kept kept' n m from place h line f empty =
-    subst (λ (l : List ℕ). IsTaken after s u l n (m + 1) (IsKept kept')) (found_bytes part piece hay end from place f)
+    subst (λ (l : List ℕ). IsTaken after s u l n (m + 1) (IsKept kept'))
+    (found_bytes part piece hay end from place f)
     (record {
       taken = h.taken ++ (h.left ++ end) ∷ [];
       left = [];
-      cuts = Cuts-next (part ++ take from piece) h.left end h.taken h.cuts h.rest.1 (found_no_feed piece hay end from place f);
+      cuts =
+          Cuts-next (part ++ take from piece) h.left end h.taken h.cuts h.rest.1
+          (found_no_feed piece hay end from place f);
       takes = Takes-then after s t u h.taken ((h.left ++ end) ∷ []) h.takes (line h.left h.rest.0);
       count = omega (arith, h.count, length-append h.taken ((h.left ++ end) ∷ []));
       rest = (empty ∙ sym front_of-nil, tt);
     })
 
 -- bytes behind a cut at `from`
-pub rest_bytes : (part piece : List ℕ) (from : ℕ) → (part ++ take from piece) ++ drop from piece ≡ part ++ piece
+pub rest_bytes : (part piece : List ℕ) (from : ℕ) →
+    (part ++ take from piece) ++ drop from piece ≡ part ++ piece
 rest_bytes part piece from =
-    append_assoc part (take from piece) (drop from piece) ∙ ap (λ l. part ++ l) (take-append-drop from piece)
+    append_assoc part (take from piece) (drop from piece)
+    ∙ ap (λ l. part ++ l) (take-append-drop from piece)
 
 -- no line ends in the rest, or memory ran out at the next
-pub IsTaken-rest : {S : Type 0} (after : S → List (List ℕ) → S → Type 0) (s t u : S) (part piece kept : List ℕ) (n m from : ℕ) (Left : List ℕ → Type 0) → IsTaken after s t (part ++ take from piece) n m (IsKept kept) → u ≡ t → ((left : List ℕ) → IsKept kept left → Left (left ++ drop from piece)) → IsTaken after s u (part ++ piece) n m Left
+pub IsTaken-rest : {S : Type 0} (after : S → List (List ℕ) → S → Type 0) (s t u : S)
+    (part piece kept : List ℕ) (n m from : ℕ) (Left : List ℕ → Type 0) →
+    IsTaken after s t (part ++ take from piece) n m (IsKept kept) → u ≡ t →
+    ((left : List ℕ) → IsKept kept left → Left (left ++ drop from piece)) →
+    IsTaken after s u (part ++ piece) n m Left
 IsTaken-rest {S} after s t u part piece kept n m from Left h same rest =
     subst (λ (v : S). IsTaken after s v (part ++ piece) n m Left) (sym same)
     (subst (λ (l : List ℕ). IsTaken after s t l n m Left) (rest_bytes part piece from)
@@ -97,37 +128,57 @@ IsTaken-rest {S} after s t u part piece kept n m from Left h same rest =
     }))
 
 -- the taker stopped at the line that ends at `place` of the rest
-pub IsStopped-next : {S W : Type 0} (after : S → List (List ℕ) → S → Type 0) (stopped : S → List (List ℕ) → Option (List ℕ) → S → W → Type 0) (s t u : S) (part piece hay end kept : List ℕ) (n m q from place : ℕ) (why : W) → IsTaken after s t (part ++ take from piece) n m (IsKept kept) → ((p : List ℕ) → kept ≡ front_of p → Stops after stopped t u (Some (p ++ end)) why) → Found piece hay end from place → q ≡ m → IsStopped after stopped s u (part ++ piece) n q why
+pub IsStopped-next : {S W : Type 0} (after : S → List (List ℕ) → S → Type 0)
+    (stopped : S → List (List ℕ) → Option (List ℕ) → S → W → Type 0) (s t u : S)
+    (part piece hay end kept : List ℕ) (n m q from place : ℕ) (why : W) →
+    IsTaken after s t (part ++ take from piece) n m (IsKept kept) →
+    ((p : List ℕ) → kept ≡ front_of p → Stops after stopped t u (Some (p ++ end)) why) →
+    Found piece hay end from place → q ≡ m → IsStopped after stopped s u (part ++ piece) n q why
 IsStopped-next after stopped s t u part piece hay end kept n m q from place why h stops f same =
     let k = from + place + 1 in
     let here : Cuts (part ++ take k piece) (h.taken ++ (h.left ++ end) ∷ []) [] =
-    subst (λ (l : List ℕ). Cuts l (h.taken ++ (h.left ++ end) ∷ []) []) (found_bytes part piece hay end from place f)
-    (Cuts-next (part ++ take from piece) h.left end h.taken h.cuts h.rest.1 (found_no_feed piece hay end from place f)) in
+    subst (λ (l : List ℕ). Cuts l (h.taken ++ (h.left ++ end) ∷ []) [])
+    (found_bytes part piece hay end from place f)
+    (Cuts-next (part ++ take from piece) h.left end h.taken h.cuts h.rest.1
+    (found_no_feed piece hay end from place f)) in
     record {
       taken = h.taken;
       line = h.left ++ end;
       left = drop k piece;
       cuts =
-          subst (λ (l : List ℕ). Cuts l (h.taken ++ (h.left ++ end) ∷ []) (drop k piece)) (rest_bytes part piece k)
-          (Cuts-more (part ++ take k piece) [] (drop k piece) (h.taken ++ (h.left ++ end) ∷ []) here);
-      stops = λ begun before b. stops h.left h.rest.0 begun (before ++ h.taken) (h.takes begun before b);
+          subst (λ (l : List ℕ). Cuts l (h.taken ++ (h.left ++ end) ∷ []) (drop k piece))
+          (rest_bytes part piece k)
+          (Cuts-more (part ++ take k piece) [] (drop k piece) (h.taken ++ (h.left ++ end) ∷ [])
+          here);
+      stops =
+          λ begun before b. stops h.left h.rest.0 begun (before ++ h.taken)
+          (h.takes begun before b);
       count = same ∙ h.count;
     }
 
 -- what the rest adds to what is kept
-pub IsKept-more : (kept kept' hay rest left : List ℕ) → hay ≡ rest → kept' ≡ front_of (kept ++ hay) → ((i : ℕ) → 0 ≤ i → i < length hay → (slice_index hay i == 10) ≡ true → ⊥) → IsKept kept left → IsKept kept' (left ++ rest)
+pub IsKept-more : (kept kept' hay rest left : List ℕ) → hay ≡ rest →
+    kept' ≡ front_of (kept ++ hay) →
+    ((i : ℕ) → 0 ≤ i → i < length hay → (slice_index hay i == 10) ≡ true → ⊥) → IsKept kept left →
+    IsKept kept' (left ++ rest)
 IsKept-more kept kept' hay rest left is_hay k none h =
     let no_feed : HasNoFeed rest =
     subst HasNoFeed (take_all (length hay) hay (omega arith) ∙ is_hay)
     (HasNoFeed-take hay (length hay) (λ i lt. none i (omega arith) lt)) in (
-      k ∙ (ap (λ l. front_of (l ++ hay)) h.0 ∙ (front_of-front left hay ∙ ap (λ l. front_of (left ++ l)) is_hay)),
+      k ∙ (ap (λ l. front_of (l ++ hay)) h.0
+          ∙ (front_of-front left hay ∙ ap (λ l. front_of (left ++ l)) is_hay)),
       HasNoFeed-append left rest h.1 no_feed,
     )
 
 -- a further piece was read
-pub IsTaken-then : {S : Type 0} (after : S → List (List ℕ) → S → Type 0) (s t u : S) (bytes given piece kept : List ℕ) (n m q : ℕ) (Left : List ℕ → Type 0) → IsTaken after s t bytes n m (IsKept kept) → given ≡ piece → ((part : List ℕ) → IsKept kept part → IsTaken after t u (part ++ given) m q Left) → IsTaken after s u (bytes ++ piece) n q Left
+pub IsTaken-then : {S : Type 0} (after : S → List (List ℕ) → S → Type 0) (s t u : S)
+    (bytes given piece kept : List ℕ) (n m q : ℕ) (Left : List ℕ → Type 0) →
+    IsTaken after s t bytes n m (IsKept kept) → given ≡ piece →
+    ((part : List ℕ) → IsKept kept part → IsTaken after t u (part ++ given) m q Left) →
+    IsTaken after s u (bytes ++ piece) n q Left
 IsTaken-then after s t u bytes given piece kept n m q Left h same next =
-    let k = subst (λ (l : List ℕ). IsTaken after t u (h.left ++ l) m q Left) same (next h.left h.rest) in
+    let k =
+    subst (λ (l : List ℕ). IsTaken after t u (h.left ++ l) m q Left) same (next h.left h.rest) in
     record {
       taken = h.taken ++ k.taken;
       left = k.left;
@@ -138,24 +189,35 @@ IsTaken-then after s t u bytes given piece kept n m q Left h same next =
     }
 
 -- and the taker stopped in it
-pub IsStopped-then : {S W : Type 0} (after : S → List (List ℕ) → S → Type 0) (stopped : S → List (List ℕ) → Option (List ℕ) → S → W → Type 0) (s t u : S) (bytes given piece kept : List ℕ) (n m q : ℕ) (why : W) → IsTaken after s t bytes n m (IsKept kept) → given ≡ piece → ((part : List ℕ) → IsKept kept part → IsStopped after stopped t u (part ++ given) m q why) → IsStopped after stopped s u (bytes ++ piece) n q why
+pub IsStopped-then : {S W : Type 0} (after : S → List (List ℕ) → S → Type 0)
+    (stopped : S → List (List ℕ) → Option (List ℕ) → S → W → Type 0) (s t u : S)
+    (bytes given piece kept : List ℕ) (n m q : ℕ) (why : W) →
+    IsTaken after s t bytes n m (IsKept kept) → given ≡ piece →
+    ((part : List ℕ) → IsKept kept part → IsStopped after stopped t u (part ++ given) m q why) →
+    IsStopped after stopped s u (bytes ++ piece) n q why
 IsStopped-then {S} {W} after stopped s t u bytes given piece kept n m q why h same next =
-    let k = subst (λ (l : List ℕ). IsStopped after stopped t u (h.left ++ l) m q why) same (next h.left h.rest) in
+    let k =
+    subst (λ (l : List ℕ). IsStopped after stopped t u (h.left ++ l) m q why) same
+    (next h.left h.rest) in
     record {
       taken = h.taken ++ k.taken;
       line = k.line;
       left = k.left;
       cuts =
-          subst (λ (l : List (List ℕ)). Cuts (bytes ++ piece) l k.left) (sym (append_assoc h.taken k.taken (k.line ∷ [])))
+          subst (λ (l : List (List ℕ)). Cuts (bytes ++ piece) l k.left)
+          (sym (append_assoc h.taken k.taken (k.line ∷ [])))
           (Cuts-then bytes h.left piece k.left h.taken (k.taken ++ k.line ∷ []) h.cuts k.cuts);
       stops = λ begun before b.
-          subst (λ (l : List (List ℕ)). stopped begun l (Some k.line) u why) (append_assoc before h.taken k.taken)
+          subst (λ (l : List (List ℕ)). stopped begun l (Some k.line) u why)
+          (append_assoc before h.taken k.taken)
           (k.stops begun (before ++ h.taken) (h.takes begun before b));
       count = omega (arith, h.count, k.count, length-append h.taken k.taken);
     }
 
 -- a rest before a read takes nothing
-pub IsTaken-rests : {S : Type 0} (after : S → List (List ℕ) → S → Type 0) (s t u : S) (bytes : List ℕ) (n m : ℕ) (Left : List ℕ → Type 0) → IsTaken after s t bytes n m Left → Rests after t u → IsTaken after s u bytes n m Left
+pub IsTaken-rests : {S : Type 0} (after : S → List (List ℕ) → S → Type 0) (s t u : S)
+    (bytes : List ℕ) (n m : ℕ) (Left : List ℕ → Type 0) → IsTaken after s t bytes n m Left →
+    Rests after t u → IsTaken after s u bytes n m Left
 IsTaken-rests after s t u bytes n m Left h r = record {
   taken = h.taken;
   left = h.left;

@@ -8,7 +8,8 @@ abbrev pub HasNoFeed : List ℕ → Type 0
 HasNoFeed [] = Unit {0}
 HasNoFeed (b ∷ bs) = ((b == 10) ≡ false) × HasNoFeed bs
 
--- these bytes begin with the lines `done`, whatever comes behind them, and `left` is what has come of the next line
+-- these bytes begin with the lines `done`, whatever comes behind them, and `left` is what has come
+-- of the next line
 pub record Cuts (bytes : List ℕ) (done : List (List ℕ)) (left : List ℕ) : Type 0 where
   pub whole : (more : List ℕ) → lines (bytes ++ more) ≡ done ++ lines (left ++ more)
 
@@ -16,8 +17,10 @@ pub record Cuts (bytes : List ℕ) (done : List (List ℕ)) (left : List ℕ) : 
 abbrev pub IsKept : List ℕ → List ℕ → Type 0
 IsKept kept line = (kept ≡ front_of line) × HasNoFeed line
 
--- of these bytes the lines `taken` were taken, which made n lines into m, and of what is left Left holds
-pub record IsTaken {S : Type 0} (after : S → List (List ℕ) → S → Type 0) (s t : S) (bytes : List ℕ) (n m : ℕ) (Left : List ℕ → Type 0) : Type 0 where
+-- of these bytes the lines `taken` were taken, which made n lines into m, and of what is left Left
+-- holds
+pub record IsTaken {S : Type 0} (after : S → List (List ℕ) → S → Type 0) (s t : S) (bytes : List ℕ)
+    (n m : ℕ) (Left : List ℕ → Type 0) : Type 0 where
   pub taken : List (List ℕ)
   pub left : List ℕ
   pub cuts : Cuts bytes taken left
@@ -25,11 +28,15 @@ pub record IsTaken {S : Type 0} (after : S → List (List ℕ) → S → Type 0)
   pub count : m ≡ n + length taken
   pub rest : Left left
 
--- of these bytes the lines `taken` were taken, which made n lines into m, and the taker stopped at the next
-pub record IsStopped {S W : Type 0} (after : S → List (List ℕ) → S → Type 0) (stopped : S → List (List ℕ) → Option (List ℕ) → S → W → Type 0) (s t : S) (bytes : List ℕ) (n m : ℕ) (why : W) : Type 0 where
+-- of these bytes the lines `taken` were taken, which made n lines into m, and the taker stopped at
+-- the next
+pub record IsStopped {S W : Type 0} (after : S → List (List ℕ) → S → Type 0)
+    (stopped : S → List (List ℕ) → Option (List ℕ) → S → W → Type 0) (s t : S) (bytes : List ℕ)
+    (n m : ℕ) (why : W) : Type 0 where
   pub taken : List (List ℕ)
   pub line : List ℕ
   pub left : List ℕ
   pub cuts : Cuts bytes (taken ++ line ∷ []) left
-  pub stops : (begun : S) (before : List (List ℕ)) → after begun before s → stopped begun (before ++ taken) (Some line) t why
+  pub stops : (begun : S) (before : List (List ℕ)) → after begun before s →
+      stopped begun (before ++ taken) (Some line) t why
   pub count : m ≡ n + length taken

@@ -1,46 +1,56 @@
 -- What became of a taker of lines, by its own words `after` and `stopped`.
-use Rattle.std.specs.Prelude.{◌≡◌, ℕ, ◌+◌, List, [], ◌∷◌, ◌++◌, length, take, slice_get, Option, Some, IfSome}
+use Rattle.std.specs.Prelude.{◌≡◌, ℕ, ◌+◌, List, [], ◌∷◌, ◌++◌, length, take, slice_get, Option}
+use Rattle.std.specs.Prelude.{Some, IfSome}
 use Rattle.std.specs.Io.KnownBytes.{Consumes}
 use Rattle.osn_lines.specs.Lines.{lines}
 
 -- whatever lines it had taken, it has taken these after them
 abbrev pub Takes : {S : Type 0} → (S → List (List ℕ) → S → Type 0) → S → S → List (List ℕ) → Type 0
-Takes {S} after s t taken = (begun : S) (before : List (List ℕ)) → after begun before s → after begun (before ++ taken) t
+Takes {S} after s t taken =
+    (begun : S) (before : List (List ℕ)) → after begun before s → after begun (before ++ taken) t
 
 -- whatever lines it had taken, it has taken no other
 abbrev pub Rests : {S : Type 0} → (S → List (List ℕ) → S → Type 0) → S → S → Type 0
-Rests {S} after s t = (begun : S) (before : List (List ℕ)) → after begun before s → after begun before t
+Rests {S} after s t =
+    (begun : S) (before : List (List ℕ)) → after begun before s → after begun before t
 
 -- whatever lines it had taken, it stopped behind them, at this line or between two lines
-abbrev pub Stops : {S W : Type 0} → (S → List (List ℕ) → S → Type 0) → (S → List (List ℕ) → Option (List ℕ) → S → W → Type 0) → S → S → Option (List ℕ) → W → Type 0
+abbrev pub Stops : {S W : Type 0} → (S → List (List ℕ) → S → Type 0) →
+    (S → List (List ℕ) → Option (List ℕ) → S → W → Type 0) → S → S → Option (List ℕ) → W → Type 0
 Stops {S} {W} after stopped s t at why =
     (begun : S) (before : List (List ℕ)) → after begun before s → stopped begun before at t why
 
 -- n lines were taken, and they are all lines of the input, where that is known
-pub record TakesAll {S : Type 0} (after : S → List (List ℕ) → S → Type 0) (s t : S) (input : Option (List ℕ)) (n : ℕ) : Type 0 where
+pub record TakesAll {S : Type 0} (after : S → List (List ℕ) → S → Type 0) (s t : S)
+    (input : Option (List ℕ)) (n : ℕ) : Type 0 where
   pub taken : List (List ℕ)
   pub takes : Takes after s t taken
   pub count : n ≡ length taken
   pub all : IfSome input (λ bytes. lines bytes ≡ taken)
 
 -- n lines were taken, and they are the first n of the input, where that is known
-pub record TakesFirst {S : Type 0} (after : S → List (List ℕ) → S → Type 0) (s t : S) (input : Option (List ℕ)) (n : ℕ) : Type 0 where
+pub record TakesFirst {S : Type 0} (after : S → List (List ℕ) → S → Type 0) (s t : S)
+    (input : Option (List ℕ)) (n : ℕ) : Type 0 where
   pub taken : List (List ℕ)
   pub takes : Takes after s t taken
   pub count : n ≡ length taken
   pub first : IfSome input (λ bytes. take n (lines bytes) ≡ taken)
 
--- n lines were taken, the first n of the input where that is known, and the taker stopped behind them: at the next line
--- of the input, or between two lines
-pub record StopsAfter {S W : Type 0} (after : S → List (List ℕ) → S → Type 0) (stopped : S → List (List ℕ) → Option (List ℕ) → S → W → Type 0) (s t : S) (input : Option (List ℕ)) (n : ℕ) (why : W) : Type 0 where
+-- n lines were taken, the first n of the input where that is known, and the taker stopped behind
+-- them: at the next line of the input, or between two lines
+pub record StopsAfter {S W : Type 0} (after : S → List (List ℕ) → S → Type 0)
+    (stopped : S → List (List ℕ) → Option (List ℕ) → S → W → Type 0) (s t : S)
+    (input : Option (List ℕ)) (n : ℕ) (why : W) : Type 0 where
   pub taken : List (List ℕ)
   pub at : Option (List ℕ)
-  pub stops : (begun : S) (before : List (List ℕ)) → after begun before s → stopped begun (before ++ taken) at t why
+  pub stops : (begun : S) (before : List (List ℕ)) → after begun before s →
+      stopped begun (before ++ taken) at t why
   pub count : n ≡ length taken
   pub first : IfSome input (λ bytes. take n (lines bytes) ≡ taken)
   pub next : IfSome input (λ bytes. IfSome at (λ line. slice_get (lines bytes) n ≡ Some line))
 
--- of the bytes that were read n lines have ended: with one line feed more they would have n + 1 lines
+-- of the bytes that were read n lines have ended: with one line feed more they would have n + 1
+-- lines
 pub record HasRead (old new : Option (List ℕ)) (n : ℕ) : Type 0 where
   pub read : List ℕ
   pub consumed : Consumes old new read

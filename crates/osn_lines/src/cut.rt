@@ -1,5 +1,6 @@
 //! Cuts what was read into lines, and has each taken.
-ghost use Rattle.std.specs.Prelude.{◌≡◌, ◌+◌, ◌^◌, ◌<◌, ◌≤◌, ℕ, List, [], ◌∷◌, ◌++◌, ⊤, Some, length, OnOk, IfErr};
+ghost use Rattle.std.specs.Prelude.{◌≡◌, ◌+◌, ◌^◌, ◌<◌, ◌≤◌, ℕ, List, [], ◌∷◌, ◌++◌, ⊤, Some};
+ghost use Rattle.std.specs.Prelude.{length, OnOk, IfErr};
 ghost use Rattle.osn_lines.specs.Faults.{MatchFault};
 ghost use Rattle.osn_lines.specs.Inside.{IsKept, IsTaken, IsStopped};
 ghost use Rattle.osn_lines.specs.Lines.{front_of};
@@ -82,6 +83,9 @@ pub(crate) fn take_piece<T: LineTaker>(
         (λ _. ⊥)
         (λ n why. (part : List ℕ) → IsKept kept.old.items part →
         IsStopped T.after T.stopped taker.old taker.new (part ++ piece.now) lines.old n why)) }
+    ensures few { IfErr result (λ fault. MatchFault fault
+        (λ n. n ≤ lines.old + length piece.now) (λ _. ⊥)
+        (λ n _. n ≤ lines.old + length piece.now)) }
 {
     let mut from = 0;
     while let Some(place) = memchr(b'\n', &piece[from..]) {

@@ -5,8 +5,9 @@ use crate::sink::{Sink, WriteFailed};
 use crate::source::{ReadFailed, Source};
 use std::io::{Read, Write};
 
-/// A reader as a source, or a writer as a sink. Each error of the reader or writer is a failed call, an interrupted
-/// one too, since it isn't tried again. A write that takes none of some bytes is a failed call.
+/// A reader as a source, or a writer as a sink. Each error of the reader or writer is a failed
+/// call, an interrupted one too, since it isn't tried again. A write that takes none of some bytes
+/// is a failed call.
 #[derive(Debug, Drop)]
 pub struct Plain<T> {
     inner: T,

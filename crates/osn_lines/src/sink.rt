@@ -1,5 +1,6 @@
 //! Where bytes go.
-ghost use Rattle.std.specs.Prelude.{◌≡◌, ◌<◌, ◌≤◌, ℕ, List, Option, Bool, true, is_ok, length, take, IfOk, IfErr, OnOk, OnErr, ◌⊎◌, if◌then◌else◌};
+ghost use Rattle.std.specs.Prelude.{◌≡◌, ◌<◌, ◌≤◌, ℕ, List, Option, Bool, true, is_ok, length};
+ghost use Rattle.std.specs.Prelude.{take, IfOk, IfErr, OnOk, OnErr, ◌⊎◌, if◌then◌else◌};
 ghost use Rattle.std.specs.Io.{WritesAtMost};
 ghost use Rattle.std.specs.Io.KnownBytes.{Appends, Keeps, WriteAppends};
 
@@ -15,18 +16,22 @@ pub trait Sink {
     // Whether a write has ever failed.
     ghost has_failed: { Self → Bool };
 
-    /// Writes once: `Ok(n)` where the first n bytes were taken, of some bytes at least one. A write that takes none
-    /// of them fails. A write that fails marks the sink as failed for good, and nothing else does.
+    /// Writes once: `Ok(n)` where the first n bytes were taken, of some bytes at least one. A write
+    /// that takes none of them fails. A write that fails marks the sink as failed for good, and
+    /// nothing else does.
     fn write(&mut self, bytes: &[u8]) -> Result<usize, WriteFailed>
         ensures bound { WritesAtMost result bytes.now }
         ensures some { IfOk result (λ n. 0 < length bytes.now → 0 < n) }
         ensures bytes { WriteAppends (contents self.old) (contents self.new) result bytes.now }
-        ensures failed { has_failed self.new ≡ (if is_ok result then has_failed self.old else true) };
+        ensures failed { has_failed self.new
+            ≡ (if is_ok result then has_failed self.old else true) };
 
-    /// Passes on whatever the sink still holds back. A call that fails marks the sink as failed for good.
+    /// Passes on whatever the sink still holds back. A call that fails marks the sink as failed for
+    /// good.
     fn flush(&mut self) -> Result<(), WriteFailed>
         ensures bytes { Keeps (contents self.old) (contents self.new) }
-        ensures failed { has_failed self.new ≡ (if is_ok result then has_failed self.old else true) };
+        ensures failed { has_failed self.new
+            ≡ (if is_ok result then has_failed self.old else true) };
 
     /// Whether a write has ever failed.
     fn failed(&self) -> bool
@@ -37,7 +42,8 @@ pub trait Sink {
 ///
 /// # Errors
 ///
-/// `Err(n)` where the sink took the first n of them and then failed, or where 4,294,967,295 writes did not do.
+/// `Err(n)` where the sink took the first n of them and then failed, or where 4,294,967,295 writes
+/// did not do.
 pub fn write_all<W: Sink>(sink: &mut W, bytes: &[u8]) -> Result<(), usize>
     ensures ok { OnOk result (Appends (W.contents sink.old) (W.contents sink.new) bytes.now) }
     ensures err { IfErr result (λ n. (n ≤ length bytes.now)

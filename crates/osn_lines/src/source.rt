@@ -15,12 +15,14 @@ pub trait Source {
     // Whether a read has ever failed.
     ghost has_failed: { Self → Bool };
 
-    /// Reads once: `Ok(n)` for n bytes at the front of `buffer`, and `Ok(0)` for a buffer with room at the end of
-    /// the input. A read that fails marks the source as failed for good, and nothing else does.
+    /// Reads once: `Ok(n)` for n bytes at the front of `buffer`, and `Ok(0)` for a buffer with room
+    /// at the end of the input. A read that fails marks the source as failed for good, and nothing
+    /// else does.
     fn read(&mut self, buffer: &mut [u8]) -> Result<usize, ReadFailed>
         ensures bound { ReadsAtMost result buffer.new }
         ensures bytes { ReadConsumes (remaining self.old) (remaining self.new) result buffer.new }
-        ensures failed { has_failed self.new ≡ (if is_ok result then has_failed self.old else true) };
+        ensures failed { has_failed self.new
+            ≡ (if is_ok result then has_failed self.old else true) };
 
     /// Whether a read has ever failed.
     fn failed(&self) -> bool

@@ -1,5 +1,6 @@
 //! Hands over all lines of a source, each as soon as it has come.
-ghost use Rattle.std.specs.Prelude.{◌≡◌, ◌+◌, ◌^◌, ◌<◌, ◌≤◌, ◌⊎◌, ℕ, List, Some, length, true, IfOk, IfErr, IfSome, OnOk, ⊤, [], ◌∷◌};
+ghost use Rattle.std.specs.Prelude.{◌≡◌, ◌+◌, ◌^◌, ◌<◌, ◌≤◌, ◌⊎◌, ℕ, List, Some, length, true};
+ghost use Rattle.std.specs.Prelude.{IfOk, IfErr, IfSome, OnOk, ⊤, [], ◌∷◌};
 ghost use Rattle.std.specs.Io.KnownBytes.{IsAtEnd};
 ghost use Rattle.osn_lines.specs.Faults.{MatchFault};
 ghost use Rattle.osn_lines.specs.Inside.{IsKept};
@@ -46,17 +47,19 @@ fn take_rest<T: LineTaker>(
     Ok(count + 1)
 }
 
-/// Hands every line of the source to the taker, in order, up to the end of the input. Answers their number.
+/// Hands every line of the source to the taker, in order, up to the end of the input. Answers their
+/// number.
 ///
-/// Each line is handed over as soon as its line feed has come, and what stands behind the last line feed at the end of
-/// the input. Before each read the taker is told. Besides what the taker uses there is one read of at most 65,536
-/// bytes, and of a line that hasn't ended yet at most 65,537 bytes.
+/// Each line is handed over as soon as its line feed has come, and what stands behind the last line
+/// feed at the end of the input. Before each read the taker is told. Besides what the taker uses
+/// there is one read of at most 65,536 bytes, and of a line that hasn't ended yet at most 65,537
+/// bytes.
 ///
 /// # Errors
 ///
-/// `NoMemory` where memory ran out here; `ReadFault` where the source failed, or gave no end within 4,294,967,295
-/// reads; `Stopped` where the taker stopped. No line is handed over after that, and a line that a failed read cut short
-/// is not.
+/// `NoMemory` where memory ran out here; `ReadFault` where the source failed, or gave no end within
+/// 4,294,967,295 reads; `Stopped` where the taker stopped. No line is handed over after that, and a
+/// line that a failed read cut short is not.
 pub fn take_lines<T: LineTaker, R: Source>(
     alloc: Global,
     taker: &mut T,
@@ -69,11 +72,16 @@ pub fn take_lines<T: LineTaker, R: Source>(
         (TakesFirst T.after taker.old taker.new (R.remaining source.old))
         (StopsAfter T.after T.stopped taker.old taker.new (R.remaining source.old))) }
 
+    // A further line can be counted.
+    ensures few { IfErr result (λ fault. MatchFault fault
+        (λ n. n < 2 ^ 63) (λ n. n < 2 ^ 63) (λ n _. n < 2 ^ 63)) }
+
     // Of the line that a failed read cut short nothing is taken.
     ensures read { IfErr result (λ fault. MatchFault fault (λ _. ⊤)
         (HasRead (R.remaining source.old) (R.remaining source.new)) (λ _ _. ⊤)) }
 
-    // The source failed where a read fault says so, or gave no end in 4,294,967,295 reads, and nowhere else.
+    // The source failed where a read fault says so, or gave no end in 4,294,967,295 reads, and
+    // nowhere else.
     ensures sound { OnOk result (R.has_failed source.new ≡ R.has_failed source.old) }
     ensures reason { IfErr result (λ fault. MatchFault fault
         (λ _. R.has_failed source.new ≡ R.has_failed source.old)

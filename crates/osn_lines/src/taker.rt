@@ -3,8 +3,8 @@ ghost use Rattle.std.specs.Prelude.{◌≡◌, ℕ, List, [], ◌∷◌, Option,
 ghost use Rattle.osn_lines.specs.Lines.{front_of};
 ghost use Rattle.osn_lines.specs.Taking.{Takes, Rests, Stops};
 
-/// What takes one line after another, and may stop. The words `after` and `stopped` are its own: what it has become by
-/// the lines that it took, and what a stop shows.
+/// What takes one line after another, and may stop. The words `after` and `stopped` are its own:
+/// what it has become by the lines that it took, and what a stop shows.
 pub trait LineTaker {
     /// Why it stops.
     type Stop;
@@ -12,8 +12,8 @@ pub trait LineTaker {
     // `after begun taken now`: what was `begun` is `now`, once it took these lines.
     ghost after: { Self → List (List ℕ) → Self → Type 0 };
 
-    // `stopped begun taken at now why`: what was `begun` took these lines, and stopped at this line, or between two
-    // lines where there is none. It is `now`, and has this reason.
+    // `stopped begun taken at now why`: what was `begun` took these lines, and stopped at this
+    // line, or between two lines where there is none. It is `now`, and has this reason.
     ghost stopped: { Self → List (List ℕ) → Option (List ℕ) → Self → Self.Stop → Type 0 };
 
     /// Takes a line, which is given by its first 65,537 bytes, without its line feed.

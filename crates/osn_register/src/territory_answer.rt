@@ -108,9 +108,8 @@ pub(crate) fn reading(
 ) -> Result<Answer, AllocError>
     ensures { IfOk result (λ a. a ≡ said.reading_answer present (Some territory.now) label) }
 {
-    let days = territory.read(label)?;
+    let (days, skipped) = territory.read_and_skipped(label)?;
     let found = read_days(alloc, territory, days.as_slice(), label)?;
-    let skipped = territory.skipped(label)?;
     Ok(Answer::Reading {
         found: Listing::new(found),
         skipped: Listing::new(skipped),

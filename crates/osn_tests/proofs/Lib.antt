@@ -1,2 +1,3 @@
 mod SearchLemmas
 mod TableLemmas
+pub mod LiveLemmas

@@ -22,7 +22,8 @@ find_none : (test : ℕ → Bool) (a n : ℕ) → ((d : ℕ) → a ≤ d → d <
     find test (range_with_len a n) ≡ None
 find_none test a zero none = refl
 find_none test a (suc n) none =
-    rw (none a (omega arith) (omega arith)) (find_none test (a + 1) n (λ d low high. none d (omega arith) (omega arith)))
+    rw (none a (omega arith) (omega arith)) (find_none test (a + 1) n
+    (λ d low high. none d (omega arith) (omega arith)))
 
 -- no day of the line passes
 pub none_on_line : (p : Profile) (test : ℕ → Bool) → ((d : ℕ) → IsDay p d → test d ≡ false) →
@@ -72,7 +73,8 @@ date_beside l = (l.0, l.1)
 
 in_row : (e : Epact) (d : MonthDay) (es : List Epact) (more : List Label) (rest : Option MonthDay) →
     option_map pair rest ≡ option_map date_beside (find (is_label e) more) →
-    option_map pair (cond (list_any (same_epact e) es) (Some d) rest) ≡ option_map date_beside (find (is_label e) (labels_of d es more))
+    option_map pair (cond (list_any (same_epact e) es) (Some d) rest) ≡ option_map date_beside
+    (find (is_label e) (labels_of d es more))
 unfolding labels_of
 in_row e d [] more rest h = h
 in_row e d (x ∷ xs) more rest h =
@@ -82,24 +84,30 @@ in_row e d (x ∷ xs) more rest h =
     ]
 
 map_cond : (b : Bool) (r : Row) (o : Option Row) →
-    option_map (λ (s : Row). s.date) (cond b (Some r) o) ≡ cond b (Some r.date) (option_map (λ (s : Row). s.date) o)
+    option_map (λ (s : Row). s.date) (cond b (Some r) o) ≡ cond b (Some r.date)
+    (option_map (λ (s : Row). s.date) o)
 map_cond true r o = refl
 map_cond false r o = refl
 
 -- the search through the rows is one through their epacts
 pub find_label : (e : Epact) (rows : List Row) →
-    option_map pair (option_map (λ (r : Row). r.date) (find (λ (r : Row). list_any (same_epact e) r.epacts) rows)) ≡ option_map date_beside (find (is_label e) (labels rows))
+    option_map pair (option_map (λ (r : Row). r.date)
+    (find (λ (r : Row). list_any (same_epact e) r.epacts) rows)) ≡ option_map date_beside
+    (find (is_label e) (labels rows))
 find_label e [] = refl
 find_label e (r ∷ rs) =
-    ap (λ o. option_map pair o) (map_cond (list_any (same_epact e) r.epacts) r (find (λ (s : Row). list_any (same_epact e) s.epacts) rs))
-    ∙ in_row e r.date r.epacts (labels rs) (option_map (λ (s : Row). s.date) (find (λ (s : Row). list_any (same_epact e) s.epacts) rs)) (find_label e rs)
+    ap (λ o. option_map pair o) (map_cond (list_any (same_epact e) r.epacts) r
+    (find (λ (s : Row). list_any (same_epact e) s.epacts) rs))
+    ∙ in_row e r.date r.epacts (labels rs) (option_map (λ (s : Row). s.date)
+    (find (λ (s : Row). list_any (same_epact e) s.epacts) rs)) (find_label e rs)
 
 -- a search that has come to one place
 pub find_here : {X : Type 0} (test : X → Bool) (rows : List X) (i : ℕ) (d : X) → i < length rows →
     find test rows ≡ find test (drop i rows) → test (get_or rows i d) ≡ true →
     find test rows ≡ Some (get_or rows i d)
 find_here test rows i d within so_far is =
-    so_far ∙ ap (λ xs. find test xs) (drop-cons rows i d within) ∙ ap (λ b. cond b (Some (get_or rows i d)) (find test (drop (suc i) rows))) is
+    so_far ∙ ap (λ xs. find test xs) (drop-cons rows i d within)
+    ∙ ap (λ b. cond b (Some (get_or rows i d)) (find test (drop (suc i) rows))) is
 
 pub find_later : {X : Type 0} (test : X → Bool) (rows : List X) (i : ℕ) (d : X) → i < length rows →
     find test rows ≡ find test (drop i rows) → test (get_or rows i d) ≡ false →
@@ -131,7 +139,8 @@ table_some (Some k) m d h =
     ap (λ (x : ℕ). let r : MonthDay = record { month = x; day = k.day } in Some r) (ap first h)
     ∙ ap (λ (x : ℕ). let r : MonthDay = record { month = m; day = x } in Some r) (ap second h)
 
-pub moved_13 : (r : Option ℕ) (d : ℕ) → (IsSome r ↔ IsOnLine present (pos d +ℤ pos 13)) → IfSome r (λ e. pos e ≡ pos d +ℤ pos 13) → d + 13 ≤ 1095362 → r ≡ Some (d + 13)
+pub moved_13 : (r : Option ℕ) (d : ℕ) → (IsSome r ↔ IsOnLine present (pos d +ℤ pos 13)) →
+    IfSome r (λ e. pos e ≡ pos d +ℤ pos 13) → d + 13 ≤ 1095362 → r ≡ Some (d + 13)
 moved_13 None d on value high = absurd (false≢true (on.1 (search arith, omega (arith, ints))))
 moved_13 (Some e) d on value high = ap Some (omega (arith, ints, value))
 
@@ -142,7 +151,8 @@ unfolding paschal_moon
 julian_moon y m table = rw table refl
 
 pub gregorian_moon : (y : ℕ) (m : MonthDay) → gregorian_new_moon (gregorian_epact y) ≡ Some m →
-    paschal_moon present Gregorian y ≡ option_map (λ d. d + 13) (day_with present calendar.Gregorian (date_in y m))
+    paschal_moon present Gregorian y ≡ option_map (λ d. d + 13)
+    (day_with present calendar.Gregorian (date_in y m))
 unfolding paschal_moon
 gregorian_moon y m table = rw table refl
 

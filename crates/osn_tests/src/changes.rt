@@ -8,193 +8,122 @@ use std::test::Fail;
 const RETURN: &str = r#"
 {"op":"add_land","code":"ZZ","name":"Return","calendar":"julian","style":"january","rule":"julian"}
 {"ok":"staged","pending":1}
-{"op":"add_change","code":"ZZ","day":577736,"calendar":"gregorian","style":"january","rule":"gregorian"}
+{"op":"add_change","code":"ZZ","day":577736,"calendar":"gregorian","style":"january",
+  "rule":"gregorian"}
 {"ok":"staged","pending":2}
 {"op":"add_change","code":"ZZ","day":577836,"calendar":"julian","style":"january","rule":"julian"}
 {"ok":"staged","pending":3}
 {"op":"publish"}
 {"edition":1,"ok":"published"}
 {"op":"read","reader":1,"code":"ZZ","year":1582,"month":10,"day":4}
-{"answer":{"days":[{"day":577735,"dual":"4 October 1582","gregorian":"1582-10-14","jdn":2299160,"julian":"1582-10-04","label":"1582-10-04","weekday":"Thursday"}],"skipped":[]},"edition":1,"reader":1}
+{"answer":{"days":[{"day":577735,"dual":"4 October 1582","gregorian":"1582-10-14","jdn":2299160,
+  "julian":"1582-10-04","label":"1582-10-04","weekday":"Thursday"}],"skipped":[]},"edition":1,
+  "reader":1}
 {"op":"read","reader":1,"code":"ZZ","year":1582,"month":10,"day":5}
 {"answer":{"days":[],"skipped":[577736]},"edition":1,"reader":1}
 {"op":"read","reader":1,"code":"ZZ","year":1582,"month":10,"day":14}
 {"answer":{"days":[],"skipped":[577736]},"edition":1,"reader":1}
 {"op":"read","reader":1,"code":"ZZ","year":1582,"month":10,"day":15}
-{"answer":{"days":[{"day":577736,"dual":"15 October 1582","gregorian":"1582-10-15","jdn":2299161,"julian":"1582-10-05","label":"1582-10-15","weekday":"Friday"}],"skipped":[]},"edition":1,"reader":1}
+{"answer":{"days":[{"day":577736,"dual":"15 October 1582","gregorian":"1582-10-15","jdn":2299161,
+  "julian":"1582-10-05","label":"1582-10-15","weekday":"Friday"}],"skipped":[]},"edition":1,
+  "reader":1}
 {"op":"read","reader":1,"code":"ZZ","year":1583,"month":1,"day":12}
-{"answer":{"days":[{"day":577825,"dual":"12 January 1583","gregorian":"1583-01-12","jdn":2299250,"julian":"1583-01-02","label":"1583-01-12","weekday":"Wednesday"}],"skipped":[]},"edition":1,"reader":1}
+{"answer":{"days":[{"day":577825,"dual":"12 January 1583","gregorian":"1583-01-12","jdn":2299250,
+  "julian":"1583-01-02","label":"1583-01-12","weekday":"Wednesday"}],"skipped":[]},"edition":1,
+  "reader":1}
 {"op":"read","reader":1,"code":"ZZ","year":1583,"month":1,"day":13}
-{"answer":{"days":[{"day":577826,"dual":"13 January 1583","gregorian":"1583-01-13","jdn":2299251,"julian":"1583-01-03","label":"1583-01-13","weekday":"Thursday"},{"day":577836,"dual":"13 January 1583","gregorian":"1583-01-23","jdn":2299261,"julian":"1583-01-13","label":"1583-01-13","weekday":"Sunday"}],"skipped":[]},"edition":1,"reader":1}
+{"answer":{"days":[{"day":577826,"dual":"13 January 1583","gregorian":"1583-01-13","jdn":2299251,
+  "julian":"1583-01-03","label":"1583-01-13","weekday":"Thursday"},{"day":577836,
+  "dual":"13 January 1583","gregorian":"1583-01-23","jdn":2299261,"julian":"1583-01-13",
+  "label":"1583-01-13","weekday":"Sunday"}],"skipped":[]},"edition":1,"reader":1}
 {"op":"read","reader":1,"code":"ZZ","year":1583,"month":1,"day":20}
-{"answer":{"days":[{"day":577833,"dual":"20 January 1583","gregorian":"1583-01-20","jdn":2299258,"julian":"1583-01-10","label":"1583-01-20","weekday":"Thursday"},{"day":577843,"dual":"20 January 1583","gregorian":"1583-01-30","jdn":2299268,"julian":"1583-01-20","label":"1583-01-20","weekday":"Sunday"}],"skipped":[]},"edition":1,"reader":1}
+{"answer":{"days":[{"day":577833,"dual":"20 January 1583","gregorian":"1583-01-20","jdn":2299258,
+  "julian":"1583-01-10","label":"1583-01-20","weekday":"Thursday"},{"day":577843,
+  "dual":"20 January 1583","gregorian":"1583-01-30","jdn":2299268,"julian":"1583-01-20",
+  "label":"1583-01-20","weekday":"Sunday"}],"skipped":[]},"edition":1,"reader":1}
 {"op":"read","reader":1,"code":"ZZ","year":1583,"month":1,"day":22}
-{"answer":{"days":[{"day":577835,"dual":"22 January 1583","gregorian":"1583-01-22","jdn":2299260,"julian":"1583-01-12","label":"1583-01-22","weekday":"Saturday"},{"day":577845,"dual":"22 January 1583","gregorian":"1583-02-01","jdn":2299270,"julian":"1583-01-22","label":"1583-01-22","weekday":"Tuesday"}],"skipped":[]},"edition":1,"reader":1}
+{"answer":{"days":[{"day":577835,"dual":"22 January 1583","gregorian":"1583-01-22","jdn":2299260,
+  "julian":"1583-01-12","label":"1583-01-22","weekday":"Saturday"},{"day":577845,
+  "dual":"22 January 1583","gregorian":"1583-02-01","jdn":2299270,"julian":"1583-01-22",
+  "label":"1583-01-22","weekday":"Tuesday"}],"skipped":[]},"edition":1,"reader":1}
 {"op":"read","reader":1,"code":"ZZ","year":1583,"month":1,"day":23}
-{"answer":{"days":[{"day":577846,"dual":"23 January 1583","gregorian":"1583-02-02","jdn":2299271,"julian":"1583-01-23","label":"1583-01-23","weekday":"Wednesday"}],"skipped":[]},"edition":1,"reader":1}
+{"answer":{"days":[{"day":577846,"dual":"23 January 1583","gregorian":"1583-02-02","jdn":2299271,
+  "julian":"1583-01-23","label":"1583-01-23","weekday":"Wednesday"}],"skipped":[]},"edition":1,
+  "reader":1}
 {"op":"day","reader":1,"code":"ZZ","day":577735}
-{"answer":{"first":1,"found":{"day":577735,"dual":"4 October 1582","gregorian":"1582-10-14","jdn":2299160,"julian":"1582-10-04","label":"1582-10-04","weekday":"Thursday"},"last":577735,"regime":{"calendar":"julian","rule":"julian","style":"january"}},"edition":1,"reader":1}
+{"answer":{"first":1,"found":{"day":577735,"dual":"4 October 1582","gregorian":"1582-10-14",
+  "jdn":2299160,"julian":"1582-10-04","label":"1582-10-04","weekday":"Thursday"},"last":577735,
+  "regime":{"calendar":"julian","rule":"julian","style":"january"}},"edition":1,"reader":1}
 {"op":"day","reader":1,"code":"ZZ","day":577736}
-{"answer":{"first":577736,"found":{"day":577736,"dual":"15 October 1582","gregorian":"1582-10-15","jdn":2299161,"julian":"1582-10-05","label":"1582-10-15","weekday":"Friday"},"last":577835,"regime":{"calendar":"gregorian","rule":"gregorian","style":"january"}},"edition":1,"reader":1}
+{"answer":{"first":577736,"found":{"day":577736,"dual":"15 October 1582","gregorian":"1582-10-15",
+  "jdn":2299161,"julian":"1582-10-05","label":"1582-10-15","weekday":"Friday"},"last":577835,
+  "regime":{"calendar":"gregorian","rule":"gregorian","style":"january"}},"edition":1,"reader":1}
 {"op":"day","reader":1,"code":"ZZ","day":577835}
-{"answer":{"first":577736,"found":{"day":577835,"dual":"22 January 1583","gregorian":"1583-01-22","jdn":2299260,"julian":"1583-01-12","label":"1583-01-22","weekday":"Saturday"},"last":577835,"regime":{"calendar":"gregorian","rule":"gregorian","style":"january"}},"edition":1,"reader":1}
+{"answer":{"first":577736,"found":{"day":577835,"dual":"22 January 1583","gregorian":"1583-01-22",
+  "jdn":2299260,"julian":"1583-01-12","label":"1583-01-22","weekday":"Saturday"},"last":577835,
+  "regime":{"calendar":"gregorian","rule":"gregorian","style":"january"}},"edition":1,"reader":1}
 {"op":"day","reader":1,"code":"ZZ","day":577836}
-{"answer":{"first":577836,"found":{"day":577836,"dual":"13 January 1583","gregorian":"1583-01-23","jdn":2299261,"julian":"1583-01-13","label":"1583-01-13","weekday":"Sunday"},"last":1095362,"regime":{"calendar":"julian","rule":"julian","style":"january"}},"edition":1,"reader":1}
+{"answer":{"first":577836,"found":{"day":577836,"dual":"13 January 1583","gregorian":"1583-01-23",
+  "jdn":2299261,"julian":"1583-01-13","label":"1583-01-13","weekday":"Sunday"},"last":1095362,
+  "regime":{"calendar":"julian","rule":"julian","style":"january"}},"edition":1,"reader":1}
 "#;
 
 /// Dates skipped at the one or the other of equal changes, and dates from before the line.
 const SKIPPED: &str = r#"
 {"op":"add_land","code":"AB","name":"Apart","calendar":"julian","style":"january","rule":"julian"}
 {"ok":"staged","pending":1}
-{"op":"add_change","code":"AB","day":639797,"calendar":"gregorian","style":"january","rule":"gregorian"}
+{"op":"add_change","code":"AB","day":639797,"calendar":"gregorian","style":"january",
+  "rule":"gregorian"}
 {"ok":"staged","pending":2}
 {"op":"add_change","code":"AB","day":639897,"calendar":"julian","style":"january","rule":"julian"}
 {"ok":"staged","pending":3}
-{"op":"add_change","code":"AB","day":640000,"calendar":"gregorian","style":"january","rule":"gregorian"}
+{"op":"add_change","code":"AB","day":640000,"calendar":"gregorian","style":"january",
+  "rule":"gregorian"}
 {"ok":"staged","pending":4}
 {"op":"add_land","code":"OW","name":"Only","calendar":"julian","style":"january","rule":"julian"}
 {"ok":"staged","pending":5}
-{"op":"add_change","code":"OW","day":639797,"calendar":"gregorian","style":"january","rule":"gregorian"}
+{"op":"add_change","code":"OW","day":639797,"calendar":"gregorian","style":"january",
+  "rule":"gregorian"}
 {"ok":"staged","pending":6}
 {"op":"publish"}
 {"edition":1,"ok":"published"}
 {"op":"read","reader":1,"code":"AB","year":1752,"month":9,"day":3}
 {"answer":{"days":[],"skipped":[639797]},"edition":1,"reader":1}
 {"op":"read","reader":1,"code":"AB","year":1752,"month":12,"day":10}
-{"answer":{"days":[{"day":639884,"dual":"10 December 1752","gregorian":"1752-12-10","jdn":2361309,"julian":"1752-11-29","label":"1752-12-10","weekday":"Sunday"}],"skipped":[]},"edition":1,"reader":1}
+{"answer":{"days":[{"day":639884,"dual":"10 December 1752","gregorian":"1752-12-10","jdn":2361309,
+  "julian":"1752-11-29","label":"1752-12-10","weekday":"Sunday"}],"skipped":[]},"edition":1,
+  "reader":1}
 {"op":"read","reader":1,"code":"AB","year":1753,"month":3,"day":25}
 {"answer":{"days":[],"skipped":[640000]},"edition":1,"reader":1}
 {"op":"read","reader":1,"code":"AB","year":1752,"month":12,"day":15}
-{"answer":{"days":[{"day":639889,"dual":"15 December 1752","gregorian":"1752-12-15","jdn":2361314,"julian":"1752-12-04","label":"1752-12-15","weekday":"Friday"},{"day":639900,"dual":"15 December 1752","gregorian":"1752-12-26","jdn":2361325,"julian":"1752-12-15","label":"1752-12-15","weekday":"Tuesday"}],"skipped":[]},"edition":1,"reader":1}
+{"answer":{"days":[{"day":639889,"dual":"15 December 1752","gregorian":"1752-12-15","jdn":2361314,
+  "julian":"1752-12-04","label":"1752-12-15","weekday":"Friday"},{"day":639900,
+  "dual":"15 December 1752","gregorian":"1752-12-26","jdn":2361325,"julian":"1752-12-15",
+  "label":"1752-12-15","weekday":"Tuesday"}],"skipped":[]},"edition":1,"reader":1}
 {"op":"read","reader":1,"code":"OW","year":1,"month":1,"day":1}
 {"answer":{"days":[],"skipped":[639797]},"edition":1,"reader":1}
 {"op":"read","reader":1,"code":"OW","year":1,"month":1,"day":2}
 {"answer":{"days":[],"skipped":[639797]},"edition":1,"reader":1}
 {"op":"read","reader":1,"code":"OW","year":1,"month":1,"day":3}
-{"answer":{"days":[{"day":1,"dual":"3 January 1","gregorian":"0001-01-01","jdn":1721426,"julian":"0001-01-03","label":"0001-01-03","weekday":"Monday"}],"skipped":[]},"edition":1,"reader":1}
+{"answer":{"days":[{"day":1,"dual":"3 January 1","gregorian":"0001-01-01","jdn":1721426,
+  "julian":"0001-01-03","label":"0001-01-03","weekday":"Monday"}],"skipped":[]},"edition":1,
+  "reader":1}
 {"op":"read","reader":1,"code":"OW","year":2999,"month":12,"day":31}
-{"answer":{"days":[{"day":1095362,"dual":"31 December 2999","gregorian":"2999-12-31","jdn":2816787,"julian":"2999-12-11","label":"2999-12-31","weekday":"Tuesday"}],"skipped":[]},"edition":1,"reader":1}
+{"answer":{"days":[{"day":1095362,"dual":"31 December 2999","gregorian":"2999-12-31","jdn":2816787,
+  "julian":"2999-12-11","label":"2999-12-31","weekday":"Tuesday"}],"skipped":[]},"edition":1,
+  "reader":1}
 {"op":"read","reader":1,"code":"OW","year":3000,"month":1,"day":1}
 {"answer":{"days":[],"skipped":[]},"edition":1,"reader":1}
 {"op":"read","reader":1,"code":"OW","year":0,"month":12,"day":31}
 {"answer":{"days":[],"skipped":[]},"edition":1,"reader":1}
 "#;
 
-/// A territory that changes its calendar forty times, as often as it may.
-const FORTY: &str = r#"
-{"op":"add_land","code":"PP","name":"Swings","calendar":"julian","style":"january","rule":"julian"}
-{"ok":"staged","pending":1}
-{"op":"add_change","code":"PP","day":401000,"calendar":"gregorian","style":"january","rule":"gregorian"}
-{"ok":"staged","pending":2}
-{"op":"add_change","code":"PP","day":402000,"calendar":"julian","style":"january","rule":"julian"}
-{"ok":"staged","pending":3}
-{"op":"add_change","code":"PP","day":403000,"calendar":"gregorian","style":"january","rule":"gregorian"}
-{"ok":"staged","pending":4}
-{"op":"add_change","code":"PP","day":404000,"calendar":"julian","style":"january","rule":"julian"}
-{"ok":"staged","pending":5}
-{"op":"add_change","code":"PP","day":405000,"calendar":"gregorian","style":"january","rule":"gregorian"}
-{"ok":"staged","pending":6}
-{"op":"add_change","code":"PP","day":406000,"calendar":"julian","style":"january","rule":"julian"}
-{"ok":"staged","pending":7}
-{"op":"add_change","code":"PP","day":407000,"calendar":"gregorian","style":"january","rule":"gregorian"}
-{"ok":"staged","pending":8}
-{"op":"add_change","code":"PP","day":408000,"calendar":"julian","style":"january","rule":"julian"}
-{"ok":"staged","pending":9}
-{"op":"add_change","code":"PP","day":409000,"calendar":"gregorian","style":"january","rule":"gregorian"}
-{"ok":"staged","pending":10}
-{"op":"add_change","code":"PP","day":410000,"calendar":"julian","style":"january","rule":"julian"}
-{"ok":"staged","pending":11}
-{"op":"add_change","code":"PP","day":411000,"calendar":"gregorian","style":"january","rule":"gregorian"}
-{"ok":"staged","pending":12}
-{"op":"add_change","code":"PP","day":412000,"calendar":"julian","style":"january","rule":"julian"}
-{"ok":"staged","pending":13}
-{"op":"add_change","code":"PP","day":413000,"calendar":"gregorian","style":"january","rule":"gregorian"}
-{"ok":"staged","pending":14}
-{"op":"add_change","code":"PP","day":414000,"calendar":"julian","style":"january","rule":"julian"}
-{"ok":"staged","pending":15}
-{"op":"add_change","code":"PP","day":415000,"calendar":"gregorian","style":"january","rule":"gregorian"}
-{"ok":"staged","pending":16}
-{"op":"add_change","code":"PP","day":416000,"calendar":"julian","style":"january","rule":"julian"}
-{"ok":"staged","pending":17}
-{"op":"add_change","code":"PP","day":417000,"calendar":"gregorian","style":"january","rule":"gregorian"}
-{"ok":"staged","pending":18}
-{"op":"add_change","code":"PP","day":418000,"calendar":"julian","style":"january","rule":"julian"}
-{"ok":"staged","pending":19}
-{"op":"add_change","code":"PP","day":419000,"calendar":"gregorian","style":"january","rule":"gregorian"}
-{"ok":"staged","pending":20}
-{"op":"add_change","code":"PP","day":420000,"calendar":"julian","style":"january","rule":"julian"}
-{"ok":"staged","pending":21}
-{"op":"add_change","code":"PP","day":421000,"calendar":"gregorian","style":"january","rule":"gregorian"}
-{"ok":"staged","pending":22}
-{"op":"add_change","code":"PP","day":422000,"calendar":"julian","style":"january","rule":"julian"}
-{"ok":"staged","pending":23}
-{"op":"add_change","code":"PP","day":423000,"calendar":"gregorian","style":"january","rule":"gregorian"}
-{"ok":"staged","pending":24}
-{"op":"add_change","code":"PP","day":424000,"calendar":"julian","style":"january","rule":"julian"}
-{"ok":"staged","pending":25}
-{"op":"add_change","code":"PP","day":425000,"calendar":"gregorian","style":"january","rule":"gregorian"}
-{"ok":"staged","pending":26}
-{"op":"add_change","code":"PP","day":426000,"calendar":"julian","style":"january","rule":"julian"}
-{"ok":"staged","pending":27}
-{"op":"add_change","code":"PP","day":427000,"calendar":"gregorian","style":"january","rule":"gregorian"}
-{"ok":"staged","pending":28}
-{"op":"add_change","code":"PP","day":428000,"calendar":"julian","style":"january","rule":"julian"}
-{"ok":"staged","pending":29}
-{"op":"add_change","code":"PP","day":429000,"calendar":"gregorian","style":"january","rule":"gregorian"}
-{"ok":"staged","pending":30}
-{"op":"add_change","code":"PP","day":430000,"calendar":"julian","style":"january","rule":"julian"}
-{"ok":"staged","pending":31}
-{"op":"add_change","code":"PP","day":431000,"calendar":"gregorian","style":"january","rule":"gregorian"}
-{"ok":"staged","pending":32}
-{"op":"add_change","code":"PP","day":432000,"calendar":"julian","style":"january","rule":"julian"}
-{"ok":"staged","pending":33}
-{"op":"add_change","code":"PP","day":433000,"calendar":"gregorian","style":"january","rule":"gregorian"}
-{"ok":"staged","pending":34}
-{"op":"add_change","code":"PP","day":434000,"calendar":"julian","style":"january","rule":"julian"}
-{"ok":"staged","pending":35}
-{"op":"add_change","code":"PP","day":435000,"calendar":"gregorian","style":"january","rule":"gregorian"}
-{"ok":"staged","pending":36}
-{"op":"add_change","code":"PP","day":436000,"calendar":"julian","style":"january","rule":"julian"}
-{"ok":"staged","pending":37}
-{"op":"add_change","code":"PP","day":437000,"calendar":"gregorian","style":"january","rule":"gregorian"}
-{"ok":"staged","pending":38}
-{"op":"add_change","code":"PP","day":438000,"calendar":"julian","style":"january","rule":"julian"}
-{"ok":"staged","pending":39}
-{"op":"add_change","code":"PP","day":439000,"calendar":"gregorian","style":"january","rule":"gregorian"}
-{"ok":"staged","pending":40}
-{"op":"add_change","code":"PP","day":440000,"calendar":"julian","style":"january","rule":"julian"}
-{"ok":"staged","pending":41}
-{"op":"publish"}
-{"edition":1,"ok":"published"}
-{"op":"day","reader":1,"code":"PP","day":420999}
-{"answer":{"first":420000,"found":{"day":420999,"dual":"21 August 1153","gregorian":"1153-08-28","jdn":2142424,"julian":"1153-08-21","label":"1153-08-21","weekday":"Friday"},"last":420999,"regime":{"calendar":"julian","rule":"julian","style":"january"}},"edition":1,"reader":1}
-{"op":"day","reader":1,"code":"PP","day":421000}
-{"answer":{"first":421000,"found":{"day":421000,"dual":"29 August 1153","gregorian":"1153-08-29","jdn":2142425,"julian":"1153-08-22","label":"1153-08-29","weekday":"Saturday"},"last":421999,"regime":{"calendar":"gregorian","rule":"gregorian","style":"january"}},"edition":1,"reader":1}
-{"op":"read","reader":1,"code":"PP","year":1153,"month":8,"day":29}
-{"answer":{"days":[{"day":421000,"dual":"29 August 1153","gregorian":"1153-08-29","jdn":2142425,"julian":"1153-08-22","label":"1153-08-29","weekday":"Saturday"}],"skipped":[]},"edition":1,"reader":1}
-{"op":"read","reader":1,"code":"PP","year":1153,"month":8,"day":25}
-{"answer":{"days":[],"skipped":[421000]},"edition":1,"reader":1}
-{"op":"read","reader":1,"code":"PP","year":1153,"month":8,"day":22}
-{"answer":{"days":[],"skipped":[421000]},"edition":1,"reader":1}
-{"op":"read","reader":1,"code":"PP","year":1203,"month":6,"day":20}
-{"answer":{"days":[{"day":439192,"dual":"20 June 1203","gregorian":"1203-06-20","jdn":2160617,"julian":"1203-06-13","label":"1203-06-20","weekday":"Friday"}],"skipped":[]},"edition":1,"reader":1}
-{"op":"read","reader":1,"code":"PP","year":1100,"month":2,"day":29}
-{"answer":{"days":[],"skipped":[401000,402000,404000,406000,408000,410000,412000,414000,416000,418000,420000,422000,424000,426000,428000,430000,432000,434000,436000,438000,440000]},"edition":1,"reader":1}
-{"op":"read","reader":1,"code":"PP","year":2000,"month":2,"day":29}
-{"answer":{"days":[{"day":730192,"dual":"29 February 2000","gregorian":"2000-03-13","jdn":2451617,"julian":"2000-02-29","label":"2000-02-29","weekday":"Monday"}],"skipped":[]},"edition":1,"reader":1}
-{"op":"add_change","code":"PP","day":440000,"calendar":"julian","style":"january","rule":"julian"}
-{"fault":6,"name":"ChangeExists"}
-{"op":"add_change","code":"PP","day":441000,"calendar":"julian","style":"january","rule":"julian"}
-{"fault":13,"name":"TooManyChanges"}
-{"op":"periods","reader":1,"code":"PP"}
-{"answer":{"periods":[{"calendar":"julian","first":1,"last":400999,"rule":"julian","style":"january"},{"calendar":"gregorian","first":401000,"last":401999,"rule":"gregorian","style":"january"},{"calendar":"julian","first":402000,"last":402999,"rule":"julian","style":"january"},{"calendar":"gregorian","first":403000,"last":403999,"rule":"gregorian","style":"january"},{"calendar":"julian","first":404000,"last":404999,"rule":"julian","style":"january"},{"calendar":"gregorian","first":405000,"last":405999,"rule":"gregorian","style":"january"},{"calendar":"julian","first":406000,"last":406999,"rule":"julian","style":"january"},{"calendar":"gregorian","first":407000,"last":407999,"rule":"gregorian","style":"january"},{"calendar":"julian","first":408000,"last":408999,"rule":"julian","style":"january"},{"calendar":"gregorian","first":409000,"last":409999,"rule":"gregorian","style":"january"},{"calendar":"julian","first":410000,"last":410999,"rule":"julian","style":"january"},{"calendar":"gregorian","first":411000,"last":411999,"rule":"gregorian","style":"january"},{"calendar":"julian","first":412000,"last":412999,"rule":"julian","style":"january"},{"calendar":"gregorian","first":413000,"last":413999,"rule":"gregorian","style":"january"},{"calendar":"julian","first":414000,"last":414999,"rule":"julian","style":"january"},{"calendar":"gregorian","first":415000,"last":415999,"rule":"gregorian","style":"january"},{"calendar":"julian","first":416000,"last":416999,"rule":"julian","style":"january"},{"calendar":"gregorian","first":417000,"last":417999,"rule":"gregorian","style":"january"},{"calendar":"julian","first":418000,"last":418999,"rule":"julian","style":"january"},{"calendar":"gregorian","first":419000,"last":419999,"rule":"gregorian","style":"january"},{"calendar":"julian","first":420000,"last":420999,"rule":"julian","style":"january"},{"calendar":"gregorian","first":421000,"last":421999,"rule":"gregorian","style":"january"},{"calendar":"julian","first":422000,"last":422999,"rule":"julian","style":"january"},{"calendar":"gregorian","first":423000,"last":423999,"rule":"gregorian","style":"january"},{"calendar":"julian","first":424000,"last":424999,"rule":"julian","style":"january"},{"calendar":"gregorian","first":425000,"last":425999,"rule":"gregorian","style":"january"},{"calendar":"julian","first":426000,"last":426999,"rule":"julian","style":"january"},{"calendar":"gregorian","first":427000,"last":427999,"rule":"gregorian","style":"january"},{"calendar":"julian","first":428000,"last":428999,"rule":"julian","style":"january"},{"calendar":"gregorian","first":429000,"last":429999,"rule":"gregorian","style":"january"},{"calendar":"julian","first":430000,"last":430999,"rule":"julian","style":"january"},{"calendar":"gregorian","first":431000,"last":431999,"rule":"gregorian","style":"january"},{"calendar":"julian","first":432000,"last":432999,"rule":"julian","style":"january"},{"calendar":"gregorian","first":433000,"last":433999,"rule":"gregorian","style":"january"},{"calendar":"julian","first":434000,"last":434999,"rule":"julian","style":"january"},{"calendar":"gregorian","first":435000,"last":435999,"rule":"gregorian","style":"january"},{"calendar":"julian","first":436000,"last":436999,"rule":"julian","style":"january"},{"calendar":"gregorian","first":437000,"last":437999,"rule":"gregorian","style":"january"},{"calendar":"julian","first":438000,"last":438999,"rule":"julian","style":"january"},{"calendar":"gregorian","first":439000,"last":439999,"rule":"gregorian","style":"january"},{"calendar":"julian","first":440000,"last":1095362,"rule":"julian","style":"january"}]},"edition":1,"reader":1}
-"#;
-
 /// Periods of one day, at both ends of the line.
 const EDGES: &str = r#"
 {"op":"add_land","code":"ED","name":"Edges","calendar":"julian","style":"january","rule":"julian"}
 {"ok":"staged","pending":1}
-{"op":"add_change","code":"ED","day":1095362,"calendar":"gregorian","style":"january","rule":"gregorian"}
+{"op":"add_change","code":"ED","day":1095362,"calendar":"gregorian","style":"january",
+  "rule":"gregorian"}
 {"ok":"staged","pending":2}
 {"op":"add_change","code":"ED","day":2,"calendar":"gregorian","style":"january","rule":"gregorian"}
 {"ok":"staged","pending":3}
@@ -203,55 +132,91 @@ const EDGES: &str = r#"
 {"op":"publish"}
 {"edition":1,"ok":"published"}
 {"op":"periods","reader":1,"code":"ED"}
-{"answer":{"periods":[{"calendar":"julian","first":1,"last":1,"rule":"julian","style":"january"},{"calendar":"gregorian","first":2,"last":2,"rule":"gregorian","style":"january"},{"calendar":"julian","first":3,"last":1095361,"rule":"julian","style":"january"},{"calendar":"gregorian","first":1095362,"last":1095362,"rule":"gregorian","style":"january"}]},"edition":1,"reader":1}
+{"answer":{"periods":[{"calendar":"julian","first":1,"last":1,"rule":"julian","style":"january"},
+  {"calendar":"gregorian","first":2,"last":2,"rule":"gregorian","style":"january"},
+  {"calendar":"julian","first":3,"last":1095361,"rule":"julian","style":"january"},
+  {"calendar":"gregorian","first":1095362,"last":1095362,"rule":"gregorian","style":"january"}]},
+  "edition":1,"reader":1}
 {"op":"day","reader":1,"code":"ED","day":1}
-{"answer":{"first":1,"found":{"day":1,"dual":"3 January 1","gregorian":"0001-01-01","jdn":1721426,"julian":"0001-01-03","label":"0001-01-03","weekday":"Monday"},"last":1,"regime":{"calendar":"julian","rule":"julian","style":"january"}},"edition":1,"reader":1}
+{"answer":{"first":1,"found":{"day":1,"dual":"3 January 1","gregorian":"0001-01-01","jdn":1721426,
+  "julian":"0001-01-03","label":"0001-01-03","weekday":"Monday"},"last":1,
+  "regime":{"calendar":"julian","rule":"julian","style":"january"}},"edition":1,"reader":1}
 {"op":"day","reader":1,"code":"ED","day":2}
-{"answer":{"first":2,"found":{"day":2,"dual":"2 January 1","gregorian":"0001-01-02","jdn":1721427,"julian":"0001-01-04","label":"0001-01-02","weekday":"Tuesday"},"last":2,"regime":{"calendar":"gregorian","rule":"gregorian","style":"january"}},"edition":1,"reader":1}
+{"answer":{"first":2,"found":{"day":2,"dual":"2 January 1","gregorian":"0001-01-02","jdn":1721427,
+  "julian":"0001-01-04","label":"0001-01-02","weekday":"Tuesday"},"last":2,
+  "regime":{"calendar":"gregorian","rule":"gregorian","style":"january"}},"edition":1,"reader":1}
 {"op":"day","reader":1,"code":"ED","day":3}
-{"answer":{"first":3,"found":{"day":3,"dual":"5 January 1","gregorian":"0001-01-03","jdn":1721428,"julian":"0001-01-05","label":"0001-01-05","weekday":"Wednesday"},"last":1095361,"regime":{"calendar":"julian","rule":"julian","style":"january"}},"edition":1,"reader":1}
+{"answer":{"first":3,"found":{"day":3,"dual":"5 January 1","gregorian":"0001-01-03","jdn":1721428,
+  "julian":"0001-01-05","label":"0001-01-05","weekday":"Wednesday"},"last":1095361,
+  "regime":{"calendar":"julian","rule":"julian","style":"january"}},"edition":1,"reader":1}
 {"op":"day","reader":1,"code":"ED","day":1095361}
-{"answer":{"first":3,"found":{"day":1095361,"dual":"10 December 2999","gregorian":"2999-12-30","jdn":2816786,"julian":"2999-12-10","label":"2999-12-10","weekday":"Monday"},"last":1095361,"regime":{"calendar":"julian","rule":"julian","style":"january"}},"edition":1,"reader":1}
+{"answer":{"first":3,"found":{"day":1095361,"dual":"10 December 2999","gregorian":"2999-12-30",
+  "jdn":2816786,"julian":"2999-12-10","label":"2999-12-10","weekday":"Monday"},"last":1095361,
+  "regime":{"calendar":"julian","rule":"julian","style":"january"}},"edition":1,"reader":1}
 {"op":"day","reader":1,"code":"ED","day":1095362}
-{"answer":{"first":1095362,"found":{"day":1095362,"dual":"31 December 2999","gregorian":"2999-12-31","jdn":2816787,"julian":"2999-12-11","label":"2999-12-31","weekday":"Tuesday"},"last":1095362,"regime":{"calendar":"gregorian","rule":"gregorian","style":"january"}},"edition":1,"reader":1}
+{"answer":{"first":1095362,"found":{"day":1095362,"dual":"31 December 2999",
+  "gregorian":"2999-12-31","jdn":2816787,"julian":"2999-12-11","label":"2999-12-31",
+  "weekday":"Tuesday"},"last":1095362,"regime":{"calendar":"gregorian","rule":"gregorian",
+  "style":"january"}},"edition":1,"reader":1}
 {"op":"read","reader":1,"code":"ED","year":1,"month":1,"day":3}
-{"answer":{"days":[{"day":1,"dual":"3 January 1","gregorian":"0001-01-01","jdn":1721426,"julian":"0001-01-03","label":"0001-01-03","weekday":"Monday"}],"skipped":[3]},"edition":1,"reader":1}
+{"answer":{"days":[{"day":1,"dual":"3 January 1","gregorian":"0001-01-01","jdn":1721426,
+  "julian":"0001-01-03","label":"0001-01-03","weekday":"Monday"}],"skipped":[3]},"edition":1,
+  "reader":1}
 {"op":"read","reader":1,"code":"ED","year":1,"month":1,"day":2}
-{"answer":{"days":[{"day":2,"dual":"2 January 1","gregorian":"0001-01-02","jdn":1721427,"julian":"0001-01-04","label":"0001-01-02","weekday":"Tuesday"}],"skipped":[1095362]},"edition":1,"reader":1}
+{"answer":{"days":[{"day":2,"dual":"2 January 1","gregorian":"0001-01-02","jdn":1721427,
+  "julian":"0001-01-04","label":"0001-01-02","weekday":"Tuesday"}],"skipped":[1095362]},"edition":1,
+  "reader":1}
 {"op":"read","reader":1,"code":"ED","year":1,"month":1,"day":5}
-{"answer":{"days":[{"day":3,"dual":"5 January 1","gregorian":"0001-01-03","jdn":1721428,"julian":"0001-01-05","label":"0001-01-05","weekday":"Wednesday"}],"skipped":[]},"edition":1,"reader":1}
+{"answer":{"days":[{"day":3,"dual":"5 January 1","gregorian":"0001-01-03","jdn":1721428,
+  "julian":"0001-01-05","label":"0001-01-05","weekday":"Wednesday"}],"skipped":[]},"edition":1,
+  "reader":1}
 {"op":"read","reader":1,"code":"ED","year":2999,"month":12,"day":31}
-{"answer":{"days":[{"day":1095362,"dual":"31 December 2999","gregorian":"2999-12-31","jdn":2816787,"julian":"2999-12-11","label":"2999-12-31","weekday":"Tuesday"}],"skipped":[3]},"edition":1,"reader":1}
+{"answer":{"days":[{"day":1095362,"dual":"31 December 2999","gregorian":"2999-12-31","jdn":2816787,
+  "julian":"2999-12-11","label":"2999-12-31","weekday":"Tuesday"}],"skipped":[3]},"edition":1,
+  "reader":1}
 {"op":"read","reader":1,"code":"ED","year":2999,"month":12,"day":10}
-{"answer":{"days":[{"day":1095361,"dual":"10 December 2999","gregorian":"2999-12-30","jdn":2816786,"julian":"2999-12-10","label":"2999-12-10","weekday":"Monday"}],"skipped":[]},"edition":1,"reader":1}
+{"answer":{"days":[{"day":1095361,"dual":"10 December 2999","gregorian":"2999-12-30","jdn":2816786,
+  "julian":"2999-12-10","label":"2999-12-10","weekday":"Monday"}],"skipped":[]},"edition":1,
+  "reader":1}
 {"op":"read","reader":1,"code":"ED","year":2999,"month":12,"day":11}
 {"answer":{"days":[],"skipped":[1095362]},"edition":1,"reader":1}
 {"op":"drop_change","code":"ED","day":1095362}
 {"ok":"staged","pending":1}
 {"op":"drop_change","code":"ED","day":2}
 {"ok":"staged","pending":2}
-{"op":"alter_change","code":"ED","day":3,"calendar":"gregorian","style":"january","rule":"gregorian"}
+{"op":"alter_change","code":"ED","day":3,"calendar":"gregorian","style":"january",
+  "rule":"gregorian"}
 {"ok":"staged","pending":3}
 {"op":"publish"}
 {"edition":2,"ok":"published"}
 {"op":"periods","reader":1,"code":"ED"}
-{"answer":{"periods":[{"calendar":"julian","first":1,"last":2,"rule":"julian","style":"january"},{"calendar":"gregorian","first":3,"last":1095362,"rule":"gregorian","style":"january"}]},"edition":2,"reader":1}
+{"answer":{"periods":[{"calendar":"julian","first":1,"last":2,"rule":"julian","style":"january"},
+  {"calendar":"gregorian","first":3,"last":1095362,"rule":"gregorian","style":"january"}]},
+  "edition":2,"reader":1}
 {"op":"read","reader":1,"code":"ED","year":2999,"month":12,"day":11}
-{"answer":{"days":[{"day":1095342,"dual":"11 December 2999","gregorian":"2999-12-11","jdn":2816767,"julian":"2999-11-21","label":"2999-12-11","weekday":"Wednesday"}],"skipped":[]},"edition":2,"reader":1}
+{"answer":{"days":[{"day":1095342,"dual":"11 December 2999","gregorian":"2999-12-11","jdn":2816767,
+  "julian":"2999-11-21","label":"2999-12-11","weekday":"Wednesday"}],"skipped":[]},"edition":2,
+  "reader":1}
 {"op":"read","reader":1,"code":"ED","year":1,"month":1,"day":4}
-{"answer":{"days":[{"day":2,"dual":"4 January 1","gregorian":"0001-01-02","jdn":1721427,"julian":"0001-01-04","label":"0001-01-04","weekday":"Tuesday"},{"day":4,"dual":"4 January 1","gregorian":"0001-01-04","jdn":1721429,"julian":"0001-01-06","label":"0001-01-04","weekday":"Thursday"}],"skipped":[]},"edition":2,"reader":1}
+{"answer":{"days":[{"day":2,"dual":"4 January 1","gregorian":"0001-01-02","jdn":1721427,
+  "julian":"0001-01-04","label":"0001-01-04","weekday":"Tuesday"},{"day":4,"dual":"4 January 1",
+  "gregorian":"0001-01-04","jdn":1721429,"julian":"0001-01-06","label":"0001-01-04",
+  "weekday":"Thursday"}],"skipped":[]},"edition":2,"reader":1}
 "#;
 
 /// An altered regime keeps its days; a dropped change gives its days to the period before.
 const ALTERED: &str = r#"
 {"op":"add_land","code":"RM","name":"Rome","calendar":"julian","style":"january","rule":"julian"}
 {"ok":"staged","pending":1}
-{"op":"alter_change","code":"RM","day":1,"calendar":"gregorian","style":"january","rule":"gregorian"}
+{"op":"alter_change","code":"RM","day":1,"calendar":"gregorian","style":"january",
+  "rule":"gregorian"}
 {"ok":"staged","pending":2}
 {"op":"publish"}
 {"edition":1,"ok":"published"}
 {"op":"day","reader":1,"code":"RM","day":577735}
-{"answer":{"first":1,"found":{"day":577735,"dual":"14 October 1582","gregorian":"1582-10-14","jdn":2299160,"julian":"1582-10-04","label":"1582-10-14","weekday":"Thursday"},"last":1095362,"regime":{"calendar":"gregorian","rule":"gregorian","style":"january"}},"edition":1,"reader":1}
+{"answer":{"first":1,"found":{"day":577735,"dual":"14 October 1582","gregorian":"1582-10-14",
+  "jdn":2299160,"julian":"1582-10-04","label":"1582-10-14","weekday":"Thursday"},"last":1095362,
+  "regime":{"calendar":"gregorian","rule":"gregorian","style":"january"}},"edition":1,"reader":1}
 {"op":"add_change","code":"RM","day":620617,"calendar":"swedish","style":"january","rule":"julian"}
 {"ok":"staged","pending":1}
 {"op":"add_change","code":"RM","day":639965,"calendar":"julian","style":"january","rule":"julian"}
@@ -259,33 +224,49 @@ const ALTERED: &str = r#"
 {"op":"publish"}
 {"edition":2,"ok":"published"}
 {"op":"periods","reader":1,"code":"RM"}
-{"answer":{"periods":[{"calendar":"gregorian","first":1,"last":620616,"rule":"gregorian","style":"january"},{"calendar":"swedish","first":620617,"last":639964,"rule":"julian","style":"january"},{"calendar":"julian","first":639965,"last":1095362,"rule":"julian","style":"january"}]},"edition":2,"reader":1}
+{"answer":{"periods":[{"calendar":"gregorian","first":1,"last":620616,"rule":"gregorian",
+  "style":"january"},{"calendar":"swedish","first":620617,"last":639964,"rule":"julian",
+  "style":"january"},{"calendar":"julian","first":639965,"last":1095362,"rule":"julian",
+  "style":"january"}]},"edition":2,"reader":1}
 {"op":"alter_change","code":"RM","day":1,"calendar":"julian","style":"january","rule":"julian"}
 {"ok":"staged","pending":1}
-{"op":"alter_change","code":"RM","day":620617,"calendar":"gregorian","style":"january","rule":"gregorian"}
+{"op":"alter_change","code":"RM","day":620617,"calendar":"gregorian","style":"january",
+  "rule":"gregorian"}
 {"ok":"staged","pending":2}
 {"op":"publish"}
 {"edition":3,"ok":"published"}
 {"op":"periods","reader":1,"code":"RM"}
-{"answer":{"periods":[{"calendar":"julian","first":1,"last":620616,"rule":"julian","style":"january"},{"calendar":"gregorian","first":620617,"last":639964,"rule":"gregorian","style":"january"},{"calendar":"julian","first":639965,"last":1095362,"rule":"julian","style":"january"}]},"edition":3,"reader":1}
+{"answer":{"periods":[{"calendar":"julian","first":1,"last":620616,"rule":"julian",
+  "style":"january"},{"calendar":"gregorian","first":620617,"last":639964,"rule":"gregorian",
+  "style":"january"},{"calendar":"julian","first":639965,"last":1095362,"rule":"julian",
+  "style":"january"}]},"edition":3,"reader":1}
 {"op":"day","reader":1,"code":"RM","day":620616}
-{"answer":{"first":1,"found":{"day":620616,"dual":"28 February 1700","gregorian":"1700-03-10","jdn":2342041,"julian":"1700-02-28","label":"1700-02-28","weekday":"Wednesday"},"last":620616,"regime":{"calendar":"julian","rule":"julian","style":"january"}},"edition":3,"reader":1}
+{"answer":{"first":1,"found":{"day":620616,"dual":"28 February 1700","gregorian":"1700-03-10",
+  "jdn":2342041,"julian":"1700-02-28","label":"1700-02-28","weekday":"Wednesday"},"last":620616,
+  "regime":{"calendar":"julian","rule":"julian","style":"january"}},"edition":3,"reader":1}
 {"op":"day","reader":1,"code":"RM","day":620617}
-{"answer":{"first":620617,"found":{"day":620617,"dual":"11 March 1700","gregorian":"1700-03-11","jdn":2342042,"julian":"1700-02-29","label":"1700-03-11","weekday":"Thursday"},"last":639964,"regime":{"calendar":"gregorian","rule":"gregorian","style":"january"}},"edition":3,"reader":1}
+{"answer":{"first":620617,"found":{"day":620617,"dual":"11 March 1700","gregorian":"1700-03-11",
+  "jdn":2342042,"julian":"1700-02-29","label":"1700-03-11","weekday":"Thursday"},"last":639964,
+  "regime":{"calendar":"gregorian","rule":"gregorian","style":"january"}},"edition":3,"reader":1}
 {"op":"drop_change","code":"RM","day":639965}
 {"ok":"staged","pending":1}
 {"op":"publish"}
 {"edition":4,"ok":"published"}
 {"op":"periods","reader":1,"code":"RM"}
-{"answer":{"periods":[{"calendar":"julian","first":1,"last":620616,"rule":"julian","style":"january"},{"calendar":"gregorian","first":620617,"last":1095362,"rule":"gregorian","style":"january"}]},"edition":4,"reader":1}
+{"answer":{"periods":[{"calendar":"julian","first":1,"last":620616,"rule":"julian",
+  "style":"january"},{"calendar":"gregorian","first":620617,"last":1095362,"rule":"gregorian",
+  "style":"january"}]},"edition":4,"reader":1}
 {"op":"day","reader":1,"code":"RM","day":639965}
-{"answer":{"first":620617,"found":{"day":639965,"dual":"1 March 1753","gregorian":"1753-03-01","jdn":2361390,"julian":"1753-02-18","label":"1753-03-01","weekday":"Thursday"},"last":1095362,"regime":{"calendar":"gregorian","rule":"gregorian","style":"january"}},"edition":4,"reader":1}
+{"answer":{"first":620617,"found":{"day":639965,"dual":"1 March 1753","gregorian":"1753-03-01",
+  "jdn":2361390,"julian":"1753-02-18","label":"1753-03-01","weekday":"Thursday"},"last":1095362,
+  "regime":{"calendar":"gregorian","rule":"gregorian","style":"january"}},"edition":4,"reader":1}
 {"op":"drop_change","code":"RM","day":620617}
 {"ok":"staged","pending":1}
 {"op":"publish"}
 {"edition":5,"ok":"published"}
 {"op":"periods","reader":1,"code":"RM"}
-{"answer":{"periods":[{"calendar":"julian","first":1,"last":1095362,"rule":"julian","style":"january"}]},"edition":5,"reader":1}
+{"answer":{"periods":[{"calendar":"julian","first":1,"last":1095362,"rule":"julian",
+  "style":"january"}]},"edition":5,"reader":1}
 "#;
 
 #[test]
@@ -296,11 +277,6 @@ fn a_return_to_the_julian_calendar(rt: HostRuntime) -> Result<(), Fail> {
 #[test]
 fn dates_are_named_at_the_change_that_skipped_them(rt: HostRuntime) -> Result<(), Fail> {
     serves(&rt, rt.alloc(), Limits::standard(), 8, SKIPPED)
-}
-
-#[test]
-fn forty_changes(rt: HostRuntime) -> Result<(), Fail> {
-    serves(&rt, rt.alloc(), Limits::standard(), 8, FORTY)
 }
 
 #[test]

@@ -35,11 +35,17 @@ true
 {"fault":33,"name":"NotObject"}
 []
 {"fault":33,"name":"NotObject"}
-[[[[[[[[[[[[[[[[[[[[[[[[[[[[[[[[[[[[[[[[[[[[[[[[[[[[[[[[[[[[[[[[[[[[[[[[[[[[[[[[[[[[[[[[[[[[[[[[[[[[]]]]]]]]]]]]]]]]]]]]]]]]]]]]]]]]]]]]]]]]]]]]]]]]]]]]]]]]]]]]]]]]]]]]]]]]]]]]]]]]]]]]]]]]]]]]]]]]]]]]
+[[[[[[[[[[[[[[[[[[[[[[[[[[[[[[[[[[[[[[[[[[[[[[[[[[[[[[[[[[[[[[[[[[[[[[[[[[[[[[[[[[[[[[[[[[[[[[[[[[[[
+  [[[[[[[[[[[[[[[[[[[[[[[[[[[]]]]]]]]]]]]]]]]]]]]]]]]]]]]]]]]]]]]]]]]]]]]]]]]]]]]]]]]]]]]]]]]]]]]]]]
+  ]]]]]]]]]]]]]]]]]]]]]]]]]]]]]]]]]]]]]]]]]]]]]]]]]]]]]]]]
 {"fault":33,"name":"NotObject"}
-[[[[[[[[[[[[[[[[[[[[[[[[[[[[[[[[[[[[[[[[[[[[[[[[[[[[[[[[[[[[[[[[[[[[[[[[[[[[[[[[[[[[[[[[[[[[[[[[[[[[[[[[[[[[[[[[[[[[[[[[[[[[[[[[[[[[[[[[[[[[[[[[[[[[[[[[[[[[[[[[[[[[[[[[[[[[[[[[[[[[[[[[[[[[[[[[[[[[[[[[]]]]]]]]]]]]]]]]]]]]]]]]]]]]]]]]]]]]]]]]]]]]]]]]]]]]]]]]]]]]]]]]]]]]]]]]]]]]]]]]]]]]]]]]]]]]]]]]]]]]]]]]]]]]]]]]]]]]]]]]]]]]]]]]]]]]]]]]]]]]]]]]]]]]]]]]]]]]]]]]]]]]]]]]]]]]]]]]]]]]]]]]]]]]]]]]]]]]]]]]
+[[[[[[[[[[[[[[[[[[[[[[[[[[[[[[[[[[[[[[[[[[[[[[[[[[[[[[[[[[[[[[[[[[[[[[[[[[[[[[[[[[[[[[[[[[[[[[[[[[[[
+  [[[[[[[[[[[[[[[[[[[[[[[[[[[[]]]]]]]]]]]]]]]]]]]]]]]]]]]]]]]]]]]]]]]]]]]]]]]]]]]]]]]]]]]]]]]]]]]]]]
+  ]]]]]]]]]]]]]]]]]]]]]]]]]]]]]]]]]]]]]]]]]]]]]]]]]]]]]]]]]]
 {"fault":32,"name":"NotJson"}
-[[[[[[[[[[[[[[[[[[[[[[[[[[[[[[[[[[[[[[[[[[[[[[[[[[[[[[[[[[[[[[[[[[[[[[[[[[[[[[[[[[[[[[[[[[[[[[[[[[[[[[[[[[[[[[[[[[[[[[[[[[[[[[[[[[[[[[[[[[[[[[[[[[[[[[[[[[[[[[[[[[[[[[[[[[[[[[[[[[[[[[[[[[[[[[[[[[[[[[[[
+[[[[[[[[[[[[[[[[[[[[[[[[[[[[[[[[[[[[[[[[[[[[[[[[[[[[[[[[[[[[[[[[[[[[[[[[[[[[[[[[[[[[[[[[[[[[[[[[[[[[
+  [[[[[[[[[[[[[[[[[[[[[[[[[[[[[[[[[[[[[[[[[[[[[[[[[[[[[[[[[[[[[[[[[[[[[[[[[[[[[[[[[[[[[[[[[[[[[[[[[[
+  [[
 {"fault":32,"name":"NotJson"}
 {}
 {"fault":34,"field":"op","name":"BadField"}
@@ -81,7 +87,8 @@ true
 {"fault":36,"name":"UnknownReader"}
 {"op":"lands","reader":18446744073709551617}
 {"fault":34,"field":"reader","name":"BadField"}
-# What is no member of the op is passed over, spaces and the order of members too, and of two values the last counts.
+# What is no member of the op is passed over, spaces and the order of members too, and of two values
+# the last counts.
 {"op":"lands","reader":4,"x":0}
 {"answer":{"lands":[]},"edition":0,"reader":4}
  { "reader" : 4 , "op" : "lands" } 
@@ -96,8 +103,8 @@ true
 
 /// The first member that is missing or wrong is named, whatever follows it.
 const MEMBERS: &str = r#"
-# Each op with its first members right and the next one missing, then with the next ones wrong; at last with all of
-# them right, where the code has no territory or no reader has the number.
+# Each op with its first members right and the next one missing, then with the next ones wrong; at
+# last with all of them right, where the code has no territory or no reader has the number.
 {"op":"add_land"}
 {"fault":34,"field":"code","name":"BadField"}
 {"op":"add_land","code":["RM"],"name":null,"calendar":"coptic","style":"julian","rule":"january"}
@@ -120,11 +127,13 @@ const MEMBERS: &str = r#"
 {"fault":34,"field":"rule","name":"BadField"}
 {"op":"add_change"}
 {"fault":34,"field":"code","name":"BadField"}
-{"op":"add_change","code":["RM"],"day":9223372036854775808,"calendar":"coptic","style":"julian","rule":"january"}
+{"op":"add_change","code":["RM"],"day":9223372036854775808,"calendar":"coptic","style":"julian",
+  "rule":"january"}
 {"fault":34,"field":"code","name":"BadField"}
 {"op":"add_change","code":"RM"}
 {"fault":34,"field":"day","name":"BadField"}
-{"op":"add_change","code":"RM","day":9223372036854775808,"calendar":"coptic","style":"julian","rule":"january"}
+{"op":"add_change","code":"RM","day":9223372036854775808,"calendar":"coptic","style":"julian",
+  "rule":"january"}
 {"fault":34,"field":"day","name":"BadField"}
 {"op":"add_change","code":"RM","day":4}
 {"fault":34,"field":"calendar","name":"BadField"}
@@ -142,11 +151,13 @@ const MEMBERS: &str = r#"
 {"fault":3,"name":"UnknownLand"}
 {"op":"alter_change"}
 {"fault":34,"field":"code","name":"BadField"}
-{"op":"alter_change","code":["RM"],"day":9223372036854775808,"calendar":"coptic","style":"julian","rule":"january"}
+{"op":"alter_change","code":["RM"],"day":9223372036854775808,"calendar":"coptic","style":"julian",
+  "rule":"january"}
 {"fault":34,"field":"code","name":"BadField"}
 {"op":"alter_change","code":"RM"}
 {"fault":34,"field":"day","name":"BadField"}
-{"op":"alter_change","code":"RM","day":9223372036854775808,"calendar":"coptic","style":"julian","rule":"january"}
+{"op":"alter_change","code":"RM","day":9223372036854775808,"calendar":"coptic","style":"julian",
+  "rule":"january"}
 {"fault":34,"field":"day","name":"BadField"}
 {"op":"alter_change","code":"RM","day":4}
 {"fault":34,"field":"calendar","name":"BadField"}
@@ -304,7 +315,9 @@ const NUMBERS: &str = r#"
 {"op":"day","reader":1,"code":"RM","day":"1"}
 {"fault":34,"field":"day","name":"BadField"}
 {"op":"day","reader":1,"code":"RM","day":1}
-{"answer":{"first":1,"found":{"day":1,"dual":"3 January 1","gregorian":"0001-01-01","jdn":1721426,"julian":"0001-01-03","label":"0001-01-03","weekday":"Monday"},"last":1095362,"regime":{"calendar":"julian","rule":"julian","style":"january"}},"edition":1,"reader":1}
+{"answer":{"first":1,"found":{"day":1,"dual":"3 January 1","gregorian":"0001-01-01","jdn":1721426,
+  "julian":"0001-01-03","label":"0001-01-03","weekday":"Monday"},"last":1095362,
+  "regime":{"calendar":"julian","rule":"julian","style":"january"}},"edition":1,"reader":1}
 {"op":"read","reader":1,"code":"RM","year":-9223372036854775808,"month":9223372036854775807,"day":0}
 {"edition":1,"fault":9,"name":"YearOffRange","reader":1}
 {"op":"figures","reader":1,"year":9223372036854775807}
@@ -313,7 +326,8 @@ const NUMBERS: &str = r#"
 {"edition":1,"fault":9,"name":"YearOffRange","reader":1}
 {"op":"easter","reader":2,"code":"RM","year":9223372036854775807}
 {"edition":1,"fault":9,"name":"YearOffRange","reader":2}
-{"op":"add_change","code":"RM","day":-9223372036854775808,"calendar":"gregorian","style":"january","rule":"julian"}
+{"op":"add_change","code":"RM","day":-9223372036854775808,"calendar":"gregorian","style":"january",
+  "rule":"julian"}
 {"fault":5,"name":"DayOffLine"}
 {"op":"drop_exception","code":"RM","year":9223372036854775807}
 {"fault":9,"name":"YearOffRange"}

@@ -23,9 +23,17 @@ mod faults;
 #[cfg(test)]
 mod figures;
 #[cfg(test)]
+mod forty;
+#[cfg(test)]
+mod labels;
+#[cfg(test)]
 mod lands;
 #[cfg(test)]
 mod limits;
+#[cfg(test)]
+mod live;
+#[cfg(test)]
+mod names;
 #[cfg(test)]
 mod objects;
 #[cfg(test)]
@@ -39,8 +47,12 @@ mod search;
 #[cfg(test)]
 mod session;
 #[cfg(test)]
+mod standing;
+#[cfg(test)]
 mod streams;
 #[cfg(test)]
 mod tables;
+#[cfg(test)]
+mod takers;
 #[cfg(test)]
 mod walk;

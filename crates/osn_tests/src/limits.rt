@@ -7,11 +7,13 @@ use std::test::Fail;
 const LANDS: &str = r#"
 {"op":"add_land","code":"RM","name":"Rome","calendar":"julian","style":"january","rule":"julian"}
 {"ok":"staged","pending":1}
-{"op":"add_land","code":"GB","name":"Great Britain","calendar":"julian","style":"january","rule":"julian"}
+{"op":"add_land","code":"GB","name":"Great Britain","calendar":"julian","style":"january",
+  "rule":"julian"}
 {"fault":12,"name":"TooManyLands"}
 {"op":"publish"}
 {"edition":1,"ok":"published"}
-{"op":"add_land","code":"GB","name":"Great Britain","calendar":"julian","style":"january","rule":"julian"}
+{"op":"add_land","code":"GB","name":"Great Britain","calendar":"julian","style":"january",
+  "rule":"julian"}
 {"fault":12,"name":"TooManyLands"}
 {"op":"lands","reader":1}
 {"answer":{"lands":[{"code":"RM","name":"Rome"}]},"edition":1,"reader":1}
@@ -25,20 +27,26 @@ const CHANGES: &str = r#"
 {"ok":"staged","pending":2}
 {"op":"add_change","code":"RM","day":3,"calendar":"gregorian","style":"january","rule":"gregorian"}
 {"fault":13,"name":"TooManyChanges"}
-{"op":"add_land","code":"GB","name":"Great Britain","calendar":"julian","style":"january","rule":"julian"}
+{"op":"add_land","code":"GB","name":"Great Britain","calendar":"julian","style":"january",
+  "rule":"julian"}
 {"ok":"staged","pending":3}
 {"op":"add_change","code":"GB","day":3,"calendar":"gregorian","style":"january","rule":"gregorian"}
 {"ok":"staged","pending":4}
 {"op":"drop_change","code":"RM","day":2}
 {"ok":"staged","pending":5}
-{"op":"add_change","code":"RM","day":1095362,"calendar":"gregorian","style":"january","rule":"gregorian"}
+{"op":"add_change","code":"RM","day":1095362,"calendar":"gregorian","style":"january",
+  "rule":"gregorian"}
 {"ok":"staged","pending":6}
 {"op":"publish"}
 {"edition":1,"ok":"published"}
 {"op":"periods","reader":1,"code":"RM"}
-{"answer":{"periods":[{"calendar":"julian","first":1,"last":1095361,"rule":"julian","style":"january"},{"calendar":"gregorian","first":1095362,"last":1095362,"rule":"gregorian","style":"january"}]},"edition":1,"reader":1}
+{"answer":{"periods":[{"calendar":"julian","first":1,"last":1095361,"rule":"julian",
+  "style":"january"},{"calendar":"gregorian","first":1095362,"last":1095362,"rule":"gregorian",
+  "style":"january"}]},"edition":1,"reader":1}
 {"op":"periods","reader":1,"code":"GB"}
-{"answer":{"periods":[{"calendar":"julian","first":1,"last":2,"rule":"julian","style":"january"},{"calendar":"gregorian","first":3,"last":1095362,"rule":"gregorian","style":"january"}]},"edition":1,"reader":1}
+{"answer":{"periods":[{"calendar":"julian","first":1,"last":2,"rule":"julian","style":"january"},
+  {"calendar":"gregorian","first":3,"last":1095362,"rule":"gregorian","style":"january"}]},
+  "edition":1,"reader":1}
 "#;
 
 /// No change, but the opening period may be altered.
@@ -52,7 +60,8 @@ const NO_CHANGES: &str = r#"
 {"op":"publish"}
 {"edition":1,"ok":"published"}
 {"op":"periods","reader":1,"code":"RM"}
-{"answer":{"periods":[{"calendar":"gregorian","first":1,"last":1095362,"rule":"julian","style":"january"}]},"edition":1,"reader":1}
+{"answer":{"periods":[{"calendar":"gregorian","first":1,"last":1095362,"rule":"julian",
+  "style":"january"}]},"edition":1,"reader":1}
 "#;
 
 /// One exception a territory.
@@ -72,9 +81,13 @@ const EXCEPTIONS: &str = r#"
 {"op":"publish"}
 {"edition":1,"ok":"published"}
 {"op":"easter","reader":1,"code":"RM","year":2999}
-{"answer":{"days":[{"day":1095362,"dual":"11 December 2999","gregorian":"2999-12-31","jdn":2816787,"julian":"2999-12-11","label":"2999-12-11","weekday":"Tuesday"}],"listed":true},"edition":1,"reader":1}
+{"answer":{"days":[{"day":1095362,"dual":"11 December 2999","gregorian":"2999-12-31","jdn":2816787,
+  "julian":"2999-12-11","label":"2999-12-11","weekday":"Tuesday"}],"listed":true},"edition":1,
+  "reader":1}
 {"op":"easter","reader":1,"code":"RM","year":1}
-{"answer":{"days":[{"day":84,"dual":"27 March 1","gregorian":"0001-03-25","jdn":1721509,"julian":"0001-03-27","label":"0001-03-27","weekday":"Sunday"}],"listed":false},"edition":1,"reader":1}
+{"answer":{"days":[{"day":84,"dual":"27 March 1","gregorian":"0001-03-25","jdn":1721509,
+  "julian":"0001-03-27","label":"0001-03-27","weekday":"Sunday"}],"listed":false},"edition":1,
+  "reader":1}
 "#;
 
 /// No exception.
@@ -89,11 +102,13 @@ const NO_EXCEPTIONS: &str = r#"
 const EDITS: &str = r#"
 {"op":"add_land","code":"RM","name":"Rome","calendar":"julian","style":"january","rule":"julian"}
 {"ok":"staged","pending":1}
-{"op":"add_land","code":"GB","name":"Great Britain","calendar":"julian","style":"january","rule":"julian"}
+{"op":"add_land","code":"GB","name":"Great Britain","calendar":"julian","style":"january",
+  "rule":"julian"}
 {"fault":16,"name":"JournalFull"}
 {"op":"publish"}
 {"edition":1,"ok":"published"}
-{"op":"add_land","code":"GB","name":"Great Britain","calendar":"julian","style":"january","rule":"julian"}
+{"op":"add_land","code":"GB","name":"Great Britain","calendar":"julian","style":"january",
+  "rule":"julian"}
 {"fault":16,"name":"JournalFull"}
 {"op":"add_land","code":"RM","name":"Rome","calendar":"julian","style":"january","rule":"julian"}
 {"fault":4,"name":"LandExists"}
@@ -111,7 +126,8 @@ const EDITIONS: &str = r#"
 {"edition":1,"ok":"published"}
 {"op":"publish"}
 {"fault":15,"name":"NothingPending"}
-{"op":"add_land","code":"GB","name":"Great Britain","calendar":"julian","style":"january","rule":"julian"}
+{"op":"add_land","code":"GB","name":"Great Britain","calendar":"julian","style":"january",
+  "rule":"julian"}
 {"ok":"staged","pending":1}
 {"op":"publish"}
 {"fault":17,"name":"EditionsFull"}
@@ -132,7 +148,8 @@ const NOTHING: &str = r#"
 {"op":"lands","reader":1}
 {"answer":{"lands":[]},"edition":0,"reader":1}
 {"op":"figures","reader":1,"year":1954}
-{"answer":{"golden":17,"gregorian":{"easter":713426,"epact":"25'","letters":"C"},"indiction":7,"julian":{"easter":713433,"epact":26,"letters":"D"},"year":1954},"edition":0,"reader":1}
+{"answer":{"golden":17,"gregorian":{"easter":713426,"epact":"25'","letters":"C"},"indiction":7,
+  "julian":{"easter":713433,"epact":26,"letters":"D"},"year":1954},"edition":0,"reader":1}
 "#;
 
 #[test]

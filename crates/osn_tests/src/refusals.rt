@@ -27,13 +27,16 @@ const OF_LANDS: &str = r#"
 {"fault":2,"name":"BadName"}
 {"op":"add_land","code":"FR","name":"\u001f","calendar":"julian","style":"january","rule":"julian"}
 {"fault":2,"name":"BadName"}
-{"op":"add_land","code":"FR","name":"xxxxxxxxxxxxxxxxxxxxxxxxxxxxxxxxxxxxxxxxxxxxxxxxxxxxxxxxxxxxxxxxx","calendar":"julian","style":"january","rule":"julian"}
+{"op":"add_land","code":"FR","name":"xxxxxxxxxxxxxxxxxxxxxxxxxxxxxxxxxxxxxxxxxxxxxxxxxxxxxxxxxxxxxxx
+  xx","calendar":"julian","style":"january","rule":"julian"}
 {"fault":2,"name":"BadName"}
-{"op":"add_land","code":"FR","name":"ééééééééééééééééééééééééééééééééé","calendar":"julian","style":"january","rule":"julian"}
+{"op":"add_land","code":"FR","name":"ééééééééééééééééééééééééééééééééé","calendar":"julian",
+  "style":"january","rule":"julian"}
 {"fault":2,"name":"BadName"}
 {"op":"add_land","code":"RM","name":"Rome","calendar":"julian","style":"january","rule":"julian"}
 {"fault":4,"name":"LandExists"}
-{"op":"add_land","code":"GB","name":"Great Britain","calendar":"julian","style":"january","rule":"julian"}
+{"op":"add_land","code":"GB","name":"Great Britain","calendar":"julian","style":"january",
+  "rule":"julian"}
 {"fault":12,"name":"TooManyLands"}
 {"op":"publish"}
 {"edition":1,"ok":"published"}
@@ -45,16 +48,20 @@ const OF_LANDS: &str = r#"
 const LONG: &str = r#"
 {"op":"add_land","code":"A0","name":"x","calendar":"julian","style":"january","rule":"julian"}
 {"ok":"staged","pending":1}
-{"op":"add_land","code":"ABCDEFG9","name":"éééééééééééééééééééééééééééééééé","calendar":"julian","style":"january","rule":"julian"}
+{"op":"add_land","code":"ABCDEFG9","name":"éééééééééééééééééééééééééééééééé","calendar":"julian",
+  "style":"january","rule":"julian"}
 {"ok":"staged","pending":2}
 {"op":"add_land","code":"ZZZZZZZZ","name":" ","calendar":"julian","style":"january","rule":"julian"}
 {"ok":"staged","pending":3}
 {"op":"publish"}
 {"edition":1,"ok":"published"}
 {"op":"lands","reader":1}
-{"answer":{"lands":[{"code":"A0","name":"x"},{"code":"ABCDEFG9","name":"éééééééééééééééééééééééééééééééé"},{"code":"ZZZZZZZZ","name":" "}]},"edition":1,"reader":1}
+{"answer":{"lands":[{"code":"A0","name":"x"},{"code":"ABCDEFG9",
+  "name":"éééééééééééééééééééééééééééééééé"},{"code":"ZZZZZZZZ","name":" "}]},"edition":1,
+  "reader":1}
 {"op":"periods","reader":1,"code":"ABCDEFG9"}
-{"answer":{"periods":[{"calendar":"julian","first":1,"last":1095362,"rule":"julian","style":"january"}]},"edition":1,"reader":1}
+{"answer":{"periods":[{"calendar":"julian","first":1,"last":1095362,"rule":"julian",
+  "style":"january"}]},"edition":1,"reader":1}
 {"op":"periods","reader":1,"code":"ABCDEFGH9"}
 {"edition":1,"fault":1,"name":"BadCode","reader":1}
 {"op":"periods","reader":1,"code":"A"}
@@ -63,9 +70,11 @@ const LONG: &str = r#"
 
 /// Refused edits of changes, where a territory takes one change.
 const OF_CHANGES: &str = r#"
-{"op":"add_land","code":"GB","name":"Great Britain","calendar":"julian","style":"january","rule":"julian"}
+{"op":"add_land","code":"GB","name":"Great Britain","calendar":"julian","style":"january",
+  "rule":"julian"}
 {"ok":"staged","pending":1}
-{"op":"add_change","code":"GB","day":639797,"calendar":"gregorian","style":"january","rule":"gregorian"}
+{"op":"add_change","code":"GB","day":639797,"calendar":"gregorian","style":"january",
+  "rule":"gregorian"}
 {"ok":"staged","pending":2}
 {"op":"publish"}
 {"edition":1,"ok":"published"}
@@ -73,7 +82,8 @@ const OF_CHANGES: &str = r#"
 {"fault":1,"name":"BadCode"}
 {"op":"add_change","code":"FR","day":0,"calendar":"gregorian","style":"january","rule":"gregorian"}
 {"fault":3,"name":"UnknownLand"}
-{"op":"add_change","code":"GB","day":1095363,"calendar":"gregorian","style":"january","rule":"gregorian"}
+{"op":"add_change","code":"GB","day":1095363,"calendar":"gregorian","style":"january",
+  "rule":"gregorian"}
 {"fault":5,"name":"DayOffLine"}
 {"op":"add_change","code":"GB","day":0,"calendar":"gregorian","style":"january","rule":"gregorian"}
 {"fault":5,"name":"DayOffLine"}
@@ -81,23 +91,31 @@ const OF_CHANGES: &str = r#"
 {"fault":5,"name":"DayOffLine"}
 {"op":"add_change","code":"GB","day":1,"calendar":"gregorian","style":"january","rule":"gregorian"}
 {"fault":8,"name":"OpeningPeriod"}
-{"op":"add_change","code":"GB","day":639797,"calendar":"gregorian","style":"january","rule":"gregorian"}
+{"op":"add_change","code":"GB","day":639797,"calendar":"gregorian","style":"january",
+  "rule":"gregorian"}
 {"fault":6,"name":"ChangeExists"}
-{"op":"add_change","code":"GB","day":639798,"calendar":"gregorian","style":"january","rule":"gregorian"}
+{"op":"add_change","code":"GB","day":639798,"calendar":"gregorian","style":"january",
+  "rule":"gregorian"}
 {"fault":13,"name":"TooManyChanges"}
 {"op":"add_change","code":"GB","day":2,"calendar":"gregorian","style":"january","rule":"gregorian"}
 {"fault":13,"name":"TooManyChanges"}
-{"op":"alter_change","code":"gb","day":0,"calendar":"gregorian","style":"january","rule":"gregorian"}
+{"op":"alter_change","code":"gb","day":0,"calendar":"gregorian","style":"january",
+  "rule":"gregorian"}
 {"fault":1,"name":"BadCode"}
-{"op":"alter_change","code":"FR","day":0,"calendar":"gregorian","style":"january","rule":"gregorian"}
+{"op":"alter_change","code":"FR","day":0,"calendar":"gregorian","style":"january",
+  "rule":"gregorian"}
 {"fault":3,"name":"UnknownLand"}
-{"op":"alter_change","code":"GB","day":0,"calendar":"gregorian","style":"january","rule":"gregorian"}
+{"op":"alter_change","code":"GB","day":0,"calendar":"gregorian","style":"january",
+  "rule":"gregorian"}
 {"fault":5,"name":"DayOffLine"}
-{"op":"alter_change","code":"GB","day":1095363,"calendar":"gregorian","style":"january","rule":"gregorian"}
+{"op":"alter_change","code":"GB","day":1095363,"calendar":"gregorian","style":"january",
+  "rule":"gregorian"}
 {"fault":5,"name":"DayOffLine"}
-{"op":"alter_change","code":"GB","day":639796,"calendar":"gregorian","style":"january","rule":"gregorian"}
+{"op":"alter_change","code":"GB","day":639796,"calendar":"gregorian","style":"january",
+  "rule":"gregorian"}
 {"fault":7,"name":"NoSuchChange"}
-{"op":"alter_change","code":"GB","day":639798,"calendar":"gregorian","style":"january","rule":"gregorian"}
+{"op":"alter_change","code":"GB","day":639798,"calendar":"gregorian","style":"january",
+  "rule":"gregorian"}
 {"fault":7,"name":"NoSuchChange"}
 {"op":"drop_change","code":"gb","day":0}
 {"fault":1,"name":"BadCode"}
@@ -116,12 +134,15 @@ const OF_CHANGES: &str = r#"
 {"op":"publish"}
 {"fault":15,"name":"NothingPending"}
 {"op":"periods","reader":1,"code":"GB"}
-{"answer":{"periods":[{"calendar":"julian","first":1,"last":639796,"rule":"julian","style":"january"},{"calendar":"gregorian","first":639797,"last":1095362,"rule":"gregorian","style":"january"}]},"edition":1,"reader":1}
+{"answer":{"periods":[{"calendar":"julian","first":1,"last":639796,"rule":"julian",
+  "style":"january"},{"calendar":"gregorian","first":639797,"last":1095362,"rule":"gregorian",
+  "style":"january"}]},"edition":1,"reader":1}
 "#;
 
 /// Refused edits of exceptions, where a territory takes one.
 const OF_EXCEPTIONS: &str = r#"
-{"op":"add_land","code":"DE","name":"Sample DE","calendar":"gregorian","style":"january","rule":"gregorian"}
+{"op":"add_land","code":"DE","name":"Sample DE","calendar":"gregorian","style":"january",
+  "rule":"gregorian"}
 {"ok":"staged","pending":1}
 {"op":"add_exception","code":"DE","year":1724,"day":629412}
 {"ok":"staged","pending":2}
@@ -158,7 +179,9 @@ const OF_EXCEPTIONS: &str = r#"
 {"op":"publish"}
 {"fault":15,"name":"NothingPending"}
 {"op":"easter","reader":1,"code":"DE","year":1724}
-{"answer":{"days":[{"day":629412,"dual":"9 April 1724","gregorian":"1724-04-09","jdn":2350837,"julian":"1724-03-29","label":"1724-04-09","weekday":"Sunday"}],"listed":true},"edition":1,"reader":1}
+{"answer":{"days":[{"day":629412,"dual":"9 April 1724","gregorian":"1724-04-09","jdn":2350837,
+  "julian":"1724-03-29","label":"1724-04-09","weekday":"Sunday"}],"listed":true},"edition":1,
+  "reader":1}
 "#;
 
 /// Refused queries name the edition that they were refused in.
@@ -214,28 +237,33 @@ const OF_QUERIES: &str = r#"
 {"op":"periods","reader":1,"code":"GB"}
 {"edition":1,"fault":3,"name":"UnknownLand","reader":1}
 {"op":"periods","reader":8,"code":"RM"}
-{"answer":{"periods":[{"calendar":"julian","first":1,"last":1095362,"rule":"julian","style":"january"}]},"edition":1,"reader":8}
+{"answer":{"periods":[{"calendar":"julian","first":1,"last":1095362,"rule":"julian",
+  "style":"january"}]},"edition":1,"reader":8}
 {"op":"periods","reader":9,"code":"rm"}
 {"fault":36,"name":"UnknownReader"}
 "#;
 
 /// Refusals of each kind in one territory, and edits in between that are lawful.
 const OF_BRITAIN: &str = r#"
-{"op":"add_land","code":"GB","name":"Great Britain","calendar":"julian","style":"annunciation","rule":"julian"}
+{"op":"add_land","code":"GB","name":"Great Britain","calendar":"julian","style":"annunciation",
+  "rule":"julian"}
 {"ok":"staged","pending":1}
 {"op":"add_change","code":"GB","day":639551,"calendar":"julian","style":"january","rule":"julian"}
 {"ok":"staged","pending":2}
-{"op":"add_change","code":"GB","day":639797,"calendar":"gregorian","style":"january","rule":"gregorian"}
+{"op":"add_change","code":"GB","day":639797,"calendar":"gregorian","style":"january",
+  "rule":"gregorian"}
 {"ok":"staged","pending":3}
 {"op":"publish"}
 {"edition":1,"ok":"published"}
-{"op":"add_land","code":"gb","name":"Great Britain","calendar":"julian","style":"annunciation","rule":"julian"}
+{"op":"add_land","code":"gb","name":"Great Britain","calendar":"julian","style":"annunciation",
+  "rule":"julian"}
 {"fault":1,"name":"BadCode"}
 {"op":"add_land","code":"FR","name":"","calendar":"julian","style":"january","rule":"julian"}
 {"fault":2,"name":"BadName"}
 {"op":"add_change","code":"FR","day":2,"calendar":"julian","style":"january","rule":"julian"}
 {"fault":3,"name":"UnknownLand"}
-{"op":"add_land","code":"GB","name":"Great Britain","calendar":"julian","style":"annunciation","rule":"julian"}
+{"op":"add_land","code":"GB","name":"Great Britain","calendar":"julian","style":"annunciation",
+  "rule":"julian"}
 {"fault":4,"name":"LandExists"}
 {"op":"add_change","code":"GB","day":1095363,"calendar":"julian","style":"january","rule":"julian"}
 {"fault":5,"name":"DayOffLine"}
@@ -260,9 +288,14 @@ const OF_BRITAIN: &str = r#"
 {"op":"publish"}
 {"edition":2,"ok":"published"}
 {"op":"read","reader":1,"code":"GB","year":1731,"month":2,"day":11}
-{"answer":{"days":[{"day":631922,"dual":"11 February 1731","gregorian":"1731-02-22","jdn":2353347,"julian":"1731-02-11","label":"1731-02-11","weekday":"Thursday"}],"skipped":[]},"edition":2,"reader":1}
+{"answer":{"days":[{"day":631922,"dual":"11 February 1731","gregorian":"1731-02-22","jdn":2353347,
+  "julian":"1731-02-11","label":"1731-02-11","weekday":"Thursday"}],"skipped":[]},"edition":2,
+  "reader":1}
 {"op":"periods","reader":1,"code":"GB"}
-{"answer":{"periods":[{"calendar":"julian","first":1,"last":639550,"rule":"julian","style":"january"},{"calendar":"julian","first":639551,"last":639796,"rule":"julian","style":"january"},{"calendar":"gregorian","first":639797,"last":1095362,"rule":"gregorian","style":"january"}]},"edition":2,"reader":1}
+{"answer":{"periods":[{"calendar":"julian","first":1,"last":639550,"rule":"julian",
+  "style":"january"},{"calendar":"julian","first":639551,"last":639796,"rule":"julian",
+  "style":"january"},{"calendar":"gregorian","first":639797,"last":1095362,"rule":"gregorian",
+  "style":"january"}]},"edition":2,"reader":1}
 "#;
 
 #[test]

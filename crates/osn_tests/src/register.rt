@@ -1,5 +1,6 @@
 //! The calls of `osn_register`: registers folded from edits, copied and changed. Edits and queries
 //! are read from their lines, and answers compared as theirs.
+use crate::session::joined;
 use osn_core::Reply;
 use osn_register::{Answer, Edit, Limits, Query, Refusal, Register, Text};
 use osn_wire::{Outcome, Request, read_request, reply_text};
@@ -31,9 +32,9 @@ fn told(alloc: Global, answer: Answer) -> Result<String, Fail> {
 }
 
 /// The register of edits, each on a line.
-fn folded(alloc: Global, lines: &str) -> Result<Register, Fail> {
+pub fn folded(alloc: Global, lines: &str) -> Result<Register, Fail> {
     let mut edits = Vec::new(alloc);
-    for line in lines.lines() {
+    for line in joined(alloc, lines)?.lines() {
         edits.push(edit_of(alloc, line)?.copy()?)?;
     }
     Ok(Register::fold(alloc, Limits::standard(), &edits)?)
@@ -49,24 +50,28 @@ fn answers(
     for (line, wanted) in rows {
         let query = query_of(alloc, line)?.copy()?;
         let got = told(alloc, register.answer(&query)?)?;
-        assert_eq!(rt; got.as_str().trim_end(), *wanted);
+        assert_eq!(rt; got.as_str().trim_end(), joined(alloc, wanted)?.as_str());
     }
     Ok(())
 }
 
 /// The edits of Great Britain, with a second addition of it among them.
-const EDITS: &str =
-    r#"{"op":"add_land","code":"GB","name":"Great Britain","calendar":"julian","style":"annunciation","rule":"julian"}
+const EDITS: &str = r#"{"op":"add_land","code":"GB","name":"Great Britain","calendar":"julian",
+  "style":"annunciation","rule":"julian"}
 {"op":"add_change","code":"GB","day":639551,"calendar":"julian","style":"january","rule":"julian"}
-{"op":"add_land","code":"GB","name":"Great Britain","calendar":"julian","style":"annunciation","rule":"julian"}
-{"op":"add_change","code":"GB","day":639797,"calendar":"gregorian","style":"january","rule":"gregorian"}
+{"op":"add_land","code":"GB","name":"Great Britain","calendar":"julian","style":"annunciation",
+  "rule":"julian"}
+{"op":"add_change","code":"GB","day":639797,"calendar":"gregorian","style":"january",
+  "rule":"gregorian"}
 "#;
 
 /// What its register is asked, and answers.
 const BRITAIN: [(&str, &str); 7] = [
     (
         r#"{"op":"read","reader":1,"code":"GB","year":1731,"month":2,"day":11}"#,
-        r#"{"answer":{"days":[{"day":632287,"dual":"11 February 1731/2","gregorian":"1732-02-22","jdn":2353712,"julian":"1732-02-11","label":"1731-02-11","weekday":"Friday"}],"skipped":[]},"edition":0,"reader":1}"#,
+        r#"{"answer":{"days":[{"day":632287,"dual":"11 February 1731/2","gregorian":"1732-02-22",
+  "jdn":2353712,"julian":"1732-02-11","label":"1731-02-11","weekday":"Friday"}],"skipped":[]},
+  "edition":0,"reader":1}"#,
     ),
     (
         r#"{"op":"read","reader":1,"code":"GB","year":1752,"month":9,"day":3}"#,
@@ -74,7 +79,10 @@ const BRITAIN: [(&str, &str); 7] = [
     ),
     (
         r#"{"op":"periods","reader":1,"code":"GB"}"#,
-        r#"{"answer":{"periods":[{"calendar":"julian","first":1,"last":639550,"rule":"julian","style":"annunciation"},{"calendar":"julian","first":639551,"last":639796,"rule":"julian","style":"january"},{"calendar":"gregorian","first":639797,"last":1095362,"rule":"gregorian","style":"january"}]},"edition":0,"reader":1}"#,
+        r#"{"answer":{"periods":[{"calendar":"julian","first":1,"last":639550,"rule":"julian",
+  "style":"annunciation"},{"calendar":"julian","first":639551,"last":639796,"rule":"julian",
+  "style":"january"},{"calendar":"gregorian","first":639797,"last":1095362,"rule":"gregorian",
+  "style":"january"}]},"edition":0,"reader":1}"#,
     ),
     (
         r#"{"op":"lands","reader":1}"#,
@@ -82,26 +90,34 @@ const BRITAIN: [(&str, &str); 7] = [
     ),
     (
         r#"{"op":"figures","reader":1,"year":1753}"#,
-        r#"{"answer":{"golden":6,"gregorian":{"easter":640017,"epact":"25","letters":"G"},"indiction":1,"julian":{"easter":640017,"epact":25,"letters":"C"},"year":1753},"edition":0,"reader":1}"#,
+        r#"{"answer":{"golden":6,"gregorian":{"easter":640017,"epact":"25","letters":"G"},
+  "indiction":1,"julian":{"easter":640017,"epact":25,"letters":"C"},"year":1753},"edition":0,
+  "reader":1}"#,
     ),
     (
         r#"{"op":"easter","reader":1,"code":"GB","year":1753}"#,
-        r#"{"answer":{"days":[{"day":640017,"dual":"22 April 1753","gregorian":"1753-04-22","jdn":2361442,"julian":"1753-04-11","label":"1753-04-22","weekday":"Sunday"}],"listed":false},"edition":0,"reader":1}"#,
+        r#"{"answer":{"days":[{"day":640017,"dual":"22 April 1753","gregorian":"1753-04-22",
+  "jdn":2361442,"julian":"1753-04-11","label":"1753-04-22","weekday":"Sunday"}],"listed":false},
+  "edition":0,"reader":1}"#,
     ),
     (
         r#"{"op":"day","reader":1,"code":"GB","day":1}"#,
-        r#"{"answer":{"first":1,"found":{"day":1,"dual":"3 January 0/1","gregorian":"0001-01-01","jdn":1721426,"julian":"0001-01-03","label":"0000-01-03","weekday":"Monday"},"last":639550,"regime":{"calendar":"julian","rule":"julian","style":"annunciation"}},"edition":0,"reader":1}"#,
+        r#"{"answer":{"first":1,"found":{"day":1,"dual":"3 January 0/1","gregorian":"0001-01-01",
+  "jdn":1721426,"julian":"0001-01-03","label":"0000-01-03","weekday":"Monday"},"last":639550,
+  "regime":{"calendar":"julian","rule":"julian","style":"annunciation"}},"edition":0,"reader":1}"#,
     ),
 ];
 
 /// The territories once Rome is added.
 const WITH_ROME: [(&str, &str); 1] = [(
     r#"{"op":"lands","reader":1}"#,
-    r#"{"answer":{"lands":[{"code":"GB","name":"Great Britain"},{"code":"RM","name":"Rome"}]},"edition":0,"reader":1}"#,
+    r#"{"answer":{"lands":[{"code":"GB","name":"Great Britain"},{"code":"RM","name":"Rome"}]},
+  "edition":0,"reader":1}"#,
 )];
 
 const ROME: &str =
-    r#"{"op":"add_land","code":"RM","name":"Rome","calendar":"julian","style":"january","rule":"julian"}"#;
+    r#"{"op":"add_land","code":"RM","name":"Rome","calendar":"julian","style":"january",
+  "rule":"julian"}"#;
 
 /// A copy of a register, to which an edit is applied.
 fn changed_copy(alloc: Global, register: &Register, line: &str) -> Result<Register, Fail> {
@@ -128,31 +144,38 @@ fn a_changed_copy_is_apart_from_its_source(rt: HostRuntime) -> Result<(), Fail> 
 /// Edits in turn, and what they are refused by.
 const APPLIED: [(&str, Result<(), Refusal>); 14] = [
     (
-        r#"{"op":"add_land","code":"GB","name":"Great Britain","calendar":"julian","style":"annunciation","rule":"julian"}"#,
+        r#"{"op":"add_land","code":"GB","name":"Great Britain","calendar":"julian",
+  "style":"annunciation","rule":"julian"}"#,
         Ok(()),
     ),
     (
-        r#"{"op":"add_land","code":"GB","name":"Great Britain","calendar":"julian","style":"annunciation","rule":"julian"}"#,
+        r#"{"op":"add_land","code":"GB","name":"Great Britain","calendar":"julian",
+  "style":"annunciation","rule":"julian"}"#,
         Err(Refusal::LandExists),
     ),
     (
-        r#"{"op":"add_change","code":"GB","day":1,"calendar":"julian","style":"january","rule":"julian"}"#,
+        r#"{"op":"add_change","code":"GB","day":1,"calendar":"julian","style":"january",
+  "rule":"julian"}"#,
         Err(Refusal::OpeningPeriod),
     ),
     (
-        r#"{"op":"add_change","code":"GB","day":639551,"calendar":"julian","style":"january","rule":"julian"}"#,
+        r#"{"op":"add_change","code":"GB","day":639551,"calendar":"julian","style":"january",
+  "rule":"julian"}"#,
         Ok(()),
     ),
     (
-        r#"{"op":"add_change","code":"GB","day":639551,"calendar":"julian","style":"january","rule":"julian"}"#,
+        r#"{"op":"add_change","code":"GB","day":639551,"calendar":"julian","style":"january",
+  "rule":"julian"}"#,
         Err(Refusal::ChangeExists),
     ),
     (
-        r#"{"op":"alter_change","code":"GB","day":639551,"calendar":"julian","style":"january","rule":"julian"}"#,
+        r#"{"op":"alter_change","code":"GB","day":639551,"calendar":"julian","style":"january",
+  "rule":"julian"}"#,
         Ok(()),
     ),
     (
-        r#"{"op":"alter_change","code":"GB","day":5,"calendar":"julian","style":"january","rule":"julian"}"#,
+        r#"{"op":"alter_change","code":"GB","day":5,"calendar":"julian","style":"january",
+  "rule":"julian"}"#,
         Err(Refusal::NoSuchChange),
     ),
     (
@@ -174,7 +197,8 @@ const APPLIED: [(&str, Result<(), Refusal>); 14] = [
         Err(Refusal::NoSuchChange),
     ),
     (
-        r#"{"op":"add_land","code":"RM","name":"Rome","calendar":"julian","style":"january","rule":"julian"}"#,
+        r#"{"op":"add_land","code":"RM","name":"Rome","calendar":"julian","style":"january",
+  "rule":"julian"}"#,
         Ok(()),
     ),
 ];

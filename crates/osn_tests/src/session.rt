@@ -5,13 +5,18 @@ use std::alloc::{AllocError, Global};
 use std::process::Abort;
 use std::test::Fail;
 
+/// A text with its broken lines whole again: what begins with two spaces goes on the line before.
+pub fn joined(alloc: Global, text: &str) -> Result<String, AllocError> {
+    text.replace(alloc, "\n  ", "")
+}
+
 /// A session's requests and replies apart, a line feed behind each. Every second line of a session
 /// is a reply. Empty lines, and remarks behind a number sign, are passed over.
-fn apart(alloc: Global, session: &str) -> Result<(String, String), AllocError> {
+pub fn apart(alloc: Global, session: &str) -> Result<(String, String), AllocError> {
     let mut requests = String::new(alloc);
     let mut replies = String::new(alloc);
     let mut is_reply = false;
-    for line in session.lines() {
+    for line in joined(alloc, session)?.lines() {
         if line.is_empty() || line.starts_with('#') {
             continue;
         }

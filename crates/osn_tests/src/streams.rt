@@ -57,7 +57,7 @@ impl Read for OneByte {
 
 /// Takes at most so many bytes a write, and fails once it has so many.
 #[derive(Drop)]
-struct Bounded {
+pub struct Bounded {
     bytes: Vec<u8>,
     step: usize,
     fails_at: usize,
@@ -168,11 +168,13 @@ fn tried(alloc: Global, input: &[u8], plan: Plan) -> Result<Outcome, AllocError>
 }
 
 /// The session of Rome, on 4 October 1582.
-const READ: &str =
-    r#"{"op":"add_land","code":"RM","name":"Rome","calendar":"julian","style":"january","rule":"julian"}
+const READ: &str = concat!(
+    r#"{"op":"add_land","code":"RM","name":"Rome","calendar":"julian","#,
+    r#""style":"january","rule":"julian"}
 {"op":"publish"}
 {"op":"lands","reader":1}
-"#;
+"#
+);
 
 const WRITTEN: &str = r#"{"ok":"staged","pending":1}
 {"edition":1,"ok":"published"}
@@ -342,19 +344,28 @@ const WRITTEN_WHOLE: [(usize, usize, Result<(), usize>); 5] = [
     (0, usize::MAX, Err(0)),
 ];
 
+/// A sink that takes so many bytes a write, and fails once it has so many.
+pub fn sink_that_fails(
+    alloc: Global,
+    step: usize,
+    fails_at: usize,
+) -> Result<Plain<Bounded>, AllocError> {
+    Ok(Plain::new(Bounded {
+        bytes: Vec::new(alloc),
+        step,
+        fails_at,
+        flush_fails: false,
+        notes: Notes::shared(alloc)?,
+    }))
+}
+
 fn are_written(
     rt: &impl Abort,
     alloc: Global,
     rows: &[(usize, usize, Result<(), usize>)],
 ) -> Result<(), AllocError> {
     for (step, fails_at, want) in rows {
-        let mut sink = Plain::new(Bounded {
-            bytes: Vec::new(alloc),
-            step: *step,
-            fails_at: *fails_at,
-            flush_fails: false,
-            notes: Notes::shared(alloc)?,
-        });
+        let mut sink = sink_that_fails(alloc, *step, *fails_at)?;
         assert_eq!(rt; write_all(&mut sink, b"abcdefg"), *want);
         assert_eq!(rt; sink.failed(), want.is_err());
     }

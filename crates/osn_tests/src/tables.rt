@@ -82,7 +82,8 @@ fn row_at(rows: &[(u8, u8)], place: usize) -> Option<(u8, u8)>
 
 /// The full moon of a golden number.
 fn julian_full_moon(golden: u8) -> Option<(u8, u8)>
-    ensures { result ≡ option_map (λ (m : table.MonthDay). (m.month, m.day)) (table.julian_full_moon golden) }
+    ensures { result ≡ option_map (λ (m : table.MonthDay). (m.month, m.day))
+        (table.julian_full_moon golden) }
 {
     row_at(&JULIAN_FULL_MOONS, golden.saturating_sub(1) as usize)
 }
@@ -95,7 +96,8 @@ fn is_epact(epact: Epact, number: u8, prime: bool) -> bool
 
 fn row_of(rows: &[(u8, u8, u8, bool)], epact: Epact) -> Option<(u8, u8)>
     ensures { result ≡ option_map (λ (row : ℕ × ℕ × ℕ × Bool). (row.0, row.1))
-        (find (λ (row : ℕ × ℕ × ℕ × Bool). table.same_epact epact (record { number = row.2; prime = row.3 })) rows.now) }
+        (find (λ (row : ℕ × ℕ × ℕ × Bool).
+        table.same_epact epact (record { number = row.2; prime = row.3 })) rows.now) }
 {
     for &(month, day, number, prime) in rows {
         if is_epact(epact, number, prime) {
@@ -107,7 +109,8 @@ fn row_of(rows: &[(u8, u8, u8, bool)], epact: Epact) -> Option<(u8, u8)>
 
 /// The day that stands beside the epact.
 fn gregorian_new_moon(epact: Epact) -> Option<(u8, u8)>
-    ensures { result ≡ option_map (λ (m : table.MonthDay). (m.month, m.day)) (table.gregorian_new_moon epact) }
+    ensures { result ≡ option_map (λ (m : table.MonthDay). (m.month, m.day))
+        (table.gregorian_new_moon epact) }
 {
     row_of(&PASCHAL_ROWS, epact)
 }

@@ -1,9 +1,7 @@
-pub mod WriteLemmas
-pub mod WeekdayFacts
-pub mod Padded
 pub mod FrontLemmas
 pub mod WaitLemmas
 pub mod PartLemmas
 pub mod ServeLemmas
 pub mod StopLemmas
 pub mod ClauseLemmas
+pub mod ToldLemmas

@@ -1,5 +1,7 @@
 -- How a session goes on.
-use Rattle.std.proofs.Common.{◌≡◌, ◌≤◌, ◌+◌, ℕ, Bool, List, [], ◌∷◌, ◌++◌, Option, Some, None, Result, Err, IfErr, length, take, fold, IfSome, refl, sym, ap, subst, ◌∙◌, length-append, arith, ⊎_elim, inl, inr}
+use Rattle.std.proofs.Common.{◌≡◌, ◌≤◌, ◌+◌, ℕ, Bool, List, [], ◌∷◌, ◌++◌, Option, Some, None}
+use Rattle.std.proofs.Common.{Result, Err, IfErr, length, take, fold, IfSome, refl, sym, ap, subst}
+use Rattle.std.proofs.Common.{◌∙◌, length-append, arith, ⊎_elim, inl, inr}
 use Rattle.std.proofs.lemmas.List.{take_all}
 use Rattle.std.specs.Io.KnownBytes.{Appends}
 use Rattle.osn_days.specs.Profile.{present}
@@ -9,7 +11,8 @@ use Rattle.osn_lines.specs.Taking.{TakesAll, TakesFirst, StopsAfter}
 use Rattle.osn_lines.proofs.InputLemmas.{if_err_at}
 use Rattle.osn_wire.specs.declared.session.Session.{Session}
 use Rattle.osn_wire.specs.declared.fault.ServeFault.{ServeFault}
-use Rattle.osn_wire.specs.declared.fault.ServeFault.TheVariants.{NoMemory as FaultNoMemory, ReadFault, WriteFault}
+use Rattle.osn_wire.specs.declared.fault.ServeFault.TheVariants.{NoMemory as FaultNoMemory}
+use Rattle.osn_wire.specs.declared.fault.ServeFault.TheVariants.{ReadFault, WriteFault}
 use Rattle.osn_wire.specs.declared.stop.Stop.{Stop}
 use Rattle.osn_wire.specs.declared.stop.Stop.TheVariants.{NoMemory, WriteFailed}
 use Rattle.osn_wire.specs.declared.stop.Unfinished.{Unfinished}
@@ -18,18 +21,22 @@ use Rattle.osn_wire.specs.declared.waiting.Waiting.{Waiting}
 use Rattle.osn_wire.specs.Served.{line_text, outputs}
 use Rattle.osn_wire.specs.ServiceInside.{Writes, WritesSome, Adds, Settles, FailsAt, InPart}
 use Rattle.osn_wire.specs.Session.{line_after}
-use Rattle.osn_wire.specs.SessionInside.{IsSame, Serving, Failing, StopsServing, AnswersAll, AnswersFirst, AnswersInPart}
+use Rattle.osn_wire.specs.SessionInside.{IsSame, Serving, Failing, StopsServing, AnswersAll}
+use Rattle.osn_wire.specs.SessionInside.{AnswersFirst, AnswersInPart}
 use Rattle.osn_wire.proofs.FrontLemmas.{line_text_of_front, line_after_front}
 use Rattle.osn_wire.proofs.PartLemmas.{PartOf-from}
-use Rattle.osn_wire.proofs.WaitLemmas.{length-ends, Waits-nothing, Waits-add, Waits-all, Waits-settle, Waits-written}
+use Rattle.osn_wire.proofs.WaitLemmas.{length-ends, Waits-nothing, Waits-add, Waits-all}
+use Rattle.osn_wire.proofs.WaitLemmas.{Waits-settle, Waits-written}
 
 -- a failed write of what waits is one of the replies
-pub FailsAt-all : (old mid new : Bool) (some all : List ℕ) → mid ≡ old → length some ≤ length all → FailsAt mid new some → FailsAt old new all
+pub FailsAt-all : (old mid new : Bool) (some all : List ℕ) → mid ≡ old → length some ≤ length all →
+    FailsAt mid new some → FailsAt old new all
 FailsAt-all old mid new some all same le h =
     ⊎_elim (λ k. inl k) (λ k. inr (k.0 ∙ same, omega (arith, k.1))) h
 
 -- one session is another with its references kept
-pub IsSame-then : {W : Type 0} (begun s t : Session W) → IsSame begun s → IsSame s t → IsSame begun t
+pub IsSame-then : {W : Type 0} (begun s t : Session W) → IsSame begun s → IsSame s t →
+    IsSame begun t
 IsSame-then begun s t h k = record {
   readers = k.readers ∙ h.readers;
   object = k.object ∙ h.object;
@@ -37,58 +44,96 @@ IsSame-then begun s t h k = record {
 }
 
 -- nothing was written, or all that waited, and then again
-pub Serving-settle : {W : Type 0} (contents : W → Option (List ℕ)) (has_failed : W → Bool) (begun s t : Session W) (lines : List (List ℕ)) (mid : Option (List ℕ)) (w : Waiting) → Serving contents has_failed begun lines s → IsSame s t → t.object.now ≡ s.object.now → Settles (contents s.sink.now) mid s.waiting.now w → Settles mid (contents t.sink.now) w t.waiting.now → has_failed t.sink.now ≡ has_failed s.sink.now → Serving contents has_failed begun lines t
+pub Serving-settle : {W : Type 0} (contents : W → Option (List ℕ)) (has_failed : W → Bool)
+    (begun s t : Session W) (lines : List (List ℕ)) (mid : Option (List ℕ)) (w : Waiting) →
+    Serving contents has_failed begun lines s → IsSame s t → t.object.now ≡ s.object.now →
+    Settles (contents s.sink.now) mid s.waiting.now w →
+    Settles mid (contents t.sink.now) w t.waiting.now →
+    has_failed t.sink.now ≡ has_failed s.sink.now → Serving contents has_failed begun lines t
 Serving-settle contents has_failed begun s t lines mid w h lent same settled again sound =
     let text = line_text present begun.readers in
     let after = line_after present begun.readers in
-    let first = Waits-settle text after begun.object.now s.object.now s.object.now lines _ _ mid s.waiting.now w h.waits settled refl in
+    let first =
+    Waits-settle text after begun.object.now s.object.now s.object.now lines _ _ mid
+    s.waiting.now w h.waits settled refl in
     record {
       same = IsSame-then begun s t h.same lent;
-      waits = Waits-settle text after begun.object.now s.object.now t.object.now lines _ mid _ w t.waiting.now first again same;
+      waits =
+          Waits-settle text after begun.object.now s.object.now t.object.now lines _ mid _ w
+          t.waiting.now first again same;
       sound = sound ∙ h.sound;
     }
 
 -- a line was answered, behind what was settled
-pub Serving-add : {W : Type 0} (contents : W → Option (List ℕ)) (has_failed : W → Bool) (begun s t : Session W) (before : List (List ℕ)) (given whole : List ℕ) (mid : Option (List ℕ)) (w : Waiting) → Serving contents has_failed begun before s → IsSame s t → Settles (contents s.sink.now) mid s.waiting.now w → Adds s.object.now t.object.now (line_text present s.readers s.object.now given) mid (contents t.sink.now) w t.waiting.now → t.object.now ≡ line_after present s.readers s.object.now given → given ≡ front_of whole → has_failed t.sink.now ≡ has_failed s.sink.now → Serving contents has_failed begun (before ++ whole ∷ []) t
-Serving-add contents has_failed begun s t before given whole mid w h lent settled adds e front sound =
+pub Serving-add : {W : Type 0} (contents : W → Option (List ℕ)) (has_failed : W → Bool)
+    (begun s t : Session W) (before : List (List ℕ)) (given whole : List ℕ) (mid : Option (List ℕ))
+    (w : Waiting) → Serving contents has_failed begun before s → IsSame s t →
+    Settles (contents s.sink.now) mid s.waiting.now w →
+    Adds s.object.now t.object.now (line_text present s.readers s.object.now given) mid
+    (contents t.sink.now) w t.waiting.now →
+    t.object.now ≡ line_after present s.readers s.object.now given → given ≡ front_of whole →
+    has_failed t.sink.now ≡ has_failed s.sink.now →
+    Serving contents has_failed begun (before ++ whole ∷ []) t
+Serving-add contents has_failed begun s t before given whole mid w h lent settled adds e front
+    sound =
     let readers = begun.readers in
     let text = line_text present readers in
     let after = line_after present readers in
     let now = s.object.now in
-    let first = Waits-settle text after begun.object.now now now before _ _ mid s.waiting.now w h.waits settled refl in
+    let first =
+    Waits-settle text after begun.object.now now now before _ _ mid s.waiting.now w h.waits
+    settled refl in
     let reply : line_text present s.readers now given ≡ text now whole =
-    ap (λ r. line_text present r now given) h.same.readers ∙ line_text_of_front readers now given whole front in
+    ap (λ r. line_text present r now given) h.same.readers
+    ∙ line_text_of_front readers now given whole front in
     let stands : line_after present s.readers now given ≡ after now whole =
-    ap (λ r. line_after present r now given) h.same.readers ∙ line_after_front readers now given whole front in
+    ap (λ r. line_after present r now given) h.same.readers
+    ∙ line_after_front readers now given whole front in
     record {
       same = IsSame-then begun s t h.same lent;
-      waits = Waits-add text after begun.object.now now t.object.now _ before whole _ mid _ w t.waiting.now first adds reply (e ∙ stands);
+      waits =
+          Waits-add text after begun.object.now now t.object.now _ before whole _ mid _ w
+          t.waiting.now first adds reply (e ∙ stands);
       sound = sound ∙ h.sound;
     }
 
 -- a write failed, behind what was settled
-pub Failing-from : {W : Type 0} (contents : W → Option (List ℕ)) (has_failed : W → Bool) (begun s t : Session W) (lines : List (List ℕ)) (unwritten : ℕ) (mid : Option (List ℕ)) (failed : Bool) (w : Waiting) → Serving contents has_failed begun lines s → IsSame s t → t.object.now ≡ s.object.now → Settles (contents s.sink.now) mid s.waiting.now w → failed ≡ has_failed s.sink.now → WritesSome mid (contents t.sink.now) w unwritten → FailsAt failed (has_failed t.sink.now) w.text.items → Failing contents has_failed begun lines t unwritten
-Failing-from contents has_failed begun s t lines unwritten mid failed w h lent same settled sound some reason =
+pub Failing-from : {W : Type 0} (contents : W → Option (List ℕ)) (has_failed : W → Bool)
+    (begun s t : Session W) (lines : List (List ℕ)) (unwritten : ℕ) (mid : Option (List ℕ))
+    (failed : Bool) (w : Waiting) → Serving contents has_failed begun lines s → IsSame s t →
+    t.object.now ≡ s.object.now → Settles (contents s.sink.now) mid s.waiting.now w →
+    failed ≡ has_failed s.sink.now → WritesSome mid (contents t.sink.now) w unwritten →
+    FailsAt failed (has_failed t.sink.now) w.text.items →
+    Failing contents has_failed begun lines t unwritten
+Failing-from contents has_failed begun s t lines unwritten mid failed w h lent same settled sound
+    some reason =
     let text = line_text present begun.readers in
     let after = line_after present begun.readers in
     let old = contents begun.sink.now in
     let new = contents t.sink.now in
     let now = s.object.now in
-    let first = Waits-settle text after begun.object.now now now lines _ _ mid s.waiting.now w h.waits settled refl in
-    let part = PartOf-from text after begun.object.now now lines old mid new w unwritten first some in
+    let first =
+    Waits-settle text after begun.object.now now now lines _ _ mid s.waiting.now w h.waits
+    settled refl in
+    let part =
+    PartOf-from text after begun.object.now now lines old mid new w unwritten first some in
     let all = Waits-all text after begun.object.now now lines old mid w first in
-    let size = length-append (outputs present begun.readers begun.object.now first.done) w.text.items in
+    let size =
+    length-append (outputs present begun.readers begun.object.now first.done) w.text.items in
     record {
       whole = part.n;
       count = part.count;
       same = IsSame-then begun s t h.same lent;
       part =
-          subst (λ (v : ObjectState). InPart text after begun.object.now v lines old new part.n) (sym same) part.part;
+          subst (λ (v : ObjectState). InPart text after begun.object.now v lines old new part.n)
+          (sym same) part.part;
       reason = FailsAt-all _ _ _ _ _ (sound ∙ h.sound) (omega (arith, ap length all, size)) reason;
     }
 
 -- nothing is answered yet
-pub Serving-nothing : {W : Type 0} (contents : W → Option (List ℕ)) (has_failed : W → Bool) (s : Session W) → s.waiting.now.text.items ≡ [] → s.waiting.now.ends.items ≡ [] → Serving contents has_failed s [] s
+pub Serving-nothing : {W : Type 0} (contents : W → Option (List ℕ)) (has_failed : W → Bool)
+    (s : Session W) → s.waiting.now.text.items ≡ [] → s.waiting.now.ends.items ≡ [] →
+    Serving contents has_failed s [] s
 Serving-nothing contents has_failed s text ends = record {
   same = record { readers = refl; object = refl; sink = refl };
   waits = Waits-nothing _ _ s.object.now (contents s.sink.now) s.waiting.now text ends;
@@ -96,52 +141,90 @@ Serving-nothing contents has_failed s text ends = record {
 }
 
 -- no more replies wait than lines were taken
-pub Serving-few : {W : Type 0} (contents : W → Option (List ℕ)) (has_failed : W → Bool) (begun s : Session W) (lines : List (List ℕ)) → Serving contents has_failed begun lines s → length s.waiting.now.ends.items ≤ length lines
+pub Serving-few : {W : Type 0} (contents : W → Option (List ℕ)) (has_failed : W → Bool)
+    (begun s : Session W) (lines : List (List ℕ)) → Serving contents has_failed begun lines s →
+    length s.waiting.now.ends.items ≤ length lines
 Serving-few contents has_failed begun s lines h =
     let w = h.waits in
-    omega (arith, ap length w.split, length-append w.done w.rest, ap length w.places, length-ends (line_text present begun.readers) (line_after present begun.readers) 0 (fold (line_after present begun.readers) begun.object.now w.done) w.rest)
+    omega (
+      arith,
+      ap length w.split,
+      length-append w.done w.rest,
+      ap length w.places,
+      length-ends
+          (line_text present begun.readers) (line_after present begun.readers) 0
+          (fold (line_after present begun.readers) begun.object.now w.done) w.rest,
+    )
 
 -- all that waits is written
-pub Serving-written : {W : Type 0} (contents : W → Option (List ℕ)) (has_failed : W → Bool) (begun s t : Session W) (lines : List (List ℕ)) → Serving contents has_failed begun lines s → Writes (contents s.sink.now) (contents t.sink.now) s.waiting.now t.waiting.now → Appends (contents begun.sink.now) (contents t.sink.now) (outputs present begun.readers begun.object.now lines)
+pub Serving-written : {W : Type 0} (contents : W → Option (List ℕ)) (has_failed : W → Bool)
+    (begun s t : Session W) (lines : List (List ℕ)) → Serving contents has_failed begun lines s →
+    Writes (contents s.sink.now) (contents t.sink.now) s.waiting.now t.waiting.now →
+    Appends (contents begun.sink.now) (contents t.sink.now)
+    (outputs present begun.readers begun.object.now lines)
 Serving-written contents has_failed begun s t lines h k =
     Waits-written _ _ begun.object.now s.object.now lines _ _ _ s.waiting.now h.waits k.all
 
 -- all lines of the input are its first ones
-pub first_of_all : (input : Option (List ℕ)) (taken : List (List ℕ)) → IfSome input (λ bytes. lines bytes ≡ taken) → IfSome input (λ bytes. take (length taken) (lines bytes) ≡ taken)
+pub first_of_all : (input : Option (List ℕ)) (taken : List (List ℕ)) →
+    IfSome input (λ bytes. lines bytes ≡ taken) →
+    IfSome input (λ bytes. take (length taken) (lines bytes) ≡ taken)
 first_of_all None taken h = tt
-first_of_all (Some bytes) taken h = ap (take (length taken)) h ∙ take_all (length taken) taken (omega arith)
+first_of_all (Some bytes) taken h =
+    ap (take (length taken)) h ∙ take_all (length taken) taken (omega arith)
 
-pub first_counted : (input : Option (List ℕ)) (taken : List (List ℕ)) (n : ℕ) → n ≡ length taken → IfSome input (λ bytes. take n (lines bytes) ≡ taken) → IfSome input (λ bytes. take (length taken) (lines bytes) ≡ taken)
+pub first_counted : (input : Option (List ℕ)) (taken : List (List ℕ)) (n : ℕ) → n ≡ length taken →
+    IfSome input (λ bytes. take n (lines bytes) ≡ taken) →
+    IfSome input (λ bytes. take (length taken) (lines bytes) ≡ taken)
 first_counted input taken n e h =
     subst (λ (i : ℕ). IfSome input (λ bytes. take i (lines bytes) ≡ taken)) e h
 
 -- a write failed while lines were taken
-pub AnswersInPart-from : {W : Type 0} (contents : W → Option (List ℕ)) (has_failed : W → Bool) (begun t : Session W) (input : Option (List ℕ)) (taken : List (List ℕ)) (n unwritten : ℕ) → Failing contents has_failed begun taken t unwritten → n + unwritten ≡ length taken → IfSome input (λ bytes. take (length taken) (lines bytes) ≡ taken) → AnswersInPart contents begun t input has_failed n
+pub AnswersInPart-from : {W : Type 0} (contents : W → Option (List ℕ)) (has_failed : W → Bool)
+    (begun t : Session W) (input : Option (List ℕ)) (taken : List (List ℕ)) (n unwritten : ℕ) →
+    Failing contents has_failed begun taken t unwritten → n + unwritten ≡ length taken →
+    IfSome input (λ bytes. take (length taken) (lines bytes) ≡ taken) →
+    AnswersInPart contents begun t input has_failed n
 AnswersInPart-from contents has_failed begun t input taken n unwritten h count first =
     let same : h.whole ≡ n = omega (arith, h.count, count) in
     record {
       taken = taken;
       part =
-          subst (λ (i : ℕ). InPart (line_text present begun.readers) (line_after present begun.readers) begun.object.now t.object.now taken (contents begun.sink.now) (contents t.sink.now) i) same h.part;
+          subst (λ (i : ℕ). InPart (line_text present begun.readers)
+          (line_after present begun.readers) begun.object.now t.object.now taken
+          (contents begun.sink.now) (contents t.sink.now) i) same h.part;
       reason = h.reason;
       first = first;
     }
 
 -- the write of what waited at the end failed
-pub AnswersInPart-rest : {W : Type 0} (contents : W → Option (List ℕ)) (has_failed : W → Bool) (begun s t : Session W) (input : Option (List ℕ)) (taken : List (List ℕ)) (n m unwritten : ℕ) → Serving contents has_failed begun taken s → m ≡ length taken → IfSome input (λ bytes. take (length taken) (lines bytes) ≡ taken) → IsSame s t → t.object.now ≡ s.object.now → n + unwritten ≡ m → WritesSome (contents s.sink.now) (contents t.sink.now) s.waiting.now unwritten → FailsAt (has_failed s.sink.now) (has_failed t.sink.now) s.waiting.now.text.items → AnswersInPart contents begun t input has_failed n
-AnswersInPart-rest contents has_failed begun s t input taken n m unwritten serving count first lent same left some reason =
+pub AnswersInPart-rest : {W : Type 0} (contents : W → Option (List ℕ)) (has_failed : W → Bool)
+    (begun s t : Session W) (input : Option (List ℕ)) (taken : List (List ℕ)) (n m unwritten : ℕ) →
+    Serving contents has_failed begun taken s → m ≡ length taken →
+    IfSome input (λ bytes. take (length taken) (lines bytes) ≡ taken) → IsSame s t →
+    t.object.now ≡ s.object.now → n + unwritten ≡ m →
+    WritesSome (contents s.sink.now) (contents t.sink.now) s.waiting.now unwritten →
+    FailsAt (has_failed s.sink.now) (has_failed t.sink.now) s.waiting.now.text.items →
+    AnswersInPart contents begun t input has_failed n
+AnswersInPart-rest contents has_failed begun s t input taken n m unwritten serving count first lent
+    same left some reason =
     AnswersInPart-from contents has_failed begun t input taken n unwritten
-    (Failing-from contents has_failed begun s t taken unwritten _ _ _ serving lent same (inl (refl, refl, refl)) refl some reason)
+    (Failing-from contents has_failed begun s t taken unwritten _ _ _ serving lent same
+    (inl (refl, refl, refl)) refl some reason)
     (left ∙ count) first
 
 -- so many lines were taken, and their replies are written or wait
-pub record Behind {W : Type 0} (contents : W → Option (List ℕ)) (has_failed : W → Bool) (begun now : Session W) (input : Option (List ℕ)) (n : ℕ) : Type 0 where
+pub record Behind {W : Type 0} (contents : W → Option (List ℕ)) (has_failed : W → Bool)
+    (begun now : Session W) (input : Option (List ℕ)) (n : ℕ) : Type 0 where
   pub taken : List (List ℕ)
   pub serving : Serving contents has_failed begun taken now
   pub count : n ≡ length taken
   pub first : IfSome input (λ bytes. take (length taken) (lines bytes) ≡ taken)
 
-pub Behind-all : {W : Type 0} (contents : W → Option (List ℕ)) (has_failed : W → Bool) (s t : Session W) (input : Option (List ℕ)) (n : ℕ) → s.waiting.now.text.items ≡ [] → s.waiting.now.ends.items ≡ [] → TakesAll (Serving contents has_failed) s t input n → Behind contents has_failed s t input n
+pub Behind-all : {W : Type 0} (contents : W → Option (List ℕ)) (has_failed : W → Bool)
+    (s t : Session W) (input : Option (List ℕ)) (n : ℕ) → s.waiting.now.text.items ≡ [] →
+    s.waiting.now.ends.items ≡ [] → TakesAll (Serving contents has_failed) s t input n →
+    Behind contents has_failed s t input n
 Behind-all contents has_failed s t input n text ends h = record {
   taken = h.taken;
   serving = h.takes s [] (Serving-nothing contents has_failed s text ends);
@@ -149,7 +232,10 @@ Behind-all contents has_failed s t input n text ends h = record {
   first = first_of_all input h.taken h.all;
 }
 
-pub Behind-first : {W : Type 0} (contents : W → Option (List ℕ)) (has_failed : W → Bool) (s t : Session W) (input : Option (List ℕ)) (n : ℕ) → s.waiting.now.text.items ≡ [] → s.waiting.now.ends.items ≡ [] → TakesFirst (Serving contents has_failed) s t input n → Behind contents has_failed s t input n
+pub Behind-first : {W : Type 0} (contents : W → Option (List ℕ)) (has_failed : W → Bool)
+    (s t : Session W) (input : Option (List ℕ)) (n : ℕ) → s.waiting.now.text.items ≡ [] →
+    s.waiting.now.ends.items ≡ [] → TakesFirst (Serving contents has_failed) s t input n →
+    Behind contents has_failed s t input n
 Behind-first contents has_failed s t input n text ends h = record {
   taken = h.taken;
   serving = h.takes s [] (Serving-nothing contents has_failed s text ends);
@@ -157,7 +243,11 @@ Behind-first contents has_failed s t input n text ends h = record {
   first = first_counted input h.taken n h.count h.first;
 }
 
-pub Behind-stopped : {W : Type 0} (contents : W → Option (List ℕ)) (has_failed : W → Bool) (s t : Session W) (input : Option (List ℕ)) (n : ℕ) (why : Stop) → s.waiting.now.text.items ≡ [] → s.waiting.now.ends.items ≡ [] → why ≡ NoMemory → StopsAfter (Serving contents has_failed) (λ begun taken at now why. StopsServing contents has_failed begun taken now why) s t input n why → Behind contents has_failed s t input n
+pub Behind-stopped : {W : Type 0} (contents : W → Option (List ℕ)) (has_failed : W → Bool)
+    (s t : Session W) (input : Option (List ℕ)) (n : ℕ) (why : Stop) →
+    s.waiting.now.text.items ≡ [] → s.waiting.now.ends.items ≡ [] → why ≡ NoMemory →
+    StopsAfter (Serving contents has_failed) (λ begun taken at now why. StopsServing contents
+    has_failed begun taken now why) s t input n why → Behind contents has_failed s t input n
 Behind-stopped contents has_failed s t input n why text ends is_memory h = record {
   taken = h.taken;
   serving =
@@ -168,12 +258,17 @@ Behind-stopped contents has_failed s t input n why text ends is_memory h = recor
 }
 
 -- as many replies wait as lines were taken, at most
-pub Behind-few : {W : Type 0} (contents : W → Option (List ℕ)) (has_failed : W → Bool) (s t : Session W) (input : Option (List ℕ)) (n : ℕ) → Behind contents has_failed s t input n → length t.waiting.now.ends.items ≤ n
+pub Behind-few : {W : Type 0} (contents : W → Option (List ℕ)) (has_failed : W → Bool)
+    (s t : Session W) (input : Option (List ℕ)) (n : ℕ) → Behind contents has_failed s t input n →
+    length t.waiting.now.ends.items ≤ n
 Behind-few contents has_failed s t input n h =
     omega (arith, h.count, Serving-few contents has_failed s t h.taken h.serving)
 
 -- what waited is written then
-pub Behind-written : {W : Type 0} (contents : W → Option (List ℕ)) (has_failed : W → Bool) (s t u : Session W) (input : Option (List ℕ)) (n : ℕ) → Behind contents has_failed s t input n → Writes (contents t.sink.now) (contents u.sink.now) t.waiting.now u.waiting.now → u.object.now ≡ t.object.now → AnswersFirst contents s u input n
+pub Behind-written : {W : Type 0} (contents : W → Option (List ℕ)) (has_failed : W → Bool)
+    (s t u : Session W) (input : Option (List ℕ)) (n : ℕ) → Behind contents has_failed s t input n →
+    Writes (contents t.sink.now) (contents u.sink.now) t.waiting.now u.waiting.now →
+    u.object.now ≡ t.object.now → AnswersFirst contents s u input n
 Behind-written contents has_failed s t u input n h k same = record {
   taken = h.taken;
   count = h.count;
@@ -182,7 +277,11 @@ Behind-written contents has_failed s t u input n h k same = record {
   first = h.first;
 }
 
-pub Behind-all_written : {W : Type 0} (contents : W → Option (List ℕ)) (has_failed : W → Bool) (s t u : Session W) (input : Option (List ℕ)) (n : ℕ) → s.waiting.now.text.items ≡ [] → s.waiting.now.ends.items ≡ [] → TakesAll (Serving contents has_failed) s t input n → Writes (contents t.sink.now) (contents u.sink.now) t.waiting.now u.waiting.now → u.object.now ≡ t.object.now → AnswersAll contents s u input n
+pub Behind-all_written : {W : Type 0} (contents : W → Option (List ℕ)) (has_failed : W → Bool)
+    (s t u : Session W) (input : Option (List ℕ)) (n : ℕ) → s.waiting.now.text.items ≡ [] →
+    s.waiting.now.ends.items ≡ [] → TakesAll (Serving contents has_failed) s t input n →
+    Writes (contents t.sink.now) (contents u.sink.now) t.waiting.now u.waiting.now →
+    u.object.now ≡ t.object.now → AnswersAll contents s u input n
 Behind-all_written contents has_failed s t u input n text ends h k same =
     let serving = h.takes s [] (Serving-nothing contents has_failed s text ends) in
     record {
@@ -196,26 +295,41 @@ Behind-all_written contents has_failed s t u input n text ends h k same =
 -- the write of what waited failed
 abbrev pub RestFails : {W : Type 0} → (W → Option (List ℕ)) → Session W → Session W → ℕ → ℕ → Type 0
 RestFails contents t u m n =
-    (unwritten : ℕ) × (n + unwritten ≡ m) × WritesSome (contents t.sink.now) (contents u.sink.now) t.waiting.now unwritten
+    (unwritten : ℕ) × (n + unwritten ≡ m)
+    × WritesSome (contents t.sink.now) (contents u.sink.now) t.waiting.now unwritten
 
-pub Behind-failed : {W : Type 0} (contents : W → Option (List ℕ)) (has_failed : W → Bool) (s t u : Session W) (input : Option (List ℕ)) (n m : ℕ) → Behind contents has_failed s t input m → IsSame t u → u.object.now ≡ t.object.now → FailsAt (has_failed t.sink.now) (has_failed u.sink.now) t.waiting.now.text.items → RestFails contents t u m n → AnswersInPart contents s u input has_failed n
+pub Behind-failed : {W : Type 0} (contents : W → Option (List ℕ)) (has_failed : W → Bool)
+    (s t u : Session W) (input : Option (List ℕ)) (n m : ℕ) →
+    Behind contents has_failed s t input m → IsSame t u → u.object.now ≡ t.object.now →
+    FailsAt (has_failed t.sink.now) (has_failed u.sink.now) t.waiting.now.text.items →
+    RestFails contents t u m n → AnswersInPart contents s u input has_failed n
 Behind-failed contents has_failed s t u input n m h lent same reason k =
-    AnswersInPart-rest contents has_failed s t u input h.taken n m k.0 h.serving h.count h.first lent same k.1 k.2 reason
+    AnswersInPart-rest contents has_failed s t u input h.taken n m k.0 h.serving h.count h.first
+    lent same k.1 k.2 reason
 
 -- a failed write of the rest is passed on
-pub if_err_rest : {T : Type 0} (P : ℕ → Type 0) (r : Result T ServeFault) (given fault : ServeFault) (Z : ServeFault → Type 0) → r ≡ Err given → given ≡ fault → MatchFault fault (λ _. ⊥) (λ _. ⊥) P → ((n : ℕ) → P n → Z (WriteFault n)) → IfErr r Z
+pub if_err_rest : {T : Type 0} (P : ℕ → Type 0) (r : Result T ServeFault) (given fault : ServeFault)
+    (Z : ServeFault → Type 0) → r ≡ Err given → given ≡ fault →
+    MatchFault fault (λ _. ⊥) (λ _. ⊥) P → ((n : ℕ) → P n → Z (WriteFault n)) → IfErr r Z
 if_err_rest P r given (FaultNoMemory n) Z is_err same h k = absurd h
 if_err_rest P r given (ReadFault n) Z is_err same h k = absurd h
-if_err_rest P r given (WriteFault n) Z is_err same h k = if_err_at Z r given (WriteFault n) is_err same (k n h)
+if_err_rest P r given (WriteFault n) Z is_err same h k =
+    if_err_at Z r given (WriteFault n) is_err same (k n h)
 
 -- so many lines were taken, and then a write failed
-pub record BehindFailure {W : Type 0} (contents : W → Option (List ℕ)) (has_failed : W → Bool) (begun now : Session W) (input : Option (List ℕ)) (n unwritten : ℕ) : Type 0 where
+pub record BehindFailure {W : Type 0} (contents : W → Option (List ℕ)) (has_failed : W → Bool)
+    (begun now : Session W) (input : Option (List ℕ)) (n unwritten : ℕ) : Type 0 where
   pub taken : List (List ℕ)
   pub failing : Failing contents has_failed begun taken now unwritten
   pub count : n ≡ length taken
   pub first : IfSome input (λ bytes. take (length taken) (lines bytes) ≡ taken)
 
-pub BehindFailure-from : {W : Type 0} (contents : W → Option (List ℕ)) (has_failed : W → Bool) (s t : Session W) (input : Option (List ℕ)) (n : ℕ) (why : Stop) (failed : Unfinished) → s.waiting.now.text.items ≡ [] → s.waiting.now.ends.items ≡ [] → why ≡ WriteFailed failed → StopsAfter (Serving contents has_failed) (λ begun taken at now why. StopsServing contents has_failed begun taken now why) s t input n why → BehindFailure contents has_failed s t input n failed.unwritten
+pub BehindFailure-from : {W : Type 0} (contents : W → Option (List ℕ)) (has_failed : W → Bool)
+    (s t : Session W) (input : Option (List ℕ)) (n : ℕ) (why : Stop) (failed : Unfinished) →
+    s.waiting.now.text.items ≡ [] → s.waiting.now.ends.items ≡ [] → why ≡ WriteFailed failed →
+    StopsAfter (Serving contents has_failed) (λ begun taken at now why. StopsServing contents
+    has_failed begun taken now why) s t input n why →
+    BehindFailure contents has_failed s t input n failed.unwritten
 BehindFailure-from contents has_failed s t input n why failed text ends is_failed h = record {
   taken = h.taken;
   failing =
@@ -225,9 +339,16 @@ BehindFailure-from contents has_failed s t input n why failed text ends is_faile
   first = first_counted input h.taken n h.count h.first;
 }
 
-pub BehindFailure-few : {W : Type 0} (contents : W → Option (List ℕ)) (has_failed : W → Bool) (s t : Session W) (input : Option (List ℕ)) (n unwritten : ℕ) → BehindFailure contents has_failed s t input n unwritten → unwritten ≤ n
-BehindFailure-few contents has_failed s t input n unwritten h = omega (arith, h.count, h.failing.count)
+pub BehindFailure-few : {W : Type 0} (contents : W → Option (List ℕ)) (has_failed : W → Bool)
+    (s t : Session W) (input : Option (List ℕ)) (n unwritten : ℕ) →
+    BehindFailure contents has_failed s t input n unwritten → unwritten ≤ n
+BehindFailure-few contents has_failed s t input n unwritten h =
+    omega (arith, h.count, h.failing.count)
 
-pub BehindFailure-part : {W : Type 0} (contents : W → Option (List ℕ)) (has_failed : W → Bool) (s t : Session W) (input : Option (List ℕ)) (n unwritten m : ℕ) → BehindFailure contents has_failed s t input n unwritten → m + unwritten ≡ n → AnswersInPart contents s t input has_failed m
+pub BehindFailure-part : {W : Type 0} (contents : W → Option (List ℕ)) (has_failed : W → Bool)
+    (s t : Session W) (input : Option (List ℕ)) (n unwritten m : ℕ) →
+    BehindFailure contents has_failed s t input n unwritten → m + unwritten ≡ n →
+    AnswersInPart contents s t input has_failed m
 BehindFailure-part contents has_failed s t input n unwritten m h e =
-    AnswersInPart-from contents has_failed s t input h.taken m unwritten h.failing (e ∙ h.count) h.first
+    AnswersInPart-from contents has_failed s t input h.taken m unwritten h.failing (e ∙ h.count)
+    h.first

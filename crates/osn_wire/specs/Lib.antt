@@ -1,14 +1,6 @@
 pub mod Faults
-pub mod Member
-pub mod Words
-pub mod WireFault
-pub mod Field
-pub mod Op
-pub mod EditRequest
-pub mod QueryRequest
-pub mod Request
 pub mod ReplyText
-pub mod ReplyInside
+pub mod OutText
 pub mod Session
 pub mod Served
 pub mod Replies

@@ -1,17 +1,11 @@
--- The JSON value of each outcome, and the line that is its text: this project's profile. The members
--- of an object stand in ascending order of their names.
-use Rattle.std.specs.Prelude.{ℕ, Bool, ◌-◌, ◌==◌, ◌&&◌, if◌then◌else◌, ℤ, unsigned_abs, List, [], ◌∷◌, ◌++◌, length, map, replicate, codes}
-use Rattle.std.specs.Fmt.{decimal}
-use Rattle.serde_json.specs.Data.{Data, boolean, number, unsigned, string, array, object, member, no_members}
-use Rattle.serde_json.specs.View.{items_of}
+-- The JSON value of each outcome, and the line that is its text: this project's profile. The
+-- members of an object stand in ascending order of their names.
+use Rattle.std.specs.Prelude.{ℕ, Bool, List, [], ◌∷◌, ◌++◌, map, codes}
+use Rattle.serde_json.specs.Data.{Data, boolean, string, object, member, no_members}
 use Rattle.serde_json.specs.Written.{compact_text}
 use Rattle.osn_computus.specs.declared.epact.Epact.{Epact}
 use Rattle.osn_computus.specs.declared.letters.Letters.{Letters}
-use Rattle.osn_computus.specs.Letters.{letter_name, letter_number}
-use Rattle.osn_days.specs.declared.date.Date.{Date}
 use Rattle.osn_days.specs.declared.calendar.Calendar.TheVariants.{Julian, Gregorian}
-use Rattle.osn_days.specs.declared.weekday.Weekday.{Weekday}
-use Rattle.osn_days.specs.declared.weekday.Weekday.TheVariants.{Sunday, Monday, Tuesday, Wednesday, Thursday, Friday, Saturday}
 use Rattle.osn_days.specs.Chain.{date_of}
 use Rattle.osn_days.specs.Line.{weekday, julian_day}
 use Rattle.osn_days.specs.Weekday.{weekday_name}
@@ -22,47 +16,17 @@ use Rattle.osn_register.specs.declared.answer.Answer.TheVariants as answers
 use Rattle.osn_register.specs.declared.answer.Found.{Found}
 use Rattle.osn_register.specs.declared.answer.Land.{Land}
 use Rattle.osn_register.specs.Refusal.{refusal_number, refusal_name}
-use Rattle.osn_wire.specs.declared.wire_fault.WireFault.{WireFault}
-use Rattle.osn_wire.specs.declared.wire_fault.WireFault.TheVariants as faults
+use Rattle.osn_request.specs.declared.wire_fault.WireFault.{WireFault}
+use Rattle.osn_request.specs.declared.wire_fault.WireFault.TheVariants as faults
 use Rattle.osn_wire.specs.declared.outcome.Outcome.{Outcome}
-use Rattle.osn_wire.specs.declared.outcome.Outcome.TheVariants.{Staged, Published, Refused, Fault, Replied}
-use Rattle.osn_wire.specs.Member.{member_name}
-use Rattle.osn_wire.specs.WireFault.{wire_fault_number, wire_fault_name}
-use Rattle.osn_wire.specs.Words.{calendar_word, style_word, rule_word}
-
--- a number's digits, after as many zeros as bring them to the length
-abbrev pub at_least : ℕ → ℕ → List ℕ
-at_least width n = replicate (width - length (decimal n)) 48 ++ decimal n
-
--- the year in at least four digits, the month in two and the day in two
-abbrev pub date_digits : ℕ → ℕ → ℕ → List ℕ
-date_digits year month day =
-    at_least 4 year ++ (codes "-" ++ (at_least 2 month ++ (codes "-" ++ at_least 2 day)))
-
--- a date. No year is negative, so a year's digits are those of its absolute value
-unfoldable pub date_text : ℤ → ℕ → ℕ → List ℕ
-date_text year month day = date_digits (unsigned_abs year) month day
-
--- the date of a day in a calendar
-abbrev pub text_of_date : Date → List ℕ
-text_of_date date = date_text date.year date.month date.day
-
--- the weekday of a number, 0 for Sunday
-unfoldable pub weekday_numbered : ℕ → Weekday
-weekday_numbered n =
-    if n == 0 then Sunday
-    else (if n == 1 then Monday
-    else (if n == 2 then Tuesday
-    else (if n == 3 then Wednesday
-    else (if n == 4 then Thursday
-    else (if n == 5 then Friday
-    else Saturday)))))
-
-abbrev pub whole : ℕ → Data
-whole n = number (unsigned n)
-
-abbrev pub list_data : List Data → Data
-list_data ds = array (items_of ds)
+use Rattle.osn_wire.specs.declared.outcome.Outcome.TheVariants.{Staged, Published, Refused, Fault}
+use Rattle.osn_wire.specs.declared.outcome.Outcome.TheVariants.{Replied}
+use Rattle.osn_request.specs.Member.{member_name}
+use Rattle.osn_request.specs.WireFault.{wire_fault_number, wire_fault_name}
+use Rattle.osn_words.specs.Json.{whole, list_data}
+use Rattle.osn_words.specs.Texts.{date_text, text_of_date, weekday_numbered, epact_text}
+use Rattle.osn_words.specs.Texts.{letters_text}
+use Rattle.osn_words.specs.Words.{calendar_word, style_word, rule_word}
 
 -- a day as a territory names it
 abbrev pub found_data : Found → Data
@@ -122,20 +86,6 @@ easters_data found listed = object (
     member (codes "days") (list_data (map found_data found))
     (member (codes "listed") (boolean listed)
     no_members))
-
--- an epact of the Gregorian reckoning as the canons write it: a star for 0, and the second of the two
--- of 25 with a prime
-unfoldable pub epact_text : Epact → List ℕ
-epact_text e =
-    if e.number == 0 then codes "*"
-    else (if (e.number == 25) && e.prime then codes "25'"
-    else decimal e.number)
-
--- the letter of January before that of March, and one letter where they are the same
-unfoldable pub letters_text : Letters → List ℕ
-letters_text l =
-    if letter_number l.january == letter_number l.march then letter_name l.january
-    else letter_name l.january ++ letter_name l.march
 
 -- the figures of a year by one rule
 abbrev pub reckoning_data : ℕ → Data → Letters → Data
@@ -221,6 +171,10 @@ outcome_data (Refused f) = refused_data (refusal_number f) (refusal_name f)
 outcome_data (Fault f) = fault_data f
 outcome_data (Replied reader reply) = replied_data reader reply.edition reply.answer
 
--- the line of an outcome: its text with no space, and a line feed
+-- the line of a value: its text with no space, and a line feed
+abbrev pub line_of : Data → List ℕ
+line_of d = compact_text d ++ 10 ∷ []
+
+-- the line of an outcome
 unfoldable pub reply_line : Outcome → List ℕ
-reply_line o = compact_text (outcome_data o) ++ 10 ∷ []
+reply_line o = line_of (outcome_data o)

@@ -1,4 +1,5 @@
--- What is written for lines: the text of each outcome of the sequential object run on their requests, in order.
+-- What is written for lines: the text of each outcome of the sequential object run on their
+-- requests, in order.
 use Rattle.std.specs.Prelude.{◌≡◌, ◌≤◌, ◌<◌, ◌+◌, ◌⊎◌, ℕ, List, Option, length, take, fold}
 use Rattle.std.specs.Io.KnownBytes.{Appends}
 use Rattle.osn_days.specs.Profile.{Profile}
@@ -20,12 +21,14 @@ abbrev pub after_lines : Profile → ℕ → ObjectState → List (List ℕ) →
 after_lines p readers = fold (line_after p readers)
 
 -- exactly the replies to the first n lines are written
-pub record WritesFirst (p : Profile) (readers : ℕ) (s : ObjectState) (old new : Option (List ℕ)) (lines : List (List ℕ)) (n : ℕ) : Type 0 where
+pub record WritesFirst (p : Profile) (readers : ℕ) (s : ObjectState) (old new : Option (List ℕ))
+    (lines : List (List ℕ)) (n : ℕ) : Type 0 where
   pub enough : n ≤ length lines
   pub written : Appends old new (outputs p readers s (take n lines))
 
 -- a front of the replies to all lines is written, with those to n lines whole and no more
-pub record WritesInPart (p : Profile) (readers : ℕ) (s : ObjectState) (old new : Option (List ℕ)) (lines : List (List ℕ)) (n : ℕ) : Type 0 where
+pub record WritesInPart (p : Profile) (readers : ℕ) (s : ObjectState) (old new : Option (List ℕ))
+    (lines : List (List ℕ)) (n : ℕ) : Type 0 where
   pub bytes : ℕ
   pub enough : n ≤ length lines
   pub written : Appends old new (take bytes (outputs p readers s lines))
@@ -38,4 +41,5 @@ StandsAt p readers s t lines n = t ≡ after_lines p readers s (take n lines)
 
 -- or after one more
 abbrev pub StandsNear : Profile → ℕ → ObjectState → ObjectState → List (List ℕ) → ℕ → Type 0
-StandsNear p readers s t lines n = StandsAt p readers s t lines n ⊎ StandsAt p readers s t lines (n + 1)
+StandsNear p readers s t lines n =
+    StandsAt p readers s t lines n ⊎ StandsAt p readers s t lines (n + 1)

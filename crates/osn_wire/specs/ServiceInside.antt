@@ -1,15 +1,19 @@
--- What holds while lines are served: the replies that wait to be written, and what stands behind them.
-use Rattle.std.specs.Prelude.{◌≡◌, ◌≤◌, ◌<◌, ◌+◌, ◌⊎◌, ℕ, Bool, true, nat_le, List, [], ◌∷◌, ◌++◌, Option, length, take, fold}
+-- What holds while lines are served: the replies that wait to be written, and what stands behind
+-- them.
+use Rattle.std.specs.Prelude.{◌≡◌, ◌≤◌, ◌<◌, ◌+◌, ◌⊎◌, ℕ, Bool, true, nat_le, List, [], ◌∷◌, ◌++◌}
+use Rattle.std.specs.Prelude.{Option, length, take, fold}
 use Rattle.std.specs.List.{count_by}
 use Rattle.std.specs.Io.KnownBytes.{Appends}
 use Rattle.osn_wire.specs.declared.waiting.Waiting.{Waiting}
 use Rattle.osn_wire.specs.Replies.{replies}
 
 -- where each reply ends, the first of which begins at a place
-abbrev pub ends_from : {S : Type 0} → (S → List ℕ → List ℕ) → (S → List ℕ → S) → ℕ → S → List (List ℕ) → List ℕ
+abbrev pub ends_from : {S : Type 0} → (S → List ℕ → List ℕ) → (S → List ℕ → S) → ℕ → S →
+    List (List ℕ) → List ℕ
 ends_from text after from s [] = []
 ends_from text after from s (line ∷ rest) =
-    (from + length (text s line)) ∷ ends_from text after (from + length (text s line)) (after s line) rest
+    (from + length (text s line)) ∷ ends_from text after (from + length (text s line))
+    (after s line) rest
 
 -- no line of these changes anything
 abbrev pub ChangesNothing : {S : Type 0} → (S → List ℕ → S) → S → List (List ℕ) → Type 0
@@ -21,8 +25,10 @@ abbrev pub ChangesFirst : {S : Type 0} → (S → List ℕ → S) → S → List
 ChangesFirst after s [] = Unit {0}
 ChangesFirst after s (line ∷ rest) = ChangesNothing after (after s line) rest
 
--- the lines were answered; the replies to the last of them wait, and of those lines only the first has changed anything
-pub record Waits {S : Type 0} (text : S → List ℕ → List ℕ) (after : S → List ℕ → S) (begun now : S) (lines : List (List ℕ)) (old new : Option (List ℕ)) (waiting : Waiting) : Type 0 where
+-- the lines were answered; the replies to the last of them wait, and of those lines only the first
+-- has changed anything
+pub record Waits {S : Type 0} (text : S → List ℕ → List ℕ) (after : S → List ℕ → S) (begun now : S)
+    (lines : List (List ℕ)) (old new : Option (List ℕ)) (waiting : Waiting) : Type 0 where
   pub done : List (List ℕ)
   pub rest : List (List ℕ)
   pub split : lines ≡ done ++ rest
@@ -44,21 +50,25 @@ pub record Writes (written now : Option (List ℕ)) (old new : Waiting) : Type 0
   pub ends : new.ends.items ≡ []
 
 -- some bytes of what waited are written, and so many replies of it not whole
-pub record WritesSome (written now : Option (List ℕ)) (waiting : Waiting) (unwritten : ℕ) : Type 0 where
+pub record WritesSome (written now : Option (List ℕ)) (waiting : Waiting)
+    (unwritten : ℕ) : Type 0 where
   pub bytes : ℕ
   pub within : bytes ≤ length waiting.text.items
   pub some : Appends written now (take bytes waiting.text.items)
-  pub count : unwritten + count_by (λ end. nat_le end bytes) waiting.ends.items ≡ length waiting.ends.items
+  pub count : unwritten + count_by (λ end. nat_le end bytes) waiting.ends.items
+      ≡ length waiting.ends.items
 
 -- why a write failed: the sink did, or so many bytes were to be written that the calls didn't do
 abbrev pub FailsAt : Bool → Bool → List ℕ → Type 0
 FailsAt old new bytes = (new ≡ true) ⊎ ((new ≡ old) × (4294967295 ≤ length bytes))
 
 -- a reply was added that changes nothing, or what waited was written before it
-abbrev pub Adds : {S : Type 0} → S → S → List ℕ → Option (List ℕ) → Option (List ℕ) → Waiting → Waiting → Type 0
+abbrev pub Adds : {S : Type 0} → S → S → List ℕ → Option (List ℕ) → Option (List ℕ) → Waiting →
+    Waiting → Type 0
 Adds s u reply written now old new =
     ((u ≡ s) × (now ≡ written) × Pushes old new reply)
-    ⊎ (Appends written now old.text.items × (new.text.items ≡ reply) × (new.ends.items ≡ length reply ∷ []))
+    ⊎ (Appends written now old.text.items × (new.text.items ≡ reply)
+    × (new.ends.items ≡ length reply ∷ []))
 
 -- nothing was written, or all that waited
 abbrev pub Settles : Option (List ℕ) → Option (List ℕ) → Waiting → Waiting → Type 0
@@ -66,13 +76,15 @@ Settles written now old new =
     ((now ≡ written) × (new.text.items ≡ old.text.items) × (new.ends.items ≡ old.ends.items))
     ⊎ Writes written now old new
 
--- a front of the replies is written, with those to n lines whole and no more, and no line behind the next has changed
--- anything
-pub record InPart {S : Type 0} (text : S → List ℕ → List ℕ) (after : S → List ℕ → S) (begun now : S) (lines : List (List ℕ)) (old new : Option (List ℕ)) (n : ℕ) : Type 0 where
+-- a front of the replies is written, with those to n lines whole and no more, and no line behind
+-- the next has changed anything
+pub record InPart {S : Type 0} (text : S → List ℕ → List ℕ) (after : S → List ℕ → S) (begun now : S)
+    (lines : List (List ℕ)) (old new : Option (List ℕ)) (n : ℕ) : Type 0 where
   pub bytes : ℕ
   pub enough : n ≤ length lines
   pub within : bytes ≤ length (replies text after begun lines)
   pub written : Appends old new (take bytes (replies text after begun lines))
   pub whole : length (replies text after begun (take n lines)) ≤ bytes
   pub no_more : n < length lines → bytes < length (replies text after begun (take (n + 1) lines))
-  pub reached : (now ≡ fold after begun (take n lines)) ⊎ ((n < length lines) × (now ≡ fold after begun (take (n + 1) lines)))
+  pub reached : (now ≡ fold after begun (take n lines))
+      ⊎ ((n < length lines) × (now ≡ fold after begun (take (n + 1) lines)))

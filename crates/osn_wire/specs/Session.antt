@@ -1,4 +1,5 @@
--- What a line is told: the sequential object's reply to its request, or its fault, which leaves the object.
+-- What a line is told: the sequential object's reply to its request, or its fault, which leaves the
+-- object.
 use Rattle.std.specs.Prelude.{ℕ, List, length, Option, Some, None, Result, Ok, Err, ◌+◌}
 use Rattle.osn_days.specs.Profile.{Profile}
 use Rattle.osn_register.specs.declared.edit.Edit.{Edit}
@@ -7,11 +8,12 @@ use Rattle.osn_register.specs.declared.refusal.Refusal.{Refusal}
 use Rattle.osn_core.specs.Sequential as object
 use Rattle.osn_core.specs.Sequential.{ObjectState, stage_refusal, publish_refusal, reply_at}
 use Rattle.osn_wire.specs.declared.outcome.Outcome.{Outcome}
-use Rattle.osn_wire.specs.declared.outcome.Outcome.TheVariants.{Staged, Published, Refused, Fault, Replied}
-use Rattle.osn_wire.specs.declared.request.Request.{Request}
-use Rattle.osn_wire.specs.declared.request.Request.TheVariants.{Stage, Publish, Ask}
-use Rattle.osn_wire.specs.declared.wire_fault.WireFault.{WireFault}
-use Rattle.osn_wire.specs.Request.{request}
+use Rattle.osn_wire.specs.declared.outcome.Outcome.TheVariants.{Staged, Published, Refused, Fault}
+use Rattle.osn_wire.specs.declared.outcome.Outcome.TheVariants.{Replied}
+use Rattle.osn_request.specs.declared.request.Request.{Request}
+use Rattle.osn_request.specs.declared.request.Request.TheVariants.{Stage, Publish, Ask}
+use Rattle.osn_request.specs.declared.wire_fault.WireFault.{WireFault}
+use Rattle.osn_request.specs.Request.{request}
 
 abbrev pub unless_refused : Option Refusal → Outcome → Outcome
 unless_refused None outcome = outcome

@@ -12,8 +12,9 @@ pub enum ServeFault {
     /// answered.
     #[error("the input failed behind {lines} lines, which are answered; no other is")]
     ReadFault { lines: u64 },
-    /// The sink failed, or took a text in more than 4,294,967,295 writes. The reply to the next line
-    /// may be written in part. That line may have changed the object, and no line behind it has.
+    /// The sink failed, or took a text in more than 4,294,967,295 writes. The reply to the next
+    /// line may be written in part. That line may have changed the object, and no line behind it
+    /// has.
     #[error("the output failed behind {lines} replies; the next line may have been applied")]
     WriteFault { lines: u64 },
 }

@@ -1,6 +1,6 @@
-use crate::wire_fault::WireFault;
 use osn_core::Reply;
 use osn_register::Refusal;
+use osn_request::WireFault;
 
 /// What became of a line.
 #[derive(Debug, Drop)]

@@ -1,28 +1,33 @@
 //! A reply line: the compact text of a JSON value, and a line feed.
 ghost use Rattle.std.specs.Prelude.{◌≡◌, ◌++◌, IfOk, OnOk, OnErr, string_bytes, IsUtf8};
 ghost use Rattle.osn_wire.specs.declared.outcome.Outcome.TheVariants.{Staged, Published};
-ghost use Rattle.osn_wire.specs.ReplyText.{refused_data, fault_data, outcome_data, reply_line};
-ghost use Rattle.osn_wire.specs.ReplyInside.{value_tokens};
+ghost use Rattle.osn_wire.specs.ReplyText.{refused_data, fault_data, outcome_data, line_of};
+ghost use Rattle.osn_wire.specs.ReplyText.{reply_line};
+ghost use Rattle.osn_wire.specs.OutText.{out_line};
+ghost use Rattle.osn_words.specs.Json.{value_tokens};
 
 mod answer;
 mod date;
 mod figures;
 mod found;
 mod period;
+mod step_out;
 mod write_json;
 
 use crate::outcome::Outcome;
-use crate::wire_fault::WireFault;
 use answer::write_reply;
 use json::Writer;
+use osn_core::Out;
+use osn_request::WireFault;
+use osn_words::{write_number, write_text};
 use std::alloc::{AllocError, Global};
-use write_json::{WriteJson, write_number, write_text};
+use write_json::WriteJson;
 
 /// The room that a reply line gets at first: that of a day takes some 300 bytes.
 const ROOM: usize = 512;
 
 /// Writes a refusal or a fault by its number and name.
-fn write_refused(out: &mut Writer, number: u8, name: &str) -> Result<(), AllocError>
+pub(crate) fn write_refused(out: &mut Writer, number: u8, name: &str) -> Result<(), AllocError>
     ensures tokens { OnOk result (out.new.tokens
         ≡ out.old.tokens ++ value_tokens (refused_data number name.now)) }
     ensures before { out.new.before ≡ out.old.before }
@@ -51,7 +56,7 @@ fn write_fault(out: &mut Writer, fault: WireFault) -> Result<(), AllocError>
     }
 }
 
-fn write_staged(out: &mut Writer, pending: u32) -> Result<(), AllocError>
+pub(crate) fn write_staged(out: &mut Writer, pending: u32) -> Result<(), AllocError>
     ensures tokens { OnOk result (out.new.tokens
         ≡ out.old.tokens ++ value_tokens (outcome_data (Staged pending))) }
     ensures before { out.new.before ≡ out.old.before }
@@ -62,7 +67,7 @@ fn write_staged(out: &mut Writer, pending: u32) -> Result<(), AllocError>
     out.end_object()
 }
 
-fn write_published(out: &mut Writer, edition: u32) -> Result<(), AllocError>
+pub(crate) fn write_published(out: &mut Writer, edition: u32) -> Result<(), AllocError>
     ensures tokens { OnOk result (out.new.tokens
         ≡ out.old.tokens ++ value_tokens (outcome_data (Published edition))) }
     ensures before { out.new.before ≡ out.old.before }
@@ -87,13 +92,13 @@ impl WriteJson for Outcome {
     }
 }
 
-/// The bytes of the reply line of an outcome, with its line feed.
-fn reply_bytes(alloc: Global, outcome: &Outcome) -> Result<Vec<u8>, AllocError>
-    ensures text { IfOk result (λ bytes. bytes.items ≡ reply_line outcome.now) }
+/// The bytes of a value's line: its compact text, and a line feed.
+fn line_bytes<J: WriteJson>(alloc: Global, value: &J) -> Result<Vec<u8>, AllocError>
+    ensures text { IfOk result (λ bytes. bytes.items ≡ line_of (J.shown value.now)) }
     ensures utf8 { IfOk result (λ bytes. IsUtf8 bytes.items) }
 {
     let mut out = Writer::new(Vec::with_capacity(alloc, ROOM)?);
-    outcome.write_json(alloc, &mut out)?;
+    value.write_json(alloc, &mut out)?;
     let mut line = out.into_inner();
     line.push(b'\n')?;
     Ok(line)
@@ -103,14 +108,28 @@ fn reply_bytes(alloc: Global, outcome: &Outcome) -> Result<Vec<u8>, AllocError>
 ///
 /// # Errors
 /// Want of memory, and nothing else.
+#[tactic(auto, unfolding(crate::specs::ReplyText::reply_line))]
 pub fn reply_text(alloc: Global, outcome: &Outcome) -> Result<String, AllocError>
     ensures { IfOk result (λ s. string_bytes s ≡ reply_line outcome.now) }
 {
-    let line = reply_bytes(alloc, outcome)?;
+    let line = line_bytes(alloc, outcome)?;
+    Ok(String::from_utf8(line).unwrap())
+}
+
+/// The line of what a step of the core gave, with its line feed.
+///
+/// # Errors
+/// Want of memory, and nothing else.
+#[tactic(auto, unfolding(crate::specs::OutText::out_line))]
+pub fn out_text(alloc: Global, out: &Out) -> Result<String, AllocError>
+    ensures { IfOk result (λ s. string_bytes s ≡ out_line out.now) }
+{
+    let line = line_bytes(alloc, out)?;
     Ok(String::from_utf8(line).unwrap())
 }
 
 /// Appends the reply line of an outcome, or leaves what is there as it was.
+#[tactic(auto, unfolding(crate::specs::ReplyText::reply_line))]
 pub(crate) fn push_reply(
     alloc: Global,
     outcome: &Outcome,
@@ -119,6 +138,6 @@ pub(crate) fn push_reply(
     ensures ok { OnOk result (out.new.items ≡ out.old.items ++ reply_line outcome.now) }
     ensures err { OnErr result (out.new.items ≡ out.old.items) }
 {
-    let line = reply_bytes(alloc, outcome)?;
+    let line = line_bytes(alloc, outcome)?;
     out.extend_from_slice(&line)
 }

@@ -1,12 +1,14 @@
 //! The service: every request line of a source is answered, in order.
-ghost use Rattle.std.specs.Prelude.{◌≡◌, ◌≤◌, ◌+◌, ◌⊎◌, ⊤, [], ℕ, true, length, take, IfOk, IfErr, IfSome, OnOk, OnErr};
+ghost use Rattle.std.specs.Prelude.{◌≡◌, ◌≤◌, ◌+◌, ◌⊎◌, ⊤, [], ℕ, true, length, take, IfOk, IfErr};
+ghost use Rattle.std.specs.Prelude.{IfSome, OnOk, OnErr};
 ghost use Rattle.std.specs.Io.KnownBytes.{Appends, IsAtEnd};
 ghost use Rattle.osn_days.specs.Profile.{present};
 ghost use Rattle.osn_lines.specs.Lines.{lines};
 ghost use Rattle.osn_lines.specs.Taking.{HasRead};
 ghost use Rattle.osn_core.specs.Sequential.{opened};
 ghost use Rattle.osn_wire.specs.Faults.{MatchFault};
-ghost use Rattle.osn_wire.specs.Served.{outputs, after_lines, WritesFirst, WritesInPart, StandsAt, StandsNear};
+ghost use Rattle.osn_wire.specs.Served.{outputs, after_lines, WritesFirst, WritesInPart, StandsAt};
+ghost use Rattle.osn_wire.specs.Served.{StandsNear};
 ghost use Rattle.osn_wire.specs.ServiceInside.{Writes, WritesSome, FailsAt};
 ghost use Rattle.osn_wire.specs.SessionInside.{IsSame, AnswersAll, AnswersFirst, AnswersInPart};
 
@@ -161,18 +163,20 @@ fn answer_lines<R: Source, W: Sink>(
     run(session, source)
 }
 
-/// Answers every line of the source up to its end, from the object that is given, for readers that are counted from 1.
-/// Answers the number of lines.
+/// Answers every line of the source up to its end, from the object that is given, for readers that
+/// are counted from 1. Answers the number of lines.
 ///
-/// What is written is the text of each outcome of the sequential object run on the requests of the lines read, in
-/// order, and nothing else, in whatever pieces the bytes come. A line that is no request is told its fault and leaves
-/// the object. Replies wait until more is to be read, a line is to change the object, or 65,536 bytes of them wait.
+/// What is written is the text of each outcome of the sequential object run on the requests of the
+/// lines read, in order, and nothing else, in whatever pieces the bytes come. A line that is no
+/// request is told its fault and leaves the object. Replies wait until more is to be read, a line
+/// is to change the object, or 65,536 bytes of them wait.
 ///
 /// # Errors
 ///
-/// `NoMemory` where memory ran out, `ReadFault` where the source failed or gave no end within 4,294,967,295 reads,
-/// `WriteFault` where the sink failed or took a text in more writes than that: each with the number of lines whose
-/// reply was written whole. The object stands after those lines, or after a failed write one line further.
+/// `NoMemory` where memory ran out, `ReadFault` where the source failed or gave no end within
+/// 4,294,967,295 reads, `WriteFault` where the sink failed or took a text in more writes than that:
+/// each with the number of lines whose reply was written whole. The object stands after those
+/// lines, or after a failed write one line further.
 pub fn serve_from<R: Source, W: Sink>(
     alloc: Global,
     object: &mut Object,
@@ -241,7 +245,8 @@ pub fn serve_from<R: Source, W: Sink>(
 ///
 /// # Errors
 ///
-/// As `serve_from`. The object is gone then, so what is sent again has to begin with the first line.
+/// As `serve_from`. The object is gone then, so what is sent again has to begin with the first
+/// line.
 pub fn serve<R: Source, W: Sink>(
     alloc: Global,
     limits: Limits,

@@ -1,7 +1,7 @@
 //! What answers request lines: an object, and a sink for the replies.
 //!
-//! What waits is written before a line that changes the object, so that of the lines whose replies wait only the first
-//! has changed it.
+//! What waits is written before a line that changes the object, so that of the lines whose replies
+//! wait only the first has changed it.
 ghost use Rattle.std.specs.Prelude.{◌≡◌, IfErr, OnOk, OnErr};
 ghost use Rattle.osn_days.specs.Profile.{present};
 ghost use Rattle.osn_wire.specs.ReplyText.{reply_line};
@@ -11,12 +11,12 @@ ghost use Rattle.osn_wire.specs.Session as said;
 ghost use Rattle.osn_wire.specs.Stop.{MatchStop};
 
 use crate::outcome::Outcome;
-use crate::request::{Request, RequestError, read_request};
 use crate::stop::{Stop, Unfinished};
 use crate::waiting::Waiting;
 use osn_core::Object;
 use osn_lines::{LineTaker, Sink};
 use osn_register::{Edit, Query};
+use osn_request::{Request, RequestError, read_request};
 use std::alloc::{AllocError, Global};
 
 fn stage<W: Sink>(
@@ -104,8 +104,8 @@ fn ask(
     waiting.push(alloc, &Outcome::Replied { reader, reply })
 }
 
-/// Answers a line: adds the reply to its request, or to its first fault, which leaves the object. A stop leaves the
-/// object too.
+/// Answers a line: adds the reply to its request, or to its first fault, which leaves the object. A
+/// stop leaves the object too.
 fn answer<W: Sink>(
     alloc: Global,
     readers: u32,
@@ -152,8 +152,8 @@ fn make_room<W: Sink>(sink: &mut W, waiting: &mut Waiting) -> Result<(), Unfinis
     Ok(())
 }
 
-/// An object and a sink, with the replies that wait and the number of readers. It owns no memory, so that what it borrows
-/// is known again once it is gone.
+/// An object and a sink, with the replies that wait and the number of readers. It owns no memory,
+/// so that what it borrows is known again once it is gone.
 #[derive(Drop)]
 pub(crate) struct Session<'a, W> {
     pub(crate) alloc: Global,
@@ -170,7 +170,8 @@ impl<'a, W: Sink> LineTaker for Session<'a, W> {
 
     ghost after = { λ begun lines now. Serving W.contents W.has_failed begun lines now };
 
-    ghost stopped = { λ begun lines _ now why. StopsServing W.contents W.has_failed begun lines now why };
+    ghost stopped = { λ begun lines _ now why.
+        StopsServing W.contents W.has_failed begun lines now why };
 
     fn take(&mut self, line: &[u8]) -> Result<(), Stop> {
         make_room(self.sink, self.waiting)?;

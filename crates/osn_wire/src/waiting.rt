@@ -64,11 +64,13 @@ impl Waiting {
 
     /// Writes all that waits, so that nothing waits then.
     pub(crate) fn write<W: Sink>(&mut self, sink: &mut W) -> Result<(), Unfinished>
-        ensures ok { OnOk result (Writes (W.contents sink.old) (W.contents sink.new) self.old self.new) }
+        ensures ok { OnOk result
+            (Writes (W.contents sink.old) (W.contents sink.new) self.old self.new) }
         ensures sound { OnOk result (W.has_failed sink.new ≡ W.has_failed sink.old) }
-        ensures err { IfErr result (λ failed. WritesSome (W.contents sink.old) (W.contents sink.new) self.old
-            failed.unwritten) }
-        ensures reason { OnErr result (FailsAt (W.has_failed sink.old) (W.has_failed sink.new) self.old.text.items) }
+        ensures err { IfErr result (λ failed. WritesSome (W.contents sink.old)
+            (W.contents sink.new) self.old failed.unwritten) }
+        ensures reason { OnErr result
+            (FailsAt (W.has_failed sink.old) (W.has_failed sink.new) self.old.text.items) }
     {
         match write_all(sink, &self.text) {
             Ok(()) => {

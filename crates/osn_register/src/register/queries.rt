@@ -2,6 +2,7 @@
 ghost use Rattle.std.specs.Prelude.{◌≡◌, true, None, IfOk, IfErr, OnOk, OnErr, ◌<◌, length, map};
 ghost use Rattle.osn_days.specs.Profile.{present};
 ghost use Rattle.osn_register.specs.Answer as said;
+ghost use Rattle.osn_register.specs.Refusal.{IsTestOf};
 ghost use Rattle.osn_register.specs.InsideQuery.{IsReasonFor, IsWantOfMemory};
 
 use crate::answer::{Answer, Land};
@@ -9,6 +10,7 @@ use crate::figures::figures;
 use crate::listing::Listing;
 use crate::query::Query;
 use crate::range::{asked_label, day_on_line, year_in_range};
+use crate::refusal::Refusal;
 use crate::register::Register;
 use crate::territory_answer::{easters, on_day, periods, reading};
 use crate::text::Text;
@@ -35,6 +37,19 @@ impl Register {
             Err(Unanswered::Refused(refusal)) => Ok(Answer::Refused(refusal)),
             Err(Unanswered::NoMemory) => Err(AllocError),
         }
+    }
+
+    /// Whether the Easters of a year may be asked of a territory. It takes no query and no memory.
+    ///
+    /// # Errors
+    ///
+    /// The first refusal that applies.
+    pub fn check_easter(&self, code: &str, year: i64) -> Result<(), Refusal>
+        ensures { IsTestOf (said.easter_refusal present self.now.lands code.now year) result }
+    {
+        self.known_territory(code)?;
+        year_in_range(year)?;
+        Ok(())
     }
 
     fn lawful_answer(&self, query: &Query) -> Result<Answer, Unanswered>

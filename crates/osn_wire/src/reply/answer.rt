@@ -3,17 +3,16 @@ ghost use Rattle.std.specs.Prelude.{◌≡◌, [], ◌∷◌, ◌++◌, codes, O
 ghost use Rattle.json.specs.Token.{begin_object, end_object, key};
 ghost use Rattle.osn_register.specs.declared.answer.Answer.TheVariants.{Refused};
 ghost use Rattle.osn_wire.specs.ReplyText as said;
-ghost use Rattle.osn_wire.specs.ReplyInside.{value_tokens, member_tokens};
+ghost use Rattle.osn_words.specs.Json.{whole, value_tokens, member_tokens};
 
 use crate::reply::figures::{GregorianFigures, JulianFigures};
-use crate::reply::write_json::{
-    WriteJson, write_flag, write_list, write_member, write_number, write_text,
-};
+use crate::reply::write_json::{WriteJson, write_list, write_member};
 use json::Writer;
 use osn_core::Reply;
 use osn_days::{Day, Year};
 use osn_lands::Period;
 use osn_register::{Answer, Found, Land, Refusal};
+use osn_words::{write_flag, write_number, write_text};
 use std::alloc::{AllocError, Global};
 
 /// Begins a reply, its member `answer` and the object of that.
@@ -131,8 +130,8 @@ fn write_figures(
 /// Ends a reply behind its answer.
 fn end_reply(out: &mut Writer, edition: u32, reader: u32) -> Result<(), AllocError>
     ensures tokens { OnOk result (out.new.tokens ≡ out.old.tokens
-        ++ (member_tokens (codes "edition") (said.whole edition)
-        ++ member_tokens (codes "reader") (said.whole reader) ++ end_object ∷ [])) }
+        ++ (member_tokens (codes "edition") (whole edition)
+        ++ member_tokens (codes "reader") (whole reader) ++ end_object ∷ [])) }
     ensures before { out.new.before ≡ out.old.before }
 {
     write_number(out, "edition", edition)?;
@@ -174,15 +173,10 @@ pub(crate) fn write_reply(
     match &reply.answer {
         Answer::Reading { found, skipped } => {
             write_reading(alloc, out, found.as_slice(), skipped.as_slice())?;
-            end_reply(out, edition, reader)
         }
-        Answer::OnDay { found, period } => {
-            write_on_day(alloc, out, found, period)?;
-            end_reply(out, edition, reader)
-        }
+        Answer::OnDay { found, period } => write_on_day(alloc, out, found, period)?,
         Answer::Easters { found, listed } => {
             write_easters(alloc, out, found.as_slice(), *listed)?;
-            end_reply(out, edition, reader)
         }
         Answer::Figures {
             year,
@@ -206,16 +200,10 @@ pub(crate) fn write_reply(
                 letters: *julian_letters,
             };
             write_figures(alloc, out, *year, *golden, *indiction, &gregorian, &julian)?;
-            end_reply(out, edition, reader)
         }
-        Answer::Lands(lands) => {
-            write_lands(alloc, out, lands.as_slice())?;
-            end_reply(out, edition, reader)
-        }
-        Answer::Periods(periods) => {
-            write_periods(alloc, out, periods.as_slice())?;
-            end_reply(out, edition, reader)
-        }
-        Answer::Refused(refusal) => write_refused(out, reader, edition, *refusal),
+        Answer::Lands(lands) => write_lands(alloc, out, lands.as_slice())?,
+        Answer::Periods(periods) => write_periods(alloc, out, periods.as_slice())?,
+        Answer::Refused(refusal) => return write_refused(out, reader, edition, *refusal),
     }
+    end_reply(out, edition, reader)
 }

@@ -1,55 +1,16 @@
 //! A date in a reply.
-ghost use Rattle.std.specs.Prelude.{◌≡◌, ◌+◌, ◌<◌, ◌++◌, IfOk, OnOk, string_bytes, IsUtf8};
+ghost use Rattle.std.specs.Prelude.{◌≡◌, ◌++◌, OnOk};
 ghost use Rattle.serde_json.specs.Data.{string};
 ghost use Rattle.osn_days.specs.Chain as chain;
-ghost use Rattle.osn_wire.specs.ReplyText as said;
-ghost use Rattle.osn_wire.specs.ReplyInside.{member_tokens};
+ghost use Rattle.osn_words.specs.Texts as said;
+ghost use Rattle.osn_words.specs.Json.{member_tokens};
 
-use crate::reply::write_json::write_text;
 use json::Writer;
 use osn_days::{Calendar, Day, date_of};
 use osn_lands::Label;
+use osn_words::{date_digits, date_text, write_text};
 use std::alloc::{AllocError, Global};
 use std::str;
-
-/// The date with its year in at least four digits, its month in two and its day in two, as
-/// `1582-10-04`.
-fn date_text(alloc: Global, year: i32, month: u8, day: u8) -> Result<String, AllocError>
-    ensures { IfOk result (λ s. string_bytes s ≡ said.date_text year month day) }
-{
-    format!(in alloc; "{:04}-{:02}-{:02}", year.unsigned_abs(), month, day)
-}
-
-fn digit(number: u32) -> u8
-    requires { number < 10 }
-    ensures { result ≡ 48 + number }
-{
-    b'0' + number as u8
-}
-
-/// The same of numbers that have no more digits: it takes no memory.
-fn date_digits(year: u32, month: u32, day: u32) -> [u8; 10]
-    requires year { year < 10_000 }
-    requires month { month < 100 }
-    requires day { day < 100 }
-    ensures value { result ≡ said.date_digits year month day }
-    ensures utf8 { IsUtf8 result }
-{
-    let decades = year / 10;
-    let centuries = decades / 10;
-    [
-        digit(centuries / 10),
-        digit(centuries % 10),
-        digit(decades % 10),
-        digit(year % 10),
-        b'-',
-        digit(month / 10),
-        digit(month % 10),
-        b'-',
-        digit(day / 10),
-        digit(day % 10),
-    ]
-}
 
 /// Writes a member that is a date.
 fn write_date(

@@ -1,20 +1,22 @@
 //! The figures of a year in a reply.
-ghost use Rattle.std.specs.Prelude.{◌≡◌, ◌++◌, codes, IfOk, OnOk, string_bytes};
+ghost use Rattle.std.specs.Prelude.{◌≡◌, ◌++◌, codes, OnOk};
 ghost use Rattle.serde_json.specs.Data.{string};
+ghost use Rattle.osn_words.specs.Texts.{epact_text};
 ghost use Rattle.osn_wire.specs.ReplyText as said;
-ghost use Rattle.osn_wire.specs.ReplyInside.{member_tokens};
+ghost use Rattle.osn_words.specs.Json.{whole, member_tokens};
 
-use crate::reply::write_json::{WriteJson, write_number, write_text};
+use crate::reply::write_json::WriteJson;
 use json::Writer;
 use osn_computus::{Epact, Letters};
 use osn_days::Day;
+use osn_words::{letters_text, write_number, write_text};
 use std::alloc::{AllocError, Global};
 
 /// Writes an epact of the Gregorian reckoning as the canons write it: `*`, `25'` or its number.
-#[tactic(auto, unfolding(crate::specs::ReplyText::epact_text))]
+#[tactic(auto, unfolding(osn_words::specs::Texts::epact_text))]
 fn write_epact(out: &mut Writer, epact: Epact) -> Result<(), AllocError>
     ensures tokens { OnOk result (out.new.tokens
-        ≡ out.old.tokens ++ member_tokens (codes "epact") (string (said.epact_text epact))) }
+        ≡ out.old.tokens ++ member_tokens (codes "epact") (string (epact_text epact))) }
     ensures before { out.new.before ≡ out.old.before }
 {
     out.key("epact")?;
@@ -27,19 +29,6 @@ fn write_epact(out: &mut Writer, epact: Epact) -> Result<(), AllocError>
     }
 }
 
-/// One letter in a common year and two in a leap year, that of January first.
-#[tactic(auto, unfolding(crate::specs::ReplyText::letters_text))]
-fn letters_text(alloc: Global, letters: Letters) -> Result<String, AllocError>
-    ensures { IfOk result (λ s. string_bytes s ≡ said.letters_text letters) }
-{
-    let mut text = String::with_capacity(alloc, 2)?;
-    text.push_str(letters.january.name())?;
-    if letters.march != letters.january {
-        text.push_str(letters.march.name())?;
-    }
-    Ok(text)
-}
-
 /// The figures of a year by the Julian rule.
 #[derive(Clone, Copy, Debug)]
 pub(crate) struct JulianFigures {
@@ -49,7 +38,7 @@ pub(crate) struct JulianFigures {
 }
 
 impl WriteJson for JulianFigures {
-    ghost shown = { λ f. said.reckoning_data f.easter (said.whole f.epact) f.letters };
+    ghost shown = { λ f. said.reckoning_data f.easter (whole f.epact) f.letters };
 
     fn write_json(&self, alloc: Global, out: &mut Writer) -> Result<(), AllocError> {
         let letters = letters_text(alloc, self.letters)?;
@@ -71,7 +60,7 @@ pub(crate) struct GregorianFigures {
 
 impl WriteJson for GregorianFigures {
     ghost shown = { λ f.
-        said.reckoning_data f.easter (string (said.epact_text f.epact)) f.letters };
+        said.reckoning_data f.easter (string (epact_text f.epact)) f.letters };
 
     fn write_json(&self, alloc: Global, out: &mut Writer) -> Result<(), AllocError> {
         let letters = letters_text(alloc, self.letters)?;

@@ -1,22 +1,13 @@
 //! Days and territories in a reply.
-ghost use Rattle.std.specs.Prelude.{◌≡◌};
-ghost use Rattle.osn_days.specs.Line.{weekday};
-ghost use Rattle.osn_days.specs.Weekday.{weekday_name};
-ghost use Rattle.osn_wire.specs.ReplyText.{weekday_numbered, found_data, land_data};
+ghost use Rattle.osn_wire.specs.ReplyText.{found_data, land_data};
 
 use crate::reply::date::{write_date_of, write_label};
-use crate::reply::write_json::{WriteJson, write_number, write_text};
+use crate::reply::write_json::WriteJson;
 use json::Writer;
-use osn_days::{Calendar, Day};
+use osn_days::Calendar;
 use osn_register::{Found, Land};
+use osn_words::{weekday_of, write_number, write_text};
 use std::alloc::{AllocError, Global};
-
-/// The English name of a day's weekday.
-fn weekday_of(day: Day) -> &'static str
-    ensures { result.now ≡ weekday_name (weekday_numbered (weekday day)) }
-{
-    day.weekday().name()
-}
 
 impl WriteJson for Found {
     ghost shown = { found_data };

@@ -1,10 +1,10 @@
 //! Regimes and periods in a reply.
 ghost use Rattle.osn_wire.specs.ReplyText.{regime_data, period_data};
 
-use crate::reply::write_json::{WriteJson, write_number, write_text};
-use crate::words::Word;
+use crate::reply::write_json::WriteJson;
 use json::Writer;
 use osn_lands::{Period, Regime};
+use osn_words::{Word, write_number, write_text};
 use std::alloc::{AllocError, Global};
 
 impl WriteJson for Regime {

@@ -1,8 +1,7 @@
-//! How values are written as JSON: each by its tokens, one behind another.
+//! How the values of a reply are written as JSON: each by its tokens, one behind another.
 ghost use Rattle.std.specs.Prelude.{◌≡◌, ◌++◌, OnOk, map};
-ghost use Rattle.serde_json.specs.Data.{Data, boolean, string};
-ghost use Rattle.osn_wire.specs.ReplyText.{whole, list_data};
-ghost use Rattle.osn_wire.specs.ReplyInside.{value_tokens, member_tokens};
+ghost use Rattle.serde_json.specs.Data.{Data};
+ghost use Rattle.osn_words.specs.Json.{whole, list_data, value_tokens, member_tokens};
 
 use json::Writer;
 use osn_days::Day;
@@ -26,36 +25,6 @@ impl WriteJson for Day {
     fn write_json(&self, _alloc: Global, out: &mut Writer) -> Result<(), AllocError> {
         out.u64(u64::from(self.number()))
     }
-}
-
-/// Writes a member that is a number.
-pub(crate) fn write_number(out: &mut Writer, name: &str, number: u32) -> Result<(), AllocError>
-    ensures tokens { OnOk result (out.new.tokens
-        ≡ out.old.tokens ++ member_tokens name.now (whole number)) }
-    ensures before { out.new.before ≡ out.old.before }
-{
-    out.key(name)?;
-    out.u64(u64::from(number))
-}
-
-/// Writes a member that is a text.
-pub(crate) fn write_text(out: &mut Writer, name: &str, text: &str) -> Result<(), AllocError>
-    ensures tokens { OnOk result (out.new.tokens
-        ≡ out.old.tokens ++ member_tokens name.now (string text.now)) }
-    ensures before { out.new.before ≡ out.old.before }
-{
-    out.key(name)?;
-    out.string(text)
-}
-
-/// Writes a member that is true or false.
-pub(crate) fn write_flag(out: &mut Writer, name: &str, flag: bool) -> Result<(), AllocError>
-    ensures tokens { OnOk result (out.new.tokens
-        ≡ out.old.tokens ++ member_tokens name.now (boolean flag)) }
-    ensures before { out.new.before ≡ out.old.before }
-{
-    out.key(name)?;
-    out.boolean(flag)
 }
 
 /// Writes a member that is such a value.
@@ -86,8 +55,8 @@ pub(crate) fn write_list<J: WriteJson>(
 {
     out.key(name)?;
     out.begin_array()?;
-    for value in values {
-        value.write_json(alloc, out)?;
+    for item in values {
+        item.write_json(alloc, out)?;
     }
     out.end_array()
 }

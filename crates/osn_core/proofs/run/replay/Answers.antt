@@ -1,27 +1,29 @@
-use Rattle.std.proofs.Common.{◌≡◌, arith, zero-le}
+use Rattle.std.proofs.Common.{◌≡◌, arith}
 use Rattle.std.proofs.lemmas.Grind.{common_steps}
 use Rattle.osn_days.specs.Profile.{present}
 use Rattle.osn_core.specs.Machine.{first_core, outs_of}
-use Rattle.osn_core.proofs.Runs.{outs_run, outs_told, outs_rise}
+use Rattle.osn_core.specs.History.{no_looks}
+use Rattle.osn_core.proofs.Editor.{editor_told}
+use Rattle.osn_core.proofs.Forward.{outs_begin, outs_rise}
 use Rattle.osn_core.proofs.run.replay.Goals as goal
 
-pub returns-clause-run : goal.returns-clause-run
-returns-clause-run c =
+pub returns-clause-editor : goal.returns-clause-editor
+returns-clause-editor c =
     let first = first_core c.args.limits c.args.readers in
     let all : c.loop-step.outs.items ≡ outs_of present first c.args.steps.now = grind
     (arith, common_steps) in
-    rw all (outs_run present first c.args.steps.now)
+    rw all (editor_told present no_looks first c.args.steps.now)
 
-pub returns-clause-told : goal.returns-clause-told
-returns-clause-told c =
+pub returns-clause-readers : goal.returns-clause-readers
+returns-clause-readers c reader =
     let first = first_core c.args.limits c.args.readers in
     let all : c.loop-step.outs.items ≡ outs_of present first c.args.steps.now = grind
     (arith, common_steps) in
-    rw all (outs_told present first c.args.steps.now)
+    rw all (outs_begin present c.args.limits c.args.readers c.args.steps.now reader)
 
 pub returns-clause-forward : goal.returns-clause-forward
 returns-clause-forward c reader =
     let first = first_core c.args.limits c.args.readers in
     let all : c.loop-step.outs.items ≡ outs_of present first c.args.steps.now = grind
     (arith, common_steps) in
-    rw all (outs_rise present reader first c.args.steps.now 0 zero-le)
+    rw all (outs_rise present c.args.limits c.args.readers c.args.steps.now reader)

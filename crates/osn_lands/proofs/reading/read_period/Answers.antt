@@ -1,14 +1,26 @@
-use Rattle.std.proofs.Common.{◌++◌, filter, ap, ◌∙◌}
+use Rattle.std.proofs.Common.{◌++◌, filter, sym, ap, ◌∙◌}
+use Rattle.std.proofs.lemmas.List.{append-nil}
 use Rattle.osn_days.specs.Profile.{present}
 use Rattle.osn_lands.specs.Inside.{is_held}
 use Rattle.osn_lands.proofs.ReadingFacts.{held_days}
+use Rattle.osn_lands.proofs.SearchFacts.{reads_none}
 use Rattle.osn_lands.proofs.reading.read_period.Goals as goal
+
+pub returns-then-not-reaches_into-clause-value : goal.returns-then-not-reaches_into-clause-value
+returns-then-not-reaches_into-clause-value c =
+    let p = c.args.period.now in
+    let s = c.args.search.now in
+    let items = c.args.days.now.items in
+    sym (append-nil items)
+    ∙ ap (λ found. items ++ found) (reads_none present s.label p s.first s.last c.requires.line.0
+    c.requires.line.1 c.requires.line.2 c.requires.search.1 (sym c.if-not-reaches_into.ensures))
 
 pub returns-clause-value : goal.returns-clause-value
 returns-clause-value c =
     let p = c.args.period.now in
     c.in_ok-push_in.ensures
     ∙ ap (λ found. c.args.days.now.items ++ filter (is_held p) found)
-    c.days_of_label-found.ensures.value
+    c.days-found.ensures.value
     ∙ ap (λ found. c.args.days.now.items ++ found)
-    (held_days present c.args.label p c.requires.0 c.requires.1 c.requires.2)
+    (held_days present c.args.search.now.label p c.requires.line.0 c.requires.line.1
+    c.requires.line.2)

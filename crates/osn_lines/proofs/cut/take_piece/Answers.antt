@@ -5,7 +5,8 @@ use Rattle.std.proofs.lemmas.Result.{err_from_is_err_and}
 use Rattle.osn_lines.specs.Faults.{MatchFault}
 use Rattle.osn_lines.specs.Inside.{IsKept, IsTaken, IsStopped}
 use Rattle.osn_lines.proofs.InputLemmas.{if_err_at, MatchFault-weaker}
-use Rattle.osn_lines.proofs.TakeLemmas.{IsTaken-nothing, IsTaken-next, IsTaken-rest, IsStopped-next, IsKept-more}
+use Rattle.osn_lines.proofs.TakeLemmas.{IsTaken-nothing, IsTaken-next, IsTaken-rest, IsStopped-next}
+use Rattle.osn_lines.proofs.TakeLemmas.{IsKept-more}
 use Rattle.osn_lines.proofs.cut.take_piece.Goals as goal
 
 pub loop-place-init : goal.loop-place-init
@@ -28,8 +29,15 @@ loop-place-preserved g c =
       within = omega (arith, found.0.high, ap length rest, length-drop from piece);
       count = omega arith;
       taken = λ part h.
-          IsTaken-next _ _ _ _ part piece _ _ _ _ _ _ from place (c.loop-place.invariant.taken part h) c.in_ok-take_line.ensures.taken
-          (record { is_hay = rest; is_end = ap (λ k. take k (drop from piece)) (omega arith); before = found.0.before; within = found.0.high; feed = found.1 })
+          IsTaken-next _ _ _ _ part piece _ _ _ _ _ _ from place
+          (c.loop-place.invariant.taken part h) c.in_ok-take_line.ensures.taken
+          (record {
+            is_hay = rest;
+            is_end = ap (λ k. take k (drop from piece)) (omega arith);
+            before = found.0.before;
+            within = found.0.high;
+            feed = found.1;
+          })
           c.in_ok-take_line.ensures.kept;
     }
 
@@ -48,9 +56,11 @@ returns-in_err-take_line-clause-fault g c =
     let fault = c.in_err-take_line.field-0.0 in
     if_err_at
     (λ f. MatchFault f
-    (λ n. (part : List ℕ) → IsKept kept part → IsTaken after s u (part ++ piece) c.args.lines.now n (λ _. ⊤))
+    (λ n. (part : List ℕ) → IsKept kept part →
+    IsTaken after s u (part ++ piece) c.args.lines.now n (λ _. ⊤))
     (λ _. ⊥)
-    (λ n why. (part : List ℕ) → IsKept kept part → IsStopped after stopped s u (part ++ piece) c.args.lines.now n why))
+    (λ n why. (part : List ℕ) → IsKept kept part →
+    IsStopped after stopped s u (part ++ piece) c.args.lines.now n why))
     c.from_residual.result err.0 fault err.1 err.2
     (MatchFault-weaker fault _ _ _ _ _ _
     (λ n k part h.
@@ -58,8 +68,16 @@ returns-in_err-take_line-clause-fault g c =
     (IsTaken-rest after s _ u part piece _ _ _ from (λ _. ⊤) (taken part h) k.1 (λ left x. tt)))
     (λ n k. absurd k)
     (λ n why k part h.
-    IsStopped-next after stopped s _ u part piece _ _ _ _ _ n from c.in-Some.place why (taken part h) k.1
-    (record { is_hay = take_rest piece from; is_end = ap (λ k. take k (drop from piece)) (omega arith); before = found.0.before; within = found.0.high; feed = found.1 })
+    IsStopped-next after stopped s _ u part piece _ _ _ _ _ n from c.in-Some.place why
+    (taken part h) k.1
+    (record {
+      is_hay = take_rest piece from;
+      is_end = ap (λ k. take k (drop from piece))
+          (omega arith);
+      before = found.0.before;
+      within = found.0.high;
+      feed = found.1;
+    })
     k.0)
     c.in_err-take_line.ensures.fault)
 
@@ -68,8 +86,10 @@ returns-in-Ok-clause-taken g c = λ part h.
     let piece = c.args.piece.now in
     let from = c.loop-place.from in
     IsTaken-rest _ _ _ _ part piece _ _ _ from _ (c.loop-place.invariant.taken part h) refl
-    (λ left k. IsKept-more _ _ _ (drop from piece) left (take_rest piece from) c.in-Ok.ensures c.in_default.ensures k)
+    (λ left k. IsKept-more _ _ _ (drop from piece) left (take_rest piece from) c.in-Ok.ensures
+    c.in_default.ensures k)
 
 pub returns-in-Err-clause-fault : goal.returns-in-Err-clause-fault
 returns-in-Err-clause-fault g c = λ part h.
-    IsTaken-rest _ _ _ _ part c.args.piece.now _ _ _ c.loop-place.from _ (c.loop-place.invariant.taken part h) refl (λ left k. tt)
+    IsTaken-rest _ _ _ _ part c.args.piece.now _ _ _ c.loop-place.from _
+    (c.loop-place.invariant.taken part h) refl (λ left k. tt)

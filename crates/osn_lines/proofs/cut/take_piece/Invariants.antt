@@ -9,7 +9,9 @@ invariant-loop-place g l =
       room : length l.kept.items ≤ 65537;
       within : l.from ≤ length l.piece;
       count : l.lines ≤ l.fn.lines + l.from;
-      taken : (part : List ℕ) → IsKept l.fn.kept.items part → IsTaken g.T.LineTaker.after l.fn.taker l.taker (part ++ take l.from l.piece) l.fn.lines l.lines (IsKept l.kept.items);
+      taken : (part : List ℕ) → IsKept l.fn.kept.items part →
+          IsTaken g.T.LineTaker.after l.fn.taker l.taker (part ++ take l.from l.piece) l.fn.lines
+          l.lines (IsKept l.kept.items);
     }
 
 abbrev pub decreases-loop-place : goal.decreases-loop-place

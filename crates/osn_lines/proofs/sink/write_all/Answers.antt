@@ -11,7 +11,17 @@ loop-call-preserved g c =
     let rest = ap length (take_rest bytes from) in
     record {
       within = omega (arith, c.in-Ok-write.ensures.bound, rest, size);
-      calls = omega (arith, c.in-Ok-write.ensures.some, rest, size, c.loop-call.invariant.within, c.loop-call.invariant.calls);
-      appends = Appends-next _ _ _ bytes _ from c.in-Ok-write.n (take_rest bytes from) c.loop-call.invariant.appends c.in-Ok-write.ensures.bytes;
+      calls =
+          omega (
+            arith,
+            c.in-Ok-write.ensures.some,
+            rest,
+            size,
+            c.loop-call.invariant.within,
+            c.loop-call.invariant.calls,
+          );
+      appends =
+          Appends-next _ _ _ bytes _ from c.in-Ok-write.n (take_rest bytes from)
+          c.loop-call.invariant.appends c.in-Ok-write.ensures.bytes;
       sound = c.in-Ok-write.ensures.failed ∙ c.loop-call.invariant.sound;
     }

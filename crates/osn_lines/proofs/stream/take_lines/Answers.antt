@@ -4,8 +4,11 @@ use Rattle.std.proofs.lemmas.Result.{IfOk-weaker, IfErr-weaker, err_from_is_err_
 use Rattle.osn_lines.specs.Faults.{MatchFault}
 use Rattle.osn_lines.specs.Inside.{IsKept}
 use Rattle.osn_lines.specs.Taking.{TakesFirst, StopsAfter}
-use Rattle.osn_lines.proofs.ByteLemmas.{Consumes-nothing, Consumes-then, Consumes-end, Consumes-keeps}
-use Rattle.osn_lines.proofs.InputLemmas.{MatchFault-weaker, if_err_at, TakesAll-from, TakesFirst-from, TakesFirst-at_end, HasRead-from, StopsAfter-at_end, StopsAfter-from}
+use Rattle.osn_lines.proofs.ByteLemmas.{Consumes-nothing, Consumes-then, Consumes-end}
+use Rattle.osn_lines.proofs.ByteLemmas.{Consumes-keeps}
+use Rattle.osn_lines.proofs.InputLemmas.{MatchFault-weaker, if_err_at, TakesAll-from}
+use Rattle.osn_lines.proofs.InputLemmas.{TakesFirst-from, TakesFirst-at_end, HasRead-from}
+use Rattle.osn_lines.proofs.InputLemmas.{StopsAfter-at_end, StopsAfter-from}
 use Rattle.osn_lines.proofs.LineLemmas.{front_of-nil, length-front_of}
 use Rattle.osn_lines.proofs.TakeLemmas.{Takes-nothing, IsTaken-rests, IsTaken-then, IsStopped-then}
 use Rattle.osn_lines.proofs.stream.take_lines.Goals as goal
@@ -34,7 +37,8 @@ loop-call-init g c = record {
 pub returns-in_default-read-clause-read : goal.returns-in_default-read-clause-read
 returns-in_default-read-clause-read g c =
     let inv = c.loop-call.invariant.taken in
-    HasRead-from _ _ _ _ _ inv.0 _ _ inv.3 (Consumes-keeps _ _ _ inv.0 inv.2 c.in_default-read.ensures.bytes)
+    HasRead-from _ _ _ _ _ inv.0 _ _ inv.3 (Consumes-keeps _ _ _ inv.0 inv.2
+    c.in_default-read.ensures.bytes)
 
 pub returns-then-read-eq0-clause-taken : goal.returns-then-read-eq0-clause-taken
 returns-then-read-eq0-clause-taken g c =
@@ -43,11 +47,22 @@ returns-then-read-eq0-clause-taken g c =
     let s = c.args.taker.now in
     let t = c.before_read.new.self in
     let bytes = c.in-Ok-read.ensures.bytes in
-    let some : 0 < length c.read.new.buffer = omega (arith, c.loop-call.invariant.buffer, ap length c.deref_mut.ensures.value, c.read.auto.buffer) in
-    let consumed = Consumes-end _ _ _ inv.0 c.read.new.buffer c.in-Ok-read.read c.if-read-eq0.true inv.2 bytes.0 in
-    let ready = IsTaken-rests after s c.loop-call.taker t inv.0 0 c.loop-call.count (IsKept c.loop-call.kept.items) inv.3 c.in_default-before_read.ensures.ready in
+    let some : 0 < length c.read.new.buffer =
+    omega (
+      arith,
+      c.loop-call.invariant.buffer,
+      ap length c.deref_mut.ensures.value,
+      c.read.auto.buffer,
+    ) in
+    let consumed =
+    Consumes-end _ _ _ inv.0 c.read.new.buffer c.in-Ok-read.read c.if-read-eq0.true inv.2
+    bytes.0 in
+    let ready =
+    IsTaken-rests after s c.loop-call.taker t inv.0 0 c.loop-call.count
+    (IsKept c.loop-call.kept.items) inv.3 c.in_default-before_read.ensures.ready in
     IfOk-weaker c.take_rest.result _ _
-    (λ n h. TakesAll-from after s t c.take_rest.new.taker _ _ inv.0 _ _ n ready consumed (bytes.1 c.if-read-eq0.true some) h)
+    (λ n h. TakesAll-from after s t c.take_rest.new.taker _ _ inv.0 _ _ n ready consumed
+    (bytes.1 c.if-read-eq0.true some) h)
     c.take_rest.ensures.taken
 
 pub returns-then-read-eq0-clause-fault : goal.returns-then-read-eq0-clause-fault
@@ -59,15 +74,26 @@ returns-then-read-eq0-clause-fault g c =
     let t = c.before_read.new.self in
     let u = c.take_rest.new.taker in
     let bytes = c.in-Ok-read.ensures.bytes in
-    let some : 0 < length c.read.new.buffer = omega (arith, c.loop-call.invariant.buffer, ap length c.deref_mut.ensures.value, c.read.auto.buffer) in
-    let consumed = Consumes-end _ _ _ inv.0 c.read.new.buffer c.in-Ok-read.read c.if-read-eq0.true inv.2 bytes.0 in
+    let some : 0 < length c.read.new.buffer =
+    omega (
+      arith,
+      c.loop-call.invariant.buffer,
+      ap length c.deref_mut.ensures.value,
+      c.read.auto.buffer,
+    ) in
+    let consumed =
+    Consumes-end _ _ _ inv.0 c.read.new.buffer c.in-Ok-read.read c.if-read-eq0.true inv.2
+    bytes.0 in
     let end = bytes.1 c.if-read-eq0.true some in
-    let ready = IsTaken-rests after s c.loop-call.taker t inv.0 0 c.loop-call.count (IsKept c.loop-call.kept.items) inv.3 c.in_default-before_read.ensures.ready in
+    let ready =
+    IsTaken-rests after s c.loop-call.taker t inv.0 0 c.loop-call.count
+    (IsKept c.loop-call.kept.items) inv.3 c.in_default-before_read.ensures.ready in
     IfErr-weaker c.take_rest.result _ _
     (λ fault h. MatchFault-weaker fault _ _ _ _ _ _
     (λ n k. TakesFirst-at_end after s t u _ _ inv.0 _ _ n ready consumed k.0 k.1)
     (λ n k. absurd k)
-    (λ n why k. StopsAfter-at_end after stopped s t u _ _ inv.0 _ _ n why ready consumed end k.0 k.1)
+    (λ n why k. StopsAfter-at_end after stopped s t u _ _ inv.0 _ _ n why ready consumed end k.0
+    k.1)
     h)
     c.take_rest.ensures.fault
 
@@ -81,19 +107,32 @@ returns-in_err-take_piece-clause-fault g c =
     let u = c.take_piece.new.taker in
     let input = g.R.Source.remaining c.args.source.now in
     let got = take c.in-Ok-read.read c.read.new.buffer in
-    let full : length c.read.new.buffer ≡ c.loop-call.buffer.len = omega (arith, ap length c.deref_mut.ensures.value, c.read.auto.buffer, c.loop-call.buffer.ok.0) in
-    let same : take c.in-Ok-read.read c.deref.result.now ≡ got = ap (take c.in-Ok-read.read) (c.deref.ensures.value ∙ take_at c.read.new.buffer _ c.loop-call.buffer.len full) in
+    let full : length c.read.new.buffer ≡ c.loop-call.buffer.len =
+    omega (
+      arith,
+      ap length c.deref_mut.ensures.value,
+      c.read.auto.buffer,
+      c.loop-call.buffer.ok.0,
+    ) in
+    let same : take c.in-Ok-read.read c.deref.result.now ≡ got =
+    ap (take c.in-Ok-read.read) (c.deref.ensures.value
+    ∙ take_at c.read.new.buffer _ c.loop-call.buffer.len full) in
     let consumed = Consumes-then _ _ _ inv.0 got inv.2 c.in-Ok-read.ensures.bytes.0 in
-    let ready = IsTaken-rests after s c.loop-call.taker t inv.0 0 c.loop-call.count (IsKept c.loop-call.kept.items) inv.3 c.in_default-before_read.ensures.ready in
+    let ready =
+    IsTaken-rests after s c.loop-call.taker t inv.0 0 c.loop-call.count
+    (IsKept c.loop-call.kept.items) inv.3 c.in_default-before_read.ensures.ready in
     let err = err_from_is_err_and c.from_residual.result c.from_residual.ensures.1 in
     let fault = c.in_err-take_piece.field-0.0 in
     if_err_at
-    (λ f. MatchFault f (TakesFirst after s u input) (TakesFirst after s u input) (StopsAfter after stopped s u input))
+    (λ f. MatchFault f (TakesFirst after s u input) (TakesFirst after s u input)
+    (StopsAfter after stopped s u input))
     c.from_residual.result err.0 fault err.1 err.2
     (MatchFault-weaker fault _ _ _ _ _ _
-    (λ n h. TakesFirst-from after s u _ _ (inv.0 ++ got) n _ (IsTaken-then after s t u inv.0 _ got _ 0 _ n _ ready same h) consumed)
+    (λ n h. TakesFirst-from after s u _ _ (inv.0 ++ got) n _
+    (IsTaken-then after s t u inv.0 _ got _ 0 _ n _ ready same h) consumed)
     (λ n k. absurd k)
-    (λ n why h. StopsAfter-from after stopped s u _ _ (inv.0 ++ got) n why (IsStopped-then after stopped s t u inv.0 _ got _ 0 _ n why ready same h) consumed)
+    (λ n why h. StopsAfter-from after stopped s u _ _ (inv.0 ++ got) n why
+    (IsStopped-then after stopped s t u inv.0 _ got _ 0 _ n why ready same h) consumed)
     c.in_err-take_piece.ensures.fault)
 
 pub loop-call-preserved : goal.loop-call-preserved
@@ -106,18 +145,48 @@ loop-call-preserved g c =
     let bytes = c.in-Ok-read.ensures.bytes in
     let read = c.in-Ok-read.read in
     let got = take read c.read.new.buffer in
-    let full : length c.read.new.buffer ≡ c.loop-call.buffer.len = omega (arith, ap length c.deref_mut.ensures.value, c.read.auto.buffer, c.loop-call.buffer.ok.0) in
-    let here : c.deref.result.now ≡ c.read.new.buffer = c.deref.ensures.value ∙ take_at c.read.new.buffer _ c.loop-call.buffer.len full in
+    let full : length c.read.new.buffer ≡ c.loop-call.buffer.len =
+    omega (
+      arith,
+      ap length c.deref_mut.ensures.value,
+      c.read.auto.buffer,
+      c.loop-call.buffer.ok.0,
+    ) in
+    let here : c.deref.result.now ≡ c.read.new.buffer =
+    c.deref.ensures.value ∙ take_at c.read.new.buffer _ c.loop-call.buffer.len full in
     let same : take read c.deref.result.now ≡ got = ap (take read) here in
-    let size : length got ≡ read = omega (arith, length-take read c.read.new.buffer, c.in-Ok-read.ensures.bound) in
-    let ready = IsTaken-rests after s c.loop-call.taker t inv.0 0 c.loop-call.count (IsKept c.loop-call.kept.items) inv.3 c.in_default-before_read.ensures.ready in
-    let all = IsTaken-then after s t u inv.0 _ got _ 0 c.loop-call.count _ _ ready same c.in_ok-take_piece.ensures.taken in
+    let size : length got ≡ read =
+    omega (arith, length-take read c.read.new.buffer, c.in-Ok-read.ensures.bound) in
+    let ready =
+    IsTaken-rests after s c.loop-call.taker t inv.0 0 c.loop-call.count
+    (IsKept c.loop-call.kept.items) inv.3 c.in_default-before_read.ensures.ready in
+    let all =
+    IsTaken-then after s t u inv.0 _ got _ 0 c.loop-call.count _ _ ready same
+    c.in_ok-take_piece.ensures.taken in
     record {
-      buffer = ap length (sym c.deref.ensures.value ∙ here) ∙ omega (arith, full, c.loop-call.invariant.buffer, c.loop-call.buffer.ok.0);
+      buffer =
+          ap length (sym c.deref.ensures.value ∙ here)
+          ∙ omega (arith, full, c.loop-call.invariant.buffer, c.loop-call.buffer.ok.0);
       room = omega (arith, ap length all.rest.0, length-front_of all.left);
-      few = omega (arith, c.in_ok-take_piece.ensures.count, ap length same, size, full, c.in-Ok-read.ensures.bound, c.loop-call.invariant.few, c.loop-call.invariant.buffer, c.loop-call.buffer.ok.0);
+      few =
+          omega (
+            arith,
+            c.in_ok-take_piece.ensures.count,
+            ap length same,
+            size,
+            full,
+            c.in-Ok-read.ensures.bound,
+            c.loop-call.invariant.few,
+            c.loop-call.invariant.buffer,
+            c.loop-call.buffer.ok.0,
+          );
       source = c.in-Ok-read.ensures.failed ∙ c.loop-call.invariant.source;
-      taken = (inv.0 ++ got, omega (arith, inv.1, size, length-append inv.0 got, c.if-read-eq0.false), Consumes-then _ _ _ inv.0 got inv.2 bytes.0, all);
+      taken = (
+        inv.0 ++ got,
+        omega (arith, inv.1, size, length-append inv.0 got, c.if-read-eq0.false),
+        Consumes-then _ _ _ inv.0 got inv.2 bytes.0,
+        all,
+      );
     }
 
 pub returns-clause-read : goal.returns-clause-read

@@ -1,4 +1,5 @@
-use Rattle.std.proofs.Common.{◌≡◌, ◌<◌, ◌∙◌, ℕ, List, [], ◌∷◌, Some, length, sym, ap, arith, subst, append-nil}
+use Rattle.std.proofs.Common.{◌≡◌, ◌<◌, ◌∙◌, ℕ, List, [], ◌∷◌, Some, length, sym, ap, arith, subst}
+use Rattle.std.proofs.Common.{append-nil}
 use Rattle.std.proofs.lemmas.Bool.{eqb-true, eqb-false}
 use Rattle.std.proofs.lemmas.Result.{err_from_is_err_and}
 use Rattle.osn_lines.specs.Faults.{MatchFault}
@@ -13,10 +14,17 @@ use Rattle.osn_lines.proofs.stream.take_rest.Goals as goal
 pub returns-then-is_empty-clause-taken : goal.returns-then-is_empty-clause-taken
 returns-then-is_empty-clause-taken g c part h =
     let kept = c.args.kept.now in
-    let empty : kept.items ≡ [] = short_is_empty kept.items (omega (arith, kept.ok.0, eqb-true _ 0 (sym c.is_empty.ensures ∙ c.if-is_empty.true))) in
+    let empty : kept.items ≡ [] =
+    short_is_empty kept.items (omega (
+      arith,
+      kept.ok.0,
+      eqb-true _ 0
+          (sym c.is_empty.ensures ∙ c.if-is_empty.true),
+    )) in
     let none : part ≡ [] = front_of-empty part (sym empty ∙ h.0) in
     let no_lines : lines part ≡ [] = ap lines none in (
-      subst (Takes g.T.LineTaker.after c.args.taker.now c.args.taker.now) (sym no_lines) (Takes-nothing g.T.LineTaker.after c.args.taker.now),
+      subst (Takes g.T.LineTaker.after c.args.taker.now c.args.taker.now) (sym no_lines)
+          (Takes-nothing g.T.LineTaker.after c.args.taker.now),
       omega (arith, ap length no_lines),
     )
 
@@ -35,7 +43,9 @@ returns-in_err-take_line-clause-fault g c =
     (λ f. MatchFault f
     (λ n. (n ≡ c.args.count) × (u ≡ s))
     (λ _. ⊥)
-    (λ n why. (n ≡ c.args.count) × ((part : List ℕ) → IsKept kept.items part → (lines part ≡ part ∷ []) × Stops after stopped s u (Some part) why)))
+    (λ n why. (n ≡ c.args.count)
+    × ((part : List ℕ) → IsKept kept.items part →
+    (lines part ≡ part ∷ []) × Stops after stopped s u (Some part) why)))
     c.from_residual.result err.0 fault err.1 err.2
     (MatchFault-weaker fault _ _ _ _ _ _
     (λ n k. k)
@@ -44,7 +54,8 @@ returns-in_err-take_line-clause-fault g c =
       k.0,
       λ part h. (
         lines-kept kept.items part h some ∙ ap (λ l. l ∷ []) (append-nil part),
-        subst (λ (l : List ℕ). Stops after stopped s u (Some l) why) (append-nil part) (k.1 part h.0),
+        subst (λ (l : List ℕ). Stops after stopped s u (Some l) why) (append-nil part)
+            (k.1 part h.0),
       ),
     ))
     c.in_err-take_line.ensures.fault)
@@ -55,6 +66,7 @@ returns-clause-taken g c part h =
     let not_empty = eqb-false _ 0 (sym c.is_empty.ensures ∙ c.if-is_empty.false) in
     let some : 0 < length kept.items = omega (arith, kept.ok.0) in
     let one = lines-kept kept.items part h some in (
-      subst (Takes g.T.LineTaker.after c.args.taker.now c.take_line.new.taker) (sym one) (c.in_ok-take_line.ensures.taken part h.0),
+      subst (Takes g.T.LineTaker.after c.args.taker.now c.take_line.new.taker) (sym one)
+          (c.in_ok-take_line.ensures.taken part h.0),
       omega (arith, ap length one),
     )

@@ -30,4 +30,4 @@ read_days-requires c =
     let t = c.args.territory.now in
     All-same (λ d. c.args.label ≡ local (regime_at t d) d) c.as_slice.result.now
     (reading present t c.args.label)
-    (c.as_slice.ensures.value ∙ c.in_ok-days.ensures) (reading-labels present t c.args.label)
+    (c.as_slice.ensures.value ∙ c.in_ok-days.ensures.read) (reading-labels present t c.args.label)

@@ -15,8 +15,17 @@ loop-number-preserved c =
     ∙ ap (λ l. same_label l c.args.label)
     (c.label_of.ensures ∙ ap (λ d. local r d) c.day_at-day.ensures) in
     elim c.if-eq.branch [
-      | then-eq+in_ok-push w ↦ (omega arith, found_more test n c.day_at-day.result c.loop-number.days.items _ (omega arith) c.day_at-day.ensures c.loop-number.invariant.1 (ap (λ v. v.items) w.days-is ∙ w.in_ok-push.ensures.items) (sym asked ∙ w.if-eq.true))
-      | else-eq w ↦ (omega arith, found_no_more test n _ (omega arith) (ap (λ v. v.items) w.days-is ∙ c.loop-number.invariant.1) (sym asked ∙ w.if-eq.false))
+      | then-eq+in_ok-push w ↦ (
+        omega arith,
+        found_more test n c.day_at-day.result
+            c.loop-number.days.items _ (omega arith) c.day_at-day.ensures c.loop-number.invariant.1
+            (ap (λ v. v.items) w.days-is ∙ w.in_ok-push.ensures.items) (sym asked ∙ w.if-eq.true),
+      )
+      | else-eq w ↦ (
+        omega arith,
+        found_no_more test n _ (omega arith)
+            (ap (λ v. v.items) w.days-is ∙ c.loop-number.invariant.1) (sym asked ∙ w.if-eq.false),
+      )
     ]
 
 pub returns : goal.returns

@@ -18,7 +18,8 @@ returns-then-eq c =
     let same : same_date (date_of c.args.calendar n) c.args.date ≡ true =
     ap (λ (e : Date). same_date e c.args.date) (sym here) ∙ sym c.eq.ensures ∙ c.if-eq.true in
     ap Some c.day_at-day.ensures
-    ∙ sym (find_on_line present (λ d. same_date (date_of c.args.calendar d) c.args.date) n (omega arith, omega arith) same c.loop-number.invariant)
+    ∙ sym (find_on_line present (λ d. same_date (date_of c.args.calendar d) c.args.date) n
+    (omega arith, omega arith) same c.loop-number.invariant)
 
 pub loop-number-preserved : goal.loop-number-preserved
 loop-number-preserved c =
@@ -26,9 +27,11 @@ loop-number-preserved c =
     let here = c.date_of.ensures.value ∙ ap (λ d. date_of c.args.calendar d) c.day_at-day.ensures in
     let other : same_date (date_of c.args.calendar n) c.args.date ≡ false =
     ap (λ (e : Date). same_date e c.args.date) (sym here) ∙ sym c.eq.ensures ∙ c.if-eq.false in
-    none_so_far (λ d. same_date (date_of c.args.calendar d) c.args.date) n c.loop-number.invariant other
+    none_so_far (λ d. same_date (date_of c.args.calendar d) c.args.date) n c.loop-number.invariant
+    other
 
 pub returns : goal.returns
 unfolding day_with
 returns c =
-    sym (none_on_line present (λ d. same_date (date_of c.args.calendar d) c.args.date) (λ d on. c.loop-number.invariant d on.0 (omega arith)))
+    sym (none_on_line present (λ d. same_date (date_of c.args.calendar d) c.args.date)
+    (λ d on. c.loop-number.invariant d on.0 (omega arith)))

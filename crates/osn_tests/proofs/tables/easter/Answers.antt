@@ -8,10 +8,12 @@ pub returns-in_err-paschal_moon : goal.returns-in_err-paschal_moon
 unfolding easter_of
 returns-in_err-paschal_moon c =
     c.from_residual.ensures
-    ∙ sym (ap (λ (o : Option ℕ). option_and_then (first_sunday_after present) o) (sym c.paschal_moon.ensures ∙ c.in_err-paschal_moon.was))
+    ∙ sym (ap (λ (o : Option ℕ). option_and_then (first_sunday_after present) o)
+    (sym c.paschal_moon.ensures ∙ c.in_err-paschal_moon.was))
 
 pub returns : goal.returns
 unfolding easter_of
 returns c =
     c.first_sunday_after.ensures
-    ∙ sym (ap (λ (o : Option ℕ). option_and_then (first_sunday_after present) o) (sym c.paschal_moon.ensures ∙ c.in_ok-paschal_moon.was))
+    ∙ sym (ap (λ (o : Option ℕ). option_and_then (first_sunday_after present) o)
+    (sym c.paschal_moon.ensures ∙ c.in_ok-paschal_moon.was))

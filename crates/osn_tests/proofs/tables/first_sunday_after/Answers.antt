@@ -6,9 +6,6 @@ use Rattle.osn_computus.specs.Easter.{first_sunday_after}
 use Rattle.osn_computus.proofs.FindFacts.{find_on_line}
 use Rattle.osn_tests.proofs.TableLemmas.{none_on_line, none_so_far}
 use Rattle.osn_tests.proofs.tables.first_sunday_after.Goals as goal
-use Rattle.osn_tests.proofs.tables.first_sunday_after.Goals.{}
-use Rattle.osn_tests.proofs.tables.first_sunday_after.Goals.{else-number-via-then-number+else-number-eq0}
-use Rattle.osn_tests.proofs.tables.first_sunday_after.Goals.{else-number-via-else-number}
 
 pub loop-number-init : goal.loop-number-init
 loop-number-init c = λ d low high. absurd (omega arith)
@@ -21,7 +18,8 @@ returns-then-number-eq0 c =
     let is : (nat_lt m n && (weekday n == 0)) ≡ true =
     (Decides-and _ _ (Decides-ltb m n) (Decides-eqb (weekday n) 0)).1 (omega arith, omega arith) in
     ap Some c.day_at.ensures
-    ∙ sym (find_on_line present (λ d. nat_lt m d && (weekday d == 0)) n (omega arith, omega arith) is c.loop-number.invariant)
+    ∙ sym (find_on_line present (λ d. nat_lt m d && (weekday d == 0)) n (omega arith, omega arith)
+    is c.loop-number.invariant)
 
 pub loop-number-preserved : goal.loop-number-preserved
 loop-number-preserved c =
@@ -29,12 +27,13 @@ loop-number-preserved c =
     let n = c.loop-number.number in
     let other : (nat_lt m n && (weekday n == 0)) ≡ false =
     elim c.else-number.branch [
-      | else-number-via-then-number+else-number-eq0 w ↦ grind (arith, nat_tests)
-      | else-number-via-else-number w ↦ grind (arith, nat_tests)
+      | goal.else-number-via-then-number+else-number-eq0 w ↦ grind (arith, nat_tests)
+      | goal.else-number-via-else-number w ↦ grind (arith, nat_tests)
     ] in
     none_so_far (λ d. nat_lt m d && (weekday d == 0)) n c.loop-number.invariant other
 
 pub returns : goal.returns
 unfolding first_sunday_after
 returns c =
-    sym (none_on_line present (λ d. nat_lt c.args.moon d && (weekday d == 0)) (λ d on. c.loop-number.invariant d on.0 (omega arith)))
+    sym (none_on_line present (λ d. nat_lt c.args.moon d && (weekday d == 0))
+    (λ d on. c.loop-number.invariant d on.0 (omega arith)))

@@ -23,15 +23,20 @@ returns-then-is_sunday_of c =
     elim c.if-number-gt1.branch [
       | then-number-gt1 w ↦
           w.letter-is ∙ w.letter_after-letter.ensures
-          ∙ ap (λ (e : Date). letter_after e c.loop-number.letter) (w.date_of.ensures.value ∙ ap (λ d. date_of k d) c.day_at-day.ensures)
-          ∙ ap (λ l. letter_after (date_of k n) l) c.loop-number.invariant.0 ∙ letter_next k n w.if-number-gt1.true
+          ∙ ap (λ (e : Date). letter_after e c.loop-number.letter)
+          (w.date_of.ensures.value ∙ ap (λ d. date_of k d) c.day_at-day.ensures)
+          ∙ ap (λ l. letter_after (date_of k n) l) c.loop-number.invariant.0
+          ∙ letter_next k n w.if-number-gt1.true
       | else-number-gt1 w ↦
-          let first : n - 2 ≡ n - 1 = omega arith in w.letter-is ∙ c.loop-number.invariant.0 ∙ ap (λ d. letter_at k d) first
+          let first : n - 2 ≡ n - 1 =
+          omega arith in w.letter-is ∙ c.loop-number.invariant.0 ∙ ap (λ d. letter_at k d) first
     ] in
     let test = is_sunday_of k c.args.year c.args.low c.args.high in
-    let is : test n ≡ true = ap test (sym c.day_at-day.ensures) ∙ sym c.is_sunday_of.ensures ∙ c.if-is_sunday_of.true in
+    let is : test n ≡ true =
+    ap test (sym c.day_at-day.ensures) ∙ sym c.is_sunday_of.ensures ∙ c.if-is_sunday_of.true in
     ap Some letter
-    ∙ sym (ap (λ (o : Option ℕ). option_map (λ d. letter_of k d) o) (find_on_line present test n (omega arith, omega arith) is c.loop-number.invariant.1))
+    ∙ sym (ap (λ (o : Option ℕ). option_map (λ d. letter_of k d) o)
+    (find_on_line present test n (omega arith, omega arith) is c.loop-number.invariant.1))
 
 pub loop-number-preserved : goal.loop-number-preserved
 loop-number-preserved c =
@@ -41,13 +46,17 @@ loop-number-preserved c =
     elim c.if-number-gt1.branch [
       | then-number-gt1 w ↦
           w.letter-is ∙ w.letter_after-letter.ensures
-          ∙ ap (λ (e : Date). letter_after e c.loop-number.letter) (w.date_of.ensures.value ∙ ap (λ d. date_of k d) c.day_at-day.ensures)
-          ∙ ap (λ l. letter_after (date_of k n) l) c.loop-number.invariant.0 ∙ letter_next k n w.if-number-gt1.true
+          ∙ ap (λ (e : Date). letter_after e c.loop-number.letter)
+          (w.date_of.ensures.value ∙ ap (λ d. date_of k d) c.day_at-day.ensures)
+          ∙ ap (λ l. letter_after (date_of k n) l) c.loop-number.invariant.0
+          ∙ letter_next k n w.if-number-gt1.true
       | else-number-gt1 w ↦
-          let first : n - 2 ≡ n - 1 = omega arith in w.letter-is ∙ c.loop-number.invariant.0 ∙ ap (λ d. letter_at k d) first
+          let first : n - 2 ≡ n - 1 =
+          omega arith in w.letter-is ∙ c.loop-number.invariant.0 ∙ ap (λ d. letter_at k d) first
     ] in
     let test = is_sunday_of k c.args.year c.args.low c.args.high in
-    let other : test n ≡ false = ap test (sym c.day_at-day.ensures) ∙ sym c.is_sunday_of.ensures ∙ c.if-is_sunday_of.false in
+    let other : test n ≡ false =
+    ap test (sym c.day_at-day.ensures) ∙ sym c.is_sunday_of.ensures ∙ c.if-is_sunday_of.false in
     let next : n - 1 ≡ n + 1 - 2 = omega arith in
     (letter ∙ ap (λ d. letter_at k d) next, none_so_far test n c.loop-number.invariant.1 other)
 
@@ -56,4 +65,5 @@ unfolding letter_of_sundays
 returns c =
     let k = c.args.calendar in
     let test = is_sunday_of k c.args.year c.args.low c.args.high in
-    sym (ap (λ (o : Option ℕ). option_map (λ d. letter_of k d) o) (none_on_line present test (λ d on. c.loop-number.invariant.1 d on.0 (omega arith))))
+    sym (ap (λ (o : Option ℕ). option_map (λ d. letter_of k d) o)
+    (none_on_line present test (λ d on. c.loop-number.invariant.1 d on.0 (omega arith))))

@@ -4,4 +4,5 @@ use Rattle.osn_tests.proofs.TableLemmas.{is_label}
 use Rattle.osn_tests.proofs.tables.row_of.Given as goal
 
 abbrev pub invariant-loop-month : goal.invariant-loop-month
-invariant-loop-month l = find (is_label l.epact) l.rows ≡ find (is_label l.epact) (drop l.month-index l.rows)
+invariant-loop-month l =
+    find (is_label l.epact) l.rows ≡ find (is_label l.epact) (drop l.month-index l.rows)

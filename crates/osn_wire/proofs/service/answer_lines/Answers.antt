@@ -3,7 +3,9 @@ use Rattle.std.proofs.lemmas.Result.{IfOk-weaker, IfErr-weaker}
 use Rattle.osn_days.specs.Profile.{present}
 use Rattle.osn_lines.specs.Lines.{lines}
 use Rattle.osn_wire.specs.Served.{WritesFirst, WritesInPart, StandsAt, StandsNear}
-use Rattle.osn_wire.proofs.ClauseLemmas.{swap_known, MatchFault-weaker, all_written, all_reached, all_counted, first_written, first_reached, part_written, part_reached, part_reason, two_if_err, two_faults}
+use Rattle.osn_wire.proofs.ClauseLemmas.{swap_known, MatchFault-weaker, all_written, all_reached}
+use Rattle.osn_wire.proofs.ClauseLemmas.{all_counted, first_written, first_reached, part_written}
+use Rattle.osn_wire.proofs.ClauseLemmas.{part_reached, part_reason, two_if_err, two_faults}
 use Rattle.osn_wire.proofs.service.answer_lines.Goals as goal
 
 pub returns-clause-written : goal.returns-clause-written
@@ -13,7 +15,8 @@ returns-clause-written g c =
     let s = c.args.session.now in
     let t = c.run.new.session in
     let input = g.R.Source.remaining c.args.source.now in
-    IfOk-weaker c.run.result _ _ (λ n h. all_written contents s t t.sink.now input n h refl) c.run.ensures.all
+    IfOk-weaker c.run.result _ _ (λ n h. all_written contents s t t.sink.now input n h refl)
+    c.run.ensures.all
 
 pub returns-clause-object : goal.returns-clause-object
 returns-clause-object g c =
@@ -22,7 +25,8 @@ returns-clause-object g c =
     let s = c.args.session.now in
     let t = c.run.new.session in
     let input = g.R.Source.remaining c.args.source.now in
-    IfOk-weaker c.run.result _ _ (λ n h. all_reached contents s t t.object.now input n h refl) c.run.ensures.all
+    IfOk-weaker c.run.result _ _ (λ n h. all_reached contents s t t.object.now input n h refl)
+    c.run.ensures.all
 
 pub returns-clause-count : goal.returns-clause-count
 returns-clause-count g c =
@@ -40,8 +44,12 @@ returns-clause-written_first g c =
     let s = c.args.session.now in
     let t = c.run.new.session in
     let input = g.R.Source.remaining c.args.source.now in
-    let first : List ℕ → ℕ → Type 0 = λ bytes n. WritesFirst present s.readers s.object.now (contents s.sink.now) (contents t.sink.now) (lines bytes) n in
-    let in_part : List ℕ → ℕ → Type 0 = λ bytes n. WritesInPart present s.readers s.object.now (contents s.sink.now) (contents t.sink.now) (lines bytes) n in
+    let first : List ℕ → ℕ → Type 0 =
+    λ bytes n. WritesFirst present s.readers s.object.now (contents s.sink.now)
+    (contents t.sink.now) (lines bytes) n in
+    let in_part : List ℕ → ℕ → Type 0 =
+    λ bytes n. WritesInPart present s.readers s.object.now (contents s.sink.now)
+    (contents t.sink.now) (lines bytes) n in
     IfErr-weaker c.run.result _ _
     (λ fault h. swap_known fault input first first in_part
     (MatchFault-weaker fault _ _ _ _ _ _
@@ -58,8 +66,10 @@ returns-clause-stands g c =
     let s = c.args.session.now in
     let t = c.run.new.session in
     let input = g.R.Source.remaining c.args.source.now in
-    let at : List ℕ → ℕ → Type 0 = λ bytes n. StandsAt present s.readers s.object.now t.object.now (lines bytes) n in
-    let near : List ℕ → ℕ → Type 0 = λ bytes n. StandsNear present s.readers s.object.now t.object.now (lines bytes) n in
+    let at : List ℕ → ℕ → Type 0 =
+    λ bytes n. StandsAt present s.readers s.object.now t.object.now (lines bytes) n in
+    let near : List ℕ → ℕ → Type 0 =
+    λ bytes n. StandsNear present s.readers s.object.now t.object.now (lines bytes) n in
     IfErr-weaker c.run.result _ _
     (λ fault h. swap_known fault input at at near
     (MatchFault-weaker fault _ _ _ _ _ _

@@ -11,10 +11,10 @@ abbrev pub rest_tokens : {A : Type 0} → (A → Data) → List A → List Token
 rest_tokens shown values = items_tokens (items_outline (items_of (map shown values)))
 
 -- what is written so far goes on to the whole list
-abbrev pub invariant-loop-value : goal.invariant-loop-value
-invariant-loop-value g l = record {
+abbrev pub invariant-loop-item : goal.invariant-loop-item
+invariant-loop-item g l = record {
   before : l.out.before ≡ l.initial.out.before;
   tokens :
-      l.out.tokens ++ rest_tokens g.J.WriteJson.shown (drop l.value-index l.values)
+      l.out.tokens ++ rest_tokens g.J.WriteJson.shown (drop l.item-index l.values)
       ≡ l.initial.out.tokens ++ rest_tokens g.J.WriteJson.shown l.values;
 }

@@ -8,7 +8,8 @@ pub returns-clause-ready : goal.returns-clause-ready
 returns-clause-ready g c =
     let write = c.in_ok-write.ensures in
     λ begun before h.
-    Serving-settle _ _ begun _ _ before _ _ h (record { readers = refl; object = refl; sink = refl }) refl
+    Serving-settle _ _ begun _ _ before _ _ h (record
+    { readers = refl; object = refl; sink = refl }) refl
     (inl (refl, refl, refl)) (inr write.ok) write.sound
 
 pub returns-in_err-write-clause-stop : goal.returns-in_err-write-clause-stop
@@ -17,5 +18,6 @@ returns-in_err-write-clause-stop g c =
     let write = c.in_err-write.ensures in
     if_err_passed c.from_residual.result err.0 c.in_err-write.field-0.0 _ err.1 err.2
     (λ begun before h.
-    Failing-from _ _ begun _ _ before _ _ _ _ h (record { readers = refl; object = refl; sink = refl }) refl
+    Failing-from _ _ begun _ _ before _ _ _ _ h (record
+    { readers = refl; object = refl; sink = refl }) refl
     (inl (refl, refl, refl)) refl write.err write.reason)

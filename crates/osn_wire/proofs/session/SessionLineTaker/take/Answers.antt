@@ -10,7 +10,8 @@ returns-in_err-make_room-clause-stop g c =
     let room = c.in_err-make_room.ensures in
     if_err_passed c.from_residual.result err.0 c.in_err-make_room.field-0.0 _ err.1 err.2
     (λ whole front begun before h.
-    Failing-from _ _ begun _ _ before _ _ _ _ h (record { readers = refl; object = refl; sink = refl }) refl
+    Failing-from _ _ begun _ _ before _ _ _ _ h (record
+    { readers = refl; object = refl; sink = refl }) refl
     (inl (refl, refl, refl)) refl room.err room.reason)
 
 pub returns-clause-taken : goal.returns-clause-taken
@@ -18,16 +19,20 @@ returns-clause-taken g c =
     let room = c.in_ok-make_room.ensures in
     three_on_ok c.answer.result c.answer.ensures.ok c.answer.ensures.after c.answer.ensures.sound
     (λ adds after sound whole front begun before h.
-    Serving-add _ _ begun _ _ before _ whole _ _ h (record { readers = refl; object = refl; sink = refl })
+    Serving-add _ _ begun _ _ before _ whole _ _ h
+    (record { readers = refl; object = refl; sink = refl })
     room.ok adds after front (sound ∙ room.sound))
 
 pub returns-clause-stop : goal.returns-clause-stop
 returns-clause-stop g c =
     let room = c.in_ok-make_room.ensures in
-    if_err_either _ c.answer.result _ c.answer.ensures.err c.answer.ensures.kept c.answer.ensures.reason
+    if_err_either _ c.answer.result _ c.answer.ensures.err c.answer.ensures.kept
+    c.answer.ensures.reason
     (λ settled kept sound whole front begun before h.
-    Serving-settle _ _ begun _ _ before _ _ h (record { readers = refl; object = refl; sink = refl }) kept
+    Serving-settle _ _ begun _ _ before _ _ h (record
+    { readers = refl; object = refl; sink = refl }) kept
     room.ok settled (sound ∙ room.sound))
     (λ failed some kept reason whole front begun before h.
-    Failing-from _ _ begun _ _ before failed.unwritten _ _ _ h (record { readers = refl; object = refl; sink = refl }) kept
+    Failing-from _ _ begun _ _ before failed.unwritten _ _ _ h
+    (record { readers = refl; object = refl; sink = refl }) kept
     room.ok room.sound some reason)

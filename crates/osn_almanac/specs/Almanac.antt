@@ -1,0 +1,169 @@
+-- The almanac of a territory and year, line by line, from what the register answers: this project's
+-- profile.
+use Rattle.std.specs.Prelude.{ℕ, Bool, ◌&&◌, nat_lt, if◌then◌else◌, ℤ, pos, ◌+ℤ◌, List, [], ◌∷◌}
+use Rattle.std.specs.Prelude.{◌++◌, map, Option, true, false, codes}
+use Rattle.std.specs.Fmt.{decimal, signed_decimal}
+use Rattle.std.specs.List.{flat_map}
+use Rattle.std.specs.Ordering.{int_eq}
+use Rattle.std.specs.Str.{bytes_eq}
+use Rattle.osn_computus.specs.declared.epact.Epact.{Epact}
+use Rattle.osn_computus.specs.declared.letters.Letters.{Letters}
+use Rattle.osn_days.specs.declared.calendar.Calendar.TheVariants.{Gregorian}
+use Rattle.osn_days.specs.Profile.{Profile}
+use Rattle.osn_days.specs.Chain.{date_of}
+use Rattle.osn_lands.specs.declared.period.Period.{Period}
+use Rattle.osn_lands.specs.declared.regime.Regime.{Regime}
+use Rattle.osn_lands.specs.Dual.{dual_text, month_name}
+use Rattle.osn_register.specs.declared.answer.Answer.{Answer}
+use Rattle.osn_register.specs.declared.answer.Answer.TheVariants as answers
+use Rattle.osn_register.specs.declared.answer.Found.{Found}
+use Rattle.osn_register.specs.declared.answer.Land.{Land}
+use Rattle.osn_register.specs.declared.query.Query.TheVariants.{Read, DayIn, Easter, YearFigures}
+use Rattle.osn_register.specs.declared.query.Query.TheVariants.{Lands, Periods}
+use Rattle.osn_register.specs.declared.refusal.Refusal.{Refusal}
+use Rattle.osn_register.specs.Answer.{answer, easter_refusal}
+use Rattle.osn_register.specs.Plain.{PlainLand}
+use Rattle.osn_words.specs.Texts.{text_of_date, epact_text, letters_text}
+use Rattle.osn_words.specs.Words.{calendar_word, style_word, rule_word}
+use Rattle.osn_almanac.specs.declared.feast.Feast.{Feast}
+use Rattle.osn_almanac.specs.Columns.{day_line, absent_line}
+use Rattle.osn_almanac.specs.Feast.{feast_name, days_after_easter, feasts}
+
+-- the text of lines, a line feed behind each
+unfoldable pub lines_text : List (List ℕ) → List ℕ
+lines_text lines = flat_map (λ line. line ++ 10 ∷ []) lines
+
+-- ---- the heading
+
+unfoldable pub heading : List ℕ → List ℕ → ℤ → List ℕ
+heading name code year =
+    codes "Almanac of "
+    ++ (name ++ (codes " (" ++ (code ++ (codes ") for " ++ signed_decimal year))))
+
+-- the heading of a listed territory, if it has the code
+unfoldable pub heading_of : List ℕ → ℤ → Land → List (List ℕ)
+heading_of code year land =
+    if bytes_eq land.code code then heading land.name land.code year ∷ [] else []
+
+abbrev pub heading_lines : List ℕ → ℤ → Answer → List (List ℕ)
+heading_lines code year (answers.Lands lands) = flat_map (heading_of code year) lands
+heading_lines code year other = []
+
+-- ---- the figures
+
+unfoldable pub cycles_line : ℕ → ℕ → List ℕ
+cycles_line golden indiction =
+    codes "Golden number " ++ (decimal golden ++ (codes ", indiction " ++ decimal indiction))
+
+unfoldable pub julian_line : ℕ → Letters → List ℕ
+julian_line epact letters =
+    codes "Julian epact " ++ (decimal epact ++ (codes ", Sunday letter " ++ letters_text letters))
+
+unfoldable pub gregorian_line : Epact → Letters → List ℕ
+gregorian_line epact letters =
+    codes "Gregorian epact "
+    ++ (epact_text epact ++ (codes ", Sunday letter " ++ letters_text letters))
+
+abbrev pub figures_lines : Answer → List (List ℕ)
+figures_lines
+    (answers.Figures year golden indiction julian_epact gregorian_epact
+    julian_letters gregorian_letters julian_easter gregorian_easter) =
+    cycles_line golden indiction
+    ∷ julian_line julian_epact julian_letters
+    ∷ gregorian_line gregorian_epact gregorian_letters
+    ∷ []
+figures_lines other = []
+
+-- ---- the changes
+
+-- the period begins with a change, on a day that has a Gregorian date in the year
+abbrev pub is_change_in : ℤ → Period → Bool
+is_change_in year period =
+    nat_lt 1 period.first && int_eq (date_of Gregorian period.first).year year
+
+unfoldable pub change_text : List ℕ → ℕ → List ℕ → List ℕ → List ℕ → List ℕ
+change_text dual day calendar style rule =
+    codes "From "
+    ++ (dual
+    ++ (codes ", day "
+    ++ (decimal day
+    ++ (codes ": "
+    ++ (calendar
+    ++ (codes " calendar, " ++ (style ++ (codes " style, " ++ (rule ++ codes " rule")))))))))
+
+-- the day as the new regime dates it, and how that regime reckons
+unfoldable pub change_line : Period → List ℕ
+change_line period =
+    change_text (dual_text period.regime period.first) period.first
+    (calendar_word period.regime.calendar) (style_word period.regime.style)
+    (rule_word period.regime.rule)
+
+unfoldable pub change_of : ℤ → Period → List (List ℕ)
+change_of year period = if is_change_in year period then change_line period ∷ [] else []
+
+abbrev pub change_lines : ℤ → Answer → List (List ℕ)
+change_lines year (answers.Periods periods) = flat_map (change_of year) periods
+change_lines year other = []
+
+-- ---- Easter and the feasts counted from it
+
+abbrev pub easter_heading : List Found → Bool → List ℕ
+easter_heading [] listed = codes "Easter never"
+easter_heading (found ∷ more) true = codes "Easter listed"
+easter_heading (found ∷ more) false = codes "Easter by rule"
+
+-- a feast by what is answered to its day, where it is on the line
+abbrev pub feast_line_of : Feast → Answer → List ℕ
+feast_line_of feast (answers.OnDay found period) = day_line (feast_name feast) found.day found.dual
+feast_line_of feast other = absent_line (feast_name feast) (codes "off the line")
+
+-- the line of a feast of a year whose Easter is that day
+unfoldable pub feast_line : Profile → List PlainLand → List ℕ → ℕ → Feast → List ℕ
+feast_line p lands code easter feast =
+    feast_line_of feast
+    (answer p lands (DayIn code (pos easter +ℤ days_after_easter feast)))
+
+unfoldable pub feast_lines : Profile → List PlainLand → List ℕ → Found → List (List ℕ)
+feast_lines p lands code easter = map (feast_line p lands code easter.day) feasts
+
+abbrev pub easter_lines : Profile → List PlainLand → List ℕ → Answer → List (List ℕ)
+easter_lines p lands code (answers.Easters found listed) =
+    easter_heading found listed ∷ flat_map (feast_lines p lands code) found
+easter_lines p lands code other = []
+
+-- ---- the months
+
+unfoldable pub month_day_line : ℕ → Found → List ℕ
+month_day_line month found =
+    day_line (month_name month) found.day (text_of_date (date_of Gregorian found.day))
+
+-- a line for each day that is the first of the month
+abbrev pub month_lines_of : ℕ → Answer → List (List ℕ)
+month_lines_of month (answers.Reading (found ∷ more) skipped) =
+    map (month_day_line month) (found ∷ more)
+month_lines_of month other = absent_line (month_name month) (codes "none") ∷ []
+
+-- the month of the year as the territory counts it
+unfoldable pub month_lines : Profile → List PlainLand → List ℕ → ℤ → ℕ → List (List ℕ)
+month_lines p lands code year month =
+    month_lines_of month (answer p lands (Read code year (pos month) (pos 1)))
+
+abbrev pub months : List ℕ
+months = 1 ∷ 2 ∷ 3 ∷ 4 ∷ 5 ∷ 6 ∷ 7 ∷ 8 ∷ 9 ∷ 10 ∷ 11 ∷ 12 ∷ []
+
+-- ---- the whole
+
+abbrev pub almanac_lines : Profile → List PlainLand → List ℕ → ℤ → List (List ℕ)
+almanac_lines p lands code year =
+    heading_lines code year (answer p lands Lands)
+    ++ (figures_lines (answer p lands (YearFigures year))
+    ++ (change_lines year (answer p lands (Periods code))
+    ++ (easter_lines p lands code (answer p lands (Easter code year))
+    ++ flat_map (month_lines p lands code year) months)))
+
+unfoldable pub almanac : Profile → List PlainLand → List ℕ → ℤ → List ℕ
+almanac p lands code year = lines_text (almanac_lines p lands code year)
+
+-- why there is no almanac: what refuses a query of the territory's Easters
+abbrev pub almanac_refusal : Profile → List PlainLand → List ℕ → ℤ → Option Refusal
+almanac_refusal = easter_refusal

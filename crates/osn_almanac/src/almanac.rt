@@ -1,0 +1,57 @@
+ghost use Rattle.std.specs.Prelude.{◌≡◌, None, IfOk, IfErr, OnOk, string_bytes};
+ghost use Rattle.osn_days.specs.Profile.{present};
+ghost use Rattle.osn_register.specs.Refusal.{IsRefusalOrNoMemory};
+ghost use Rattle.osn_almanac.specs.Almanac as said;
+
+use crate::changes::push_changes;
+use crate::easters::push_easters;
+use crate::figures::push_figures;
+use crate::heading::push_heading;
+use crate::months::push_months;
+use osn_register::{Refusal, Register};
+use std::alloc::{AllocError, Global};
+
+/// The room that the text gets at first: that of a year with one Easter takes some 1300 bytes.
+const ROOM: usize = 2048;
+
+/// The almanac, part by part.
+fn written(alloc: Global, register: &Register, code: &str, year: i64) -> Result<String, AllocError>
+    ensures { IfOk result
+        (λ s. string_bytes s ≡ said.almanac present register.now.lands code.now year) }
+{
+    let mut text = String::with_capacity(alloc, ROOM)?;
+    push_heading(alloc, &mut text, register, code, year)?;
+    push_figures(alloc, &mut text, register, year)?;
+    push_changes(alloc, &mut text, register, code, year)?;
+    push_easters(alloc, &mut text, register, code, year)?;
+    push_months(alloc, &mut text, register, code, year)?;
+    Ok(text)
+}
+
+/// The almanac of a territory and a year from 1 to 2999: the figures of the year, the changes that
+/// fall in it, its feasts and the first days of its months. The figures, the Easters and the
+/// heading count the year from 1 January, and the months count it as the territory does.
+///
+/// # Errors
+///
+/// The refusals of a query of the territory's Easters, in their order, and else `NoMemory` where no
+/// memory is found.
+pub fn almanac_text(
+    alloc: Global,
+    register: &Register,
+    code: &str,
+    year: i64,
+) -> Result<String, Refusal>
+    ensures lawful { OnOk result
+        (said.almanac_refusal present register.now.lands code.now year ≡ None) }
+    ensures text { IfOk result
+        (λ s. string_bytes s ≡ said.almanac present register.now.lands code.now year) }
+    ensures refused { IfErr result (IsRefusalOrNoMemory
+        (said.almanac_refusal present register.now.lands code.now year)) }
+{
+    register.check_easter(code, year)?;
+    match written(alloc, register, code, year) {
+        Ok(text) => Ok(text),
+        Err(_) => Err(Refusal::NoMemory),
+    }
+}

@@ -1,0 +1,124 @@
+ghost use Rattle.std.specs.Prelude.{◌≡◌, [], ◌∷◌, ◌++◌, OnOk, string_bytes};
+ghost use Rattle.std.specs.List.{flat_map};
+ghost use Rattle.osn_days.specs.Profile.{present};
+ghost use Rattle.osn_register.specs.Answer.{answer};
+ghost use Rattle.osn_register.specs.declared.query.Query.TheVariants.{Periods};
+ghost use Rattle.osn_almanac.specs.Almanac as said;
+
+use crate::columns::push_line;
+use osn_days::{Calendar, Day, date_of};
+use osn_lands::{Period, dual_text};
+use osn_register::{Answer, Query, Register, Text};
+use osn_words::Word;
+use std::alloc::{AllocError, Global};
+
+/// Whether the period begins with a change, on a day that has a Gregorian date in the year.
+fn is_change_in(year: i64, period: &Period) -> bool
+    ensures { result ≡ said.is_change_in year period.now }
+{
+    period.first > Day::FIRST && i64::from(date_of(Calendar::Gregorian, period.first).year) == year
+}
+
+/// Appends the line of a change, in these words.
+fn push_change_text(
+    alloc: Global,
+    out: &mut String,
+    dual: &str,
+    day: u32,
+    calendar: &str,
+    style: &str,
+    rule: &str,
+) -> Result<(), AllocError>
+    ensures { OnOk result (string_bytes out.new ≡ string_bytes out.old ++ said.lines_text
+        (said.change_text dual.now day calendar.now style.now rule.now ∷ [])) }
+{
+    let line = format!(in alloc;
+        "From {}, day {}: {} calendar, {} style, {} rule",
+        dual, day, calendar, style, rule
+    )?;
+    push_line(out, line.as_str())
+}
+
+/// Appends the line of a change: the day as the new regime dates it, and how that regime reckons.
+#[tactic(auto, unfolding(crate::specs::Almanac::change_line))]
+fn push_change(alloc: Global, out: &mut String, period: &Period) -> Result<(), AllocError>
+    ensures { OnOk result (string_bytes out.new
+        ≡ string_bytes out.old ++ said.lines_text (said.change_line period.now ∷ [])) }
+{
+    let regime = period.regime;
+    let dual = dual_text(alloc, regime, period.first)?;
+    push_change_text(
+        alloc,
+        out,
+        dual.as_str(),
+        period.first.number(),
+        regime.calendar.word(),
+        regime.style.word(),
+        regime.rule.word(),
+    )
+}
+
+/// Appends the line of a change, where it is one of the year.
+#[tactic(auto, using(crate::proofs::LineFacts::push_none), unfolding(crate::specs::Almanac::change_of))]
+fn push_change_of(
+    alloc: Global,
+    out: &mut String,
+    year: i64,
+    period: &Period,
+) -> Result<(), AllocError>
+    ensures { OnOk result (string_bytes out.new ≡ string_bytes out.old
+        ++ said.lines_text (said.change_of year period.now)) }
+{
+    if is_change_in(year, period) {
+        push_change(alloc, out, period)?;
+    }
+    Ok(())
+}
+
+/// Appends the changes of the year, of these periods.
+fn push_changes_among(
+    alloc: Global,
+    out: &mut String,
+    year: i64,
+    periods: &[Period],
+) -> Result<(), AllocError>
+    ensures { OnOk result (string_bytes out.new ≡ string_bytes out.old
+        ++ said.lines_text (flat_map (said.change_of year) periods.now)) }
+{
+    for period in periods {
+        push_change_of(alloc, out, year, period)?;
+    }
+    Ok(())
+}
+
+/// Appends the changes of the year, by what is answered.
+fn push_changes_in(
+    alloc: Global,
+    out: &mut String,
+    year: i64,
+    periods: &Answer,
+) -> Result<(), AllocError>
+    ensures { OnOk result (string_bytes out.new ≡ string_bytes out.old
+        ++ said.lines_text (said.change_lines year periods.now)) }
+{
+    match periods {
+        Answer::Periods(periods) => push_changes_among(alloc, out, year, periods.as_slice()),
+        _ => Ok(()),
+    }
+}
+
+/// Appends the changes of the year in the territory.
+pub(crate) fn push_changes(
+    alloc: Global,
+    out: &mut String,
+    register: &Register,
+    code: &str,
+    year: i64,
+) -> Result<(), AllocError>
+    ensures { OnOk result (string_bytes out.new ≡ string_bytes out.old ++ said.lines_text
+        (said.change_lines year (answer present register.now.lands (Periods code.now)))) }
+{
+    let code = Text::from_str(alloc, code)?;
+    let periods = register.answer(&Query::Periods { code })?;
+    push_changes_in(alloc, out, year, &periods)
+}

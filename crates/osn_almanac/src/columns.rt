@@ -1,0 +1,52 @@
+//! Lines about a day, in columns.
+ghost use Rattle.std.specs.Prelude.{◌≡◌, [], ◌∷◌, ◌++◌, OnOk, string_bytes};
+ghost use Rattle.osn_almanac.specs.Columns as said;
+ghost use Rattle.osn_almanac.specs.Almanac.{lines_text};
+
+use osn_days::Day;
+use osn_words::weekday_of;
+use std::alloc::{AllocError, Global};
+
+/// Appends a line and its line feed.
+pub(crate) fn push_line(out: &mut String, line: &str) -> Result<(), AllocError>
+    ensures { OnOk result (string_bytes out.new
+        ≡ string_bytes out.old ++ lines_text (line.now ∷ [])) }
+{
+    out.push_str(line)?;
+    out.push('\n')
+}
+
+/// Appends the line of a day that has a name, with its date.
+pub(crate) fn push_day(
+    alloc: Global,
+    out: &mut String,
+    name: &str,
+    day: Day,
+    date: &str,
+) -> Result<(), AllocError>
+    ensures { OnOk result (string_bytes out.new
+        ≡ string_bytes out.old ++ lines_text (said.day_line name.now day date.now ∷ [])) }
+{
+    let line = format!(in alloc;
+        "{:<13} {:<9} {:>7} {}",
+        name,
+        weekday_of(day),
+        day.number(),
+        date
+    )?;
+    push_line(out, line.as_str())
+}
+
+/// Appends the line of a name that no day has, with what is said of it.
+pub(crate) fn push_absent(
+    alloc: Global,
+    out: &mut String,
+    name: &str,
+    remark: &str,
+) -> Result<(), AllocError>
+    ensures { OnOk result (string_bytes out.new
+        ≡ string_bytes out.old ++ lines_text (said.absent_line name.now remark.now ∷ [])) }
+{
+    let line = format!(in alloc; "{:<13} {}", name, remark)?;
+    push_line(out, line.as_str())
+}

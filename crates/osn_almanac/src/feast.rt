@@ -1,0 +1,53 @@
+ghost use Rattle.std.specs.Prelude.{◌≡◌};
+ghost use Rattle.osn_almanac.specs.Feast as said;
+
+/// A feast that is counted from Easter.
+#[derive(Clone, Copy, Debug, PartialEq, Eq)]
+pub(crate) enum Feast {
+    Septuagesima,
+    AshWednesday,
+    Easter,
+    Ascension,
+    Pentecost,
+    Trinity,
+}
+
+/// The feasts of a year, in order.
+pub(crate) const FEASTS: [Feast; 6] = [
+    Feast::Septuagesima,
+    Feast::AshWednesday,
+    Feast::Easter,
+    Feast::Ascension,
+    Feast::Pentecost,
+    Feast::Trinity,
+];
+
+impl Feast {
+    /// The English name.
+    pub(crate) fn name(self) -> &'static str
+        ensures { result.now ≡ said.feast_name self }
+    {
+        match self {
+            Feast::Septuagesima => "Septuagesima",
+            Feast::AshWednesday => "Ash Wednesday",
+            Feast::Easter => "Easter",
+            Feast::Ascension => "Ascension",
+            Feast::Pentecost => "Pentecost",
+            Feast::Trinity => "Trinity",
+        }
+    }
+
+    /// How many days it is after Easter, and less than none before.
+    pub(crate) fn days_after_easter(self) -> i8
+        ensures { result ≡ said.days_after_easter self }
+    {
+        match self {
+            Feast::Septuagesima => -63,
+            Feast::AshWednesday => -46,
+            Feast::Easter => 0,
+            Feast::Ascension => 39,
+            Feast::Pentecost => 49,
+            Feast::Trinity => 56,
+        }
+    }
+}

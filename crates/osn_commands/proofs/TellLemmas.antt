@@ -1,0 +1,75 @@
+-- A command whose refusal was told as want of memory did what its contract says of that.
+use Rattle.std.proofs.Common.{◌≡◌, ◌⊎◌, ℕ, Bool, List, Option, Some, None, Result, Ok, Err}
+use Rattle.std.proofs.Common.{IfOk, OnErr, IfSome, refl, sym, subst, ◌∙◌, inl, inr}
+use Rattle.osn_days.specs.Profile.{Profile}
+use Rattle.osn_register.specs.declared.limits.Limits.{Limits}
+use Rattle.osn_commands.specs.Fault.{fault_status, fault_line}
+use Rattle.osn_commands.specs.Serving.{Serves}
+use Rattle.osn_commands.specs.Told.{IsToldAs, WritesLine, EndsBy, Tells}
+use Rattle.osn_commands.specs.declared.fault.CommandFault.{CommandFault}
+use Rattle.osn_commands.specs.declared.fault.CommandFault.TheVariants.{BadLine, Refused, ReadFault}
+use Rattle.osn_commands.specs.declared.fault.CommandFault.TheVariants.{WriteFault, NoMemory}
+use Rattle.osn_commands.specs.declared.status.Status.{Status}
+use Rattle.osn_commands.specs.declared.status.Status.TheVariants as statuses
+
+-- what is told as itself
+pub told_as_it_is : (old new : Option (List ℕ)) (failed : Bool) (fault told : CommandFault)
+    (status : Status)
+    → fault ≡ told → EndsBy old new failed (Some told) status → Tells old new failed fault status
+told_as_it_is old new failed fault told status e h = (told, inl (sym e), h)
+
+-- a refusal is told by its line, or as want of memory for that
+pub told_refusal : {S E : Type 0} (bytes : S → List ℕ) (old new : Option (List ℕ)) (failed : Bool)
+    (fault : CommandFault) (status : Status) (line : Result S E)
+    → fault_status fault ≡ statuses.Refused
+    → IfOk line (λ text. bytes text ≡ fault_line fault)
+    → IfOk line (λ text. (status ≡ statuses.Refused) × WritesLine old new failed (bytes text))
+    → OnErr line (EndsBy old new failed (Some NoMemory) status)
+    → Tells old new failed fault status
+told_refusal bytes old new failed fault status (Ok text) is e h k =
+    (fault, inl refl, (h.0 ∙ sym is, subst (λ l. WritesLine old new failed l) e h.1))
+told_refusal bytes old new failed fault status (Err x) is e h k = (NoMemory, inr (is, refl), k)
+
+-- other faults are no refusals
+read_is_no_refusal : statuses.ReadFault ≡ statuses.Refused → ⊥
+read_is_no_refusal e = cc
+
+write_is_no_refusal : statuses.WriteFault ≡ statuses.Refused → ⊥
+write_is_no_refusal e = cc
+
+memory_is_no_refusal : statuses.NoMemory ≡ statuses.Refused → ⊥
+memory_is_no_refusal e = cc
+
+-- the service of a journal that was refused
+pub serves_told : (p : Profile) (limits : Limits) (readers : ℕ) (begun : Option (Option (List ℕ)))
+    (saves : Bool) (old new : Option (List ℕ)) (input : List ℕ) (journal : Option (List ℕ))
+    (fault told : CommandFault)
+    → IsToldAs fault told
+    → Serves p limits readers begun saves old new input journal (Some fault)
+    → Serves p limits readers begun saves old new input journal (Some told)
+serves_told p l n b saves old new input j fault told (inl e) h =
+    subst (λ f. Serves p l n b saves old new input j (Some f)) (sym e) h
+serves_told p l n b saves old new input j (BadLine role line why) told (inr k) (none, inl h) =
+    subst (λ f. Serves p l n b saves old new input j (Some f)) (sym k.1) (none, inl (tt, h.1))
+serves_told p l n b saves old new input j (BadLine role line why) told (inr k) (none, inr h) =
+    absurd h.2
+serves_told p l n b saves old new input j (Refused refusal) told (inr k) (none, inl h) =
+    absurd h.0
+serves_told p l n b saves old new input j (Refused refusal) told (inr k) (none, inr h) =
+    absurd h.2
+serves_told p l n b saves old new input j ReadFault told (inr k) h =
+    absurd (read_is_no_refusal k.0)
+serves_told p l n b saves old new input j WriteFault told (inr k) h =
+    absurd (write_is_no_refusal k.0)
+serves_told p l n b saves old new input j NoMemory told (inr k) h =
+    absurd (memory_is_no_refusal k.0)
+
+-- the same for an input that may be known
+pub serves_known : (p : Profile) (limits : Limits) (readers : ℕ) (begun : Option (Option (List ℕ)))
+    (saves : Bool) (old new input journal : Option (List ℕ)) (fault told : CommandFault)
+    → IsToldAs fault told
+    → IfSome input (λ bytes. Serves p limits readers begun saves old new bytes journal (Some fault))
+    → IfSome input (λ bytes. Serves p limits readers begun saves old new bytes journal (Some told))
+serves_known p limits readers begun saves old new None journal fault told k h = tt
+serves_known p limits readers begun saves old new (Some bytes) journal fault told k h =
+    serves_told p limits readers begun saves old new bytes journal fault told k h

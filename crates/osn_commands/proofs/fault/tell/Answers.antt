@@ -1,0 +1,31 @@
+use Rattle.std.proofs.Common.{refl, sym, ap, ◌∙◌}
+use Rattle.std.specs.Prelude.{string_bytes}
+use Rattle.std.proofs.lemmas.Result.{IfOk-weaker}
+use Rattle.osn_commands.proofs.TellLemmas.{told_as_it_is, told_refusal}
+use Rattle.osn_commands.specs.Fault.{fault_status, fault_line}
+use Rattle.osn_commands.proofs.fault.tell.Goals as goal
+
+pub returns-in-BadLine : goal.returns-in-BadLine
+returns-in-BadLine g c =
+    told_refusal string_bytes _ _ _ c.args.fault _ c.bad_line.result
+    (ap fault_status c.in-BadLine.is)
+    (IfOk-weaker c.bad_line.result _ _ (λ text e. e ∙ sym (ap fault_line c.in-BadLine.is))
+    c.bad_line.ensures)
+    c.tell_refusal.ensures.ok c.tell_refusal.ensures.err
+
+pub returns-in-Refused : goal.returns-in-Refused
+returns-in-Refused g c =
+    told_refusal string_bytes _ _ _ c.args.fault _ c.refused.result
+    (ap fault_status c.in-Refused.is)
+    (IfOk-weaker c.refused.result _ _ (λ text e. e ∙ sym (ap fault_line c.in-Refused.is))
+    c.refused.ensures)
+    c.tell_refusal-in-Refused.ensures.ok c.tell_refusal-in-Refused.ensures.err
+
+pub returns-in-ReadFault : goal.returns-in-ReadFault
+returns-in-ReadFault g c =
+    told_as_it_is _ _ _ c.args.fault _ _ c.in-ReadFault.is (refl, c.write_line.ensures)
+
+pub returns-in-WriteFault : goal.returns-in-WriteFault
+returns-in-WriteFault g c =
+    told_as_it_is _ _ _ c.args.fault _ _ c.in-WriteFault.is
+    (refl, c.write_line-in-WriteFault.ensures)

@@ -1,0 +1,55 @@
+-- Why a command ended early: the status that the shell is told, and the text for a person. This
+-- project's profile.
+use Rattle.std.specs.Prelude.{ℕ, List, ◌++◌, codes}
+use Rattle.std.specs.Fmt.{decimal}
+use Rattle.osn_register.specs.Refusal.{refusal_number, refusal_name}
+use Rattle.osn_files.specs.Faults.{line_fault_number, line_fault_name}
+use Rattle.osn_files.specs.declared.fault.FileFault.{FileFault}
+use Rattle.osn_files.specs.declared.fault.FileFault.TheVariants as file_faults
+use Rattle.osn_files.specs.declared.fault.Role.{Role}
+use Rattle.osn_files.specs.declared.fault.Role.TheVariants.{Journal}
+use Rattle.osn_wire.specs.declared.fault.ServeFault.{ServeFault}
+use Rattle.osn_wire.specs.declared.fault.ServeFault.TheVariants as serve_faults
+use Rattle.osn_commands.specs.declared.fault.CommandFault.{CommandFault}
+use Rattle.osn_commands.specs.declared.fault.CommandFault.TheVariants.{BadLine, Refused, ReadFault}
+use Rattle.osn_commands.specs.declared.fault.CommandFault.TheVariants.{WriteFault, NoMemory}
+use Rattle.osn_commands.specs.declared.status.Status.{Status}
+use Rattle.osn_commands.specs.declared.status.Status.TheVariants as statuses
+
+-- the status with which a command ends by a fault
+abbrev pub fault_status : CommandFault → Status
+fault_status (BadLine role line why) = statuses.Refused
+fault_status (Refused refusal) = statuses.Refused
+fault_status ReadFault = statuses.ReadFault
+fault_status WriteFault = statuses.WriteFault
+fault_status NoMemory = statuses.NoMemory
+
+abbrev pub role_name : Role → List ℕ
+role_name Journal = codes "journal"
+
+-- a refusal by number and name, and the end of the line
+abbrev pub refusal_end : ℕ → List ℕ → List ℕ
+refusal_end number name = decimal number ++ (codes " " ++ (name ++ codes "\n"))
+
+-- the line on standard error
+abbrev pub fault_line : CommandFault → List ℕ
+fault_line (BadLine role line why) =
+    codes "oldstyle: " ++ (role_name role ++ (codes " line " ++ (decimal line ++ (codes ": "
+    ++ refusal_end (line_fault_number why) (line_fault_name why)))))
+fault_line (Refused refusal) =
+    codes "oldstyle: " ++ refusal_end (refusal_number refusal) (refusal_name refusal)
+fault_line ReadFault = codes "oldstyle: read fault\n"
+fault_line WriteFault = codes "oldstyle: write fault\n"
+fault_line NoMemory = codes "oldstyle: no memory\n"
+
+-- the fault of a service is the same one, without its count
+abbrev pub by_service : ServeFault → CommandFault
+by_service (serve_faults.NoMemory n) = NoMemory
+by_service (serve_faults.ReadFault n) = ReadFault
+by_service (serve_faults.WriteFault n) = WriteFault
+
+-- the fault of a file is the same one
+abbrev pub by_file : FileFault → CommandFault
+by_file file_faults.NoMemory = NoMemory
+by_file file_faults.ReadFault = ReadFault
+by_file (file_faults.BadLine role line why) = BadLine role line why

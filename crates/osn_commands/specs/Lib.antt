@@ -1,0 +1,5 @@
+pub mod Status
+pub mod Fault
+pub mod Told
+pub mod Journal
+pub mod Serving

@@ -1,0 +1,50 @@
+-- What the service of a command line has written where it ends, and the journal that it leaves to
+-- be saved.
+use Rattle.std.specs.Prelude.{◌≡◌, ◌⊎◌, ℕ, Bool, List, Option, Some, None, if◌then◌else◌}
+use Rattle.std.specs.Io.KnownBytes.{Appends}
+use Rattle.osn_days.specs.Profile.{Profile}
+use Rattle.osn_core.specs.Sequential.{ObjectState}
+use Rattle.osn_register.specs.declared.limits.Limits.{Limits}
+use Rattle.osn_lines.specs.Lines.{lines}
+use Rattle.osn_files.specs.JournalText.{journal_text}
+use Rattle.osn_wire.specs.Served.{outputs, after_lines, WritesFirst, WritesInPart}
+use Rattle.osn_commands.specs.declared.fault.CommandFault.{CommandFault}
+use Rattle.osn_commands.specs.declared.fault.CommandFault.TheVariants.{BadLine, Refused, ReadFault}
+use Rattle.osn_commands.specs.declared.fault.CommandFault.TheVariants.{WriteFault, NoMemory}
+use Rattle.osn_commands.specs.Journal.{Begins, HasNoObject}
+
+-- the journal of an object, where it is to be saved
+abbrev pub journal_to_save : Bool → ObjectState → Option (List ℕ)
+journal_to_save saves s = if saves then Some (journal_text s) else None
+
+-- all lines were answered from this object, and the journal of the object behind them is there to
+-- be saved
+pub record AnswersAll (p : Profile) (readers : ℕ) (s : ObjectState) (saves : Bool)
+    (old new : Option (List ℕ)) (input : List ℕ) (journal : Option (List ℕ)) : Type 0 where
+  pub written : Appends old new (outputs p readers s (lines input))
+  pub saved : journal ≡ journal_to_save saves (after_lines p readers s (lines input))
+
+-- what was answered from this object by the time of a fault: the first lines, and of a failed write
+-- a part of the
+-- next reply
+abbrev pub AnswersUntil : Profile → ℕ → ObjectState → Option (List ℕ) → Option (List ℕ) → List ℕ
+    → CommandFault → Type 0
+AnswersUntil p readers s old new input (BadLine role line why) = ⊥
+AnswersUntil p readers s old new input (Refused refusal) = ⊥
+AnswersUntil p readers s old new input ReadFault =
+    (n : ℕ) × WritesFirst p readers s old new (lines input) n
+AnswersUntil p readers s old new input WriteFault =
+    (n : ℕ) × WritesInPart p readers s old new (lines input) n
+AnswersUntil p readers s old new input NoMemory =
+    (n : ℕ) × WritesFirst p readers s old new (lines input) n
+
+-- what the service did that ended by this fault, if any: where there was no object to begin with,
+-- it wrote nothing
+abbrev pub Serves : Profile → Limits → ℕ → Option (Option (List ℕ)) → Bool → Option (List ℕ)
+    → Option (List ℕ) → List ℕ → Option (List ℕ) → Option CommandFault → Type 0
+Serves p limits readers begun saves old new input journal None =
+    (s : ObjectState) × Begins p limits begun s × AnswersAll p readers s saves old new input journal
+Serves p limits readers begun saves old new input journal (Some fault) =
+    (journal ≡ None)
+    × ((HasNoObject p limits begun fault × (new ≡ old))
+    ⊎ ((s : ObjectState) × Begins p limits begun s × AnswersUntil p readers s old new input fault))

@@ -1,0 +1,28 @@
+-- What standard error is told, and the status that goes with it.
+use Rattle.std.specs.Prelude.{◌≡◌, ◌≤◌, ◌⊎◌, ℕ, Bool, true, List, Option, Some, None, length}
+use Rattle.std.specs.Io.KnownBytes.{Appends}
+use Rattle.osn_commands.specs.declared.fault.CommandFault.{CommandFault}
+use Rattle.osn_commands.specs.declared.fault.CommandFault.TheVariants.{NoMemory}
+use Rattle.osn_commands.specs.declared.status.Status.{Status}
+use Rattle.osn_commands.specs.declared.status.Status.TheVariants.{Done, Refused}
+use Rattle.osn_commands.specs.Fault.{fault_status, fault_line}
+
+-- a fault is told as itself; a refusal, whose line takes memory, may be told as want of it
+abbrev pub IsToldAs : CommandFault → CommandFault → Type 0
+IsToldAs fault told = (told ≡ fault) ⊎ ((fault_status fault ≡ Refused) × (told ≡ NoMemory))
+
+-- the line was written whole, or the sink failed or took it in too many writes
+abbrev pub WritesLine : Option (List ℕ) → Option (List ℕ) → Bool → List ℕ → Type 0
+WritesLine old new failed line =
+    Appends old new line ⊎ ((failed ≡ true) ⊎ (4294967295 ≤ length line))
+
+-- a command that ended by this fault, if any, has this status, and wrote the line of the fault
+abbrev pub EndsBy : Option (List ℕ) → Option (List ℕ) → Bool → Option CommandFault → Status → Type 0
+EndsBy old new failed None status = (status ≡ Done) × (new ≡ old)
+EndsBy old new failed (Some fault) status =
+    (status ≡ fault_status fault) × WritesLine old new failed (fault_line fault)
+
+-- standard error was told why a command ended early, and this is its status
+abbrev pub Tells : Option (List ℕ) → Option (List ℕ) → Bool → CommandFault → Status → Type 0
+Tells old new failed fault status =
+    (told : CommandFault) × IsToldAs fault told × EndsBy old new failed (Some told) status

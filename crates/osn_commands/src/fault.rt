@@ -1,0 +1,145 @@
+//! Why a command ended early, and how standard error is told.
+ghost use Rattle.std.specs.Prelude.{◌≡◌, Some, IfOk, OnErr, string_bytes};
+ghost use Rattle.osn_commands.specs.Fault.{fault_status, fault_line, role_name, by_service};
+ghost use Rattle.osn_commands.specs.Fault.{by_file};
+ghost use Rattle.osn_commands.specs.Told.{WritesLine, EndsBy, Tells};
+ghost use Rattle.osn_commands.specs.declared.fault.CommandFault.{CommandFault};
+
+use crate::status::Status;
+use osn_files::{FileFault, LineFault, Role};
+use osn_register::Refusal;
+use osn_wire::{ServeFault, Sink, write_all};
+use std::alloc::{AllocError, Global};
+
+/// Why a command ended early.
+#[derive(Clone, Copy, Debug, PartialEq, Eq, Hash)]
+pub enum CommandFault {
+    /// A line of a file is refused. Lines are counted from 1.
+    BadLine {
+        role: Role,
+        line: u64,
+        fault: LineFault,
+    },
+    /// What the words ask for is refused.
+    Refused(Refusal),
+    /// A read failed, or a file could not be opened.
+    ReadFault,
+    /// A write failed.
+    WriteFault,
+    /// Memory ran out.
+    NoMemory,
+}
+
+fn name_of(role: Role) -> &'static str
+    ensures { result.now ≡ role_name role }
+{
+    match role {
+        Role::Journal => "journal",
+    }
+}
+
+/// The line on a refused line of a file.
+fn bad_line(alloc: Global, role: Role, line: u64, fault: LineFault) -> Result<String, AllocError>
+    ensures { IfOk result (λ text. string_bytes text
+        ≡ fault_line (CommandFault.BadLine role line fault)) }
+{
+    let file = name_of(role);
+    let number = fault.number();
+    let name = fault.name();
+    format!(in alloc; "oldstyle: {file} line {line}: {number} {name}\n")
+}
+
+/// The line on what the words ask for.
+fn refused(alloc: Global, refusal: Refusal) -> Result<String, AllocError>
+    ensures { IfOk result (λ text. string_bytes text ≡ fault_line (CommandFault.Refused refusal)) }
+{
+    let number = refusal.number();
+    let name = refusal.name();
+    format!(in alloc; "oldstyle: {number} {name}\n")
+}
+
+impl From<ServeFault> for CommandFault {
+    ghost from_gives = { λ fault given. given ≡ by_service fault };
+
+    fn from(fault: ServeFault) -> CommandFault {
+        match fault {
+            ServeFault::NoMemory { .. } => CommandFault::NoMemory,
+            ServeFault::ReadFault { .. } => CommandFault::ReadFault,
+            ServeFault::WriteFault { .. } => CommandFault::WriteFault,
+        }
+    }
+}
+
+impl From<FileFault> for CommandFault {
+    ghost from_gives = { λ fault given. given ≡ by_file fault };
+
+    fn from(fault: FileFault) -> CommandFault {
+        match fault {
+            FileFault::NoMemory => CommandFault::NoMemory,
+            FileFault::ReadFault => CommandFault::ReadFault,
+            FileFault::BadLine { role, line, fault } => CommandFault::BadLine { role, line, fault },
+        }
+    }
+}
+
+impl From<AllocError> for CommandFault {
+    ghost from_gives = { λ _ given. given ≡ CommandFault.NoMemory };
+
+    fn from(_error: AllocError) -> CommandFault {
+        CommandFault::NoMemory
+    }
+}
+
+/// Writes a line. Where standard error fails too, the status alone tells.
+fn write_line<E: Sink>(errors: &mut E, line: &str)
+    ensures { WritesLine (E.contents errors.old) (E.contents errors.new)
+        (E.has_failed errors.new) line.now }
+{
+    let _ = write_all(errors, line.as_bytes());
+}
+
+fn tell_no_memory<E: Sink>(errors: &mut E) -> Status
+    ensures { EndsBy (E.contents errors.old) (E.contents errors.new) (E.has_failed errors.new)
+        (Some CommandFault.NoMemory) result }
+{
+    write_line(errors, "oldstyle: no memory\n");
+    Status::NoMemory
+}
+
+/// Tells a refusal by its line, or that there was no memory for one.
+fn tell_refusal<E: Sink>(errors: &mut E, line: Result<String, AllocError>) -> Status
+    ensures ok { IfOk line (λ text. (result ≡ Status.Refused) × WritesLine (E.contents errors.old)
+        (E.contents errors.new) (E.has_failed errors.new) (string_bytes text)) }
+    ensures err { OnErr line (EndsBy (E.contents errors.old) (E.contents errors.new)
+        (E.has_failed errors.new) (Some CommandFault.NoMemory) result) }
+{
+    match line {
+        Ok(line) => {
+            write_line(errors, line.as_str());
+            Status::Refused
+        }
+        Err(_) => tell_no_memory(errors),
+    }
+}
+
+/// Tells standard error why a command ended early. Answers the status.
+pub(crate) fn tell<E: Sink>(alloc: Global, errors: &mut E, fault: CommandFault) -> Status
+    ensures { Tells (E.contents errors.old) (E.contents errors.new) (E.has_failed errors.new) fault
+        result }
+{
+    match fault {
+        CommandFault::BadLine { role, line, fault } => {
+            tell_refusal(errors, bad_line(alloc, role, line, fault))
+        }
+        CommandFault::Refused(refusal) => tell_refusal(errors, refused(alloc, refusal)),
+        CommandFault::ReadFault => {
+            write_line(errors, "oldstyle: read fault\n");
+            Status::ReadFault
+        }
+        CommandFault::WriteFault => {
+            write_line(errors, "oldstyle: write fault\n");
+            Status::WriteFault
+        }
+        CommandFault::NoMemory => tell_no_memory(errors),
+    }
+}

@@ -1,0 +1,117 @@
+//! The command `serve`.
+ghost use Rattle.std.specs.Prelude.{◌≡◌, ℕ, List, Option, Some, None, IfOk, IfErr, IfSome};
+ghost use Rattle.std.specs.Prelude.{MatchResult, option_map, string_bytes};
+ghost use Rattle.osn_days.specs.Profile.{present};
+ghost use Rattle.osn_register.specs.Limits.{standard_limits};
+ghost use Rattle.osn_commands.specs.Journal.{Begins, HasNoObject};
+ghost use Rattle.osn_commands.specs.Serving.{AnswersAll, AnswersUntil, Serves};
+ghost use Rattle.osn_commands.specs.Told.{EndsBy};
+ghost use Rattle.osn_commands.specs.declared.fault.CommandFault.{CommandFault};
+
+use crate::fault::{CommandFault, tell};
+use crate::status::Status;
+use osn_core::Object;
+use osn_files::{journal_text, load_journal};
+use osn_register::Limits;
+use osn_wire::{Sink, Source, serve_from};
+use std::alloc::Global;
+
+/// What the service of a command line leaves.
+#[derive(Debug, Drop)]
+pub struct Served {
+    /// How it ended.
+    pub status: Status,
+    /// The journal, where it is to be saved and all lines were answered.
+    pub journal: Option<String>,
+}
+
+/// The object of the journal, where there is one, or else an empty one.
+fn begun<J: Source + Drop>(alloc: Global, journal: Option<J>) -> Result<Object, CommandFault>
+    ensures ok { IfOk result
+        (Begins present standard_limits (option_map J.remaining journal)) }
+    ensures err { IfErr result
+        (HasNoObject present standard_limits (option_map J.remaining journal)) }
+{
+    match journal {
+        Some(mut source) => Ok(load_journal(alloc, Limits::standard(), &mut source)?),
+        None => Ok(Object::new(alloc, Limits::standard())),
+    }
+}
+
+/// Answers every line from the object. Answers its journal, where that is to be saved.
+fn answer<R: Source, W: Sink>(
+    alloc: Global,
+    object: &mut Object,
+    readers: u32,
+    saves: bool,
+    input: &mut R,
+    output: &mut W,
+) -> Result<Option<String>, CommandFault>
+    ensures ok { IfOk result (λ journal. IfSome (R.remaining input.old) (λ bytes.
+        AnswersAll present readers object.old saves (W.contents output.old)
+        (W.contents output.new) bytes (option_map string_bytes journal))) }
+    ensures err { IfErr result (λ fault. IfSome (R.remaining input.old) (λ bytes.
+        AnswersUntil present readers object.old (W.contents output.old)
+        (W.contents output.new) bytes fault)) }
+{
+    serve_from(alloc, object, readers, input, output)?;
+    if !saves {
+        return Ok(None);
+    }
+    Ok(Some(journal_text(alloc, object)?))
+}
+
+fn serve_lines<J: Source + Drop, R: Source, W: Sink>(
+    alloc: Global,
+    journal: Option<J>,
+    readers: u32,
+    saves: bool,
+    input: &mut R,
+    output: &mut W,
+) -> Result<Option<String>, CommandFault>
+    ensures ok { IfOk result (λ text. IfSome (R.remaining input.old) (λ bytes.
+        Serves present standard_limits readers (option_map J.remaining journal) saves
+        (W.contents output.old) (W.contents output.new) bytes (option_map string_bytes text)
+        None)) }
+    ensures err { IfErr result (λ fault. IfSome (R.remaining input.old) (λ bytes.
+        Serves present standard_limits readers (option_map J.remaining journal) saves
+        (W.contents output.old) (W.contents output.new) bytes None (Some fault))) }
+{
+    let mut object = begun(alloc, journal)?;
+    answer(alloc, &mut object, readers, saves, input, output)
+}
+
+/// The command `serve`: answers every request line of the input, for so many readers, from the
+/// object of the journal or from an empty one, under the standard limits. The journal is read whole
+/// before a line is. Where the journal is to be saved and all lines were answered, its text is
+/// answered too.
+///
+/// Where the service ends early, standard error is told in a line why, and the status says it.
+pub fn serve_command<J: Source + Drop, R: Source, W: Sink, E: Sink>(
+    alloc: Global,
+    journal: Option<J>,
+    readers: u32,
+    saves: bool,
+    input: &mut R,
+    output: &mut W,
+    errors: &mut E,
+) -> Served
+    ensures { (ending : Option CommandFault)
+        × EndsBy (E.contents errors.old) (E.contents errors.new) (E.has_failed errors.new)
+        ending result.status
+        × IfSome (R.remaining input.old) (λ bytes.
+        Serves present standard_limits readers (option_map J.remaining journal) saves
+        (W.contents output.old) (W.contents output.new) bytes
+        (option_map string_bytes result.journal) ending) }
+{
+    match serve_lines(alloc, journal, readers, saves, input, output) {
+        Ok(journal) => Served {
+            status: Status::Done,
+            journal,
+        },
+        Err(fault) => Served {
+            status: tell(alloc, errors, fault),
+            journal: None,
+        },
+    }
+}

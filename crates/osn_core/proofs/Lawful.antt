@@ -1,0 +1,64 @@
+-- Edits that are lawful in turn: what they lead to, and that they are lawful again.
+use Rattle.std.proofs.Common.{◌≡◌, ℕ, ◌+◌, ◌<◌, List, [], ◌∷◌, ◌++◌, length, get_or, take, drop}
+use Rattle.std.proofs.Common.{None, sym, ap, subst, refl, ◌∙◌}
+use Rattle.std.proofs.lemmas.List.{drop_more, take_more, take-append-drop}
+use Rattle.osn_days.specs.Profile.{Profile}
+use Rattle.osn_register.specs.declared.limits.Limits.{Limits}
+use Rattle.osn_register.specs.declared.edit.Edit.{Edit}
+use Rattle.osn_register.specs.Plain.{PlainLand, refusal, effect, applied, applied_all}
+use Rattle.osn_register.specs.Plain.{unless_refused}
+use Rattle.osn_core.specs.Sequential.{AreLawful}
+
+pub applied_all-append : (p : Profile) (limits : Limits) (lands : List PlainLand)
+    (es fs : List Edit) →
+    applied_all p limits lands (es ++ fs) ≡ applied_all p limits (applied_all p limits lands es) fs
+applied_all-append p limits lands [] fs = refl
+applied_all-append p limits lands (e ∷ es) fs = applied_all-append p limits
+    (applied p limits lands e) es fs
+
+pub applied-lawful : (p : Profile) (limits : Limits) (lands : List PlainLand) (e : Edit) →
+    refusal p limits lands e ≡ None → applied p limits lands e ≡ effect lands e
+applied-lawful p limits lands e none = ap (λ r. unless_refused r (effect lands e) lands) none
+
+pub AreLawful-push : (p : Profile) (limits : Limits) (lands : List PlainLand) (es : List Edit)
+    (e : Edit) → AreLawful p limits lands es → refusal p limits (applied_all p limits lands es) e ≡
+    None → AreLawful p limits lands (es ++ e ∷ [])
+AreLawful-push p limits lands [] e lawful none = (none, tt)
+AreLawful-push p limits lands (d ∷ es) e lawful none = (
+  lawful.0,
+  AreLawful-push p limits (effect lands d) es e lawful.1
+      (subst (λ ls. refusal p limits (applied_all p limits ls es) e ≡ None)
+      (applied-lawful p limits lands d lawful.0) none),
+)
+
+-- edits that are lawful in turn are so behind those before them
+AreLawful-behind : (p : Profile) (limits : Limits) (lands : List PlainLand) (es fs : List Edit) →
+    AreLawful p limits lands (es ++ fs) → AreLawful p limits (applied_all p limits lands es) fs
+AreLawful-behind p limits lands [] fs lawful = lawful
+AreLawful-behind p limits lands (e ∷ es) fs lawful =
+    AreLawful-behind p limits (applied p limits lands e) es fs
+    (subst (λ ls. AreLawful p limits ls (es ++ fs)) (sym (applied-lawful p limits lands e lawful.0))
+    lawful.1)
+
+-- the edit at a place is lawful behind those before it
+pub lawful_at : (p : Profile) (limits : Limits) (lands : List PlainLand) (es : List Edit) (i : ℕ)
+    (e : Edit) → i < length es → get_or es i e ≡ e → AreLawful p limits lands es →
+    refusal p limits (applied_all p limits lands (take i es)) e ≡ None
+lawful_at p limits lands es i e within is lawful =
+    let behind = AreLawful-behind p limits lands (take i es) (drop i es)
+    (subst (AreLawful p limits lands) (sym (take-append-drop i es)) lawful) in
+    let left : drop i es ≡ e ∷ drop (i + 1) es =
+    drop_more es i e within ∙ ap (λ x. x ∷ drop (i + 1) es) is in
+    (subst (AreLawful p limits (applied_all p limits lands (take i es))) left behind).0
+
+-- with it, they lead to its effect on what those before it lead to
+pub applied_at : (p : Profile) (limits : Limits) (lands : List PlainLand) (es : List Edit) (i : ℕ)
+    (e : Edit) → i < length es → get_or es i e ≡ e → AreLawful p limits lands es →
+    effect (applied_all p limits lands (take i es)) e
+    ≡ applied_all p limits lands (take (i + 1) es)
+applied_at p limits lands es i e within is lawful =
+    sym (applied-lawful p limits (applied_all p limits lands (take i es)) e
+    (lawful_at p limits lands es i e within is lawful))
+    ∙ sym (applied_all-append p limits lands (take i es) (e ∷ []))
+    ∙ ap (applied_all p limits lands)
+    (ap (λ x. take i es ++ x ∷ []) (sym is) ∙ sym (take_more es i e within))

@@ -1,0 +1,20 @@
+use Rattle.std.proofs.Common.{length, sym, subst}
+use Rattle.osn_core.specs.Control.{reader_at, leave}
+use Rattle.osn_core.specs.CoreInside.{IsPlaced}
+use Rattle.osn_core.proofs.Standing.{move_keeps}
+use Rattle.osn_core.proofs.Placed.{leave_placed}
+use Rattle.osn_core.proofs.machine.Core.leave.Goals as goal
+
+pub invariant_of-self : goal.invariant_of-self
+invariant_of-self c =
+    let live = c.self.inside.side in
+    let phase = c.self.inside.phase in
+    let n = length c.self.inside.copies.object.batches in
+    record {
+      side = c.self.invariant.side;
+      lag = c.self.invariant.lag;
+      readers = λ r. subst (λ rs. IsPlaced live phase n (reader_at rs r))
+          (sym c.leave.ensures.after)
+          (move_keeps (λ r. IsPlaced live phase n) leave c.self.inside.readers c.args.reader
+          c.self.invariant.readers (leave_placed live phase n) r);
+    }

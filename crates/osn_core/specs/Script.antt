@@ -1,0 +1,21 @@
+-- A script: what one editor is told to do, in order, and the editions that come of it.
+use Rattle.std.specs.Prelude.{List, fold}
+use Rattle.osn_days.specs.Profile.{Profile}
+use Rattle.osn_register.specs.declared.limits.Limits.{Limits}
+use Rattle.osn_register.specs.declared.edit.Edit.{Edit}
+use Rattle.osn_core.specs.declared.command.Command.{Command}
+use Rattle.osn_core.specs.declared.command.Command.TheVariants.{Stage, Publish}
+use Rattle.osn_core.specs.Sequential.{ObjectState, opened, stage_after, publish_after}
+
+-- what a command leaves: a refused one is passed over
+abbrev pub command_after : Profile → ObjectState → Command → ObjectState
+command_after p s (Stage edit) = stage_after p s edit
+command_after p s Publish = publish_after s
+
+-- what commands in order leave
+abbrev pub script_after : Profile → ObjectState → List Command → ObjectState
+script_after p s commands = fold (command_after p) s commands
+
+-- the editions of a script: the batches that it leaves of the empty object
+abbrev pub editions_of : Profile → Limits → List Command → List (List Edit)
+editions_of p limits commands = (script_after p (opened limits) commands).batches

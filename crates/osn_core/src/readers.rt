@@ -1,0 +1,135 @@
+ghost use Rattle.std.specs.Prelude.{◌≡◌, ◌+◌, ◌<◌, ◌≤◌, length, true, None, IfOk, OnOk, OnErr};
+ghost use Rattle.std.specs.Prelude.{MatchOption, option_map};
+ghost use Rattle.osn_core.specs.Control.{all_idle, reader_at, look, pin, check, leave, out_at};
+ghost use Rattle.osn_core.specs.Control.{readers_after, is_marked, set_reader};
+ghost use Rattle.osn_core.specs.Machine.{step_takes_memory};
+
+use crate::reader::ReaderState;
+use crate::step::{Out, Step};
+use osn_register::Query;
+use std::alloc::{AllocError, Global};
+use std::marker::Model;
+
+/// The readers of a core, the first counted 1.
+#[derive(Drop)]
+pub struct Readers {
+    states: Vec<ReaderState>,
+}
+
+impl Model for Readers {
+    ghost use Rattle.std.specs.Prelude.{List};
+    ghost use Rattle.osn_core.specs.declared.reader.ReaderState.{ReaderState};
+
+    ghost Value = { List ReaderState };
+
+    ghost view = { λ r. r.states.items };
+}
+
+impl Readers {
+    /// That many readers that are idle.
+    pub fn new(alloc: Global, readers: u32) -> Result<Readers, AllocError>
+        ensures { IfOk result (λ r. r ≡ all_idle readers) }
+    {
+        let mut states = Vec::new(alloc);
+        for _ in 0..readers {
+            states.push(ReaderState::Idle)?;
+        }
+        Ok(Readers { states })
+    }
+
+    /// The place of a reader in the list, where there is such a reader.
+    fn place(&self, reader: u32) -> Option<usize>
+        ensures { MatchOption result (reader_at self.now reader ≡ None)
+            (λ i. (reader ≡ i + 1) × (i < length self.now)) }
+    {
+        if reader == 0 {
+            return None;
+        }
+        let place = (reader - 1) as usize;
+        if place < self.states.len() {
+            Some(place)
+        } else {
+            None
+        }
+    }
+
+    /// Where a reader stands, if there is such a reader.
+    pub fn get(&self, reader: u32) -> Option<&ReaderState>
+        ensures { option_map (λ r. r.now) result ≡ reader_at self.now reader }
+    {
+        if reader == 0 {
+            return None;
+        }
+        self.states.get((reader - 1) as usize)
+    }
+
+    /// Puts a reader, which is there, elsewhere.
+    pub fn set(&mut self, reader: u32, state: ReaderState)
+        requires one { 0 < reader }
+        requires there { reader ≤ length self.old }
+        ensures { self.new ≡ set_reader self.old reader state }
+    {
+        self.states[(reader - 1) as usize] = state;
+    }
+
+    /// A look of a reader, while this side is live.
+    ///
+    /// # Errors
+    ///
+    /// Only where no memory is found. Nothing has changed then.
+    pub fn look(&mut self, reader: u32, query: &Query, live: u8) -> Result<Out, AllocError>
+        ensures out { IfOk result
+            (λ o. o ≡ out_at (look live query.now) (reader_at self.old reader)) }
+        ensures ok { OnOk result (self.new ≡
+            readers_after (look live query.now) (reader_at self.old reader) self.old reader) }
+        ensures err { OnErr result (self.new ≡ self.old) }
+        ensures memory { OnErr result (step_takes_memory (Step.Look reader query.now)
+            (out_at (look live query.now) (reader_at self.old reader)) ≡ true) }
+    {
+        match self.place(reader) {
+            Some(place) => self.states[place].look(query, live),
+            None => Ok(Out::NotNow),
+        }
+    }
+
+    /// A pin of a reader.
+    pub fn pin(&mut self, reader: u32) -> Out
+        ensures out { result ≡ out_at pin (reader_at self.old reader) }
+        ensures after { self.new ≡ readers_after pin (reader_at self.old reader) self.old reader }
+    {
+        match self.place(reader) {
+            Some(place) => self.states[place].pin(),
+            None => Out::NotNow,
+        }
+    }
+
+    /// A check of a reader, while this side is live and has so many editions.
+    pub fn check(&mut self, reader: u32, live: u8, edition: u32) -> Out
+        ensures out { result ≡ out_at (check live edition) (reader_at self.old reader) }
+        ensures after { self.new
+            ≡ readers_after (check live edition) (reader_at self.old reader) self.old reader }
+    {
+        match self.place(reader) {
+            Some(place) => self.states[place].check(live, edition),
+            None => Out::NotNow,
+        }
+    }
+
+    /// A leave of a reader.
+    pub fn leave(&mut self, reader: u32) -> Out
+        ensures out { result ≡ out_at leave (reader_at self.old reader) }
+        ensures after { self.new ≡ readers_after leave (reader_at self.old reader) self.old reader }
+    {
+        match self.place(reader) {
+            Some(place) => self.states[place].leave(),
+            None => Out::NotNow,
+        }
+    }
+
+    /// Whether a reader marks a side.
+    pub fn mark(&self, side: u8) -> bool
+        ensures { result ≡ is_marked side self.now }
+    {
+        self.states.iter().any(|state| state.marks(side))
+    }
+}

@@ -1,0 +1,194 @@
+-- What is written of an object is loaded as that object.
+use Rattle.std.proofs.Common.{◌≡◌, ℕ, ◌+◌, ◌<◌, ◌≤◌, nat_lt, cond, List}
+use Rattle.std.proofs.Common.{[], ◌∷◌}
+use Rattle.std.proofs.Common.{◌++◌, length, Some, None, Result, Ok, refl, sym}
+use Rattle.std.proofs.Common.{ap, subst}
+use Rattle.std.proofs.Common.{◌∙◌, arith, append-nil, append_assoc, length-append}
+use Rattle.std.specs.List.{sum_by}
+use Rattle.std.proofs.lemmas.Bool.{lt-ltb, ne_eqb}
+use Rattle.std.proofs.lemmas.List.Sums.{sum_by-append}
+use Rattle.serde_json.specs.Data.{Data}
+use Rattle.serde_json.specs.Written.{compact_text}
+use Rattle.osn_days.specs.Profile.{present}
+use Rattle.osn_lines.specs.Lines.{lines}
+use Rattle.osn_register.specs.declared.edit.Edit.{Edit}
+use Rattle.osn_register.specs.declared.limits.Limits.{Limits}
+use Rattle.osn_register.specs.declared.refusal.Refusal.TheVariants.{NothingPending, JournalFull}
+use Rattle.osn_register.specs.declared.refusal.Refusal.TheVariants.{EditionsFull}
+use Rattle.osn_register.specs.Plain.{PlainLand, refusal, effect, applied, applied_all}
+use Rattle.osn_register.specs.Plain.{unless_refused}
+use Rattle.osn_register.specs.Refusal.{or_else}
+use Rattle.osn_core.specs.declared.command.Command.{Command}
+use Rattle.osn_core.specs.declared.command.Command.TheVariants.{Stage, Publish}
+use Rattle.osn_core.specs.Sequential.{ObjectState, joined, edits_in, AreLawful, NoneEmpty}
+use Rattle.osn_core.specs.Sequential.{IsSound, stage_refusal, publish_refusal, draft_lands}
+use Rattle.osn_core.proofs.Batches.{joined-push}
+use Rattle.osn_request.specs.Field.{◌>>=◌}
+use Rattle.osn_files.specs.declared.fault.LineFault.{LineFault}
+use Rattle.osn_files.specs.Commands.{command_in}
+use Rattle.osn_files.specs.Journal.{after_read, after_command, after_line, go_on, in_turn}
+use Rattle.osn_files.specs.Journal.{load_behind, load}
+use Rattle.osn_files.specs.Journal as journal
+use Rattle.osn_files.specs.JournalText.{line_text, edit_data, publish_data, edits_text, batch_text}
+use Rattle.osn_files.specs.JournalText.{batches_text, journal_text}
+use Rattle.osn_files.specs.Version.{newest}
+use Rattle.osn_files.proofs.CommandFacts.{Says}
+use Rattle.osn_files.proofs.SaysFacts.{Says-publish, Says-lawful, IsLine-head, version_of-head}
+
+abbrev step : ObjectState → List ℕ → Result ObjectState LineFault
+step = after_line present newest
+
+abbrev pub at : Limits → List (List Edit) → List Edit → ObjectState
+at limits done pend = record { limits = limits; batches = done; pending = pend }
+
+abbrev lands_at : Limits → List Edit → List PlainLand
+lands_at limits es = applied_all present limits [] es
+
+applied_all-append : (limits : Limits) (lands : List PlainLand) (es fs : List Edit)
+    → applied_all present limits lands (es ++ fs)
+    ≡ applied_all present limits (applied_all present limits lands es) fs
+applied_all-append limits lands [] fs = refl
+applied_all-append limits lands (e ∷ es) fs =
+    applied_all-append limits (applied present limits lands e) es fs
+
+applied-lawful : (limits : Limits) (lands : List PlainLand) (e : Edit)
+    → refusal present limits lands e ≡ None → applied present limits lands e ≡ effect lands e
+applied-lawful limits lands e none = ap (λ r. unless_refused r (effect lands e) lands) none
+
+-- the first of edits that are lawful in turn are so
+pub lawful_front : (limits : Limits) (lands : List PlainLand) (es fs : List Edit)
+    → AreLawful present limits lands (es ++ fs) → AreLawful present limits lands es
+lawful_front limits lands [] fs h = tt
+lawful_front limits lands (e ∷ es) fs h = (h.0, lawful_front limits (effect lands e) es fs h.1)
+
+-- and so are the others behind them
+pub lawful_rest : (limits : Limits) (lands : List PlainLand) (es fs : List Edit)
+    → AreLawful present limits lands (es ++ fs)
+    → AreLawful present limits (applied_all present limits lands es) fs
+lawful_rest limits lands [] fs h = h
+lawful_rest limits lands (e ∷ es) fs h =
+    lawful_rest limits (applied present limits lands e) es fs
+    (subst (λ ls. AreLawful present limits ls (es ++ fs)) (sym (applied-lawful limits lands e h.0))
+    h.1)
+
+-- one line is run
+step_says : (s : ObjectState) (d : Data) (c : Command) → Says d c
+    → step s (compact_text d) ≡ after_command present s c
+step_says s d c h =
+    ap (λ r. after_read present s (r >>= command_in present)) h.line.object
+    ∙ ap (after_read present s) h.command
+
+run_line : (s u t : ObjectState) (d : Data) (c : Command) (more : List ℕ) → Says d c
+    → after_command present s c ≡ Ok u → ((m : ℕ) → in_turn step m u (lines more) ≡ Ok t)
+    → (n : ℕ) → in_turn step n s (lines (line_text d ++ more)) ≡ Ok t
+run_line s u t d c more h one rest n =
+    ap (in_turn step n s) (h.line.first more)
+    ∙ (ap (λ r. go_on n r (λ v. in_turn step (n + 1) v (lines more))) (step_says s d c h ∙ one)
+    ∙ rest (n + 1))
+
+stage_passes : (s : ObjectState) (e : Edit)
+    → refusal present s.limits (draft_lands present s) e ≡ None → edits_in s < s.limits.edits
+    → stage_refusal present s e ≡ None
+stage_passes s e lawful room =
+    ap (λ r. or_else r (cond (nat_lt (edits_in s) s.limits.edits) None (Some JournalFull))) lawful
+    ∙ ap (λ b. cond b None (Some JournalFull)) (lt-ltb (edits_in s) s.limits.edits room)
+
+publish_passes : (s : ObjectState) → 0 < length s.pending → length s.batches < s.limits.editions
+    → publish_refusal s ≡ None
+publish_passes s some room =
+    ap (λ b. cond b (Some NothingPending)
+    (cond (nat_lt (length s.batches) s.limits.editions) None (Some EditionsFull)))
+    (ne_eqb (length s.pending) 0 (λ e. omega arith))
+    ∙ ap (λ b. cond b None (Some EditionsFull)) (lt-ltb (length s.batches) s.limits.editions room)
+
+-- lawful edits that there is room for are all staged
+run_edits : (limits : Limits) (done : List (List Edit)) (pend es : List Edit) (more : List ℕ)
+    (t : ObjectState) → AreLawful present limits (lands_at limits (joined done ++ pend)) es
+    → edits_in (at limits done pend) + length es ≤ limits.edits
+    → ((m : ℕ) → in_turn step m (at limits done (pend ++ es)) (lines more) ≡ Ok t)
+    → (n : ℕ) → in_turn step n (at limits done pend) (lines (edits_text es ++ more)) ≡ Ok t
+run_edits limits done pend [] more t lawful room rest n =
+    ap (λ p. in_turn step n (at limits done p) (lines more)) (sym (append-nil pend)) ∙ rest n
+run_edits limits done pend (e ∷ es) more t lawful room rest n =
+    let s = at limits done pend in
+    let grown : lands_at limits (joined done ++ (pend ++ e ∷ []))
+    ≡ effect (lands_at limits (joined done ++ pend)) e =
+    ap (lands_at limits) (sym (append_assoc (joined done) pend (e ∷ [])))
+    ∙ (applied_all-append limits [] (joined done ++ pend) (e ∷ [])
+    ∙ applied-lawful limits (lands_at limits (joined done ++ pend)) e lawful.0) in
+    let passes = stage_passes s e lawful.0 (omega (arith, room)) in
+    ap (λ text. in_turn step n s (lines text))
+    (append_assoc (line_text (edit_data e)) (edits_text es) more)
+    ∙ run_line s (at limits done (pend ++ e ∷ [])) t (edit_data e) (Stage e) (edits_text es ++ more)
+    (Says-lawful limits (lands_at limits (joined done ++ pend)) e lawful.0)
+    (ap (λ r. journal.unless_refused r (at limits done (pend ++ e ∷ []))) passes)
+    (run_edits limits done (pend ++ e ∷ []) es more t
+    (subst (λ ls. AreLawful present limits ls es) (sym grown) lawful.1)
+    (omega (arith, room, length-append pend (e ∷ [])))
+    (λ m. ap (λ p. in_turn step m (at limits done p) (lines more)) (append_assoc pend (e ∷ []) es)
+    ∙ rest m))
+    n
+
+-- batches of them that there is room for are all published
+run_batches : (limits : Limits) (done bs : List (List Edit)) (pend : List Edit) (more : List ℕ)
+    (t : ObjectState) → AreLawful present limits (lands_at limits (joined done)) (joined bs ++ pend)
+    → NoneEmpty bs
+    → sum_by (λ b. length b) done + sum_by (λ b. length b) bs ≤ limits.edits
+    → length done + length bs ≤ limits.editions
+    → ((m : ℕ) → in_turn step m (at limits (done ++ bs) []) (lines more) ≡ Ok t)
+    → (n : ℕ) → in_turn step n (at limits done []) (lines (batches_text bs ++ more)) ≡ Ok t
+run_batches limits done [] pend more t lawful some edits editions rest n =
+    ap (λ b. in_turn step n (at limits b []) (lines more)) (sym (append-nil done)) ∙ rest n
+run_batches limits done (b ∷ bs) pend more t lawful some edits editions rest n =
+    let s = at limits done b in
+    let behind = line_text publish_data ++ (batches_text bs ++ more) in
+    let regroup : (batch_text b ++ batches_text bs) ++ more ≡ edits_text b ++ behind =
+    append_assoc (edits_text b ++ line_text publish_data) (batches_text bs) more
+    ∙ append_assoc (edits_text b) (line_text publish_data) (batches_text bs ++ more) in
+    let all : AreLawful present limits (lands_at limits (joined done)) (b ++ (joined bs ++ pend)) =
+    subst (AreLawful present limits (lands_at limits (joined done)))
+    (append_assoc b (joined bs) pend) lawful in
+    let first : AreLawful present limits (lands_at limits (joined done ++ [])) b =
+    subst (λ es. AreLawful present limits (lands_at limits es) b) (sym (append-nil (joined done)))
+    (lawful_front limits (lands_at limits (joined done)) b (joined bs ++ pend) all) in
+    let grown : lands_at limits (joined (done ++ b ∷ []))
+    ≡ applied_all present limits (lands_at limits (joined done)) b =
+    ap (lands_at limits) (joined-push done b) ∙ applied_all-append limits [] (joined done) b in
+    let others :
+    AreLawful present limits (lands_at limits (joined (done ++ b ∷ []))) (joined bs ++ pend) =
+    subst (λ ls. AreLawful present limits ls (joined bs ++ pend)) (sym grown)
+    (lawful_rest limits (lands_at limits (joined done)) b (joined bs ++ pend) all) in
+    let total : sum_by (λ (c : List Edit). length c) (b ∷ bs)
+    ≡ (0 + length b) + sum_by (λ (c : List Edit). length c) bs =
+    sum_by-append (λ (c : List Edit). length c) (b ∷ []) bs in
+    ap (λ text. in_turn step n (at limits done []) (lines text)) regroup
+    ∙ run_edits limits done [] b behind t first (omega (arith, edits))
+    (run_line s (at limits (done ++ b ∷ []) []) t publish_data Publish (batches_text bs ++ more)
+    Says-publish
+    (ap (λ r. journal.unless_refused r (at limits (done ++ b ∷ []) []))
+    (publish_passes s some.0 (omega (arith, editions))))
+    (run_batches limits (done ++ b ∷ []) bs pend more t others some.1
+    (omega (arith, edits, sum_by-append (λ (c : List Edit). length c) done (b ∷ [])))
+    (omega (arith, editions, length-append done (b ∷ [])))
+    (λ m. ap (λ c. in_turn step m (at limits c []) (lines more)) (append_assoc done (b ∷ []) bs)
+    ∙ rest m)))
+    n
+
+-- the law
+pub load-journal_text : (s : ObjectState) → IsSound present s
+    → load present s.limits (lines (journal_text s)) ≡ Ok s
+load-journal_text s h =
+    let behind = batches_text s.batches ++ edits_text s.pending in
+    ap (load present s.limits) (IsLine-head.first behind)
+    ∙ (ap (load_behind present s.limits (lines behind)) version_of-head
+    ∙ run_batches s.limits [] s.batches s.pending (edits_text s.pending) s h.lawful h.none_empty
+    (omega (arith, h.edits)) (omega (arith, h.editions))
+    (λ m. ap (λ text. in_turn step m (at s.limits s.batches []) (lines text))
+    (sym (append-nil (edits_text s.pending)))
+    ∙ run_edits s.limits s.batches [] s.pending [] s
+    (subst (λ es. AreLawful present s.limits (lands_at s.limits es) s.pending)
+    (sym (append-nil (joined s.batches)))
+    (lawful_rest s.limits [] (joined s.batches) s.pending h.lawful))
+    (omega (arith, h.edits))
+    (λ k. refl) m)
+    2)

@@ -1,0 +1,9 @@
+mod TurnLemmas
+mod LoadLemmas
+mod ByteFacts
+mod TextFacts
+mod EditFacts
+mod CommandFacts
+mod SaysFacts
+mod LawFacts
+mod Utf8Facts

@@ -1,0 +1,23 @@
+use Rattle.std.proofs.Common.{◌≡◌, append_assoc, rules, to_z, of_z, w64}
+use Rattle.osn_words.proofs.WriteLemmas.{at_last}
+use Rattle.osn_files.proofs.written.write_change.Goals as goal
+
+pub returns-clause-tokens : goal.returns-clause-tokens
+returns-clause-tokens c =
+    let day : to_z w64 (of_z w64 c.args.day) ≡ c.args.day = search rules in
+    at_last c.end_object.result c.end_object.ensures.ok
+    (λ e. rw (
+      e,
+      c.in_ok-write_text-5.ensures.tokens,
+      c.in_ok-write_text-4.ensures.tokens,
+      c.in_ok-write_text-3.ensures.tokens,
+      c.in_ok-write_whole.ensures.tokens,
+      c.in_ok-write_text-2.ensures.tokens,
+      c.in_ok-write_text.ensures.tokens,
+      c.in_ok-begin_object.ensures.ok,
+      c.word.ensures,
+      c.word-2.ensures,
+      c.word-3.ensures,
+      c.as_str.ensures.value,
+      day,
+    ) (simp append_assoc))

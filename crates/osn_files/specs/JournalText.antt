@@ -1,0 +1,83 @@
+-- The text of a journal: a head, the edits of each batch with a publish behind them, and then the
+-- pending edits, a line each. The members of a line stand in ascending order of their names. This
+-- project's profile.
+use Rattle.std.specs.Prelude.{ℕ, ℤ, List, [], ◌∷◌, ◌++◌, codes}
+use Rattle.std.specs.List.{flat_map}
+use Rattle.serde_json.specs.Data.{Data, number, string, object, member, no_members}
+use Rattle.serde_json.specs.Find.{of_integer}
+use Rattle.serde_json.specs.Written.{compact_text}
+use Rattle.osn_lands.specs.declared.regime.Regime.{Regime}
+use Rattle.osn_register.specs.declared.edit.Edit.{Edit}
+use Rattle.osn_register.specs.declared.edit.Edit.TheVariants.{AddLand, AddChange, AlterChange}
+use Rattle.osn_register.specs.declared.edit.Edit.TheVariants.{DropChange, AddException}
+use Rattle.osn_register.specs.declared.edit.Edit.TheVariants.{DropException}
+use Rattle.osn_core.specs.Sequential.{ObjectState}
+use Rattle.osn_words.specs.Words.{calendar_word, style_word, rule_word}
+use Rattle.osn_files.specs.Version.{head_data, newest}
+
+abbrev pub signed : ℤ → Data
+signed n = number (of_integer n)
+
+-- what an edit of this op asks for that changes the regime of a territory from a day on
+abbrev pub change_data : List ℕ → List ℕ → ℤ → Regime → Data
+change_data op code day regime = object (
+    member (codes "calendar") (string (calendar_word regime.calendar))
+    (member (codes "code") (string code)
+    (member (codes "day") (signed day)
+    (member (codes "op") (string op)
+    (member (codes "rule") (string (rule_word regime.rule))
+    (member (codes "style") (string (style_word regime.style))
+    no_members))))))
+
+-- an edit with the members of its row, and what it asks for
+abbrev pub edit_data : Edit → Data
+edit_data (AddLand code name regime) = object (
+    member (codes "calendar") (string (calendar_word regime.calendar))
+    (member (codes "code") (string code)
+    (member (codes "name") (string name)
+    (member (codes "op") (string (codes "add_land"))
+    (member (codes "rule") (string (rule_word regime.rule))
+    (member (codes "style") (string (style_word regime.style))
+    no_members))))))
+edit_data (AddChange code day regime) = change_data (codes "add_change") code day regime
+edit_data (AlterChange code day regime) = change_data (codes "alter_change") code day regime
+edit_data (DropChange code day) = object (
+    member (codes "code") (string code)
+    (member (codes "day") (signed day)
+    (member (codes "op") (string (codes "drop_change"))
+    no_members)))
+edit_data (AddException code year day) = object (
+    member (codes "code") (string code)
+    (member (codes "day") (signed day)
+    (member (codes "op") (string (codes "add_exception"))
+    (member (codes "year") (signed year)
+    no_members))))
+edit_data (DropException code year) = object (
+    member (codes "code") (string code)
+    (member (codes "op") (string (codes "drop_exception"))
+    (member (codes "year") (signed year)
+    no_members)))
+
+abbrev pub publish_data : Data
+publish_data = object (member (codes "op") (string (codes "publish")) no_members)
+
+-- a value on a line of its own
+unfoldable pub line_text : Data → List ℕ
+line_text d = compact_text d ++ 10 ∷ []
+
+-- edits in order
+abbrev pub edits_text : List Edit → List ℕ
+edits_text = flat_map (λ e. line_text (edit_data e))
+
+-- a batch, and its publish
+abbrev pub batch_text : List Edit → List ℕ
+batch_text batch = edits_text batch ++ line_text publish_data
+
+-- batches in order
+abbrev pub batches_text : List (List Edit) → List ℕ
+batches_text = flat_map batch_text
+
+-- the whole journal
+abbrev pub journal_text : ObjectState → List ℕ
+journal_text s =
+    line_text (head_data newest) ++ (batches_text s.batches ++ edits_text s.pending)

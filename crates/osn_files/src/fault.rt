@@ -1,0 +1,63 @@
+//! Why a file is refused.
+ghost use Rattle.std.specs.Prelude.{◌≡◌};
+ghost use Rattle.osn_files.specs.Faults.{line_fault_number, line_fault_name};
+
+use osn_register::Refusal;
+use osn_request::WireFault;
+use thiserror::Error;
+
+/// What a file is read as.
+#[derive(Clone, Copy, Debug, PartialEq, Eq, Hash)]
+pub enum Role {
+    /// The edits and publishes of an object, behind a head.
+    Journal,
+}
+
+/// Why a line of a file is refused.
+#[derive(Clone, Copy, Debug, PartialEq, Eq, Hash)]
+pub enum LineFault {
+    /// The line is none of this file.
+    Wire(WireFault),
+    /// What the line asks for is refused.
+    Register(Refusal),
+}
+
+impl LineFault {
+    /// The number that stands for the fault, as in a reply.
+    pub fn number(self) -> u8
+        ensures { result ≡ line_fault_number self }
+    {
+        match self {
+            LineFault::Wire(fault) => fault.number(),
+            LineFault::Register(refusal) => refusal.number(),
+        }
+    }
+
+    /// The name that stands for the fault, as in a reply.
+    pub fn name(self) -> &'static str
+        ensures { result.now ≡ line_fault_name self }
+    {
+        match self {
+            LineFault::Wire(fault) => fault.name(),
+            LineFault::Register(refusal) => refusal.name(),
+        }
+    }
+}
+
+/// Why a file gave nothing.
+#[derive(Debug, Drop, Error)]
+pub enum FileFault {
+    /// Memory ran out.
+    #[error("memory ran out")]
+    NoMemory,
+    /// The source failed, or gave no end within 4,294,967,295 reads.
+    #[error("the file could not be read")]
+    ReadFault,
+    /// A line is refused. Lines are counted from 1.
+    #[error("line {line} is refused")]
+    BadLine {
+        role: Role,
+        line: u64,
+        fault: LineFault,
+    },
+}

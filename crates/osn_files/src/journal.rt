@@ -1,0 +1,84 @@
+//! Loads a journal.
+ghost use Rattle.std.specs.Prelude.{◌≡◌, ◌≤◌, ◌⊎◌, ⊤, Ok, Err, true, length, IfOk, IfErr, IfSome};
+ghost use Rattle.std.specs.Prelude.{OnOk};
+ghost use Rattle.std.specs.Io.KnownBytes.{IsAtEnd};
+ghost use Rattle.osn_days.specs.Profile.{present};
+ghost use Rattle.osn_lines.specs.Lines.{lines};
+ghost use Rattle.osn_files.specs.Faults.{MatchFileFault};
+ghost use Rattle.osn_files.specs.Journal.{load};
+ghost use Rattle.osn_files.specs.declared.fault.Role.TheVariants.{Journal};
+
+use crate::fault::{FileFault, LineFault, Role};
+use crate::loading::Loading;
+use crate::stop::LineStop;
+use osn_core::Object;
+use osn_lines::{Source, TakeFault, take_lines};
+use osn_register::Limits;
+use osn_request::WireFault;
+use std::alloc::Global;
+
+/// The object of a journal, which is a head and then edits and publishes, a line each. They are run
+/// in turn on a new object of these limits. Edits behind the last publish are pending.
+///
+/// Besides the object there is what `take_lines` has, and the value of one line.
+///
+/// # Errors
+///
+/// `BadLine` for the first line that is refused, or for line 1 where there is no line; `ReadFault`
+/// where the source failed, or gave no end within 4,294,967,295 reads; `NoMemory`.
+pub fn load_journal<R: Source>(
+    alloc: Global,
+    limits: Limits,
+    source: &mut R,
+) -> Result<Object, FileFault>
+    // The object, or the fault, is that of the lines of all that is read.
+    ensures object { IfOk result (λ object. IfSome (R.remaining source.old) (λ input.
+        load present limits (lines input) ≡ Ok object)) }
+    ensures fault { IfErr result (λ fault. IfSome (R.remaining source.old) (λ input.
+        MatchFileFault fault ⊤ ⊤ (λ role line why.
+        (role ≡ Journal) × (load present limits (lines input) ≡ Err (line, why))))) }
+    ensures end { OnOk result (IsAtEnd (R.remaining source.new)) }
+
+    // The source failed where a read fault says so, or gave no end in 4,294,967,295 reads, and
+    // nowhere else.
+    ensures sound { OnOk result (R.has_failed source.new ≡ R.has_failed source.old) }
+    ensures reason { IfErr result (λ fault. MatchFileFault fault
+        (R.has_failed source.new ≡ R.has_failed source.old)
+        ((R.has_failed source.new ≡ true)
+        ⊎ IfSome (R.remaining source.old) (λ input. 4294967295 ≤ length input))
+        (λ _ _ _. R.has_failed source.new ≡ R.has_failed source.old)) }
+{
+    let mut loading = Loading {
+        alloc,
+        head: None,
+        object: Object::new(alloc, limits),
+    };
+    match take_lines(alloc, &mut loading, source) {
+        Ok(_) => match loading.head {
+            Some(_) => Ok(loading.object),
+            None => Err(FileFault::BadLine {
+                role: Role::Journal,
+                line: 1,
+                fault: LineFault::Wire(WireFault::BadHead),
+            }),
+        },
+        Err(TakeFault::NoMemory { .. }) => Err(FileFault::NoMemory),
+        Err(TakeFault::ReadFault { .. }) => Err(FileFault::ReadFault),
+        Err(
+            TakeFault::Stopped {
+                lines: _,
+                why: LineStop::NoMemory,
+            },
+        ) => Err(FileFault::NoMemory),
+        Err(
+            TakeFault::Stopped {
+                lines,
+                why: LineStop::Fault(fault),
+            },
+        ) => Err(FileFault::BadLine {
+            role: Role::Journal,
+            line: lines + 1,
+            fault,
+        }),
+    }
+}

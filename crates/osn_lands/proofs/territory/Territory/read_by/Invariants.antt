@@ -1,0 +1,12 @@
+use Rattle.std.proofs.Common.{◌≡◌, ◌≤◌, ◌++◌, drop}
+use Rattle.std.specs.List.{flat_map}
+use Rattle.osn_lands.specs.Inside.{days_read, most_tested}
+use Rattle.osn_lands.proofs.territory.Territory.read_by.Given as goal
+
+-- the days found so far, and those of the periods that are left; and no more were tested than for
+-- as many periods
+abbrev pub invariant-loop-period : goal.invariant-loop-period
+invariant-loop-period l =
+    (l.days.items ++ flat_map (days_read l.search.label) (drop l.period-index l.period-items)
+    ≡ flat_map (days_read l.search.label) l.period-items)
+    × (l.tested ≤ most_tested l.search.table l.period-index)

@@ -1,0 +1,121 @@
+//! The days that a label names, and the changes at which it is skipped.
+ghost use Rattle.std.specs.Prelude.{◌≡◌, ◌≤◌, ◌*◌, IfOk, length};
+ghost use Rattle.osn_days.specs.Profile.{present};
+ghost use Rattle.osn_lands.specs.Territory as plain;
+ghost use Rattle.osn_lands.specs.Inside.{most_tested, IsSearch};
+
+use crate::label::Label;
+use crate::label_search::LabelSearch;
+use crate::period::Period;
+use crate::reading::{is_skipped_at, read_period};
+use crate::territory::Territory;
+use osn_days::Day;
+use std::alloc::AllocError;
+
+impl Territory {
+    /// The days that the territory dates with the label, in order.
+    ///
+    /// # Errors
+    ///
+    /// `AllocError` where there is no memory for the list.
+    pub fn read(&self, label: Label) -> Result<Vec<Day>, AllocError>
+        ensures { IfOk result (λ days. days.items ≡ plain.reading present self.now label) }
+    {
+        let (days, _) = self.read_counted(label)?;
+        Ok(days)
+    }
+
+    /// The same, and how many days were tested to find them: at most three a period.
+    ///
+    /// # Errors
+    ///
+    /// `AllocError` where there is no memory for the list.
+    pub fn read_counted(&self, label: Label) -> Result<(Vec<Day>, u32), AllocError>
+        ensures value { IfOk result (λ read. read.0.items ≡ plain.reading present self.now label) }
+        ensures tested { IfOk result (λ read.
+            read.1 ≤ 3 * length (plain.periods_of present self.now)) }
+    {
+        self.read_by(&self.search_for(label))
+    }
+
+    /// The search for a label in the territory.
+    fn search_for(&self, label: Label) -> LabelSearch
+        ensures value { IsSearch present result }
+        ensures label { result.label ≡ label }
+        ensures tested { result.tested ≤ most_tested result.table 0 }
+        ensures few { most_tested result.table (length (plain.periods_of present self.now))
+            ≤ 3 * length (plain.periods_of present self.now) }
+    {
+        LabelSearch::new(label, self.periods().len())
+    }
+
+    /// The days that are found by a search, and how many dates were tested in all.
+    fn read_by(&self, search: &LabelSearch) -> Result<(Vec<Day>, u32), AllocError>
+        requires search { IsSearch present search.now }
+        requires tested { search.now.tested ≤ most_tested search.now.table 0 }
+        requires few { most_tested search.now.table (length (plain.periods_of present self.now))
+            ≤ 3 * length (plain.periods_of present self.now) }
+        ensures value { IfOk result (λ read.
+            read.0.items ≡ plain.reading present self.now search.now.label) }
+        ensures tested { IfOk result (λ read.
+            read.1 ≤ 3 * length (plain.periods_of present self.now)) }
+    {
+        let mut days = Vec::new(self.alloc);
+        let mut tested = search.tested;
+        for period in &self.periods {
+            tested += read_period(period, search, &mut days)?;
+        }
+        Ok((days, tested))
+    }
+
+    /// The days of the changes at which the label is skipped, in order.
+    ///
+    /// # Errors
+    ///
+    /// `AllocError` where there is no memory for the list.
+    pub fn skipped(&self, label: Label) -> Result<Vec<Day>, AllocError>
+        ensures value { IfOk result (λ days. days.items ≡ plain.skipped present self.now label) }
+        ensures explained { IfOk result (λ days.
+            plain.IsExplained present self.now label days.items) }
+    {
+        self.skipped_by(&self.search_for(label))
+    }
+
+    /// The days of the changes at which the label of a search is skipped.
+    fn skipped_by(&self, search: &LabelSearch) -> Result<Vec<Day>, AllocError>
+        requires { IsSearch present search.now }
+        ensures value { IfOk result (λ days.
+            days.items ≡ plain.skipped present self.now search.now.label) }
+        ensures explained { IfOk result (λ days.
+            plain.IsExplained present self.now search.now.label days.items) }
+    {
+        let mut days = Vec::new(self.alloc);
+        let periods: &[Period] = &self.periods;
+        for i in 1..periods.len() {
+            if is_skipped_at(search, &periods[i - 1], &periods[i]) {
+                days.push(periods[i].first)?;
+            }
+        }
+        Ok(days)
+    }
+
+    /// The days that the territory dates with the label, and the days of the changes at which it is
+    /// skipped, both in order: what `read` and `skipped` answer, by one search.
+    ///
+    /// # Errors
+    ///
+    /// `AllocError` where there is no memory for the lists.
+    pub fn read_and_skipped(&self, label: Label) -> Result<(Vec<Day>, Vec<Day>), AllocError>
+        ensures read { IfOk result (λ found.
+            found.0.items ≡ plain.reading present self.now label) }
+        ensures skipped { IfOk result (λ found.
+            found.1.items ≡ plain.skipped present self.now label) }
+        ensures explained { IfOk result (λ found.
+            plain.IsExplained present self.now label found.1.items) }
+    {
+        let search = self.search_for(label);
+        let (days, _) = self.read_by(&search)?;
+        let skipped = self.skipped_by(&search)?;
+        Ok((days, skipped))
+    }
+}

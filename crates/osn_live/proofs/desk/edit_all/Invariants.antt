@@ -1,0 +1,12 @@
+use Rattle.std.proofs.Common.{◌≡◌, take}
+use Rattle.osn_days.specs.Profile.{present}
+use Rattle.osn_core.specs.Script.{script_after}
+use Rattle.osn_live.proofs.desk.edit_all.Given as goal
+
+abbrev pub invariant-loop-command : goal.invariant-loop-command
+invariant-loop-command g l = record {
+  origin : l.editor.origin ≡ l.fn.editor.origin;
+  object : l.editor.object
+      ≡ script_after present l.fn.editor.object (take l.command-index l.commands);
+  index : l.index ≡ l.command-index;
+}

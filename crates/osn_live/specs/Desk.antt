@@ -1,0 +1,32 @@
+-- What readers at work are told, each of its own list of questions.
+use Rattle.std.specs.Prelude.{◌≡◌, ℕ, ◌≤◌, List, [], ◌∷◌, length, take, Vec}
+use Rattle.std.specs.declared.alloc.Global.{Global}
+use Rattle.osn_days.specs.Profile.{Profile}
+use Rattle.osn_register.specs.declared.limits.Limits.{Limits}
+use Rattle.osn_register.specs.declared.edit.Edit.{Edit}
+use Rattle.osn_register.specs.declared.query.Query.{Query}
+use Rattle.osn_core.specs.declared.step.Reply.{Reply}
+use Rattle.osn_core.specs.Sequential.{reply_at}
+
+-- the reply is the definition's under the first of these batches, as many as it names
+abbrev pub IsReplyWithin : Profile → Limits → List (List Edit) → Query → Reply → Type 0
+IsReplyWithin p limits batches q r =
+    (r.edition ≤ length batches) × (r ≡ reply_at p limits (take r.edition batches) q)
+
+-- one reply to each question, in its place, and no edition below the one before it
+abbrev pub AreReplies : Profile → Limits → List (List Edit) → ℕ → List Query → List Reply → Type 0
+AreReplies p limits batches floor [] [] = Unit {0}
+AreReplies p limits batches floor (q ∷ qs) (r ∷ rs) =
+    (floor ≤ r.edition) × IsReplyWithin p limits batches q r
+    × AreReplies p limits batches r.edition qs rs
+AreReplies p limits batches floor [] (r ∷ rs) = ⊥
+AreReplies p limits batches floor (q ∷ qs) [] = ⊥
+
+-- to each list of questions its list of replies, in its place
+abbrev pub AreAll : Profile → Limits → List (List Edit) → List (Vec Query Global) →
+    List (Vec Reply Global) → Type 0
+AreAll p limits batches [] [] = Unit {0}
+AreAll p limits batches (qs ∷ lists) (rs ∷ all) =
+    AreReplies p limits batches 0 qs.items rs.items × AreAll p limits batches lists all
+AreAll p limits batches [] (rs ∷ all) = ⊥
+AreAll p limits batches (qs ∷ lists) [] = ⊥

@@ -1,0 +1,13 @@
+pub mod Batches
+pub mod Certificate
+pub mod Running
+pub mod Faults
+pub mod Desk
+pub mod InsideHistory
+pub mod InsideCertificate
+pub mod InsideRule
+pub mod InsideEdition
+pub mod InsideReader
+pub mod InsideEditor
+pub mod InsideWork
+pub mod InsideDesk

@@ -1,0 +1,223 @@
+//! Readers and one editor at work at once, each in a thread of its own.
+ghost use Rattle.std.specs.Prelude.{◌≡◌, ◌≤◌, length, IfOk, IfErr, OnOk, Err};
+ghost use Rattle.std.specs.List.{All};
+ghost use Rattle.osn_days.specs.Profile.{present};
+ghost use Rattle.osn_core.specs.Script.{script_after, editions_of};
+ghost use Rattle.osn_live.specs.declared.rule.Origin.{Origin};
+ghost use Rattle.osn_live.specs.Desk.{AreReplies, AreAll};
+ghost use Rattle.osn_live.specs.Faults.{IsBadCount, IsDeskFault};
+ghost use Rattle.osn_live.specs.InsideDesk.{IsFaultAt, AreStarted};
+ghost use Rattle.osn_live.specs.InsideWork.{IsPlain};
+ghost use Rattle.osn_live.specs.Running.{IsNew};
+
+use crate::editor::Editor;
+use crate::faults::{DeskFault, OpenFault};
+use crate::gate::Gate;
+use crate::note::Note;
+use crate::opening::open;
+use crate::reader::Reader;
+use crate::work::{Worked, Works, work};
+use osn_core::{Command, MOST_READERS, Reply};
+use osn_register::{Limits, Query};
+use std::alloc::Global;
+use std::sync::Wait;
+use std::thread;
+use std::thread::{PromisedHandle, Scope, Threads};
+
+type Handle = PromisedHandle<Worked, Works>;
+
+/// Starts one reader at work for each list.
+fn start_all<'s, E, G: Gate + Sync>(
+    scope: &Scope<'s, E>,
+    alloc: Global,
+    gate: &'s G,
+    readers: Vec<Reader>,
+    lists: &'s [Vec<Query>],
+) -> Result<Vec<Handle>, DeskFault>
+    requires { length lists.now ≤ 64 }
+    ensures started { IfOk result (λ hs. (o : Origin) → All (λ r. r.origin ≡ o) readers.items →
+        AreStarted o hs.items lists.now) }
+    ensures fault { IfErr result IsPlain }
+{
+    let mut readers = readers;
+    let mut handles = Vec::new(alloc);
+    let mut who = 0u32;
+    for list in lists {
+        who += 1;
+        let Some(reader) = readers.pop() else {
+            return Err(DeskFault::NoPlace);
+        };
+        let promise = Works::of(&reader, list);
+        let Ok(handle) = scope.spawn_with(promise, move || {
+            work(alloc, gate, who, reader, list.as_slice())
+        }) else {
+            return Err(DeskFault::NoPlace);
+        };
+        let Ok(()) = handles.push(handle) else {
+            return Err(DeskFault::NoMemory);
+        };
+    }
+    Ok(handles)
+}
+
+/// The editor at work. What is refused is passed over.
+fn edit_all<R: Wait, G: Gate>(
+    rt: &R,
+    gate: &G,
+    editor: &mut Editor,
+    commands: &[Command],
+) -> Result<(), DeskFault>
+    ensures origin { editor.new.origin ≡ editor.old.origin }
+    ensures ok { OnOk result
+        (editor.new.object ≡ script_after present editor.old.object commands.now) }
+    ensures fault { IfErr result IsPlain }
+{
+    let mut index = 0usize;
+    for command in commands {
+        if !gate.before(0, index) {
+            return Err(DeskFault::GateClosed);
+        }
+        let Ok(()) = editor.carry_out(rt, command) else {
+            return Err(DeskFault::NoMemory);
+        };
+        gate.after(0, index);
+        index += 1;
+    }
+    Ok(())
+}
+
+/// What one reader was told, against what was published in the end.
+fn settle(
+    worked: Worked,
+    note: Note,
+    who: u32,
+    questions: &[Query],
+) -> Result<Vec<Reply>, DeskFault>
+    requires origin { worked.reader.origin ≡ note.origin }
+    requires replies { IfOk worked.replies (λ rs. AreReplies present note.origin.limits
+        worked.reader.seen 0 questions.now rs.items) }
+    requires fault { IfErr worked.replies IsPlain }
+    ensures replies { IfOk result (λ rs.
+        AreReplies present note.origin.limits note.batches 0 questions.now rs.items) }
+    ensures fault { IfErr result (IsFaultAt (length note.batches)) }
+{
+    let Worked { reader, replies } = worked;
+    let mut reader = reader;
+    let (last, editions) = (reader.edition(), note.edition());
+    if last > editions {
+        return Err(DeskFault::HistoryBroken {
+            reader: who,
+            last,
+            editions,
+        });
+    }
+    reader.learn(note);
+    replies
+}
+
+/// What all readers were told, once each has ended.
+fn collect<R: Threads>(
+    rt: &R,
+    alloc: Global,
+    editor: &Editor,
+    handles: Vec<Handle>,
+    lists: &[Vec<Query>],
+) -> Result<Vec<Vec<Reply>>, DeskFault>
+    requires few { length lists.now ≤ 64 }
+    requires started { AreStarted editor.now.origin handles.items lists.now }
+    ensures replies { IfOk result (λ all. AreAll present editor.now.origin.limits
+        editor.now.object.batches lists.now all.items) }
+    ensures fault { IfErr result (IsFaultAt (length editor.now.object.batches)) }
+{
+    let mut handles = handles.into_iter();
+    let mut all = Vec::new(alloc);
+    let mut who = 0u32;
+    for list in lists {
+        who += 1;
+        let Some(handle) = handles.next() else {
+            return Err(DeskFault::NoPlace);
+        };
+        let worked = handle.join(rt);
+        let replies = settle(worked, editor.note(), who, list.as_slice())?;
+        let Ok(()) = all.push(replies) else {
+            return Err(DeskFault::NoMemory);
+        };
+    }
+    Ok(all)
+}
+
+/// The readers, each in its thread, and the editor in this one.
+fn at_desk<'s, E, R: Threads + Wait, G: Gate + Sync>(
+    rt: &R,
+    scope: &Scope<'s, E>,
+    alloc: Global,
+    gate: &'s G,
+    editor: &mut Editor,
+    readers: Vec<Reader>,
+    commands: &[Command],
+    lists: &'s [Vec<Query>],
+) -> Result<Vec<Vec<Reply>>, DeskFault>
+    requires few { length lists.now ≤ 64 }
+    requires new { All (λ r. IsNew editor.old r) readers.items }
+    ensures replies { IfOk result (λ all. AreAll present editor.old.origin.limits
+        (script_after present editor.old.object commands.now).batches lists.now all.items) }
+    ensures fault { IfErr result (IsFaultAt
+        (length (script_after present editor.old.object commands.now).batches)) }
+{
+    let handles = start_all(scope, alloc, gate, readers, lists)?;
+    edit_all(rt, gate, editor, commands)?;
+    collect(rt, alloc, editor, handles, lists)
+}
+
+/// Runs an editor through commands, and at the same time a reader through each list of questions,
+/// each in a thread of its own, with calls of a gate around each item. Refused commands are passed
+/// over.
+///
+/// Each question has exactly one reply, in its place: the definition's under the first editions of
+/// the script, as many as the reply names. For one reader their number never falls.
+///
+/// # Errors
+///
+/// `BadCount` where the lists are not 1 to 64. Else `NoMemory` where none is found, `NoPlace` where
+/// a reader finds no place or no thread, `GateClosed` where the gate answered false, and
+/// `HistoryBroken` only with the numbers that show it. All threads have ended then.
+pub fn run_desk<R: Threads + Wait, G: Gate + Sync>(
+    rt: &R,
+    alloc: Global,
+    limits: Limits,
+    gate: &G,
+    commands: &[Command],
+    lists: &[Vec<Query>],
+) -> Result<Vec<Vec<Reply>>, DeskFault>
+    ensures bad_count { IsBadCount (length lists.now) → result ≡ Err DeskFault.BadCount }
+    ensures replies { IfOk result (λ all.
+        AreAll present limits (editions_of present limits commands.now) lists.now all.items) }
+    ensures fault { IfErr result
+        (IsDeskFault (length lists.now) (length (editions_of present limits commands.now))) }
+{
+    if lists.is_empty() || lists.len() > MOST_READERS as usize {
+        return Err(DeskFault::BadCount);
+    }
+    let (mut editor, readers) = match open(rt, alloc, limits, lists.len() as u32) {
+        Ok(opened) => opened,
+        Err(OpenFault::BadCount) => return Err(DeskFault::BadCount),
+        Err(OpenFault::NoPlace) => return Err(DeskFault::NoPlace),
+        Err(OpenFault::NoMemory) => return Err(DeskFault::NoMemory),
+    };
+    let held = &mut editor;
+    let all = thread::scope(
+        thread::scope_env(),
+        rt,
+        |scope| -> Result<Vec<Vec<Reply>>, DeskFault>
+            requires few { length lists.now ≤ 64 }
+            requires new { All (λ r. IsNew held.now r) readers.items }
+            ensures replies { IfOk result (λ all. AreAll present held.entry.now.origin.limits
+                (script_after present held.entry.now.object commands.entry.now).batches
+                lists.entry.now all.items) }
+            ensures fault { IfErr result (IsFaultAt (length
+                (script_after present held.entry.now.object commands.entry.now).batches)) }
+        { at_desk(rt, scope, alloc, gate, held, readers, commands, lists) },
+    );
+    editor.close(rt);
+    all
+}

@@ -1,0 +1,326 @@
+ghost use Rattle.std.specs.Prelude.{◌≡◌, ◌+◌, ◌<◌, [], length, drop, IfOk, IfErr, OnOk, OnErr};
+ghost use Rattle.std.specs.Prelude.{MatchResult, Some, None};
+ghost use Rattle.left_right.specs.Sides.{view};
+ghost use Rattle.osn_days.specs.Profile.{present};
+ghost use Rattle.osn_register.specs.Refusal.{IsTestOf, IsRefusalOrNoMemory};
+ghost use Rattle.osn_core.specs.Sequential.{opened, with_pending, with_edition, stage_refusal};
+ghost use Rattle.osn_core.specs.Sequential.{publish_refusal, draft_lands, stage_after};
+ghost use Rattle.osn_core.specs.Sequential.{publish_after};
+ghost use Rattle.osn_core.specs.Script.{command_after};
+ghost use Rattle.osn_live.specs.Certificate.{none_of};
+ghost use Rattle.osn_live.specs.Faults.{refusal_of};
+ghost use Rattle.osn_live.specs.Running.{edition_of, origin_of};
+
+use crate::edition::Edition;
+use crate::faults::PublishFault;
+use crate::history::{Certificate, History};
+use crate::note::Note;
+use crate::reader::Reader;
+use crate::rule::{Find, HandOn, OneOrigin, View};
+use core::mem::replace_with;
+use left_right::writer::Writer;
+use osn_core::Command;
+use osn_register::{Edit, Limits, Refusal, Register};
+use std::alloc::{AllocError, Global};
+use std::marker::Model;
+use std::sync::{Arc, Wait};
+
+/// The two copies of what is published.
+pub type Copies = Writer<Edition, Edition, View, OneOrigin>;
+
+/// The copies after a publish, and whether it showed what it was to show.
+pub type Turned = (Copies, Result<(), AllocError>);
+
+/// The one editor. It stands for the sequential object.
+///
+/// It is not `Drop`: end it by `close`.
+pub struct Editor {
+    alloc: Global,
+    limits: Limits,
+    copies: Copies,
+    history: History,
+    certificate: Certificate,
+    /// The register of all published and pending edits.
+    draft: Register,
+    pending: Vec<Edit>,
+    edits: u32,
+}
+
+impl Model for Editor {
+    ghost use Rattle.osn_live.specs.Running.{EditorState};
+
+    ghost Value = { EditorState };
+
+    ghost use Rattle.osn_live.specs.InsideEditor.{editor_in, IsEditing};
+
+    ghost view = { editor_in };
+
+    ghost invariant = { IsEditing };
+}
+
+/// Shows readers the next edition, at one moment.
+pub(crate) fn show<R: Wait>(copies: Copies, next: Edition, rt: &R) -> Turned
+    requires { origin_of next ≡ origin_of copies.desk.shown.value }
+    ensures ok { OnOk result.1 ((result.0.desk.shown.value ≡ next)
+        × (view result.0.desk.place ≡ Some (origin_of next))) }
+    ensures err { OnErr result.1 ((result.0.desk.shown.value ≡ copies.desk.shown.value)
+        × (view result.0.desk.place ≡ view copies.desk.place)) }
+{
+    let mut copies = copies;
+    if copies.has_pending_operations() {
+        return (copies, Err(AllocError));
+    }
+    let Ok(()) = copies.append(next) else {
+        return (copies, Err(AllocError));
+    };
+    let (copies, shown) = copies.publish_as::<Find, R>(rt);
+    match shown {
+        Ok(()) => (level(copies, rt), Ok(())),
+        Err(failed) => (copies, Err(failed)),
+    }
+}
+
+/// Makes the copy that readers leave like the one that they are shown, so that both share one
+/// register. It waits for those that still read the edition before.
+fn level<R: Wait>(copies: Copies, rt: &R) -> Copies
+    requires none { drop copies.behind copies.log.items ≡ [] }
+    requires known { view copies.desk.place ≡ Some (origin_of copies.desk.shown.value) }
+    ensures shown { result.desk.shown.value ≡ copies.desk.shown.value }
+    ensures known { view result.desk.place ≡ view copies.desk.place }
+{
+    copies.publish_as::<Find, R>(rt).0
+}
+
+impl Editor {
+    pub(crate) fn begin(
+        alloc: Global,
+        limits: Limits,
+        copies: Copies,
+        history: History,
+        certificate: Certificate,
+    ) -> Editor
+        requires none { certificate ≡ none_of history }
+        requires shown { copies.desk.shown.value ≡ edition_of limits certificate }
+        requires known { view copies.desk.place
+            ≡ Some (origin_of (edition_of limits certificate)) }
+        ensures object { result.object ≡ opened limits }
+        ensures origin { result.origin ≡ origin_of (edition_of limits certificate) }
+    {
+        Editor {
+            alloc,
+            limits,
+            copies,
+            history,
+            certificate,
+            draft: Register::new(alloc, limits),
+            pending: Vec::new(alloc),
+            edits: 0,
+        }
+    }
+
+    /// A further reader, where there is a place.
+    pub(crate) fn reader(&mut self) -> Result<Reader, AllocError>
+        ensures same { self.new ≡ self.old }
+        ensures origin { IfOk result (λ r. r.origin ≡ self.old.origin) }
+        ensures seen { IfOk result (λ r. r.seen ≡ self.old.object.batches) }
+    {
+        let mut place = self.copies.factory().reader()?;
+        place.learn::<HandOn>(self.copies.tell::<HandOn>());
+        Ok(Reader::new(self.limits, place, self.certificate.again()))
+    }
+
+    /// A note of what is published.
+    pub fn note(&self) -> Note
+        ensures batches { result.batches ≡ self.now.object.batches }
+        ensures origin { result.origin ≡ self.now.origin }
+    {
+        Note::new(self.limits, self.certificate.again())
+    }
+
+    /// Waits for the readers that are reading, and ends. Readers are told nothing from then on.
+    pub fn close<R: Wait>(self, rt: &R) {
+        let Editor {
+            alloc: _,
+            limits: _,
+            copies,
+            history: _,
+            certificate: _,
+            draft: _,
+            pending: _,
+            edits: _,
+        } = self;
+        copies.take(rt);
+    }
+}
+
+impl Editor {
+    /// Stages an edit, and answers how many are pending then.
+    ///
+    /// # Errors
+    ///
+    /// The first refusal that applies, and else `NoMemory` where none is found. Nothing has changed
+    /// then.
+    pub fn stage(&mut self, edit: &Edit) -> Result<u32, Refusal>
+        ensures lawful { OnOk result (stage_refusal present self.old.object edit.now ≡ None) }
+        ensures ok { OnOk result
+            (self.new ≡ record self.old { object = with_pending self.old.object edit.now }) }
+        ensures count { IfOk result (λ n. n ≡ length self.new.object.pending) }
+        ensures refused { IfErr result
+            (IsRefusalOrNoMemory (stage_refusal present self.old.object edit.now)) }
+        ensures err { OnErr result (self.new ≡ self.old) }
+    {
+        self.check(edit)?;
+        match self.admit(edit) {
+            Ok(pending) => Ok(pending),
+            Err(_) => Err(Refusal::NoMemory),
+        }
+    }
+
+    /// Whether an edit may be staged now.
+    fn check(&self, edit: &Edit) -> Result<(), Refusal>
+        ensures { IsTestOf (stage_refusal present self.now.object edit.now) result }
+    {
+        self.latest().check(edit)?;
+        if self.edits >= self.limits.edits {
+            return Err(Refusal::JournalFull);
+        }
+        Ok(())
+    }
+
+    /// The register of all published and pending edits.
+    fn latest(&self) -> &Register
+        ensures lands { result.now.lands ≡ draft_lands present self.now.object }
+        ensures limits { result.now.limits ≡ self.now.object.limits }
+    {
+        &self.draft
+    }
+
+    fn admit(&mut self, edit: &Edit) -> Result<u32, AllocError>
+        requires { stage_refusal present self.old.object edit.now ≡ None }
+        ensures ok { OnOk result
+            (self.new ≡ record self.old { object = with_pending self.old.object edit.now }) }
+        ensures count { IfOk result (λ n. n ≡ length self.new.object.pending) }
+        ensures err { OnErr result (self.new ≡ self.old) }
+    {
+        let copied = edit.copy()?;
+        self.pending.reserve(1)?;
+        self.draft.admit(edit)?;
+        self.pending.push_reserved(copied);
+        self.edits += 1;
+        Ok(self.pending.len() as u32)
+    }
+}
+
+impl Editor {
+    /// Publishes the pending edits as the next edition, and answers a note of it. It waits for
+    /// readers that still read the edition before.
+    ///
+    /// # Errors
+    ///
+    /// The first refusal that applies, and else `NoMemory` where none is found. Nothing has changed
+    /// then.
+    pub fn publish<R: Wait>(&mut self, rt: &R) -> Result<Note, PublishFault>
+        ensures lawful { OnOk result (publish_refusal self.old.object ≡ None) }
+        ensures ok { OnOk result
+            (self.new ≡ record self.old { object = with_edition self.old.object }) }
+        ensures batches { IfOk result (λ n. n.batches ≡ self.new.object.batches) }
+        ensures origin { IfOk result (λ n. n.origin ≡ self.new.origin) }
+        ensures refused { IfErr result
+            (λ f. IsRefusalOrNoMemory (publish_refusal self.old.object) (refusal_of f)) }
+        ensures err { OnErr result (self.new ≡ self.old) }
+    {
+        self.check_publish()?;
+        match self.make_edition(rt) {
+            Ok(()) => Ok(self.note()),
+            Err(_) => Err(PublishFault::NoMemory),
+        }
+    }
+
+    /// Whether there may be a further edition now.
+    fn check_publish(&self) -> Result<(), PublishFault>
+        ensures { MatchResult result
+            (λ _. publish_refusal self.now.object ≡ None)
+            (λ f. publish_refusal self.now.object ≡ Some (refusal_of f)) }
+    {
+        if self.pending.is_empty() {
+            return Err(PublishFault::NothingPending);
+        }
+        if self.certificate.len() >= self.limits.editions {
+            return Err(PublishFault::EditionsFull);
+        }
+        Ok(())
+    }
+
+    /// Once the batch is in the history, nothing is left that may want memory: the queue of the
+    /// copies has had room for one edition since they were made, and to share a register takes
+    /// none.
+    fn make_edition<R: Wait>(&mut self, rt: &R) -> Result<(), AllocError>
+        requires { publish_refusal self.old.object ≡ None }
+        ensures ok { OnOk result
+            (self.new ≡ record self.old { object = with_edition self.old.object }) }
+        ensures err { OnErr result (self.new ≡ self.old) }
+    {
+        let draft = self.draft.copy()?;
+        let Ok(register) = Arc::new(self.alloc, draft) else {
+            return Err(AllocError);
+        };
+        let Some(certificate) = self.history.add(&self.certificate, &self.pending) else {
+            return Err(AllocError);
+        };
+        let next = Edition::new(self.limits, register, certificate.again());
+        let turned = replace_with(
+            &mut self.copies,
+            (next, rt),
+            |copies: Copies, with: (Edition, &R)| -> Turned
+                requires { origin_of with.0 ≡ origin_of copies.desk.shown.value }
+            { show(copies, with.0, with.1) },
+        );
+        turned?;
+        self.certificate = certificate;
+        self.pending = Vec::new(self.alloc);
+        Ok(())
+    }
+}
+
+impl Editor {
+    /// Does what a command says, and passes over one that is refused.
+    ///
+    /// # Errors
+    ///
+    /// Only where no memory is found. Nothing has changed then.
+    pub(crate) fn carry_out<R: Wait>(&mut self, rt: &R, command: &Command) -> Result<(), AllocError>
+        ensures ok { OnOk result (self.new
+            ≡ record self.old { object = command_after present self.old.object command.now }) }
+        ensures err { OnErr result (self.new ≡ self.old) }
+    {
+        match command {
+            Command::Stage(edit) => self.stage_if_lawful(edit),
+            Command::Publish => self.publish_if_lawful(rt),
+        }
+    }
+
+    fn stage_if_lawful(&mut self, edit: &Edit) -> Result<(), AllocError>
+        ensures ok { OnOk result (self.new
+            ≡ record self.old { object = stage_after present self.old.object edit.now }) }
+        ensures err { OnErr result (self.new ≡ self.old) }
+    {
+        match self.check(edit) {
+            Ok(()) => {
+                self.admit(edit)?;
+                Ok(())
+            }
+            Err(_) => Ok(()),
+        }
+    }
+
+    fn publish_if_lawful<R: Wait>(&mut self, rt: &R) -> Result<(), AllocError>
+        ensures ok { OnOk result (self.new
+            ≡ record self.old { object = publish_after self.old.object }) }
+        ensures err { OnErr result (self.new ≡ self.old) }
+    {
+        match self.check_publish() {
+            Ok(()) => self.make_edition(rt),
+            Err(_) => Ok(()),
+        }
+    }
+}

@@ -1,0 +1,96 @@
+//! How the calls of the running register fail.
+ghost use Rattle.std.specs.Prelude.{◌≡◌};
+ghost use Rattle.osn_live.specs.Faults.{desk_fault_number, desk_fault_name};
+
+use thiserror::Error;
+
+/// Why no register was opened.
+#[derive(Clone, Copy, Debug, Drop, PartialEq, Eq, Error)]
+pub enum OpenFault {
+    /// A growth of memory was refused; the call may be tried again.
+    #[error("memory ran out; nothing was opened")]
+    NoMemory,
+    /// The readers are 1 to 64.
+    #[error("the number of readers is not 1 to 64")]
+    BadCount,
+    /// A reader found no place.
+    #[error("a reader found no place; nothing was opened")]
+    NoPlace,
+}
+
+/// Why nothing was published. What is pending stands.
+#[derive(Clone, Copy, Debug, Drop, PartialEq, Eq, Error)]
+pub enum PublishFault {
+    /// There is no edit to publish.
+    #[error("nothing is pending")]
+    NothingPending,
+    /// There are as many editions as the limit lets it.
+    #[error("there are as many editions as the limit lets it")]
+    EditionsFull,
+    /// A growth of memory was refused; the call may be tried again.
+    #[error("memory ran out; what is pending stands")]
+    NoMemory,
+}
+
+/// Why a query was not answered.
+#[derive(Clone, Copy, Debug, Drop, PartialEq, Eq, Error)]
+pub enum AskFault {
+    /// A growth of memory was refused; the call may be tried again.
+    #[error("memory ran out")]
+    NoMemory,
+    /// The reader was not let in: the editor was closed.
+    #[error("the editor was closed")]
+    NoPlace,
+}
+
+/// Why a desk answered nothing. Where there are several faults, any of them is answered.
+#[derive(Clone, Copy, Debug, Drop, PartialEq, Eq, Error)]
+pub enum DeskFault {
+    /// A growth of memory was refused.
+    #[error("memory ran out")]
+    NoMemory,
+    /// Once all had ended, a reader had been told of more editions than there were. It never comes.
+    #[error("reader {reader} was told of edition {last}, of {editions} editions")]
+    HistoryBroken {
+        reader: u32,
+        last: u32,
+        editions: u32,
+    },
+    /// The lists of questions are 1 to 64.
+    #[error("the number of readers is not 1 to 64")]
+    BadCount,
+    /// A reader found no place, or no thread.
+    #[error("a reader found no place or no thread")]
+    NoPlace,
+    /// The gate was closed to an item.
+    #[error("the gate was closed")]
+    GateClosed,
+}
+
+impl DeskFault {
+    /// The number of the fault.
+    pub fn number(self) -> u8
+        ensures { result ≡ desk_fault_number self }
+    {
+        match self {
+            DeskFault::NoMemory => 90,
+            DeskFault::HistoryBroken { .. } => 91,
+            DeskFault::BadCount => 92,
+            DeskFault::NoPlace => 93,
+            DeskFault::GateClosed => 94,
+        }
+    }
+
+    /// The name of the fault.
+    pub fn name(self) -> &'static str
+        ensures { result.now ≡ desk_fault_name self }
+    {
+        match self {
+            DeskFault::NoMemory => "NoMemory",
+            DeskFault::HistoryBroken { .. } => "HistoryBroken",
+            DeskFault::BadCount => "BadCount",
+            DeskFault::NoPlace => "NoPlace",
+            DeskFault::GateClosed => "GateClosed",
+        }
+    }
+}

@@ -1,0 +1,25 @@
+ghost use Rattle.std.specs.Prelude.{◌≡◌, true};
+
+/// What the threads of a desk call around each item. `who` is 0 for the editor and 1 upward for the
+/// readers, and `index` the item's place in its list, from 0.
+pub trait Gate {
+    /// Called ahead of an item. If it answers false, the desk ends.
+    fn before(&self, who: u32, index: usize) -> bool;
+
+    /// Called behind an item.
+    fn after(&self, who: u32, index: usize);
+}
+
+/// The gate that lets everything pass.
+#[derive(Clone, Copy, Debug, Drop)]
+pub struct OpenGate;
+
+impl Gate for OpenGate {
+    fn before(&self, _who: u32, _index: usize) -> bool
+        ensures { result ≡ true }
+    {
+        true
+    }
+
+    fn after(&self, _who: u32, _index: usize) {}
+}

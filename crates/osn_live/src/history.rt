@@ -1,0 +1,186 @@
+//! The one history of published batches. It exists in proofs alone: at run time a certificate is
+//! the number of its batches.
+ghost use Rattle.std.specs.Prelude.{◌≡◌, ◌+◌, ◌<◌, ◌^◌, ◌++◌, ◌∷◌, [], length, IfSome, MatchBool};
+ghost use Rattle.osn_live.specs.Batches.{Begins, IsLater};
+ghost use Rattle.osn_live.specs.InsideHistory.{head_of};
+ghost use Rattle.osn_live.specs.Certificate.{none_of};
+
+use logbook::{Gain, Offer, Plain, Play, Rule, Seen, Start, Word};
+use osn_register::Edit;
+use std::marker::Model;
+
+/// What a batch is to the history. No value of it is made.
+pub type Entry = [Edit; 0];
+
+/// The rule of the history: it is as long as its first word says.
+pub struct Counted;
+
+impl Rule<Entry, u64> for Counted {
+    ghost use Rattle.std.specs.Prelude.{[]};
+    ghost use base.Fml.{ftrue};
+    ghost use Rattle.osn_live.specs.InsideHistory.{IsCounted};
+
+    ghost holds = { λ cells log. IsCounted cells log };
+
+    ghost first = { [] };
+
+    ghost hinted = { λ n log. Unit {0} };
+
+    ghost shows = { λ log. [] };
+
+    ghost keeps = { λ names log. ftrue };
+
+    ghost moves = { λ ask before after answer. Unit {0} };
+}
+
+/// What one who adds a batch keeps of it: nothing.
+pub struct Nothing;
+
+impl Gain<Entry, u64> for Nothing {
+    ghost use base.Fml.{ftrue};
+
+    ghost after = { λ names about answer. ftrue };
+}
+
+/// The step that adds a batch, if the history is as long as was thought.
+pub struct Add;
+
+impl Play<Entry, u64> for Add {
+    ghost use Rattle.osn_live.specs.InsideHistory.{Adds};
+
+    ghost then = { Adds };
+}
+
+impl Plain<Vec<Edit>, Entry, u64> for Add {
+    ghost use Rattle.std.specs.Prelude.{None};
+
+    ghost ask = { λ batch. batch.items };
+
+    ghost state = { λ batch. None };
+}
+
+/// The right to add to the history. Whoever has none cannot make a batch known.
+#[derive(Drop)]
+pub struct History {
+    head: Word<Entry, u64, Counted>,
+}
+
+impl Model for History {
+    ghost use Rattle.std.specs.Prelude.{◌≡◌};
+    ghost use Rattle.logbook.specs.Pages.{Book};
+    ghost use Rattle.osn_live.specs.InsideHistory.{head_of};
+
+    ghost Value = { Book };
+
+    ghost view = { λ h. h.head.book };
+
+    ghost invariant = { λ h. h.head ≡ head_of h.head.book };
+}
+
+/// That the history of a book began with these batches.
+#[derive(Drop)]
+pub struct Certificate {
+    count: u32,
+    seen: Seen<Entry, u64, Counted>,
+}
+
+impl Model for Certificate {
+    ghost use Rattle.osn_live.specs.Certificate.{CertificateState};
+
+    ghost Value = { CertificateState };
+
+    ghost use Rattle.osn_live.specs.InsideCertificate.{certificate_in, IsMeasured};
+
+    ghost view = { certificate_in };
+
+    ghost invariant = { IsMeasured };
+}
+
+/// A new history with no batch.
+pub fn begin() -> (History, Certificate)
+    ensures { result.1 ≡ none_of result.0 }
+{
+    let (seen, mut first, _second) = Seen::open(Start::alone(), 0, 0);
+    (
+        History {
+            head: Word::tracked(0, &mut first),
+        },
+        Certificate { count: 0, seen },
+    )
+}
+
+impl History {
+    /// Adds a batch behind those of the certificate, unless there are more of them.
+    pub fn add(&self, known: &Certificate, batch: &Vec<Edit>) -> Option<Certificate>
+        requires book { known.now.book ≡ self.now }
+        requires room { length known.now.batches + 1 < 2 ^ 32 }
+        ensures { IfSome result (λ c.
+            c ≡ record known.now { batches = known.now.batches ++ batch.now.items ∷ [] }) }
+    {
+        let mut seen = known.seen.again();
+        let mut offer: Offer<Entry, u64, Counted, Nothing> = seen.plain::<Nothing, Vec<Edit>, Add>(
+            batch,
+        );
+        let mut pen = seen.no_pen();
+        let count = known.count as u64;
+        let found = self
+            .head
+            .compare_exchange::<Add, Nothing>(count, count + 1, &mut seen, &mut offer, &mut pen);
+        if found == count {
+            Some(Certificate {
+                count: known.count + 1,
+                seen,
+            })
+        } else {
+            None
+        }
+    }
+}
+
+impl Certificate {
+    /// How many batches there are.
+    pub fn len(&self) -> u32
+        ensures { result ≡ length self.now.batches }
+    {
+        self.count
+    }
+
+    /// The same certificate once more. It takes no memory.
+    pub fn again(&self) -> Certificate
+        ensures { result ≡ self.now }
+    {
+        Certificate {
+            count: self.count,
+            seen: self.seen.again(),
+        }
+    }
+
+    /// Becomes the other one, if that is no shorter. This one begins it then.
+    pub fn follow(&mut self, later: Certificate) -> bool
+        requires { later.book ≡ self.old.book }
+        ensures { MatchBool result
+            (Begins self.old.batches later.batches × (self.new ≡ later))
+            (self.new ≡ self.old) }
+    {
+        if later.count < self.count {
+            return false;
+        }
+        let mut both = self.seen.again();
+        both.learn(&later.seen);
+        *self = later;
+        true
+    }
+
+    /// Becomes the longer one of the two, which the other begins.
+    pub fn learn(&mut self, other: Certificate)
+        requires { other.book ≡ self.old.book }
+        ensures book { self.new.book ≡ self.old.book }
+        ensures later { IsLater self.old.batches other.batches self.new.batches }
+    {
+        let mut both = self.seen.again();
+        both.learn(&other.seen);
+        if self.count < other.count {
+            *self = other;
+        }
+    }
+}

@@ -1,0 +1,24 @@
+//! The running register: one editor, and readers that never wait. What the crate promises to those
+//! above: a reader's answer is the definition's under a beginning of the published batches, which
+//! goes on from all that this reader saw and was told of.
+#![tactic(auto)]
+
+mod desk;
+mod edition;
+mod editor;
+mod faults;
+mod gate;
+mod history;
+mod note;
+mod opening;
+mod reader;
+mod rule;
+mod work;
+
+pub use desk::run_desk;
+pub use editor::Editor;
+pub use faults::{AskFault, DeskFault, OpenFault, PublishFault};
+pub use gate::{Gate, OpenGate};
+pub use note::Note;
+pub use opening::open;
+pub use reader::Reader;

@@ -1,0 +1,94 @@
+ghost use Rattle.std.specs.Prelude.{◌≡◌, ◌<◌, ◌≤◌, [], vec_len, IfOk, IfErr, OnOk, Err};
+ghost use Rattle.std.specs.List.{All};
+ghost use Rattle.osn_core.specs.Sequential.{opened};
+ghost use Rattle.osn_live.specs.Faults.{IsBadCount};
+ghost use Rattle.osn_live.specs.Running.{IsNew};
+
+use crate::edition::Edition;
+use crate::editor::{Copies, Editor, show};
+use crate::faults::OpenFault;
+use crate::history::begin;
+use crate::reader::Reader;
+use left_right::writer::Writer;
+use osn_core::MOST_READERS;
+use osn_register::{Limits, Register};
+use std::alloc::{AllocError, Global};
+use std::sync::{Arc, Wait};
+
+fn start<R: Wait>(rt: &R, alloc: Global, limits: Limits, readers: u32) -> Result<Editor, AllocError>
+    requires { 0 < readers }
+    ensures object { IfOk result (λ e. e.object ≡ opened limits) }
+    ensures limits { IfOk result (λ e. e.origin.limits ≡ limits) }
+{
+    let (history, certificate) = begin();
+    let Ok(register) = Arc::new(alloc, Register::new(alloc, limits)) else {
+        return Err(AllocError);
+    };
+    let first = Edition::new(limits, register, certificate.again());
+    let second = first.share()?;
+    let third = first.share()?;
+    let copies: Copies = Writer::new(alloc, first, second, readers as usize)?;
+    let (copies, shown) = show(copies, third, rt);
+    match shown {
+        Ok(()) => Ok(Editor::begin(alloc, limits, copies, history, certificate)),
+        Err(_) => {
+            copies.take(rt);
+            Err(AllocError)
+        }
+    }
+}
+
+fn places(alloc: Global, editor: &mut Editor, readers: u32) -> Result<Vec<Reader>, OpenFault>
+    requires { editor.old.object.batches ≡ [] }
+    ensures same { editor.new ≡ editor.old }
+    ensures count { IfOk result (λ v. vec_len v ≡ readers) }
+    ensures new { IfOk result (λ v. All (λ r. IsNew editor.old r) v.items) }
+    ensures fault { IfErr result (λ f. f ≡ OpenFault.BadCount → ⊥) }
+{
+    let mut all = Vec::new(alloc);
+    for _ in 0..readers {
+        let Ok(reader) = editor.reader() else {
+            return Err(OpenFault::NoPlace);
+        };
+        let Ok(()) = all.push(reader) else {
+            return Err(OpenFault::NoMemory);
+        };
+    }
+    Ok(all)
+}
+
+/// An editor with nothing published and nothing pending, and that many readers, 1 to 64, that have
+/// seen nothing.
+///
+/// # Errors
+///
+/// `BadCount` for another number of readers, and else `NoMemory` where none is found or `NoPlace`
+/// where a reader finds no place. What was made is ended then, which may wait.
+pub fn open<R: Wait>(
+    rt: &R,
+    alloc: Global,
+    limits: Limits,
+    readers: u32,
+) -> Result<(Editor, Vec<Reader>), OpenFault>
+    ensures lawful { OnOk result ((1 ≤ readers) × (readers ≤ 64)) }
+    ensures editor { IfOk result (λ t. t.0.object ≡ opened limits) }
+    ensures limits { IfOk result (λ t. t.0.origin.limits ≡ limits) }
+    ensures count { IfOk result (λ t. vec_len t.1 ≡ readers) }
+    ensures readers { IfOk result (λ t. All (λ r. IsNew t.0 r) t.1.items) }
+    ensures bad_count { IsBadCount readers → result ≡ Err OpenFault.BadCount }
+    ensures refused { IfErr result (λ f. f ≡ OpenFault.BadCount → IsBadCount readers) }
+{
+    if readers == 0 || readers > MOST_READERS {
+        return Err(OpenFault::BadCount);
+    }
+    let Ok(mut editor) = start(rt, alloc, limits, readers) else {
+        return Err(OpenFault::NoMemory);
+    };
+    match places(alloc, &mut editor, readers) {
+        Ok(readers) => Ok((editor, readers)),
+        Err(fault) => {
+            editor.close(rt);
+            Err(fault)
+        }
+    }
+}

@@ -1,0 +1,99 @@
+//! A reader at work through a list of questions.
+ghost use Rattle.std.specs.Prelude.{◌≡◌, IfOk, IfErr};
+ghost use Rattle.osn_days.specs.Profile.{present};
+ghost use Rattle.osn_core.specs.Sequential.{reply_at};
+ghost use Rattle.osn_live.specs.Batches.{Begins};
+ghost use Rattle.osn_live.specs.Desk.{AreReplies};
+ghost use Rattle.osn_live.specs.InsideWork.{IsPlain, IsWork};
+
+use crate::faults::{AskFault, DeskFault};
+use crate::gate::Gate;
+use crate::reader::Reader;
+use osn_core::Reply;
+use osn_register::Query;
+use std::alloc::Global;
+use std::snapshot::Snapshot;
+use std::thread::Promise;
+
+/// A reader that has worked, with what it was told.
+#[derive(Drop)]
+pub struct Worked {
+    pub reader: Reader,
+    pub replies: Result<Vec<Reply>, DeskFault>,
+}
+
+/// What a reader is started with, in proofs alone: what it gives back is its work on that.
+#[derive(Drop)]
+pub struct Works(Snapshot<Reader>, Snapshot<Vec<Query>>);
+
+impl Promise<Worked> for Works {
+    ghost use Rattle.osn_live.specs.InsideWork.{IsWork};
+
+    ghost kept_by = { λ p w. IsWork p.0.value p.1.value.items w };
+}
+
+impl Works {
+    pub fn of(reader: &Reader, questions: &Vec<Query>) -> Works
+        ensures reader { result.0.value ≡ reader.now }
+        ensures questions { result.1.value ≡ questions.now }
+    {
+        Works(Snapshot::of(reader), Snapshot::of(questions))
+    }
+}
+
+fn answer_one(reader: &mut Reader, question: &Query) -> Result<Reply, DeskFault>
+    ensures origin { reader.new.origin ≡ reader.old.origin }
+    ensures seen { Begins reader.old.seen reader.new.seen }
+    ensures value { IfOk result
+        (λ r. r ≡ reply_at present reader.new.origin.limits reader.new.seen question.now) }
+    ensures fault { IfErr result IsPlain }
+{
+    match reader.ask(question) {
+        Ok(reply) => Ok(reply),
+        Err(AskFault::NoMemory) => Err(DeskFault::NoMemory),
+        Err(AskFault::NoPlace) => Err(DeskFault::NoPlace),
+    }
+}
+
+fn answer_all<G: Gate>(
+    alloc: Global,
+    gate: &G,
+    who: u32,
+    reader: &mut Reader,
+    questions: &[Query],
+) -> Result<Vec<Reply>, DeskFault>
+    ensures origin { reader.new.origin ≡ reader.old.origin }
+    ensures replies { IfOk result (λ rs.
+        AreReplies present reader.old.origin.limits reader.new.seen 0 questions.now rs.items) }
+    ensures fault { IfErr result IsPlain }
+{
+    let mut replies = Vec::new(alloc);
+    let mut index = 0usize;
+    for question in questions {
+        if !gate.before(who, index) {
+            return Err(DeskFault::GateClosed);
+        }
+        let reply = answer_one(reader, question)?;
+        let Ok(()) = replies.push(reply) else {
+            return Err(DeskFault::NoMemory);
+        };
+        gate.after(who, index);
+        index += 1;
+    }
+    Ok(replies)
+}
+
+/// Asks all questions in order.
+pub fn work<G: Gate>(
+    alloc: Global,
+    gate: &G,
+    who: u32,
+    reader: Reader,
+    questions: &[Query],
+) -> Worked
+    ensures { IsWork reader questions.now result }
+{
+    let mut reader = reader;
+    let replies = answer_all(alloc, gate, who, &mut reader, questions);
+    Worked { reader, replies }
+}

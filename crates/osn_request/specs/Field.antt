@@ -1,0 +1,46 @@
+-- The members of a line's object by their types, or the first that is missing, of another type or
+-- not one of its words: this project's profile, over the value that `serde_json` reads.
+use Rattle.std.specs.Prelude.{ℕ, ℤ, List, Option, Some, None, option_and_then, Result, Ok, Err}
+use Rattle.serde_json.specs.Data.{Data}
+use Rattle.serde_json.specs.Find.{get, as_str, as_number, as_i64}
+use Rattle.osn_days.specs.Profile.{Profile}
+use Rattle.osn_lands.specs.declared.regime.Regime.{Regime}
+use Rattle.osn_request.specs.declared.member.Member.{Member}
+use Rattle.osn_request.specs.declared.member.Member.TheVariants as members
+use Rattle.osn_request.specs.declared.wire_fault.WireFault.{WireFault}
+use Rattle.osn_request.specs.declared.wire_fault.WireFault.TheVariants.{BadField}
+use Rattle.osn_request.specs.Member.{member_name}
+use Rattle.osn_words.specs.Words.{calendar_named, style_named, rule_named}
+
+-- one reading behind another, where the first one meets no fault
+infixl 10 ◌>>=◌
+abbrev pub ◌>>=◌ : {A B : Type 0}
+    → Result A WireFault → (A → Result B WireFault) → Result B WireFault
+(Ok x) >>= f = f x
+(Err e) >>= f = Err e
+
+abbrev pub or_fault : {A : Type 0} → WireFault → Option A → Result A WireFault
+or_fault fault None = Err fault
+or_fault fault (Some x) = Ok x
+
+-- a member that is a text
+abbrev pub text_at : Member → Data → Result (List ℕ) WireFault
+text_at m d = or_fault (BadField m) (option_and_then as_str (get (member_name m) d))
+
+-- a member that is a whole number
+abbrev pub whole_at : Member → Data → Result ℤ WireFault
+whole_at m d =
+    or_fault (BadField m)
+    (option_and_then as_i64 (option_and_then as_number (get (member_name m) d)))
+
+-- a member that is one of some words
+abbrev pub word_at : {A : Type 0} → Member → (List ℕ → Option A) → Data → Result A WireFault
+word_at m named d = text_at m d >>= λ word. or_fault (BadField m) (named word)
+
+-- a regime by its three members
+unfoldable pub regime_of : Profile → Data → Result Regime WireFault
+regime_of p d = do
+  calendar ← word_at members.Calendar calendar_named d
+  style ← word_at members.Style (style_named p) d
+  rule ← word_at members.Rule rule_named d
+  Ok (record { calendar = calendar; style = style; rule = rule })

@@ -1,0 +1,7 @@
+pub mod Member
+pub mod WireFault
+pub mod Field
+pub mod Op
+pub mod EditRequest
+pub mod QueryRequest
+pub mod Request

@@ -1,0 +1,15 @@
+//! A request line, read: the JSON object of a line, what it asks for, and then an edit, or a query
+//! and the reader who asks it. What the crate promises to those above: each reader gives what the
+//! definition says of the value that `serde_json` reads, or the line's first fault.
+#![tactic(auto)]
+
+mod member;
+mod request;
+mod wire_fault;
+
+pub use member::Member;
+pub use request::{
+    EditOp, Op, QueryOp, Request, RequestError, edit_of, object_of, op_of, query_of, read_request,
+    text_at, whole_at,
+};
+pub use wire_fault::WireFault;

@@ -1,0 +1,58 @@
+//! The members of a line's object, by their types.
+ghost use Rattle.std.specs.Prelude.{◌≡◌, MatchResult, Ok, Err};
+ghost use Rattle.serde_json.specs.View.{view};
+ghost use Rattle.osn_days.specs.Profile.{present};
+ghost use Rattle.osn_request.specs.Field as said;
+
+use crate::member::Member;
+use crate::wire_fault::WireFault;
+use osn_lands::Regime;
+use osn_words::Word;
+use serde_json::Value;
+
+/// A member that is a text.
+pub fn text_at(value: &Value, member: Member) -> Result<&str, WireFault>
+    ensures { MatchResult result
+        (λ s. said.text_at member (view value.now) ≡ Ok s.now)
+        (λ f. said.text_at member (view value.now) ≡ Err f) }
+{
+    match value.get(member.name()).and_then(Value::as_str) {
+        Some(text) => Ok(text),
+        None => Err(WireFault::BadField(member)),
+    }
+}
+
+/// A member that is a whole number.
+pub fn whole_at(value: &Value, member: Member) -> Result<i64, WireFault>
+    ensures { result ≡ said.whole_at member (view value.now) }
+{
+    match value.get(member.name()).and_then(Value::as_i64) {
+        Some(number) => Ok(number),
+        None => Err(WireFault::BadField(member)),
+    }
+}
+
+/// A member that is one of some words.
+fn word_at<W: Word>(value: &Value, member: Member) -> Result<W, WireFault>
+    ensures { result ≡ said.word_at member W.meaning (view value.now) }
+{
+    match W::from_word(text_at(value, member)?) {
+        Some(meaning) => Ok(meaning),
+        None => Err(WireFault::BadField(member)),
+    }
+}
+
+/// The regime that three members give.
+#[tactic(auto, unfolding(crate::specs::Field::regime_of))]
+pub fn regime_of(value: &Value) -> Result<Regime, WireFault>
+    ensures { result ≡ said.regime_of present (view value.now) }
+{
+    let calendar = word_at(value, Member::Calendar)?;
+    let style = word_at(value, Member::Style)?;
+    let rule = word_at(value, Member::Rule)?;
+    Ok(Regime {
+        calendar,
+        style,
+        rule,
+    })
+}

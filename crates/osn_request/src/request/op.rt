@@ -1,0 +1,70 @@
+//! What a line asks for, by the word of its member `op`.
+ghost use Rattle.std.specs.Prelude.{◌≡◌};
+ghost use Rattle.serde_json.specs.View.{view};
+ghost use Rattle.osn_request.specs.Op as said;
+
+use crate::member::Member;
+use crate::request::field::text_at;
+use crate::wire_fault::WireFault;
+use serde_json::Value;
+
+/// What a line asks for.
+#[derive(Clone, Copy, Debug, PartialEq, Eq)]
+pub enum Op {
+    Edit(EditOp),
+    Publish,
+    Query(QueryOp),
+}
+
+/// The edits.
+#[derive(Clone, Copy, Debug, PartialEq, Eq)]
+pub enum EditOp {
+    AddLand,
+    AddChange,
+    AlterChange,
+    DropChange,
+    AddException,
+    DropException,
+}
+
+/// The queries.
+#[derive(Clone, Copy, Debug, PartialEq, Eq)]
+pub enum QueryOp {
+    Read,
+    DayIn,
+    Easter,
+    YearFigures,
+    Lands,
+    Periods,
+}
+
+fn op_named(word: &str) -> Option<Op>
+    ensures { result ≡ said.op_named word.now }
+{
+    match word {
+        "add_land" => Some(Op::Edit(EditOp::AddLand)),
+        "add_change" => Some(Op::Edit(EditOp::AddChange)),
+        "alter_change" => Some(Op::Edit(EditOp::AlterChange)),
+        "drop_change" => Some(Op::Edit(EditOp::DropChange)),
+        "add_exception" => Some(Op::Edit(EditOp::AddException)),
+        "drop_exception" => Some(Op::Edit(EditOp::DropException)),
+        "publish" => Some(Op::Publish),
+        "read" => Some(Op::Query(QueryOp::Read)),
+        "day" => Some(Op::Query(QueryOp::DayIn)),
+        "easter" => Some(Op::Query(QueryOp::Easter)),
+        "figures" => Some(Op::Query(QueryOp::YearFigures)),
+        "lands" => Some(Op::Query(QueryOp::Lands)),
+        "periods" => Some(Op::Query(QueryOp::Periods)),
+        _ => None,
+    }
+}
+
+/// What the object of a line asks for.
+pub fn op_of(value: &Value) -> Result<Op, WireFault>
+    ensures { result ≡ said.op_of (view value.now) }
+{
+    match op_named(text_at(value, Member::Op)?) {
+        Some(op) => Ok(op),
+        None => Err(WireFault::UnknownOp),
+    }
+}

@@ -1,0 +1,115 @@
+//! The query of a line's object. The questions of a desk, a schedule and a transcript read theirs
+//! by the same call.
+ghost use Rattle.std.specs.Prelude.{◌≡◌, true, IfErr};
+ghost use Rattle.serde_json.specs.View.{view};
+ghost use Rattle.osn_request.specs.declared.request.RequestError.TheVariants.{NoMemory};
+ghost use Rattle.osn_request.specs.QueryRequest as said;
+ghost use Rattle.osn_request.specs.Request.{Gives, GivesLast};
+
+use crate::member::Member;
+use crate::request::RequestError;
+use crate::request::field::{text_at, whole_at};
+use crate::request::op::QueryOp;
+use crate::wire_fault::WireFault;
+use osn_register::{Query, Text};
+use serde_json::Value;
+use std::alloc::Global;
+
+fn reader_in(readers: u32, reader: i64) -> Result<u32, WireFault>
+    ensures { result ≡ said.reader_in readers reader }
+{
+    if reader < 1 || reader > readers as i64 {
+        return Err(WireFault::UnknownReader);
+    }
+    Ok(reader as u32)
+}
+
+#[tactic(auto, unfolding(crate::specs::QueryRequest::read_of))]
+fn read_of(alloc: Global, value: &Value) -> Result<Query, RequestError>
+    ensures { GivesLast result (said.read_of (view value.now)) }
+{
+    let code = text_at(value, Member::Code)?;
+    let year = whole_at(value, Member::Year)?;
+    let month = whole_at(value, Member::Month)?;
+    let day = whole_at(value, Member::Day)?;
+    let code = Text::from_str(alloc, code)?;
+    Ok(Query::Read {
+        code,
+        year,
+        month,
+        day,
+    })
+}
+
+#[tactic(auto, unfolding(crate::specs::QueryRequest::day_in_of))]
+fn day_in_of(alloc: Global, value: &Value) -> Result<Query, RequestError>
+    ensures { GivesLast result (said.day_in_of (view value.now)) }
+{
+    let code = text_at(value, Member::Code)?;
+    let day = whole_at(value, Member::Day)?;
+    let code = Text::from_str(alloc, code)?;
+    Ok(Query::DayIn { code, day })
+}
+
+#[tactic(auto, unfolding(crate::specs::QueryRequest::easter_of))]
+fn easter_of(alloc: Global, value: &Value) -> Result<Query, RequestError>
+    ensures { GivesLast result (said.easter_of (view value.now)) }
+{
+    let code = text_at(value, Member::Code)?;
+    let year = whole_at(value, Member::Year)?;
+    let code = Text::from_str(alloc, code)?;
+    Ok(Query::Easter { code, year })
+}
+
+#[tactic(auto, unfolding(crate::specs::QueryRequest::periods_of))]
+fn periods_of(alloc: Global, value: &Value) -> Result<Query, RequestError>
+    ensures { GivesLast result (said.periods_of (view value.now)) }
+{
+    let code = text_at(value, Member::Code)?;
+    let code = Text::from_str(alloc, code)?;
+    Ok(Query::Periods { code })
+}
+
+#[tactic(auto, unfolding(crate::specs::QueryRequest::year_figures_of))]
+fn year_figures_of(value: &Value) -> Result<Query, WireFault>
+    ensures { result ≡ said.year_figures_of (view value.now) }
+{
+    let year = whole_at(value, Member::Year)?;
+    Ok(Query::YearFigures { year })
+}
+
+/// The query of a line's object by itself, without the reader who asks it.
+fn query_by(alloc: Global, op: QueryOp, value: &Value) -> Result<Query, RequestError>
+    ensures query { GivesLast result (said.query_by op (view value.now)) }
+    ensures memory { IfErr result (λ e. e ≡ NoMemory → said.has_code op ≡ true) }
+{
+    match op {
+        QueryOp::Read => read_of(alloc, value),
+        QueryOp::DayIn => day_in_of(alloc, value),
+        QueryOp::Easter => easter_of(alloc, value),
+        QueryOp::YearFigures => Ok(year_figures_of(value)?),
+        QueryOp::Lands => Ok(Query::Lands),
+        QueryOp::Periods => periods_of(alloc, value),
+    }
+}
+
+/// The number of the reader who asks, and the query of a line's object, where there are so many
+/// readers.
+///
+/// # Errors
+/// Memory is taken for the code of a query that has one.
+#[tactic(auto, unfolding(crate::specs::QueryRequest::query_of))]
+pub fn query_of(
+    alloc: Global,
+    readers: u32,
+    op: QueryOp,
+    value: &Value,
+) -> Result<(u32, Query), RequestError>
+    ensures query { Gives result (said.query_of readers op (view value.now)) }
+    ensures memory { IfErr result (λ e. e ≡ NoMemory → said.has_code op ≡ true) }
+{
+    let reader = whole_at(value, Member::Reader)?;
+    let query = query_by(alloc, op, value)?;
+    let reader = reader_in(readers, reader)?;
+    Ok((reader, query))
+}

@@ -1,0 +1,353 @@
+//! Labels and texts of days, and the days of labels: worked days of the Calendar (New Style) Act
+//! 1750 and of Sweden, and days beside the beginnings of years and the ends of the line, whose
+//! numbers are Python's `toordinal` and those of the Julian day number's formula.
+use osn_computus::Rule;
+use osn_days::{Calendar, Day};
+use osn_lands::{Label, Regime, Style, day_of_label, dual_text, label_of};
+use std::alloc::{AllocError, Global};
+use std::process::Abort;
+
+/// The day of a number on the line.
+pub fn day_of(number: u32) -> Day {
+    Day::new(i64::from(number)).unwrap_or(Day::FIRST)
+}
+
+/// The label of a year, a month and a day.
+pub fn label(ymd: (i32, u8, u8)) -> Label {
+    Label {
+        year: ymd.0,
+        month: ymd.1,
+        day: ymd.2,
+    }
+}
+
+/// A day under a regime of a calendar and a style: its number, its label and its dual text.
+type Named = (Calendar, Style, u32, (i32, u8, u8), &'static str);
+
+const NAMED: [Named; 39] = [
+    (
+        Calendar::Julian,
+        Style::January,
+        1,
+        (1, 1, 3),
+        "3 January 1",
+    ),
+    (
+        Calendar::Gregorian,
+        Style::January,
+        1,
+        (1, 1, 1),
+        "1 January 1",
+    ),
+    (
+        Calendar::Julian,
+        Style::January,
+        577_735,
+        (1582, 10, 4),
+        "4 October 1582",
+    ),
+    (
+        Calendar::Gregorian,
+        Style::January,
+        577_736,
+        (1582, 10, 15),
+        "15 October 1582",
+    ),
+    (
+        Calendar::Julian,
+        Style::January,
+        639_796,
+        (1752, 9, 2),
+        "2 September 1752",
+    ),
+    (
+        Calendar::Gregorian,
+        Style::January,
+        639_797,
+        (1752, 9, 14),
+        "14 September 1752",
+    ),
+    (
+        Calendar::Swedish,
+        Style::January,
+        620_616,
+        (1700, 2, 28),
+        "28 February 1700",
+    ),
+    (
+        Calendar::Swedish,
+        Style::January,
+        620_617,
+        (1700, 3, 1),
+        "1 March 1700",
+    ),
+    (
+        Calendar::Swedish,
+        Style::January,
+        624_999,
+        (1712, 2, 29),
+        "29 February 1712",
+    ),
+    (
+        Calendar::Swedish,
+        Style::January,
+        625_000,
+        (1712, 2, 30),
+        "30 February 1712",
+    ),
+    (
+        Calendar::Swedish,
+        Style::January,
+        625_001,
+        (1712, 3, 1),
+        "1 March 1712",
+    ),
+    (
+        Calendar::Gregorian,
+        Style::January,
+        1_095_362,
+        (2999, 12, 31),
+        "31 December 2999",
+    ),
+    (
+        Calendar::Julian,
+        Style::Annunciation,
+        632_287,
+        (1731, 2, 11),
+        "11 February 1731/2",
+    ),
+    (
+        Calendar::Julian,
+        Style::Annunciation,
+        620_589,
+        (1699, 2, 1),
+        "1 February 1699/700",
+    ),
+    (
+        Calendar::Julian,
+        Style::Annunciation,
+        1,
+        (0, 1, 3),
+        "3 January 0/1",
+    ),
+    (
+        Calendar::Julian,
+        Style::Nativity,
+        547_501,
+        (1500, 12, 25),
+        "25 December 1500",
+    ),
+    (
+        Calendar::Julian,
+        Style::September,
+        547_386,
+        (1500, 9, 1),
+        "1 September 1500",
+    ),
+    (
+        Calendar::Julian,
+        Style::Annunciation,
+        364,
+        (1, 1, 1),
+        "1 January 1/2",
+    ),
+    (
+        Calendar::Julian,
+        Style::Annunciation,
+        3_286,
+        (9, 1, 1),
+        "1 January 9/10",
+    ),
+    (
+        Calendar::Julian,
+        Style::Annunciation,
+        36_158,
+        (99, 1, 1),
+        "1 January 99/100",
+    ),
+    (
+        Calendar::Julian,
+        Style::Annunciation,
+        364_883,
+        (999, 1, 1),
+        "1 January 999/1000",
+    ),
+    (
+        Calendar::Julian,
+        Style::Annunciation,
+        730_133,
+        (1999, 1, 1),
+        "1 January 1999/2000",
+    ),
+    (
+        Calendar::Julian,
+        Style::Annunciation,
+        547_591,
+        (1499, 3, 24),
+        "24 March 1499/500",
+    ),
+    (
+        Calendar::Julian,
+        Style::Annunciation,
+        547_592,
+        (1500, 3, 25),
+        "25 March 1500",
+    ),
+    (
+        Calendar::Julian,
+        Style::Nativity,
+        547_873,
+        (1501, 12, 31),
+        "31 December 1501",
+    ),
+    (
+        Calendar::Julian,
+        Style::Nativity,
+        547_874,
+        (1501, 1, 1),
+        "1 January 1501",
+    ),
+    (
+        Calendar::Julian,
+        Style::September,
+        547_752,
+        (1501, 9, 1),
+        "1 September 1501",
+    ),
+    (
+        Calendar::Julian,
+        Style::Annunciation,
+        81,
+        (0, 3, 24),
+        "24 March 0/1",
+    ),
+    (
+        Calendar::Julian,
+        Style::Annunciation,
+        82,
+        (1, 3, 25),
+        "25 March 1",
+    ),
+    (
+        Calendar::Julian,
+        Style::Nativity,
+        356,
+        (1, 12, 24),
+        "24 December 1",
+    ),
+    (
+        Calendar::Julian,
+        Style::Nativity,
+        357,
+        (2, 12, 25),
+        "25 December 2",
+    ),
+    (
+        Calendar::Julian,
+        Style::September,
+        241,
+        (1, 8, 31),
+        "31 August 1",
+    ),
+    (
+        Calendar::Julian,
+        Style::September,
+        242,
+        (2, 9, 1),
+        "1 September 2",
+    ),
+    (
+        Calendar::Julian,
+        Style::September,
+        1_095_362,
+        (3000, 12, 11),
+        "11 December 3000",
+    ),
+    (
+        Calendar::Gregorian,
+        Style::Annunciation,
+        1,
+        (0, 1, 1),
+        "1 January 0/1",
+    ),
+    (
+        Calendar::Gregorian,
+        Style::Annunciation,
+        83,
+        (0, 3, 24),
+        "24 March 0/1",
+    ),
+    (
+        Calendar::Gregorian,
+        Style::Nativity,
+        1_095_356,
+        (3000, 12, 25),
+        "25 December 3000",
+    ),
+    (
+        Calendar::Gregorian,
+        Style::Nativity,
+        1_095_362,
+        (3000, 12, 31),
+        "31 December 3000",
+    ),
+    (
+        Calendar::Gregorian,
+        Style::September,
+        1_095_241,
+        (3000, 9, 1),
+        "1 September 3000",
+    ),
+];
+
+/// The regime of a calendar and a style under the Julian rule.
+fn regime_of(calendar: Calendar, style: Style) -> Regime {
+    let rule = Rule::Julian;
+    Regime {
+        calendar,
+        style,
+        rule,
+    }
+}
+
+/// That days are named so, and are those of their labels.
+fn are_named(rt: &impl Abort, alloc: Global, rows: &[Named]) -> Result<(), AllocError> {
+    for (calendar, style, number, ymd, text) in rows {
+        let (regime, day) = (regime_of(*calendar, *style), day_of(*number));
+        assert_eq!(rt; label_of(regime, day), label(*ymd), "on {number}");
+        assert_eq!(rt; day_of_label(regime, label(*ymd)), Some(day), "on {number}");
+        assert_eq!(rt; dual_text(alloc, regime, day)?.as_str(), *text);
+    }
+    Ok(())
+}
+
+#[test]
+fn labels_and_texts(rt: HostRuntime) -> Result<(), AllocError> {
+    are_named(&rt, rt.alloc(), &NAMED)
+}
+
+/// Labels that no day has.
+const OF_NO_DAY: [(Calendar, Style, (i32, u8, u8)); 10] = [
+    (Calendar::Julian, Style::Annunciation, (0, 1, 2)),
+    (Calendar::Julian, Style::Annunciation, (0, 3, 25)),
+    (Calendar::Gregorian, Style::Annunciation, (2999, 3, 24)),
+    (Calendar::Julian, Style::Nativity, (1, 12, 25)),
+    (Calendar::Gregorian, Style::Nativity, (3000, 12, 24)),
+    (Calendar::Julian, Style::September, (1, 9, 1)),
+    (Calendar::Julian, Style::September, (3000, 12, 12)),
+    (Calendar::Gregorian, Style::September, (3000, 8, 31)),
+    (Calendar::Swedish, Style::January, (1700, 2, 29)),
+    (Calendar::Gregorian, Style::January, (1900, 2, 29)),
+];
+
+fn have_no_day(rt: &impl Abort, rows: &[(Calendar, Style, (i32, u8, u8))]) {
+    for (calendar, style, ymd) in rows {
+        let found = day_of_label(regime_of(*calendar, *style), label(*ymd));
+        assert_eq!(rt; found, None, "at {ymd:?}");
+    }
+}
+
+#[test]
+fn labels_of_no_day(rt: HostRuntime) {
+    have_no_day(&rt, &OF_NO_DAY);
+}

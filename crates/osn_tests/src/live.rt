@@ -1,0 +1,382 @@
+//! The running register: an editor and readers in turn, and desks where they work at once.
+ghost use Rattle.std.specs.Prelude.{◌≡◌, IfOk, IfSome};
+ghost use Rattle.std.specs.List.{All};
+
+use crate::register::edit_of;
+use crate::session::joined;
+use osn_core::{Command, Reply};
+use osn_live::{
+    AskFault, DeskFault, Editor, Gate, Note, OpenFault, OpenGate, PublishFault, Reader, open,
+    run_desk,
+};
+use osn_register::{Limits, Query};
+use osn_wire::{Outcome, Request, read_request, reply_text};
+use std::alloc::Global;
+use std::process::Abort;
+use std::sync::Wait;
+use std::sync::atomic::AtomicU64;
+use std::sync::atomic::Ordering::SeqCst;
+use std::test::Fail;
+use std::thread;
+use std::thread::Threads;
+
+const ROME: &str = r#"{"op":"add_land","code":"RM","name":"Rome","calendar":"julian",
+  "style":"january","rule":"julian"}"#;
+
+const BRITAIN: &str = r#"{"op":"add_land","code":"GB","name":"Great Britain","calendar":"julian",
+  "style":"january","rule":"julian"}"#;
+
+/// What a reader is told of the territories before and after the editions.
+const NONE: &str = r#"{"answer":{"lands":[]},"edition":0,"reader":1}"#;
+
+const ONE: &str = r#"{"answer":{"lands":[{"code":"RM","name":"Rome"}]},"edition":1,"reader":1}"#;
+
+const TWO: &str = r#"{"answer":{"lands":[{"code":"RM","name":"Rome"},{"code":"GB",
+  "name":"Great Britain"}]},"edition":2,"reader":1}"#;
+
+/// The line of what a reader is told of the territories.
+fn told(alloc: Global, reader: &mut Reader) -> Result<String, Fail>
+    ensures { reader.new.origin ≡ reader.old.origin }
+{
+    let reply = reader.ask(&Query::Lands)?;
+    Ok(reply_text(alloc, &Outcome::Replied { reader: 1, reply })?)
+}
+
+/// Stages the edit of a line and publishes it.
+fn published<R: Wait>(rt: &R, alloc: Global, editor: &mut Editor, line: &str) -> Result<Note, Fail>
+    ensures same { editor.new.origin ≡ editor.old.origin }
+    ensures note { IfOk result (λ n. n.origin ≡ editor.old.origin) }
+{
+    editor.stage(&edit_of(alloc, line)?)?;
+    Ok(editor.publish(rt)?)
+}
+
+/// A reader of this editor's.
+#[tactic(auto, using(crate::proofs::LiveLemmas::all_last))]
+fn taken(editor: &Editor, readers: &mut Vec<Reader>) -> Option<Reader>
+    requires { All (λ r. r.origin ≡ editor.now.origin) readers.old.items }
+    ensures rest { All (λ r. r.origin ≡ editor.now.origin) readers.new.items }
+    ensures one { IfSome result (λ r. r.origin ≡ editor.now.origin) }
+{
+    readers.pop()
+}
+
+/// An editor and a reader in turn.
+fn in_turn<R: Wait + Abort>(
+    rt: &R,
+    alloc: Global,
+    editor: &mut Editor,
+    reader: &mut Reader,
+) -> Result<(), Fail>
+    requires { reader.old.origin ≡ editor.old.origin }
+{
+    assert_eq!(rt; told(alloc, reader)?.as_str().trim_end(), NONE);
+    let note = published(rt, alloc, editor, ROME)?;
+    assert_eq!(rt; note.edition(), 1);
+    reader.learn(note);
+    assert_eq!(rt; told(alloc, reader)?.as_str().trim_end(), ONE);
+    let Err(fault) = editor.publish(rt) else {
+        return Err(Fail::new("nothing was pending"));
+    };
+    assert_eq!(rt; fault, PublishFault::NothingPending);
+    Ok(())
+}
+
+#[tactic(auto, using(crate::proofs::LiveLemmas::all_new))]
+fn one_reader<R: Wait + Abort>(rt: &R, alloc: Global) -> Result<(), Fail> {
+    let (mut editor, mut readers) = open(rt, alloc, Limits::standard(), 1)?;
+    let Some(mut reader) = taken(&editor, &mut readers) else {
+        editor.close(rt);
+        return Err(Fail::new("no reader"));
+    };
+    let ended = in_turn(rt, alloc, &mut editor, &mut reader);
+    editor.close(rt);
+    ended?;
+    let Err(fault) = reader.ask(&Query::Lands) else {
+        return Err(Fail::new("told by nobody"));
+    };
+    assert_eq!(rt; fault, AskFault::NoPlace);
+    Ok(())
+}
+
+#[test]
+fn a_reader_learns_what_was_published(rt: HostRuntime) -> Result<(), Fail> {
+    one_reader(&rt, rt.alloc())
+}
+
+/// Notes learnt in another order than they were made in.
+fn notes<R: Wait + Abort>(
+    rt: &R,
+    alloc: Global,
+    editor: &mut Editor,
+    one: &mut Reader,
+    two: &mut Reader,
+) -> Result<(), Fail>
+    requires one { one.old.origin ≡ editor.old.origin }
+    requires two { two.old.origin ≡ editor.old.origin }
+{
+    let two_lands = joined(alloc, TWO)?;
+    let first = published(rt, alloc, editor, ROME)?;
+    let again = editor.note();
+    let second = published(rt, alloc, editor, BRITAIN)?;
+    two.learn(second);
+    assert_eq!(rt; told(alloc, two)?.as_str().trim_end(), two_lands.as_str());
+    two.learn(first);
+    assert_eq!(rt; told(alloc, two)?.as_str().trim_end(), two_lands.as_str());
+    one.learn(again);
+    let edition = one.ask(&Query::Lands)?.edition;
+    assert!(rt; edition == 1 || edition == 2);
+    Ok(())
+}
+
+#[tactic(auto, using(crate::proofs::LiveLemmas::all_new))]
+fn two_readers<R: Wait + Abort>(rt: &R, alloc: Global) -> Result<(), Fail> {
+    let (mut editor, mut readers) = open(rt, alloc, Limits::standard(), 2)?;
+    let two = taken(&editor, &mut readers);
+    let one = taken(&editor, &mut readers);
+    let (Some(mut one), Some(mut two)) = (one, two) else {
+        editor.close(rt);
+        return Err(Fail::new("no readers"));
+    };
+    let ended = notes(rt, alloc, &mut editor, &mut one, &mut two);
+    editor.close(rt);
+    ended
+}
+
+#[test]
+fn notes_are_learnt_in_any_order(rt: HostRuntime) -> Result<(), Fail> {
+    two_readers(&rt, rt.alloc())
+}
+
+fn refused<R: Wait>(rt: &R, alloc: Global, readers: u32) -> Option<OpenFault> {
+    match open(rt, alloc, Limits::standard(), readers) {
+        Ok((editor, _readers)) => {
+            editor.close(rt);
+            None
+        }
+        Err(fault) => Some(fault),
+    }
+}
+
+#[test]
+fn readers_are_1_to_64(rt: HostRuntime) -> Result<(), Fail> {
+    assert_eq!(rt; refused(&rt, rt.alloc(), 0), Some(OpenFault::BadCount));
+    assert_eq!(rt; refused(&rt, rt.alloc(), 64), None);
+    assert_eq!(rt; refused(&rt, rt.alloc(), 65), Some(OpenFault::BadCount));
+    Ok(())
+}
+
+fn command_of(alloc: Global, line: &str) -> Result<Command, Fail> {
+    match read_request(alloc, 1, line.as_bytes())? {
+        Request::Stage(edit) => Ok(Command::Stage(edit).copy()?),
+        Request::Publish => Ok(Command::Publish.copy()?),
+        Request::Ask { .. } => Err(Fail::new("a query")),
+    }
+}
+
+fn script(alloc: Global, lines: &[&str]) -> Result<Vec<Command>, Fail> {
+    let mut commands = Vec::new(alloc);
+    for line in lines {
+        commands.push(command_of(alloc, line)?)?;
+    }
+    Ok(commands)
+}
+
+/// That many lists of that many questions for the territories.
+fn questions(alloc: Global, lists: u32, each: u32) -> Result<Vec<Vec<Query>>, Fail> {
+    let mut all = Vec::new(alloc);
+    for _ in 0..lists {
+        let mut list = Vec::new(alloc);
+        for _ in 0..each {
+            list.push(Query::Lands)?;
+        }
+        all.push(list)?;
+    }
+    Ok(all)
+}
+
+/// The script of one edition, which passes over what is refused.
+const SCRIPT: [&str; 3] = [ROME, r#"{"op":"publish"}"#, r#"{"op":"publish"}"#];
+
+type Told = Result<Vec<Vec<Reply>>, DeskFault>;
+
+fn desk<R: Threads + Wait, G: Gate + Sync>(
+    rt: &R,
+    alloc: Global,
+    gate: &G,
+    readers: u32,
+    each: u32,
+) -> Result<Told, Fail> {
+    let commands = script(alloc, &SCRIPT)?;
+    let lists = questions(alloc, readers, each)?;
+    Ok(run_desk(rt, alloc, Limits::standard(), gate, &commands, &lists))
+}
+
+/// That one reader's replies are the two possible ones, and no edition is below the one before it.
+fn are_possible(rt: &impl Abort, alloc: Global, replies: Vec<Reply>) -> Result<(), Fail> {
+    let mut last = 0;
+    for reply in replies {
+        assert!(rt; last <= reply.edition);
+        last = reply.edition;
+        let line = reply_text(alloc, &Outcome::Replied { reader: 1, reply })?;
+        let wanted = if last == 0 { NONE } else { ONE };
+        assert_eq!(rt; line.as_str().trim_end(), wanted);
+    }
+    Ok(())
+}
+
+#[test]
+fn readers_work_while_the_editor_does(rt: HostRuntime) -> Result<(), Fail> {
+    let all = desk(&rt, rt.alloc(), &OpenGate, 64, 20)??;
+    assert_eq!(rt; all.len(), 64);
+    for replies in all {
+        assert_eq!(rt; replies.len(), 20);
+        are_possible(&rt, rt.alloc(), replies)?;
+    }
+    Ok(())
+}
+
+/// Waits for a number to be reached, for at most 1,000,000,000 turns.
+fn reached(number: &AtomicU64, least: u64) -> bool {
+    for _ in 0..1_000_000_000u64 {
+        if number.load(SeqCst) >= least {
+            return true;
+        }
+        thread::yield_now();
+    }
+    false
+}
+
+/// The editor publishes once the reader was told of its first question, and the reader asks its
+/// second one once that is done.
+#[derive(Drop)]
+struct Turns {
+    edited: AtomicU64,
+    asked: AtomicU64,
+}
+
+impl Gate for Turns {
+    fn before(&self, who: u32, index: usize) -> bool {
+        if index != 1 {
+            true
+        } else if who == 0 {
+            reached(&self.asked, 1)
+        } else {
+            reached(&self.edited, 2)
+        }
+    }
+
+    fn after(&self, who: u32, _index: usize) {
+        if who == 0 {
+            self.edited.fetch_add(1, SeqCst);
+        } else {
+            self.asked.fetch_add(1, SeqCst);
+        }
+    }
+}
+
+fn edition_at(replies: &[Reply], place: usize) -> Option<u32> {
+    match replies.get(place) {
+        Some(reply) => Some(reply.edition),
+        None => None,
+    }
+}
+
+#[test]
+fn later_questions_are_answered_from_later_editions(rt: HostRuntime) -> Result<(), Fail> {
+    let gate = Turns {
+        edited: AtomicU64::new(0),
+        asked: AtomicU64::new(0),
+    };
+    let all = desk(&rt, rt.alloc(), &gate, 1, 2)??;
+    assert_eq!(rt; all.len(), 1);
+    for replies in all {
+        let editions = (edition_at(&replies, 0), edition_at(&replies, 1));
+        assert_eq!(rt; editions, (Some(0), Some(1)));
+        are_possible(&rt, rt.alloc(), replies)?;
+    }
+    Ok(())
+}
+
+/// Two items, each of which waits for the other one to begin.
+#[derive(Drop)]
+struct Meeting {
+    one: (u32, usize),
+    two: (u32, usize),
+    one_came: AtomicU64,
+    two_came: AtomicU64,
+}
+
+impl Gate for Meeting {
+    fn before(&self, who: u32, index: usize) -> bool {
+        if (who, index) == self.one {
+            self.one_came.store(1, SeqCst);
+            reached(&self.two_came, 1)
+        } else if (who, index) == self.two {
+            self.two_came.store(1, SeqCst);
+            reached(&self.one_came, 1)
+        } else {
+            true
+        }
+    }
+
+    fn after(&self, _who: u32, _index: usize) {}
+}
+
+fn meeting_of(one: (u32, usize), two: (u32, usize)) -> Meeting {
+    Meeting {
+        one,
+        two,
+        one_came: AtomicU64::new(0),
+        two_came: AtomicU64::new(0),
+    }
+}
+
+#[test]
+fn two_readers_meet(rt: HostRuntime) -> Result<(), Fail> {
+    let all = desk(&rt, rt.alloc(), &meeting_of((1, 1), (2, 1)), 2, 2)??;
+    assert_eq!(rt; all.len(), 2);
+    Ok(())
+}
+
+#[test]
+fn the_editor_and_a_reader_meet(rt: HostRuntime) -> Result<(), Fail> {
+    let all = desk(&rt, rt.alloc(), &meeting_of((0, 0), (1, 0)), 1, 2)??;
+    assert_eq!(rt; all.len(), 1);
+    Ok(())
+}
+
+/// A gate that is closed to the first reader.
+#[derive(Drop)]
+struct Closed;
+
+impl Gate for Closed {
+    fn before(&self, who: u32, _index: usize) -> bool {
+        who != 1
+    }
+
+    fn after(&self, _who: u32, _index: usize) {}
+}
+
+fn fault<R: Threads + Wait, G: Gate + Sync>(
+    rt: &R,
+    alloc: Global,
+    gate: &G,
+    readers: u32,
+) -> Result<DeskFault, Fail> {
+    match desk(rt, alloc, gate, readers, 1)? {
+        Ok(_) => Err(Fail::new("all was answered")),
+        Err(fault) => Ok(fault),
+    }
+}
+
+#[test]
+fn a_desk_fails(rt: HostRuntime) -> Result<(), Fail> {
+    let none = fault(&rt, rt.alloc(), &OpenGate, 0)?;
+    let many = fault(&rt, rt.alloc(), &OpenGate, 65)?;
+    let closed = fault(&rt, rt.alloc(), &Closed, 1)?;
+    assert_eq!(rt; (none.number(), none.name()), (92, "BadCount"));
+    assert_eq!(rt; many, DeskFault::BadCount);
+    assert_eq!(rt; (closed.number(), closed.name()), (94, "GateClosed"));
+    Ok(())
+}

@@ -1,0 +1,89 @@
+//! The numbers and names that replies give, as the formats list them, and the lists that answers
+//! hold.
+use osn_register::{Listing, Refusal};
+use osn_wire::{Member, WireFault};
+use std::alloc::AllocError;
+use std::process::Abort;
+
+/// The refusals.
+const REFUSALS: [(Refusal, u8, &str); 20] = [
+    (Refusal::BadCode, 1, "BadCode"),
+    (Refusal::BadName, 2, "BadName"),
+    (Refusal::UnknownLand, 3, "UnknownLand"),
+    (Refusal::LandExists, 4, "LandExists"),
+    (Refusal::DayOffLine, 5, "DayOffLine"),
+    (Refusal::ChangeExists, 6, "ChangeExists"),
+    (Refusal::NoSuchChange, 7, "NoSuchChange"),
+    (Refusal::OpeningPeriod, 8, "OpeningPeriod"),
+    (Refusal::YearOffRange, 9, "YearOffRange"),
+    (Refusal::ExceptionExists, 10, "ExceptionExists"),
+    (Refusal::NoSuchException, 11, "NoSuchException"),
+    (Refusal::TooManyLands, 12, "TooManyLands"),
+    (Refusal::TooManyChanges, 13, "TooManyChanges"),
+    (Refusal::TooManyExceptions, 14, "TooManyExceptions"),
+    (Refusal::NothingPending, 15, "NothingPending"),
+    (Refusal::JournalFull, 16, "JournalFull"),
+    (Refusal::EditionsFull, 17, "EditionsFull"),
+    (Refusal::BadDate, 18, "BadDate"),
+    (Refusal::NoMemory, 90, "NoMemory"),
+    (Refusal::BadCount, 92, "BadCount"),
+];
+
+fn are_refusals(rt: &impl Abort, rows: &[(Refusal, u8, &str)]) {
+    for (refusal, number, name) in rows {
+        assert_eq!(rt; refusal.number(), *number);
+        assert_eq!(rt; refusal.name(), *name);
+    }
+}
+
+/// The faults of lines.
+const FAULTS: [(WireFault, u8, &str); 6] = [
+    (WireFault::LineTooLong, 31, "LineTooLong"),
+    (WireFault::NotJson, 32, "NotJson"),
+    (WireFault::NotObject, 33, "NotObject"),
+    (WireFault::BadField(Member::Day), 34, "BadField"),
+    (WireFault::UnknownOp, 35, "UnknownOp"),
+    (WireFault::UnknownReader, 36, "UnknownReader"),
+];
+
+fn are_faults(rt: &impl Abort, rows: &[(WireFault, u8, &str)]) {
+    for (fault, number, name) in rows {
+        assert_eq!(rt; fault.number(), *number);
+        assert_eq!(rt; fault.name(), *name);
+    }
+}
+
+/// The members of requests.
+const MEMBERS: [(Member, &str); 10] = [
+    (Member::Op, "op"),
+    (Member::Code, "code"),
+    (Member::Name, "name"),
+    (Member::Calendar, "calendar"),
+    (Member::Style, "style"),
+    (Member::Rule, "rule"),
+    (Member::Reader, "reader"),
+    (Member::Year, "year"),
+    (Member::Month, "month"),
+    (Member::Day, "day"),
+];
+
+fn are_members(rt: &impl Abort, rows: &[(Member, &str)]) {
+    for (member, name) in rows {
+        assert_eq!(rt; member.name(), *name);
+    }
+}
+
+#[test]
+fn numbers_and_names(rt: HostRuntime) {
+    are_refusals(&rt, &REFUSALS);
+    are_faults(&rt, &FAULTS);
+    are_members(&rt, &MEMBERS);
+}
+
+#[test]
+fn a_listing_has_what_was_moved_in(rt: HostRuntime) -> Result<(), AllocError> {
+    let items = Vec::from_slice(rt.alloc(), &[3_u32, 1, 2])?;
+    let listing = Listing::new(items);
+    assert_eq!(rt; listing.as_slice(), [3, 1, 2].as_slice());
+    Ok(())
+}

@@ -1,0 +1,115 @@
+//! The service from an object that stands already, and where the object stands after a write that
+//! failed.
+use crate::session::apart;
+use crate::streams::sink_that_fails;
+use osn_core::Object;
+use osn_register::Limits;
+use osn_wire::{Plain, ServeFault, serve_from};
+use std::alloc::Global;
+use std::process::Abort;
+use std::test::Fail;
+
+/// Two streams in turn. At the end of the first an edition stands, and an edit is pending.
+const STREAMS: [&str; 2] = [
+    r#"
+{"op":"add_land","code":"RM","name":"Rome","calendar":"julian","style":"january","rule":"julian"}
+{"ok":"staged","pending":1}
+{"op":"publish"}
+{"edition":1,"ok":"published"}
+{"op":"add_land","code":"FR","name":"France","calendar":"julian","style":"january","rule":"julian"}
+{"ok":"staged","pending":1}
+"#,
+    r#"
+{"op":"lands","reader":1}
+{"answer":{"lands":[{"code":"RM","name":"Rome"}]},"edition":1,"reader":1}
+{"op":"add_land","code":"FR","name":"France","calendar":"julian","style":"january","rule":"julian"}
+{"fault":4,"name":"LandExists"}
+{"op":"drop_change","code":"FR","day":577736}
+{"fault":7,"name":"NoSuchChange"}
+{"op":"add_exception","code":"FR","year":1582,"day":577544}
+{"ok":"staged","pending":2}
+{"op":"publish"}
+{"edition":2,"ok":"published"}
+{"op":"lands","reader":8}
+{"answer":{"lands":[{"code":"RM","name":"Rome"},{"code":"FR","name":"France"}]},"edition":2,
+  "reader":8}
+{"op":"publish"}
+{"fault":15,"name":"NothingPending"}
+"#,
+];
+
+/// That streams go so in turn, from one object.
+fn go_on(rt: &impl Abort, alloc: Global, streams: &[&str]) -> Result<(), Fail> {
+    let mut object = Object::new(alloc, Limits::standard());
+    for stream in streams {
+        let (requests, replies) = apart(alloc, stream)?;
+        let mut source = Plain::new(requests.as_bytes());
+        let mut sink = Plain::new(Vec::new(alloc));
+        let lines = serve_from(alloc, &mut object, 8, &mut source, &mut sink)?;
+        assert_eq!(rt; lines, replies.lines().count() as u64);
+        assert_eq!(rt; sink.into_inner().as_slice(), replies.as_bytes());
+    }
+    Ok(())
+}
+
+#[test]
+fn an_object_that_stands_goes_on(rt: HostRuntime) -> Result<(), Fail> {
+    go_on(&rt, rt.alloc(), &STREAMS)
+}
+
+/// Queries before and behind an edit and a publish.
+const MIXED: &str = r#"
+{"op":"lands","reader":1}
+{"answer":{"lands":[]},"edition":0,"reader":1}
+{"op":"add_land","code":"RM","name":"Rome","calendar":"julian","style":"january","rule":"julian"}
+{"ok":"staged","pending":1}
+{"op":"lands","reader":1}
+{"answer":{"lands":[]},"edition":0,"reader":1}
+{"op":"publish"}
+{"edition":1,"ok":"published"}
+{"op":"lands","reader":1}
+{"answer":{"lands":[{"code":"RM","name":"Rome"}]},"edition":1,"reader":1}
+"#;
+
+/// Where writing fails, how many lines were answered whole then, and the pending edits and the
+/// editions of the object. The replies end behind 47, 75, 122, 153 and 227 bytes. What waits is
+/// written before the edit, and again before the publish.
+const STOPPED: [(usize, u64, usize, usize); 9] = [
+    (0, 0, 0, 0),
+    (46, 0, 0, 0),
+    (47, 1, 1, 0),
+    (74, 1, 1, 0),
+    (75, 2, 1, 0),
+    (121, 2, 1, 0),
+    (122, 3, 0, 1),
+    (153, 4, 0, 1),
+    (226, 4, 0, 1),
+];
+
+/// That the object stands so after writes that fail.
+fn stops(
+    rt: &impl Abort,
+    alloc: Global,
+    session: &str,
+    rows: &[(usize, u64, usize, usize)],
+) -> Result<(), Fail> {
+    let (requests, _) = apart(alloc, session)?;
+    for (fails_at, lines, pending, editions) in rows {
+        let mut object = Object::new(alloc, Limits::standard());
+        let mut source = Plain::new(requests.as_bytes());
+        let mut sink = sink_that_fails(alloc, 1, *fails_at)?;
+        let answered = match serve_from(alloc, &mut object, 8, &mut source, &mut sink) {
+            Err(ServeFault::WriteFault { lines }) => Some(lines),
+            _ => None,
+        };
+        assert_eq!(rt; answered, Some(*lines), "at {fails_at}");
+        assert_eq!(rt; object.pending().len(), *pending, "at {fails_at}");
+        assert_eq!(rt; object.batches().len(), *editions, "at {fails_at}");
+    }
+    Ok(())
+}
+
+#[test]
+fn an_object_after_a_failed_write(rt: HostRuntime) -> Result<(), Fail> {
+    stops(&rt, rt.alloc(), MIXED, &STOPPED)
+}

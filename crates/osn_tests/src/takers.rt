@@ -1,0 +1,90 @@
+//! The loop over lines, with a taker of its own that stops.
+ghost use Rattle.std.specs.Prelude.{⊤};
+
+use osn_wire::{LineTaker, Plain, TakeFault, take_lines};
+use std::alloc::Global;
+use std::process::Abort;
+
+/// Why it stops.
+#[derive(Clone, Copy, Debug, PartialEq, Eq)]
+enum Why {
+    /// At a line that says so.
+    Line,
+    /// Before a read beyond those that it waits for.
+    Read,
+}
+
+/// Takes lines up to one that says "stop", and waits for so many reads.
+#[derive(Drop)]
+struct Patient {
+    taken: u64,
+    reads: u32,
+}
+
+impl LineTaker for Patient {
+    type Stop = Why;
+
+    ghost after = { λ _ _ _. ⊤ };
+
+    ghost stopped = { λ _ _ _ _ _. ⊤ };
+
+    fn take(&mut self, line: &[u8]) -> Result<(), Why> {
+        if line == b"stop".as_slice() {
+            return Err(Why::Line);
+        }
+        self.taken = self.taken.saturating_add(1);
+        Ok(())
+    }
+
+    fn before_read(&mut self) -> Result<(), Why> {
+        if self.reads == 0 {
+            return Err(Why::Read);
+        }
+        self.reads -= 1;
+        Ok(())
+    }
+}
+
+/// How the loop ended.
+#[derive(Clone, Copy, Debug, PartialEq, Eq)]
+enum End {
+    Taken,
+    NoMemory,
+    ReadFault,
+    Stopped(Why),
+}
+
+/// What is read, in how many reads at most, how it ends, and the lines that were taken.
+const ENDS: [(&[u8], u32, End, u64); 8] = [
+    (b"", 1, End::Taken, 0),
+    (b"a\n\nb", 2, End::Taken, 3),
+    (b"a\nb\nstop\nc\n", 2, End::Stopped(Why::Line), 2),
+    (b"stop\n", 2, End::Stopped(Why::Line), 0),
+    (b"a\nstop", 2, End::Stopped(Why::Line), 1),
+    (b"a\nstop \n", 2, End::Taken, 2),
+    (b"a\nb\nc", 1, End::Stopped(Why::Read), 2),
+    (b"a\nb\nc", 0, End::Stopped(Why::Read), 0),
+];
+
+/// That the loop ends so, and that its taker took as many lines as it says.
+fn take_up_to(rt: &impl Abort, alloc: Global, rows: &[(&[u8], u32, End, u64)]) {
+    for (input, reads, wanted, count) in rows {
+        let mut taker = Patient {
+            taken: 0,
+            reads: *reads,
+        };
+        let (end, lines) = match take_lines(alloc, &mut taker, &mut Plain::new(*input)) {
+            Ok(lines) => (End::Taken, lines),
+            Err(TakeFault::NoMemory { lines }) => (End::NoMemory, lines),
+            Err(TakeFault::ReadFault { lines }) => (End::ReadFault, lines),
+            Err(TakeFault::Stopped { lines, why }) => (End::Stopped(why), lines),
+        };
+        assert_eq!(rt; end, *wanted, "for {input:?}");
+        assert_eq!(rt; (taker.taken, lines), (*count, *count), "for {input:?}");
+    }
+}
+
+#[test]
+fn a_taker_stops(rt: HostRuntime) {
+    take_up_to(&rt, rt.alloc(), &ENDS);
+}

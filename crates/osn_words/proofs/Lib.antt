@@ -1,0 +1,3 @@
+pub mod WriteLemmas
+pub mod WeekdayFacts
+pub mod Padded

@@ -1,0 +1,37 @@
+//! How the members of an object are written as JSON: by their tokens, one behind another.
+ghost use Rattle.std.specs.Prelude.{◌≡◌, ◌++◌, OnOk};
+ghost use Rattle.serde_json.specs.Data.{boolean, string};
+ghost use Rattle.osn_words.specs.Json.{whole, member_tokens};
+
+use json::Writer;
+use std::alloc::AllocError;
+
+/// Writes a member that is a number.
+pub fn write_number(out: &mut Writer, name: &str, number: u32) -> Result<(), AllocError>
+    ensures tokens { OnOk result (out.new.tokens
+        ≡ out.old.tokens ++ member_tokens name.now (whole number)) }
+    ensures before { out.new.before ≡ out.old.before }
+{
+    out.key(name)?;
+    out.u64(u64::from(number))
+}
+
+/// Writes a member that is a text.
+pub fn write_text(out: &mut Writer, name: &str, text: &str) -> Result<(), AllocError>
+    ensures tokens { OnOk result (out.new.tokens
+        ≡ out.old.tokens ++ member_tokens name.now (string text.now)) }
+    ensures before { out.new.before ≡ out.old.before }
+{
+    out.key(name)?;
+    out.string(text)
+}
+
+/// Writes a member that is true or false.
+pub fn write_flag(out: &mut Writer, name: &str, flag: bool) -> Result<(), AllocError>
+    ensures tokens { OnOk result (out.new.tokens
+        ≡ out.old.tokens ++ member_tokens name.now (boolean flag)) }
+    ensures before { out.new.before ≡ out.old.before }
+{
+    out.key(name)?;
+    out.boolean(flag)
+}
