@@ -25,6 +25,38 @@ def request(op, **members):
 
 PUBLISH = request("publish")
 
+EDITS, LANDS = 20_000, 500
+
+
+def edit(number):
+    """The edit of that number, counted from 0. What a turn adds goes at its end, or stays."""
+    code = f"T{number % LANDS:05}"
+    turn, phase = divmod(number // LANDS, 5)
+    day, year = 500_000 + turn * 1_000 + number % LANDS, 1500 + turn
+    if number < LANDS:
+        return request("add_land", code=code, name=f"Territory {code}", **JULIAN)
+    if phase == 0:
+        return request("alter_change", code=code, day=1, **GREGORIAN)
+    if phase == 1:
+        return request("add_change", code=code, day=day, **GREGORIAN)
+    if phase == 2:
+        return request("alter_change", code=code, day=day, **JULIAN)
+    if phase == 3:
+        return request("add_exception", code=code, year=year, day=day)
+    if turn % 2 == 0:
+        return request("drop_change", code=code, day=day)
+    return request("drop_exception", code=code, year=year)
+
+
+def published_after(count):
+    """All edits, with a publish after each so many of them."""
+    lines = []
+    for number in range(EDITS):
+        lines.append(edit(number))
+        if (number + 1) % count == 0:
+            lines.append(PUBLISH)
+    return lines
+
 
 def program():
     """The program of the command line, or the one that was built."""

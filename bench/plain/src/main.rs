@@ -35,7 +35,20 @@ fn next_line<R: Read>(
     }
 }
 
+/// Reads every line into a JSON value, and throws it away.
+fn parse_lines() -> io::Result<()> {
+    let mut input = BufReader::with_capacity(1 << 16, io::stdin().lock());
+    let mut line = Vec::new();
+    while next_line(&mut input, &mut io::sink(), &mut line)? {
+        let _value: serde_json::Value = serde_json::from_slice(&line)?;
+    }
+    Ok(())
+}
+
 fn main() -> io::Result<()> {
+    if std::env::args().nth(1).as_deref() == Some("parse") {
+        return parse_lines();
+    }
     let mut input = BufReader::with_capacity(1 << 16, io::stdin().lock());
     let mut output = BufWriter::with_capacity(1 << 16, io::stdout().lock());
     let mut editor = register::Editor::default();

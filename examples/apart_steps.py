@@ -1,0 +1,207 @@
+#!/usr/bin/env python3
+"""Holds what schedules of the nine steps give against a model written apart.
+
+    examples/apart_steps.py [COUNT [SEED [PROGRAM]]]     1,000 schedules, seed 1 and ../oldstyle where none is given
+    examples/apart_steps.py --replay READERS < SCHEDULE  what the model gives at the steps of one schedule
+
+The program has no command for schedules yet: until it has one, the second form alone is of use, and a program that is
+named has to take the words `replay --readers N FILE`.
+
+The model has two copies of the territories, each with its edits made one by one, and a list of the edits that the
+standby lacks. It was written from docs/DEFINITIONS.md alone, and shares the rules of edits and queries with apart.py.
+"""
+import json
+import os
+import random
+import subprocess
+import sys
+import tempfile
+
+from apart import Fault, Service, refuse, request_of
+
+HERE = os.path.dirname(os.path.abspath(__file__))
+EDITIONS = 5_000
+
+
+class Copy(Service):
+    """One of the two copies: what it has is what it shows."""
+
+    def __init__(self):
+        super().__init__()
+        self.published = self.draft
+
+
+class Machine:
+    def __init__(self, readers):
+        self.sides, self.live, self.phase = [Copy(), Copy()], 0, "ready"
+        self.lag, self.pending, self.edition = [], [], 0
+        self.readers = [("idle",) for _ in range(readers)]
+
+    def standby(self):
+        return self.sides[1 - self.live]
+
+    def out(self, line):
+        """The line that a step gives."""
+        value = json.loads(line)
+        try:
+            members = getattr(self, value.pop("step"))(value)
+        except Fault as fault:
+            members = fault.members
+        if isinstance(members, str):
+            members = {"out": members}
+        return json.dumps(members, separators=(",", ":"), sort_keys=True, ensure_ascii=False)
+
+    def at(self, value, state):
+        """The place of the step's reader, if it is in this state."""
+        place = value["reader"] - 1
+        return place if self.readers[place][0] == state else None
+
+    def look(self, value):
+        place = self.at(value, "idle")
+        if place is None:
+            return "not_now"
+        op, query = request_of(json.dumps(value).encode(), len(self.readers))
+        self.readers[place] = ("noted", (op, query), self.live)
+        return "moved"
+
+    def pin(self, value):
+        place = self.at(value, "noted")
+        if place is None:
+            return "not_now"
+        self.readers[place] = ("marked", *self.readers[place][1:])
+        return "moved"
+
+    def check(self, value):
+        place = self.at(value, "marked")
+        if place is None:
+            return "not_now"
+        _, query, side = self.readers[place]
+        if side != self.live:
+            self.readers[place] = ("noted", query, self.live)
+            return "again"
+        self.readers[place] = ("entered", query, side, self.edition)
+        return "entered"
+
+    def answer(self, value):
+        place = self.at(value, "entered")
+        if place is None:
+            return "not_now"
+        _, query, side, edition = self.readers[place]
+        self.readers[place] = ("answered", None, side)
+        return {"edition": edition, "reader": place + 1, **self.sides[side].ask(*query)}
+
+    def leave(self, value):
+        place = self.at(value, "answered")
+        if place is None:
+            return "not_now"
+        self.readers[place] = ("idle",)
+        return "moved"
+
+    def stage(self, value):
+        if self.phase != "ready":
+            return "not_now"
+        edit = request_of(json.dumps(value).encode(), len(self.readers))
+        self.standby().stage(*edit)
+        self.pending.append(edit)
+        return {"ok": "staged", "pending": len(self.pending)}
+
+    def publish(self, value):
+        if self.phase != "ready":
+            return "not_now"
+        refuse((lambda: not self.pending, 15), (lambda: self.edition >= EDITIONS, 17))
+        self.live, self.phase = 1 - self.live, "draining"
+        self.lag, self.pending, self.edition = self.pending, [], self.edition + 1
+        return {"edition": self.edition, "ok": "published"}
+
+    def claim(self, value):
+        marked = [state[2] for state in self.readers if state[0] in ("marked", "entered", "answered")]
+        if self.phase != "draining" or 1 - self.live in marked:
+            return "not_now"
+        self.phase = "claimed"
+        return "moved"
+
+    def absorb(self, value):
+        if self.phase != "claimed":
+            return "not_now"
+        if not self.lag:
+            self.phase = "ready"
+            return "ready"
+        self.standby().stage(*self.lag.pop(0))
+        return "moved"
+
+
+NEXT = {"idle": "look", "noted": "pin", "marked": "check", "entered": "answer", "answered": "leave"}
+WORK = {"ready": ["stage", "stage", "publish"], "draining": ["claim"], "claimed": ["absorb"]}
+READER, EDITOR = list(NEXT.values()), ["stage", "publish", "claim", "absorb"]
+CODES = ["RM", "GB", "FR", "DE", "rm"]
+REGIME = {"calendar": "julian", "style": "january", "rule": "julian"}
+
+
+def query(chance):
+    code = chance.choice(CODES)
+    return chance.choice([{"op": "lands"}, {"op": "periods", "code": code},
+                          {"op": "day", "code": code, "day": chance.choice([0, 1, 577_736])}])
+
+
+def edit(chance):
+    edits = [{"op": "add_land", "name": "Sample", **REGIME},
+             {"op": "add_change", "day": 577_736, **REGIME, "calendar": "gregorian"},
+             {"op": "drop_change", "day": 577_736}]
+    return {**chance.choice(edits), "code": chance.choice(CODES)}
+
+
+def schedule(chance, machine):
+    """Steps at random, four of five such as are enabled or nearly so, and what the model gives at them."""
+    lines, outs = [], []
+    for _ in range(chance.randrange(20, 80)):
+        usual, place = chance.random() < 0.8, chance.randrange(len(machine.readers))
+        if chance.random() < 0.5:
+            word = NEXT[machine.readers[place][0]] if usual else chance.choice(READER)
+        else:
+            word = chance.choice(WORK[machine.phase] if usual else EDITOR)
+        step = {"step": word}
+        if word == "look":
+            step.update(query(chance))
+        if word == "stage":
+            step.update(edit(chance))
+        if word in READER:
+            step.update(reader=place + 1)
+        lines.append(json.dumps(step))
+        outs.append(machine.out(lines[-1]))
+    return lines, outs
+
+
+def given(program, readers, lines):
+    """What the program gives at a schedule."""
+    with tempfile.NamedTemporaryFile("w", suffix=".jsonl") as file:
+        file.write("".join(line + "\n" for line in lines))
+        file.flush()
+        words = [program, "replay", "--readers", str(readers), file.name]
+        return subprocess.run(words, capture_output=True, text=True, check=True).stdout.splitlines()
+
+
+def main():
+    if sys.argv[1:2] == ["--replay"]:
+        machine = Machine(int(sys.argv[2]))
+        for line in sys.stdin:
+            print(machine.out(line))
+        return
+    count = int(sys.argv[1]) if len(sys.argv) > 1 else 1_000
+    seed = int(sys.argv[2]) if len(sys.argv) > 2 else 1
+    program = sys.argv[3] if len(sys.argv) > 3 else os.path.join(HERE, "..", "oldstyle")
+    chance, steps = random.Random(seed), 0
+    for place in range(count):
+        readers = chance.randint(1, 4)
+        lines, wanted = schedule(chance, Machine(readers))
+        got = given(program, readers, lines)
+        if got != wanted:
+            print(f"schedule {place} of seed {seed}, {readers} readers:")
+            for line, one, other in zip(lines, wanted, got + [""] * len(lines)):
+                print("  ", line, one, "" if one == other else f"and not {other}")
+            sys.exit(1)
+        steps += len(lines)
+    print(f"{count} schedules, {steps} steps: all as the model gives")
+
+
+if __name__ == "__main__":
+    main()
