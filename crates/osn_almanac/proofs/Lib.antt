@@ -1,1 +1,2 @@
 pub mod LineFacts
+mod BareFacts

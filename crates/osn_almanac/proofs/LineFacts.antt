@@ -1,15 +1,18 @@
 -- Columns and the text of lines.
-use Rattle.std.proofs.Common.{◌≡◌, ◌≤◌, ◌<◌, ℕ, ◌-◌, ◌^◌, List, [], ◌∷◌, ◌++◌, length, replicate, refl, sym, ap, ◌∙◌, arith, false, lit<, lit≤, append_assoc, append-nil}
+use Rattle.std.proofs.Common.{◌≡◌, ◌≤◌, ◌<◌, ℕ, ◌-◌, ◌^◌, List, [], ◌∷◌, ◌++◌, length}
+use Rattle.std.proofs.Common.{refl, sym, ap, ◌∙◌, arith, lit<, lit≤, append_assoc}
+use Rattle.std.proofs.Common.{append-nil}
 use Rattle.std.proofs.Common.{Result, OnOk, map, take, get_or, ◌+◌, add-one}
 use Rattle.std.specs.List.{flat_map}
 use Rattle.std.proofs.Math.Seq.{take-suc}
 use Rattle.std.proofs.lemmas.List.{map_more}
 use Rattle.std.proofs.lemmas.Result.{on_ok_weaker}
-use Rattle.std.specs.Fmt.{padded, char_count, take_chars, styled_decimal, format_spec, decimal}
+use Rattle.std.specs.Fmt.{padded, char_count, styled_decimal, format_spec, decimal}
 use Rattle.std.proofs.Padding.{take_chars_all, repeat_ascii, padded_integral_right}
 use Rattle.std.proofs.lemmas.Grind.{flat_map-append}
 use Rattle.osn_days.specs.declared.weekday.Weekday.{Weekday}
-use Rattle.osn_days.specs.declared.weekday.Weekday.TheVariants.{Sunday, Monday, Tuesday, Wednesday, Thursday, Friday, Saturday}
+use Rattle.osn_days.specs.declared.weekday.Weekday.TheVariants.{Sunday, Monday, Tuesday, Wednesday}
+use Rattle.osn_days.specs.declared.weekday.Weekday.TheVariants.{Thursday, Friday, Saturday}
 use Rattle.osn_days.specs.Weekday.{weekday_name}
 use Rattle.osn_almanac.specs.Columns.{left_in, day_column}
 use Rattle.osn_almanac.specs.Almanac.{lines_text}

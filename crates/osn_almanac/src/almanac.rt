@@ -2,6 +2,7 @@ ghost use Rattle.std.specs.Prelude.{◌≡◌, None, IfOk, IfErr, OnOk, string_b
 ghost use Rattle.osn_days.specs.Profile.{present};
 ghost use Rattle.osn_register.specs.Refusal.{IsRefusalOrNoMemory};
 ghost use Rattle.osn_almanac.specs.Almanac as said;
+ghost use Rattle.osn_almanac.specs.Bare.{AreBare};
 
 use crate::changes::push_changes;
 use crate::easters::push_easters;
@@ -48,6 +49,10 @@ pub fn almanac_text(
         (λ s. string_bytes s ≡ said.almanac present register.now.lands code.now year) }
     ensures refused { IfErr result (IsRefusalOrNoMemory
         (said.almanac_refusal present register.now.lands code.now year)) }
+
+    // As a law: no line ends with a space.
+    ensures bare { OnOk result
+        (AreBare (said.almanac_lines present register.now.lands code.now year)) }
 {
     register.check_easter(code, year)?;
     match written(alloc, register, code, year) {

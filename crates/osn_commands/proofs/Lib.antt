@@ -1,1 +1,5 @@
 pub mod TellLemmas
+pub mod FileLemmas
+pub mod PrintLemmas
+pub mod LineLemmas
+pub mod AuditLemmas

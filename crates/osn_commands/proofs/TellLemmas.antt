@@ -1,14 +1,16 @@
 -- A command whose refusal was told as want of memory did what its contract says of that.
-use Rattle.std.proofs.Common.{◌≡◌, ◌⊎◌, ℕ, Bool, List, Option, Some, None, Result, Ok, Err}
-use Rattle.std.proofs.Common.{IfOk, OnErr, IfSome, refl, sym, subst, ◌∙◌, inl, inr}
+use Rattle.std.proofs.Common.{◌≡◌, ℕ, Bool, List, Option, Some, None, Result, Ok, Err}
+use Rattle.std.proofs.Common.{codes, ◌++◌, IfOk, OnErr, IfSome, refl, sym, subst, ◌∙◌, inl, inr}
 use Rattle.osn_days.specs.Profile.{Profile}
 use Rattle.osn_register.specs.declared.limits.Limits.{Limits}
-use Rattle.osn_commands.specs.Fault.{fault_status, fault_line}
+use Rattle.osn_commands.specs.Fault.{fault_status, fault_line, refusal_end}
+use Rattle.osn_commands.specs.Journal.{HasNoObject}
 use Rattle.osn_commands.specs.Serving.{Serves}
 use Rattle.osn_commands.specs.Told.{IsToldAs, WritesLine, EndsBy, Tells}
 use Rattle.osn_commands.specs.declared.fault.CommandFault.{CommandFault}
-use Rattle.osn_commands.specs.declared.fault.CommandFault.TheVariants.{BadLine, Refused, ReadFault}
-use Rattle.osn_commands.specs.declared.fault.CommandFault.TheVariants.{WriteFault, NoMemory}
+use Rattle.osn_commands.specs.declared.fault.CommandFault.TheVariants.{BadLine, Refused, Desk}
+use Rattle.osn_commands.specs.declared.fault.CommandFault.TheVariants.{ReadFault, WriteFault}
+use Rattle.osn_commands.specs.declared.fault.CommandFault.TheVariants.{NoMemory}
 use Rattle.osn_commands.specs.declared.status.Status.{Status}
 use Rattle.osn_commands.specs.declared.status.Status.TheVariants as statuses
 
@@ -30,15 +32,27 @@ told_refusal bytes old new failed fault status (Ok text) is e h k =
     (fault, inl refl, (h.0 ∙ sym is, subst (λ l. WritesLine old new failed l) e h.1))
 told_refusal bytes old new failed fault status (Err x) is e h k = (NoMemory, inr (is, refl), k)
 
+-- the end of a line of a refusal, by its number and name
+pub same_end : (n number : ℕ) (s name : List ℕ) → n ≡ number → s ≡ name
+    → codes "oldstyle: " ++ refusal_end n s ≡ codes "oldstyle: " ++ refusal_end number name
+same_end n number s name e k = rw (e, k) refl
+
 -- other faults are no refusals
 read_is_no_refusal : statuses.ReadFault ≡ statuses.Refused → ⊥
 read_is_no_refusal e = cc
 
-write_is_no_refusal : statuses.WriteFault ≡ statuses.Refused → ⊥
+pub write_is_no_refusal : statuses.WriteFault ≡ statuses.Refused → ⊥
 write_is_no_refusal e = cc
 
 memory_is_no_refusal : statuses.NoMemory ≡ statuses.Refused → ⊥
 memory_is_no_refusal e = cc
+
+-- no object may be told as want of memory
+no_object_told : (p : Profile) (limits : Limits) (begun : Option (Option (List ℕ)))
+    (fault : CommandFault)
+    → HasNoObject p limits begun fault → HasNoObject p limits begun NoMemory
+no_object_told p limits None fault h = h
+no_object_told p limits (Some journal) fault h = tt
 
 -- the service of a journal that was refused
 pub serves_told : (p : Profile) (limits : Limits) (readers : ℕ) (begun : Option (Option (List ℕ)))
@@ -49,19 +63,20 @@ pub serves_told : (p : Profile) (limits : Limits) (readers : ℕ) (begun : Optio
     → Serves p limits readers begun saves old new input journal (Some told)
 serves_told p l n b saves old new input j fault told (inl e) h =
     subst (λ f. Serves p l n b saves old new input j (Some f)) (sym e) h
-serves_told p l n b saves old new input j (BadLine role line why) told (inr k) (none, inl h) =
-    subst (λ f. Serves p l n b saves old new input j (Some f)) (sym k.1) (none, inl (tt, h.1))
+serves_told p l n b saves old new input j fault told (inr k) (none, inl h) =
+    subst (λ f. Serves p l n b saves old new input j (Some f)) (sym k.1)
+    (none, inl (no_object_told p l b fault h.0, h.1))
 serves_told p l n b saves old new input j (BadLine role line why) told (inr k) (none, inr h) =
     absurd h.2
-serves_told p l n b saves old new input j (Refused refusal) told (inr k) (none, inl h) =
-    absurd h.0
 serves_told p l n b saves old new input j (Refused refusal) told (inr k) (none, inr h) =
     absurd h.2
-serves_told p l n b saves old new input j ReadFault told (inr k) h =
+serves_told p l n b saves old new input j (Desk desk) told (inr k) (none, inr h) =
+    absurd h.2
+serves_told p l n b saves old new input j ReadFault told (inr k) (none, inr h) =
     absurd (read_is_no_refusal k.0)
-serves_told p l n b saves old new input j WriteFault told (inr k) h =
+serves_told p l n b saves old new input j WriteFault told (inr k) (none, inr h) =
     absurd (write_is_no_refusal k.0)
-serves_told p l n b saves old new input j NoMemory told (inr k) h =
+serves_told p l n b saves old new input j NoMemory told (inr k) (none, inr h) =
     absurd (memory_is_no_refusal k.0)
 
 -- the same for an input that may be known

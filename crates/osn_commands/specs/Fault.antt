@@ -7,12 +7,17 @@ use Rattle.osn_files.specs.Faults.{line_fault_number, line_fault_name}
 use Rattle.osn_files.specs.declared.fault.FileFault.{FileFault}
 use Rattle.osn_files.specs.declared.fault.FileFault.TheVariants as file_faults
 use Rattle.osn_files.specs.declared.fault.Role.{Role}
-use Rattle.osn_files.specs.declared.fault.Role.TheVariants.{Journal}
+use Rattle.osn_files.specs.declared.fault.Role.TheVariants.{Journal, Script, Questions, Schedule}
+use Rattle.osn_files.specs.declared.fault.Role.TheVariants.{Transcript}
+use Rattle.osn_live.specs.Faults.{desk_fault_number, desk_fault_name}
+use Rattle.osn_live.specs.declared.faults.DeskFault.{DeskFault}
+use Rattle.osn_live.specs.declared.faults.DeskFault.TheVariants as desk_faults
 use Rattle.osn_wire.specs.declared.fault.ServeFault.{ServeFault}
 use Rattle.osn_wire.specs.declared.fault.ServeFault.TheVariants as serve_faults
 use Rattle.osn_commands.specs.declared.fault.CommandFault.{CommandFault}
-use Rattle.osn_commands.specs.declared.fault.CommandFault.TheVariants.{BadLine, Refused, ReadFault}
-use Rattle.osn_commands.specs.declared.fault.CommandFault.TheVariants.{WriteFault, NoMemory}
+use Rattle.osn_commands.specs.declared.fault.CommandFault.TheVariants.{BadLine, Refused, Desk}
+use Rattle.osn_commands.specs.declared.fault.CommandFault.TheVariants.{ReadFault, WriteFault}
+use Rattle.osn_commands.specs.declared.fault.CommandFault.TheVariants.{NoMemory}
 use Rattle.osn_commands.specs.declared.status.Status.{Status}
 use Rattle.osn_commands.specs.declared.status.Status.TheVariants as statuses
 
@@ -20,12 +25,17 @@ use Rattle.osn_commands.specs.declared.status.Status.TheVariants as statuses
 abbrev pub fault_status : CommandFault → Status
 fault_status (BadLine role line why) = statuses.Refused
 fault_status (Refused refusal) = statuses.Refused
+fault_status (Desk fault) = statuses.Refused
 fault_status ReadFault = statuses.ReadFault
 fault_status WriteFault = statuses.WriteFault
 fault_status NoMemory = statuses.NoMemory
 
 abbrev pub role_name : Role → List ℕ
 role_name Journal = codes "journal"
+role_name Script = codes "script"
+role_name Questions = codes "questions"
+role_name Schedule = codes "schedule"
+role_name Transcript = codes "transcript"
 
 -- a refusal by number and name, and the end of the line
 abbrev pub refusal_end : ℕ → List ℕ → List ℕ
@@ -38,6 +48,8 @@ fault_line (BadLine role line why) =
     ++ refusal_end (line_fault_number why) (line_fault_name why)))))
 fault_line (Refused refusal) =
     codes "oldstyle: " ++ refusal_end (refusal_number refusal) (refusal_name refusal)
+fault_line (Desk fault) =
+    codes "oldstyle: " ++ refusal_end (desk_fault_number fault) (desk_fault_name fault)
 fault_line ReadFault = codes "oldstyle: read fault\n"
 fault_line WriteFault = codes "oldstyle: write fault\n"
 fault_line NoMemory = codes "oldstyle: no memory\n"
@@ -53,3 +65,12 @@ abbrev pub by_file : FileFault → CommandFault
 by_file file_faults.NoMemory = NoMemory
 by_file file_faults.ReadFault = ReadFault
 by_file (file_faults.BadLine role line why) = BadLine role line why
+
+-- the fault of a desk is the same one
+abbrev pub by_desk : DeskFault → CommandFault
+by_desk desk_faults.NoMemory = NoMemory
+by_desk (desk_faults.HistoryBroken reader last editions) =
+    Desk (desk_faults.HistoryBroken reader last editions)
+by_desk desk_faults.BadCount = Desk desk_faults.BadCount
+by_desk desk_faults.NoPlace = Desk desk_faults.NoPlace
+by_desk desk_faults.GateClosed = Desk desk_faults.GateClosed

@@ -1,5 +1,12 @@
 pub mod Status
 pub mod Fault
 pub mod Told
+pub mod Printing
+pub mod Files
+pub mod Refused
 pub mod Journal
 pub mod Serving
+pub mod Almanac
+pub mod Replay
+pub mod Transcript
+pub mod Audited

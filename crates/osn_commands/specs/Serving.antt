@@ -9,8 +9,9 @@ use Rattle.osn_lines.specs.Lines.{lines}
 use Rattle.osn_files.specs.JournalText.{journal_text}
 use Rattle.osn_wire.specs.Served.{outputs, after_lines, WritesFirst, WritesInPart}
 use Rattle.osn_commands.specs.declared.fault.CommandFault.{CommandFault}
-use Rattle.osn_commands.specs.declared.fault.CommandFault.TheVariants.{BadLine, Refused, ReadFault}
-use Rattle.osn_commands.specs.declared.fault.CommandFault.TheVariants.{WriteFault, NoMemory}
+use Rattle.osn_commands.specs.declared.fault.CommandFault.TheVariants.{BadLine, Refused, Desk}
+use Rattle.osn_commands.specs.declared.fault.CommandFault.TheVariants.{ReadFault, WriteFault}
+use Rattle.osn_commands.specs.declared.fault.CommandFault.TheVariants.{NoMemory}
 use Rattle.osn_commands.specs.Journal.{Begins, HasNoObject}
 
 -- the journal of an object, where it is to be saved
@@ -25,12 +26,12 @@ pub record AnswersAll (p : Profile) (readers : ℕ) (s : ObjectState) (saves : B
   pub saved : journal ≡ journal_to_save saves (after_lines p readers s (lines input))
 
 -- what was answered from this object by the time of a fault: the first lines, and of a failed write
--- a part of the
--- next reply
+-- a part of the next reply
 abbrev pub AnswersUntil : Profile → ℕ → ObjectState → Option (List ℕ) → Option (List ℕ) → List ℕ
     → CommandFault → Type 0
 AnswersUntil p readers s old new input (BadLine role line why) = ⊥
 AnswersUntil p readers s old new input (Refused refusal) = ⊥
+AnswersUntil p readers s old new input (Desk fault) = ⊥
 AnswersUntil p readers s old new input ReadFault =
     (n : ℕ) × WritesFirst p readers s old new (lines input) n
 AnswersUntil p readers s old new input WriteFault =

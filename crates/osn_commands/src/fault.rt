@@ -1,18 +1,20 @@
 //! Why a command ended early, and how standard error is told.
-ghost use Rattle.std.specs.Prelude.{◌≡◌, Some, IfOk, OnErr, string_bytes};
-ghost use Rattle.osn_commands.specs.Fault.{fault_status, fault_line, role_name, by_service};
-ghost use Rattle.osn_commands.specs.Fault.{by_file};
+ghost use Rattle.std.specs.Prelude.{◌≡◌, ◌++◌, codes, Some, IfOk, OnErr, string_bytes};
+ghost use Rattle.osn_commands.specs.Fault.{fault_status, fault_line, refusal_end, role_name};
+ghost use Rattle.osn_commands.specs.Fault.{by_service};
+ghost use Rattle.osn_commands.specs.Fault.{by_file, by_desk};
 ghost use Rattle.osn_commands.specs.Told.{WritesLine, EndsBy, Tells};
 ghost use Rattle.osn_commands.specs.declared.fault.CommandFault.{CommandFault};
 
 use crate::status::Status;
 use osn_files::{FileFault, LineFault, Role};
+use osn_live::DeskFault;
 use osn_register::Refusal;
 use osn_wire::{ServeFault, Sink, write_all};
 use std::alloc::{AllocError, Global};
 
 /// Why a command ended early.
-#[derive(Clone, Copy, Debug, PartialEq, Eq, Hash)]
+#[derive(Clone, Copy, Debug, PartialEq, Eq)]
 pub enum CommandFault {
     /// A line of a file is refused. Lines are counted from 1.
     BadLine {
@@ -22,6 +24,8 @@ pub enum CommandFault {
     },
     /// What the words ask for is refused.
     Refused(Refusal),
+    /// A desk answered nothing, and not for want of memory.
+    Desk(DeskFault),
     /// A read failed, or a file could not be opened.
     ReadFault,
     /// A write failed.
@@ -35,6 +39,10 @@ fn name_of(role: Role) -> &'static str
 {
     match role {
         Role::Journal => "journal",
+        Role::Script => "script",
+        Role::Questions => "questions",
+        Role::Schedule => "schedule",
+        Role::Transcript => "transcript",
     }
 }
 
@@ -49,12 +57,11 @@ fn bad_line(alloc: Global, role: Role, line: u64, fault: LineFault) -> Result<St
     format!(in alloc; "oldstyle: {file} line {line}: {number} {name}\n")
 }
 
-/// The line on what the words ask for.
-fn refused(alloc: Global, refusal: Refusal) -> Result<String, AllocError>
-    ensures { IfOk result (λ text. string_bytes text ≡ fault_line (CommandFault.Refused refusal)) }
+/// The line on what is refused by this number and name.
+fn refused(alloc: Global, number: u8, name: &'static str) -> Result<String, AllocError>
+    ensures { IfOk result (λ text. string_bytes text
+        ≡ codes "oldstyle: " ++ refusal_end number name.now) }
 {
-    let number = refusal.number();
-    let name = refusal.name();
     format!(in alloc; "oldstyle: {number} {name}\n")
 }
 
@@ -78,6 +85,20 @@ impl From<FileFault> for CommandFault {
             FileFault::NoMemory => CommandFault::NoMemory,
             FileFault::ReadFault => CommandFault::ReadFault,
             FileFault::BadLine { role, line, fault } => CommandFault::BadLine { role, line, fault },
+        }
+    }
+}
+
+impl From<DeskFault> for CommandFault {
+    ghost from_gives = { λ fault given. given ≡ by_desk fault };
+
+    fn from(fault: DeskFault) -> CommandFault {
+        match fault {
+            DeskFault::NoMemory => CommandFault::NoMemory,
+            DeskFault::HistoryBroken { .. } => CommandFault::Desk(fault),
+            DeskFault::BadCount => CommandFault::Desk(fault),
+            DeskFault::NoPlace => CommandFault::Desk(fault),
+            DeskFault::GateClosed => CommandFault::Desk(fault),
         }
     }
 }
@@ -131,7 +152,12 @@ pub(crate) fn tell<E: Sink>(alloc: Global, errors: &mut E, fault: CommandFault) 
         CommandFault::BadLine { role, line, fault } => {
             tell_refusal(errors, bad_line(alloc, role, line, fault))
         }
-        CommandFault::Refused(refusal) => tell_refusal(errors, refused(alloc, refusal)),
+        CommandFault::Refused(refusal) => {
+            tell_refusal(errors, refused(alloc, refusal.number(), refusal.name()))
+        }
+        CommandFault::Desk(fault) => {
+            tell_refusal(errors, refused(alloc, fault.number(), fault.name()))
+        }
         CommandFault::ReadFault => {
             write_line(errors, "oldstyle: read fault\n");
             Status::ReadFault

@@ -9,9 +9,10 @@ ghost use Rattle.osn_commands.specs.Told.{EndsBy};
 ghost use Rattle.osn_commands.specs.declared.fault.CommandFault.{CommandFault};
 
 use crate::fault::{CommandFault, tell};
+use crate::reading::journal_object;
 use crate::status::Status;
 use osn_core::Object;
-use osn_files::{journal_text, load_journal};
+use osn_files::journal_text;
 use osn_register::Limits;
 use osn_wire::{Sink, Source, serve_from};
 use std::alloc::Global;
@@ -33,7 +34,7 @@ fn begun<J: Source + Drop>(alloc: Global, journal: Option<J>) -> Result<Object, 
         (HasNoObject present standard_limits (option_map J.remaining journal)) }
 {
     match journal {
-        Some(mut source) => Ok(load_journal(alloc, Limits::standard(), &mut source)?),
+        Some(mut source) => journal_object(alloc, &mut source),
         None => Ok(Object::new(alloc, Limits::standard())),
     }
 }

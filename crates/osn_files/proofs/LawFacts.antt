@@ -20,14 +20,14 @@ use Rattle.osn_register.specs.Plain.{unless_refused}
 use Rattle.osn_register.specs.Refusal.{or_else}
 use Rattle.osn_core.specs.declared.command.Command.{Command}
 use Rattle.osn_core.specs.declared.command.Command.TheVariants.{Stage, Publish}
-use Rattle.osn_core.specs.Sequential.{ObjectState, joined, edits_in, AreLawful, NoneEmpty}
+use Rattle.osn_core.specs.Sequential.{ObjectState, opened, joined, edits_in, AreLawful, NoneEmpty}
 use Rattle.osn_core.specs.Sequential.{IsSound, stage_refusal, publish_refusal, draft_lands}
 use Rattle.osn_core.proofs.Batches.{joined-push}
 use Rattle.osn_request.specs.Field.{◌>>=◌}
 use Rattle.osn_files.specs.declared.fault.LineFault.{LineFault}
 use Rattle.osn_files.specs.Commands.{command_in}
-use Rattle.osn_files.specs.Journal.{after_read, after_command, after_line, go_on, in_turn}
-use Rattle.osn_files.specs.Journal.{load_behind, load}
+use Rattle.osn_files.specs.Journal.{after_read, after_command, after_line, load}
+use Rattle.osn_files.specs.Turns.{go_on, in_turn, behind}
 use Rattle.osn_files.specs.Journal as journal
 use Rattle.osn_files.specs.JournalText.{line_text, edit_data, publish_data, edits_text, batch_text}
 use Rattle.osn_files.specs.JournalText.{batches_text, journal_text}
@@ -178,9 +178,9 @@ run_batches limits done (b ∷ bs) pend more t lawful some edits editions rest n
 pub load-journal_text : (s : ObjectState) → IsSound present s
     → load present s.limits (lines (journal_text s)) ≡ Ok s
 load-journal_text s h =
-    let behind = batches_text s.batches ++ edits_text s.pending in
-    ap (load present s.limits) (IsLine-head.first behind)
-    ∙ (ap (load_behind present s.limits (lines behind)) version_of-head
+    let rest = batches_text s.batches ++ edits_text s.pending in
+    ap (load present s.limits) (IsLine-head.first rest)
+    ∙ (ap (behind (after_line present) (opened s.limits) (lines rest)) version_of-head
     ∙ run_batches s.limits [] s.batches s.pending (edits_text s.pending) s h.lawful h.none_empty
     (omega (arith, h.edits)) (omega (arith, h.editions))
     (λ m. ap (λ text. in_turn step m (at s.limits s.batches []) (lines text))

@@ -1,5 +1,8 @@
-mod TurnLemmas
-mod LoadLemmas
+pub mod TurnLemmas
+mod HeadLemmas
+mod ReadLemmas
+mod QuestionLemmas
+mod ScheduleLemmas
 mod ByteFacts
 mod TextFacts
 mod EditFacts

@@ -1,16 +1,7 @@
--- Lines that are taken in turn, and what a journal's lines make by way of a half that is loaded.
-use Rattle.std.proofs.Common.{◌≡◌, ℕ, ◌+◌, List, [], ◌∷◌, ◌++◌, length, Some, None}
-use Rattle.std.proofs.Common.{Result, Ok, Err, refl, ap, ◌∙◌, arith}
-use Rattle.osn_days.specs.Profile.{Profile}
-use Rattle.osn_register.specs.declared.limits.Limits.{Limits}
-use Rattle.osn_core.specs.Sequential.{ObjectState, opened}
-use Rattle.osn_request.specs.declared.wire_fault.WireFault.TheVariants.{BadHead}
-use Rattle.osn_files.specs.declared.fault.LineFault.{LineFault}
-use Rattle.osn_files.specs.declared.fault.LineFault.TheVariants.{Wire}
-use Rattle.osn_files.specs.declared.version.Version.{Version}
-use Rattle.osn_files.specs.Inside.{Half, with_head, with_object, half_after}
-use Rattle.osn_files.specs.Journal.{after_line, go_on, in_turn, load_behind, load}
-use Rattle.osn_files.specs.Version.{version_of}
+-- Lines that are taken in turn.
+use Rattle.std.proofs.Common.{◌≡◌, ℕ, ◌+◌, List, [], ◌∷◌, ◌++◌, length, Option, Some}
+use Rattle.std.proofs.Common.{None, Result, Ok, Err, IfSome, refl, ap, ◌∙◌, arith}
+use Rattle.osn_files.specs.Turns.{go_on, in_turn}
 
 -- what comes behind lines that were all taken
 abbrev go_behind : {S F : Type 0} → Result S (ℕ × F) → (S → Result S (ℕ × F)) → Result S (ℕ × F)
@@ -50,32 +41,28 @@ in_turn-fault step s t f xs x more h fault =
     ∙ (ap (λ r. go_on (1 + length xs) r (λ v. in_turn step (1 + length xs + 1) v more)) fault
     ∙ ap (λ k. Err (k, f)) (omega arith))
 
--- the object of a half, where the head has come
-abbrev pub whole_of : Result Half (ℕ × LineFault) → Result ObjectState (ℕ × LineFault)
-whole_of (Ok (Some version, s)) = Ok s
-whole_of (Ok (None, s)) = Err (1, Wire BadHead)
-whole_of (Err e) = Err e
+-- a value that holds what was made
+abbrev pub ok_as : {S T F : Type 0} → (S → T) → Result S F → Result T F
+ok_as hold (Ok s) = Ok (hold s)
+ok_as hold (Err e) = Err e
 
-behind_half : (p : Profile) (version : Version) (n : ℕ) (s : ObjectState) (ls : List (List ℕ))
-    → in_turn (after_line p version) n s ls
-    ≡ whole_of (in_turn (half_after p) n (Some version, s) ls)
-behind_half p version n s [] = refl
-behind_half p version n s (l ∷ ls) =
-    elim (after_line p version s l) as (λ r.
-    go_on n r (λ t. in_turn (after_line p version) (n + 1) t ls)
-    ≡ whole_of (go_on n (with_object version r) (λ h. in_turn (half_after p) (n + 1) h ls))) [
-      | Ok t ↦ behind_half p version (n + 1) t ls
+-- lines make the same in a value that holds what they make, where each line does
+pub in_turn-as : {S T F : Type 0} (hold : S → T) (step : S → List ℕ → Result S F)
+    (step_held : T → List ℕ → Result T F)
+    → ((s : S) (line : List ℕ) → step_held (hold s) line ≡ ok_as hold (step s line))
+    → (n : ℕ) (s : S) (ls : List (List ℕ))
+    → in_turn step_held n (hold s) ls ≡ ok_as hold (in_turn step n s ls)
+in_turn-as hold step step_held each n s [] = refl
+in_turn-as hold step step_held each n s (l ∷ ls) =
+    ap (λ r. go_on n r (λ t. in_turn step_held (n + 1) t ls)) (each s l)
+    ∙ elim (step s l) as (λ r. go_on n (ok_as hold r) (λ t. in_turn step_held (n + 1) t ls)
+    ≡ ok_as hold (go_on n r (λ t. in_turn step (n + 1) t ls))) [
+      | Ok t ↦ in_turn-as hold step step_held each (n + 1) t ls
       | Err f ↦ refl
     ]
 
--- a journal's lines make what they make by way of a half
-pub load-half : (p : Profile) (limits : Limits) (ls : List (List ℕ))
-    → load p limits ls ≡ whole_of (in_turn (half_after p) 1 (None, opened limits) ls)
-load-half p limits [] = refl
-load-half p limits (l ∷ ls) =
-    elim (version_of l) as (λ r. load_behind p limits ls r
-    ≡ whole_of
-    (go_on 1 (with_head (opened limits) r) (λ h. in_turn (half_after p) (1 + 1) h ls))) [
-      | Ok version ↦ behind_half p version 2 (opened limits) ls
-      | Err f ↦ refl
-    ]
+-- what follows for each input that is known
+pub if_some : {P Q : List ℕ → Type 0} (o : Option (List ℕ)) → ((x : List ℕ) → P x → Q x)
+    → IfSome o P → IfSome o Q
+if_some None f h = tt
+if_some (Some x) f h = f x h

@@ -1,6 +1,6 @@
--- What is loaded from the lines of a journal: a head, and behind it commands that are run in turn
--- on a new object, up to the first that is refused. This project's profile.
-use Rattle.std.specs.Prelude.{ℕ, ◌+◌, List, [], ◌∷◌, Option, Some, None, Result, Ok, Err}
+-- What is loaded from the lines of a journal: a head, and behind it commands that are run in turn on
+-- a new object, up to the first that is refused. This project's profile.
+use Rattle.std.specs.Prelude.{ℕ, List, Option, Some, None, Result, Ok, Err}
 use Rattle.osn_days.specs.Profile.{Profile}
 use Rattle.osn_register.specs.declared.limits.Limits.{Limits}
 use Rattle.osn_register.specs.declared.refusal.Refusal.{Refusal}
@@ -9,12 +9,12 @@ use Rattle.osn_core.specs.declared.command.Command.TheVariants.{Stage, Publish}
 use Rattle.osn_core.specs.Sequential.{ObjectState, opened, with_pending, with_edition}
 use Rattle.osn_core.specs.Sequential.{stage_refusal, publish_refusal}
 use Rattle.osn_request.specs.declared.wire_fault.WireFault.{WireFault}
-use Rattle.osn_request.specs.declared.wire_fault.WireFault.TheVariants.{BadHead}
 use Rattle.osn_files.specs.declared.fault.LineFault.{LineFault}
 use Rattle.osn_files.specs.declared.fault.LineFault.TheVariants.{Wire, Register}
 use Rattle.osn_files.specs.declared.version.Version.{Version}
 use Rattle.osn_files.specs.Commands.{command_of}
-use Rattle.osn_files.specs.Version.{rules_of, version_of}
+use Rattle.osn_files.specs.Turns.{behind_head}
+use Rattle.osn_files.specs.Version.{rules_of}
 
 abbrev pub unless_refused : Option Refusal → ObjectState → Result ObjectState LineFault
 unless_refused None s = Ok s
@@ -34,24 +34,6 @@ after_read p s (Err f) = Err (Wire f)
 abbrev pub after_line : Profile → Version → ObjectState → List ℕ → Result ObjectState LineFault
 after_line p version s line = after_read p s (command_of (rules_of p version) line)
 
--- what comes next, unless the line of this number has a fault
-abbrev pub go_on : {S F : Type 0} → ℕ → Result S F → (S → Result S (ℕ × F)) → Result S (ℕ × F)
-go_on n (Ok t) next = next t
-go_on n (Err f) next = Err (n, f)
-
--- what lines make of a value, each in turn, or the first fault and the number of its line, where
--- the first line has this number
-abbrev pub in_turn : {S F : Type 0}
-    → (S → List ℕ → Result S F) → ℕ → S → List (List ℕ) → Result S (ℕ × F)
-in_turn step n s [] = Ok s
-in_turn step n s (line ∷ rest) = go_on n (step s line) (λ t. in_turn step (n + 1) t rest)
-
-abbrev pub load_behind : Profile → Limits → List (List ℕ)
-    → Result Version WireFault → Result ObjectState (ℕ × LineFault)
-load_behind p limits rest (Ok version) = in_turn (after_line p version) 2 (opened limits) rest
-load_behind p limits rest (Err f) = Err (1, Wire f)
-
 -- the object of a journal's lines, or the first fault and the number of its line, counted from 1
 abbrev pub load : Profile → Limits → List (List ℕ) → Result ObjectState (ℕ × LineFault)
-load p limits [] = Err (1, Wire BadHead)
-load p limits (head ∷ rest) = load_behind p limits rest (version_of head)
+load p limits = behind_head (after_line p) (opened limits)

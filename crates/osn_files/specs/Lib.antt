@@ -1,6 +1,14 @@
 pub mod Faults
 pub mod Version
+pub mod Turns
 pub mod Commands
 pub mod Journal
 pub mod JournalText
-pub mod Inside
+pub mod Script
+pub mod Questions
+pub mod Schedule
+pub mod Stops
+pub mod ReadingInside
+pub mod Fronts
+pub mod HeadedInside
+pub mod ScheduleInside

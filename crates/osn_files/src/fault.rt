@@ -11,6 +11,14 @@ use thiserror::Error;
 pub enum Role {
     /// The edits and publishes of an object, behind a head.
     Journal,
+    /// The edits and publishes of one editor, behind a head.
+    Script,
+    /// The queries of readers.
+    Questions,
+    /// The steps of one editor and of readers.
+    Schedule,
+    /// The queries of readers, each with its reply.
+    Transcript,
 }
 
 /// Why a line of a file is refused.

@@ -8,13 +8,11 @@ ghost use Rattle.osn_files.specs.Faults.{MatchFileFault};
 ghost use Rattle.osn_files.specs.Journal.{load};
 ghost use Rattle.osn_files.specs.declared.fault.Role.TheVariants.{Journal};
 
-use crate::fault::{FileFault, LineFault, Role};
-use crate::loading::Loading;
-use crate::stop::LineStop;
+use crate::fault::{FileFault, Role};
+use crate::headed::read_headed;
 use osn_core::Object;
-use osn_lines::{Source, TakeFault, take_lines};
+use osn_lines::Source;
 use osn_register::Limits;
-use osn_request::WireFault;
 use std::alloc::Global;
 
 /// The object of a journal, which is a head and then edits and publishes, a line each. They are run
@@ -37,6 +35,7 @@ pub fn load_journal<R: Source>(
     ensures fault { IfErr result (λ fault. IfSome (R.remaining source.old) (λ input.
         MatchFileFault fault ⊤ ⊤ (λ role line why.
         (role ≡ Journal) × (load present limits (lines input) ≡ Err (line, why))))) }
+    ensures role { IfErr result (λ fault. MatchFileFault fault ⊤ ⊤ (λ role _ _. role ≡ Journal)) }
     ensures end { OnOk result (IsAtEnd (R.remaining source.new)) }
 
     // The source failed where a read fault says so, or gave no end in 4,294,967,295 reads, and
@@ -48,37 +47,5 @@ pub fn load_journal<R: Source>(
         ⊎ IfSome (R.remaining source.old) (λ input. 4294967295 ≤ length input))
         (λ _ _ _. R.has_failed source.new ≡ R.has_failed source.old)) }
 {
-    let mut loading = Loading {
-        alloc,
-        head: None,
-        object: Object::new(alloc, limits),
-    };
-    match take_lines(alloc, &mut loading, source) {
-        Ok(_) => match loading.head {
-            Some(_) => Ok(loading.object),
-            None => Err(FileFault::BadLine {
-                role: Role::Journal,
-                line: 1,
-                fault: LineFault::Wire(WireFault::BadHead),
-            }),
-        },
-        Err(TakeFault::NoMemory { .. }) => Err(FileFault::NoMemory),
-        Err(TakeFault::ReadFault { .. }) => Err(FileFault::ReadFault),
-        Err(
-            TakeFault::Stopped {
-                lines: _,
-                why: LineStop::NoMemory,
-            },
-        ) => Err(FileFault::NoMemory),
-        Err(
-            TakeFault::Stopped {
-                lines,
-                why: LineStop::Fault(fault),
-            },
-        ) => Err(FileFault::BadLine {
-            role: Role::Journal,
-            line: lines + 1,
-            fault,
-        }),
-    }
+    read_headed(alloc, Role::Journal, Object::new(alloc, limits), source)
 }

@@ -1,17 +1,30 @@
-//! Files of lines: a journal, which keeps an object, read and written. What the crate promises to
-//! those above: `load_journal` gives the object that the definition makes of the lines, in whatever
-//! pieces the bytes come, or the first fault with its line; and what `journal_text` writes of an
-//! object is loaded as that object again, its pending edits included.
+//! Files of lines: a journal, which keeps an object, read and written; scripts, question files and
+//! schedules, read. What the crate promises to those above: each call that reads gives what the
+//! definition makes of the lines, in whatever pieces the bytes come, or the first fault with its
+//! line; and what `journal_text` writes of an object is loaded as that object again, its pending
+//! edits included.
 #![tactic(auto)]
 
 mod command_line;
 mod fault;
+mod headed;
 mod journal;
-mod loading;
+mod lists;
+mod question_line;
+mod questions;
+mod reading;
+mod running;
+mod schedule;
+mod script;
+mod step_line;
+mod steps;
 mod stop;
 mod version;
 mod written;
 
 pub use fault::{FileFault, LineFault, Role};
 pub use journal::load_journal;
+pub use questions::read_questions;
+pub use schedule::read_schedule;
+pub use script::read_script;
 pub use written::journal_text;

@@ -38,7 +38,7 @@ impl From<Refusal> for LineStop {
 
 impl From<RequestError> for LineStop {
     ghost use Rattle.std.specs.Prelude.{◌≡◌};
-    ghost use Rattle.osn_files.specs.Inside.{stop_of};
+    ghost use Rattle.osn_files.specs.Stops.{stop_of};
 
     ghost from_gives = { λ error stop. stop ≡ stop_of error };
 

@@ -10,6 +10,6 @@ mod wire_fault;
 pub use member::Member;
 pub use request::{
     EditOp, Op, QueryOp, Request, RequestError, edit_of, object_of, op_of, query_of, read_request,
-    text_at, whole_at,
+    reader_in, text_at, whole_at,
 };
 pub use wire_fault::WireFault;

@@ -26,6 +26,14 @@ pub enum Member {
     Day,
     /// The version of a journal, in its first line.
     Journal,
+    /// The kind of step, in a line of a schedule.
+    Step,
+    /// The request of a query, in a line of a transcript.
+    Ask,
+    /// What the query was told, in a line of a transcript.
+    Reply,
+    /// The edition that a reply names.
+    Edition,
 }
 
 impl Member {
@@ -45,6 +53,10 @@ impl Member {
             Member::Month => "month",
             Member::Day => "day",
             Member::Journal => "journal",
+            Member::Step => "step",
+            Member::Ask => "ask",
+            Member::Reply => "reply",
+            Member::Edition => "edition",
         }
     }
 }

@@ -17,7 +17,7 @@ pub use field::{text_at, whole_at};
 pub use op::{EditOp, Op, QueryOp, op_of};
 use osn_lines::LONGEST_LINE;
 use osn_register::{Edit, Query};
-pub use query::query_of;
+pub use query::{query_of, reader_in};
 use serde_json::Value;
 use std::alloc::{AllocError, Global};
 use std::str;

@@ -3,7 +3,7 @@ ghost use Rattle.osn_request.specs.WireFault.{wire_fault_number, wire_fault_name
 
 use crate::member::Member;
 
-/// Why a line is no request, or a file has no head.
+/// Why a line is no request, or a line of a file is refused.
 #[derive(Clone, Copy, Debug, PartialEq, Eq, Hash)]
 pub enum WireFault {
     /// A line has at most 65,536 bytes without its line feed.
@@ -20,6 +20,16 @@ pub enum WireFault {
     UnknownReader,
     /// The first line of a journal or a script does not say a version that is known.
     BadHead,
+    /// No step has the word of `step`.
+    UnknownStep,
+    /// A question is asked by a query, and by no edit or publish.
+    NotAQuery,
+    /// The reply is not what the query is told at the edition that the reply names.
+    WrongReply,
+    /// The journal does not have the edition that the reply names.
+    UnknownEdition,
+    /// A reader's reply names an edition before that of the reader's reply before it.
+    EditionFell,
 }
 
 impl WireFault {
@@ -35,6 +45,11 @@ impl WireFault {
             WireFault::UnknownOp => 35,
             WireFault::UnknownReader => 36,
             WireFault::BadHead => 37,
+            WireFault::UnknownStep => 38,
+            WireFault::NotAQuery => 41,
+            WireFault::WrongReply => 42,
+            WireFault::UnknownEdition => 43,
+            WireFault::EditionFell => 44,
         }
     }
 
@@ -50,6 +65,11 @@ impl WireFault {
             WireFault::UnknownOp => "UnknownOp",
             WireFault::UnknownReader => "UnknownReader",
             WireFault::BadHead => "BadHead",
+            WireFault::UnknownStep => "UnknownStep",
+            WireFault::NotAQuery => "NotAQuery",
+            WireFault::WrongReply => "WrongReply",
+            WireFault::UnknownEdition => "UnknownEdition",
+            WireFault::EditionFell => "EditionFell",
         }
     }
 }

@@ -5,11 +5,17 @@
 #![tactic(auto)]
 
 #[cfg(test)]
+mod almanac;
+#[cfg(test)]
+mod audits;
+#[cfg(test)]
 mod beginnings;
 #[cfg(test)]
 mod bytes;
 #[cfg(test)]
 mod changes;
+#[cfg(test)]
+mod commands;
 #[cfg(test)]
 mod computus;
 #[cfg(test)]
@@ -25,6 +31,8 @@ mod figures;
 #[cfg(test)]
 mod forty;
 #[cfg(test)]
+mod journals;
+#[cfg(test)]
 mod labels;
 #[cfg(test)]
 mod lands;
@@ -37,11 +45,15 @@ mod names;
 #[cfg(test)]
 mod objects;
 #[cfg(test)]
+mod printed;
+#[cfg(test)]
 mod reforms;
 #[cfg(test)]
 mod refusals;
 #[cfg(test)]
 mod register;
+#[cfg(test)]
+mod schedules;
 #[cfg(test)]
 mod search;
 #[cfg(test)]

@@ -37,13 +37,19 @@ fn are_refusals(rt: &impl Abort, rows: &[(Refusal, u8, &str)]) {
 }
 
 /// The faults of lines.
-const FAULTS: [(WireFault, u8, &str); 6] = [
+const FAULTS: [(WireFault, u8, &str); 12] = [
     (WireFault::LineTooLong, 31, "LineTooLong"),
     (WireFault::NotJson, 32, "NotJson"),
     (WireFault::NotObject, 33, "NotObject"),
     (WireFault::BadField(Member::Day), 34, "BadField"),
     (WireFault::UnknownOp, 35, "UnknownOp"),
     (WireFault::UnknownReader, 36, "UnknownReader"),
+    (WireFault::BadHead, 37, "BadHead"),
+    (WireFault::UnknownStep, 38, "UnknownStep"),
+    (WireFault::NotAQuery, 41, "NotAQuery"),
+    (WireFault::WrongReply, 42, "WrongReply"),
+    (WireFault::UnknownEdition, 43, "UnknownEdition"),
+    (WireFault::EditionFell, 44, "EditionFell"),
 ];
 
 fn are_faults(rt: &impl Abort, rows: &[(WireFault, u8, &str)]) {
@@ -53,8 +59,8 @@ fn are_faults(rt: &impl Abort, rows: &[(WireFault, u8, &str)]) {
     }
 }
 
-/// The members of requests.
-const MEMBERS: [(Member, &str); 10] = [
+/// The members of lines.
+const MEMBERS: [(Member, &str); 15] = [
     (Member::Op, "op"),
     (Member::Code, "code"),
     (Member::Name, "name"),
@@ -65,6 +71,11 @@ const MEMBERS: [(Member, &str); 10] = [
     (Member::Year, "year"),
     (Member::Month, "month"),
     (Member::Day, "day"),
+    (Member::Journal, "journal"),
+    (Member::Step, "step"),
+    (Member::Ask, "ask"),
+    (Member::Reply, "reply"),
+    (Member::Edition, "edition"),
 ];
 
 fn are_members(rt: &impl Abort, rows: &[(Member, &str)]) {

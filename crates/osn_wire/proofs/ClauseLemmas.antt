@@ -12,7 +12,7 @@ use Rattle.osn_wire.specs.declared.fault.ServeFault.TheVariants.{NoMemory, ReadF
 use Rattle.osn_wire.specs.declared.session.Session.{Session}
 use Rattle.osn_wire.specs.Faults.{MatchFault}
 use Rattle.serde_json.specs.Written.{compact_text}
-use Rattle.osn_wire.specs.ReplyText.{reply_line, outcome_data}
+use Rattle.osn_reply.specs.ReplyText.{reply_line, outcome_data}
 use Rattle.osn_wire.specs.Served.{line_text, outputs, after_lines, WritesFirst, WritesInPart}
 use Rattle.osn_wire.specs.Served.{StandsAt, StandsNear}
 use Rattle.osn_wire.specs.ServiceInside.{InPart}

@@ -5,7 +5,7 @@ use Rattle.osn_days.specs.Profile.{present}
 use Rattle.osn_lines.specs.Lines.{front_of}
 use Rattle.osn_core.specs.Sequential.{ObjectState}
 use Rattle.osn_request.proofs.FrontLemmas.{request_of_front}
-use Rattle.osn_wire.specs.ReplyText.{reply_line}
+use Rattle.osn_reply.specs.ReplyText.{reply_line}
 use Rattle.osn_wire.specs.Served.{line_text}
 use Rattle.osn_wire.specs.Session.{outcome_of, state_after, line_after}
 

@@ -4,4 +4,3 @@ pub mod PartLemmas
 pub mod ServeLemmas
 pub mod StopLemmas
 pub mod ClauseLemmas
-pub mod ToldLemmas

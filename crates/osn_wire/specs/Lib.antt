@@ -1,6 +1,4 @@
 pub mod Faults
-pub mod ReplyText
-pub mod OutText
 pub mod Session
 pub mod Served
 pub mod Replies

@@ -5,7 +5,7 @@ use Rattle.std.specs.Io.KnownBytes.{Appends}
 use Rattle.osn_days.specs.Profile.{Profile}
 use Rattle.osn_core.specs.Sequential.{ObjectState}
 use Rattle.osn_wire.specs.Replies.{replies}
-use Rattle.osn_wire.specs.ReplyText.{reply_line}
+use Rattle.osn_reply.specs.ReplyText.{reply_line}
 use Rattle.osn_wire.specs.Session.{line_outcome, line_after}
 
 -- the reply line to a line

@@ -7,9 +7,9 @@ use Rattle.osn_register.specs.declared.query.Query.{Query}
 use Rattle.osn_register.specs.declared.refusal.Refusal.{Refusal}
 use Rattle.osn_core.specs.Sequential as object
 use Rattle.osn_core.specs.Sequential.{ObjectState, stage_refusal, publish_refusal, reply_at}
-use Rattle.osn_wire.specs.declared.outcome.Outcome.{Outcome}
-use Rattle.osn_wire.specs.declared.outcome.Outcome.TheVariants.{Staged, Published, Refused, Fault}
-use Rattle.osn_wire.specs.declared.outcome.Outcome.TheVariants.{Replied}
+use Rattle.osn_reply.specs.declared.outcome.Outcome.{Outcome}
+use Rattle.osn_reply.specs.declared.outcome.Outcome.TheVariants.{Staged, Published, Refused, Fault}
+use Rattle.osn_reply.specs.declared.outcome.Outcome.TheVariants.{Replied}
 use Rattle.osn_request.specs.declared.request.Request.{Request}
 use Rattle.osn_request.specs.declared.request.Request.TheVariants.{Stage, Publish, Ask}
 use Rattle.osn_request.specs.declared.wire_fault.WireFault.{WireFault}

@@ -4,8 +4,6 @@
 #![tactic(auto)]
 
 mod fault;
-mod outcome;
-mod reply;
 mod service;
 mod session;
 mod stop;
@@ -13,12 +11,15 @@ mod waiting;
 
 pub use fault::ServeFault;
 pub use osn_almanac::almanac_text;
-pub use osn_files::{FileFault, LineFault, Role, journal_text, load_journal};
+pub use osn_audit::audit;
+pub use osn_files::{
+    FileFault, LineFault, Role, journal_text, load_journal, read_questions, read_schedule,
+    read_script,
+};
 pub use osn_lines::{
     LONGEST_LINE, LineTaker, Plain, ReadFailed, Sink, Source, TakeFault, WriteFailed, take_lines,
     write_all,
 };
+pub use osn_reply::{Outcome, out_text, reply_text, transcript_text};
 pub use osn_request::{Member, Request, RequestError, WireFault, read_request};
-pub use outcome::Outcome;
-pub use reply::{out_text, reply_text};
 pub use service::{serve, serve_from};

@@ -4,18 +4,18 @@
 //! wait only the first has changed it.
 ghost use Rattle.std.specs.Prelude.{◌≡◌, IfErr, OnOk, OnErr};
 ghost use Rattle.osn_days.specs.Profile.{present};
-ghost use Rattle.osn_wire.specs.ReplyText.{reply_line};
+ghost use Rattle.osn_reply.specs.ReplyText.{reply_line};
 ghost use Rattle.osn_wire.specs.ServiceInside.{Pushes, Adds, Settles, WritesSome, FailsAt};
 ghost use Rattle.osn_wire.specs.Served.{line_text};
 ghost use Rattle.osn_wire.specs.Session as said;
 ghost use Rattle.osn_wire.specs.Stop.{MatchStop};
 
-use crate::outcome::Outcome;
 use crate::stop::{Stop, Unfinished};
 use crate::waiting::Waiting;
 use osn_core::Object;
 use osn_lines::{LineTaker, Sink};
 use osn_register::{Edit, Query};
+use osn_reply::Outcome;
 use osn_request::{Request, RequestError, read_request};
 use std::alloc::{AllocError, Global};
 

@@ -1,12 +1,11 @@
 //! Replies that wait to be written.
 ghost use Rattle.std.specs.Prelude.{◌≡◌, [], IfErr, OnOk, OnErr};
-ghost use Rattle.osn_wire.specs.ReplyText.{reply_line};
+ghost use Rattle.osn_reply.specs.ReplyText.{reply_line};
 ghost use Rattle.osn_wire.specs.ServiceInside.{Pushes, Writes, WritesSome, FailsAt};
 
-use crate::outcome::Outcome;
-use crate::reply::push_reply;
 use crate::stop::Unfinished;
 use osn_lines::{Sink, write_all};
+use osn_reply::{Outcome, push_reply};
 use std::alloc::{AllocError, Global};
 
 /// With so many bytes what waits is written.

@@ -1,6 +1,6 @@
 //! The query of a line's object. The questions of a desk, a schedule and a transcript read theirs
 //! by the same call.
-ghost use Rattle.std.specs.Prelude.{◌≡◌, true, IfErr};
+ghost use Rattle.std.specs.Prelude.{◌≡◌, ◌≤◌, true, IfOk, IfErr};
 ghost use Rattle.serde_json.specs.View.{view};
 ghost use Rattle.osn_request.specs.declared.request.RequestError.TheVariants.{NoMemory};
 ghost use Rattle.osn_request.specs.QueryRequest as said;
@@ -15,8 +15,13 @@ use osn_register::{Query, Text};
 use serde_json::Value;
 use std::alloc::Global;
 
-fn reader_in(readers: u32, reader: i64) -> Result<u32, WireFault>
-    ensures { result ≡ said.reader_in readers reader }
+/// The reader of a number, where there are so many readers, who are counted from 1.
+///
+/// # Errors
+/// `UnknownReader` for a number that no reader has.
+pub fn reader_in(readers: u32, reader: i64) -> Result<u32, WireFault>
+    ensures reader { result ≡ said.reader_in readers reader }
+    ensures among { IfOk result (λ r. (1 ≤ r) × (r ≤ readers)) }
 {
     if reader < 1 || reader > readers as i64 {
         return Err(WireFault::UnknownReader);
@@ -106,6 +111,7 @@ pub fn query_of(
     value: &Value,
 ) -> Result<(u32, Query), RequestError>
     ensures query { Gives result (said.query_of readers op (view value.now)) }
+    ensures among { IfOk result (λ asked. (1 ≤ asked.0) × (asked.0 ≤ readers)) }
     ensures memory { IfErr result (λ e. e ≡ NoMemory → said.has_code op ≡ true) }
 {
     let reader = whole_at(value, Member::Reader)?;

@@ -1,4 +1,4 @@
-use Rattle.std.proofs.Common.{rules, arith, ap, sym, ◌∙◌}
+use Rattle.std.proofs.Common.{rules, arith}
 use Rattle.osn_words.specs.Texts.{weekday_numbered}
 use Rattle.osn_days.specs.Line.{weekday}
 use Rattle.osn_almanac.specs.Columns as said

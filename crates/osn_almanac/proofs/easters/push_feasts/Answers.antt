@@ -8,7 +8,9 @@ pub loop-feast-init : goal.loop-feast-init
 loop-feast-init c = push_none _
 
 pub loop-feast-preserved : goal.loop-feast-preserved
-loop-feast-preserved c = next_line (said.feast_line present c.args.register.now.lands c.args.code.now c.args.easter)
-    (string_bytes c.args.out.now) (string_bytes c.loop-feast.out) (string_bytes c.push_feast.new.out)
+loop-feast-preserved c = next_line (said.feast_line present c.args.register.now.lands
+    c.args.code.now c.args.easter)
+    (string_bytes c.args.out.now) (string_bytes c.loop-feast.out) (string_bytes
+    c.push_feast.new.out)
     c.args.feasts.now c.loop-feast.feast-index _ c.loop-feast-test.true c.loop-feast.invariant
     c.in_ok-push_feast.ensures

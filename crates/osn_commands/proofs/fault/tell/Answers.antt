@@ -1,7 +1,7 @@
 use Rattle.std.proofs.Common.{refl, sym, ap, ◌∙◌}
 use Rattle.std.specs.Prelude.{string_bytes}
 use Rattle.std.proofs.lemmas.Result.{IfOk-weaker}
-use Rattle.osn_commands.proofs.TellLemmas.{told_as_it_is, told_refusal}
+use Rattle.osn_commands.proofs.TellLemmas.{told_as_it_is, told_refusal, same_end}
 use Rattle.osn_commands.specs.Fault.{fault_status, fault_line}
 use Rattle.osn_commands.proofs.fault.tell.Goals as goal
 
@@ -17,9 +17,21 @@ pub returns-in-Refused : goal.returns-in-Refused
 returns-in-Refused g c =
     told_refusal string_bytes _ _ _ c.args.fault _ c.refused.result
     (ap fault_status c.in-Refused.is)
-    (IfOk-weaker c.refused.result _ _ (λ text e. e ∙ sym (ap fault_line c.in-Refused.is))
+    (IfOk-weaker c.refused.result _ _ (λ text e. e
+    ∙ same_end _ _ _ _ c.number.ensures c.name.ensures
+    ∙ sym (ap fault_line c.in-Refused.is))
     c.refused.ensures)
     c.tell_refusal-in-Refused.ensures.ok c.tell_refusal-in-Refused.ensures.err
+
+pub returns-in-Desk : goal.returns-in-Desk
+returns-in-Desk g c =
+    told_refusal string_bytes _ _ _ c.args.fault _ c.refused-in-Desk.result
+    (ap fault_status c.in-Desk.is)
+    (IfOk-weaker c.refused-in-Desk.result _ _ (λ text e. e
+    ∙ same_end _ _ _ _ c.number-in-Desk.ensures c.name-in-Desk.ensures
+    ∙ sym (ap fault_line c.in-Desk.is))
+    c.refused-in-Desk.ensures)
+    c.tell_refusal-in-Desk.ensures.ok c.tell_refusal-in-Desk.ensures.err
 
 pub returns-in-ReadFault : goal.returns-in-ReadFault
 returns-in-ReadFault g c =

@@ -1,0 +1,70 @@
+-- Edits and batches that are applied in turn, and a register that goes on to a later edition.
+use Rattle.std.proofs.Common.{◌≡◌, ℕ, ◌+◌, ◌-◌, ◌<◌, ◌≤◌, List, [], ◌∷◌, ◌++◌, length, get_or}
+use Rattle.std.proofs.Common.{take, drop, refl, sym, ap, ◌∙◌, arith, append_assoc}
+use Rattle.std.specs.List.{slice_range}
+use Rattle.std.proofs.lemmas.List.{drop_more, drop-take, take-take, take-append-drop}
+use Rattle.osn_days.specs.Profile.{present}
+use Rattle.osn_register.specs.declared.edit.Edit.{Edit}
+use Rattle.osn_register.specs.declared.limits.Limits.{Limits}
+use Rattle.osn_register.specs.Plain.{PlainLand, applied, applied_all}
+use Rattle.osn_core.specs.Sequential.{joined}
+use Rattle.osn_core.proofs.Lawful.{applied_all-append}
+
+-- what is left of a list from an element on
+pub left_from : {A : Type 0} (xs : List A) (i : ℕ) (x : A) → i < length xs → x ≡ get_or xs i x
+    → drop i xs ≡ x ∷ drop (i + 1) xs
+left_from xs i x within is = drop_more xs i x within ∙ ap (λ y. y ∷ drop (i + 1) xs) (sym is)
+
+-- one edit more is applied
+pub edit_more : (limits now : Limits) (old new all : List PlainLand) (es : List Edit) (i : ℕ)
+    (e : Edit) → i < length es → e ≡ get_or es i e → now ≡ limits
+    → new ≡ applied present now old e
+    → applied_all present limits old (drop i es) ≡ all
+    → applied_all present limits new (drop (i + 1) es) ≡ all
+edit_more limits now old new all es i e within is same one so_far =
+    ap (λ ls. applied_all present limits ls (drop (i + 1) es))
+    (one ∙ ap (λ m. applied present m old e) same)
+    ∙ (sym (ap (applied_all present limits old) (left_from es i e within is)) ∙ so_far)
+
+-- one batch more is applied
+pub batch_more : (limits now : Limits) (old new all : List PlainLand) (bs : List (List Edit))
+    (i : ℕ) (b : List Edit) → i < length bs → b ≡ get_or bs i b → now ≡ limits
+    → new ≡ applied_all present now old b
+    → applied_all present limits old (joined (drop i bs)) ≡ all
+    → applied_all present limits new (joined (drop (i + 1) bs)) ≡ all
+batch_more limits now old new all bs i b within is same one so_far =
+    ap (λ ls. applied_all present limits ls (joined (drop (i + 1) bs)))
+    (one ∙ ap (λ m. applied_all present m old b) same)
+    ∙ (sym (applied_all-append present limits old b (joined (drop (i + 1) bs)))
+    ∙ (sym (ap (λ cs. applied_all present limits old (joined cs)) (left_from bs i b within is))
+    ∙ so_far))
+
+joined-append : (bs cs : List (List Edit)) → joined (bs ++ cs) ≡ joined bs ++ joined cs
+joined-append [] cs = refl
+joined-append (b ∷ bs) cs =
+    ap (λ es. b ++ es) (joined-append bs cs) ∙ sym (append_assoc b (joined bs) (joined cs))
+
+-- the first batches are fewer of them and those between
+parts : (bs : List (List Edit)) (from to : ℕ) → from ≤ to
+    → take from bs ++ slice_range bs from to ≡ take to bs
+parts bs from to order =
+    let whole : from + (to - from) ≡ to = omega (arith, order) in
+    ap (λ cs. take from bs ++ cs) (sym (drop-take from (to - from) bs))
+    ∙ (ap (λ cs. cs ++ drop from (take (from + (to - from)) bs))
+    (sym (take-take from (from + (to - from)) bs (omega arith)))
+    ∙ (take-append-drop from (take (from + (to - from)) bs) ∙ ap (λ n. take n bs) whole))
+
+-- a register of the first batches, to which those between are applied, is that of more batches
+pub lands_on : (limits : Limits) (bs : List (List Edit)) (from to : ℕ)
+    (old new : List PlainLand) → from ≤ to
+    → old ≡ applied_all present limits [] (joined (take from bs))
+    → new ≡ applied_all present limits old (joined (slice_range bs from to))
+    → new ≡ applied_all present limits [] (joined (take to bs))
+lands_on limits bs from to old new order was one =
+    one
+    ∙ (ap (λ ls. applied_all present limits ls (joined (slice_range bs from to))) was
+    ∙ (sym (applied_all-append present limits [] (joined (take from bs))
+    (joined (slice_range bs from to)))
+    ∙ ap (applied_all present limits [])
+    (sym (joined-append (take from bs) (slice_range bs from to))
+    ∙ ap joined (parts bs from to order))))

@@ -1,0 +1,198 @@
+-- What lines that agree say: each is answered, and no reader's editions fall.
+use Rattle.std.proofs.Common.{◌≡◌, ℕ, zero, suc, ◌+◌, ◌-◌, ◌<◌, ◌≤◌, ◌==◌, Bool, true, false, List}
+use Rattle.std.proofs.Common.{[], ◌∷◌, ◌++◌, length, get_or, set, Result, Ok, Err, refl, sym, ap}
+use Rattle.std.proofs.Common.{subst, ◌∙◌, arith, Option, Some, None, IfSome}
+use Rattle.std.specs.Prelude.{nat_lt, not, ◌&&◌, if◌then◌else◌}
+use Rattle.std.specs.List.{All}
+use Rattle.std.specs.Str.{bytes_eq}
+use Rattle.std.proofs.lemmas.Bool.{ltb-false, eqb-true}
+use Rattle.std.proofs.lemmas.List.{length-set, get_or-set_same}
+use Rattle.std.proofs.lemmas.Slice.Eq.{bytes_eq-Decides}
+use Rattle.serde_json.specs.Written.{has_float}
+use Rattle.osn_days.specs.Profile.{Profile, present}
+use Rattle.osn_register.specs.declared.limits.Limits.{Limits}
+use Rattle.osn_lines.specs.Lines.{lines}
+use Rattle.osn_core.specs.History.{NeverFalls}
+use Rattle.osn_core.specs.Sequential.{ObjectState}
+use Rattle.osn_request.specs.declared.wire_fault.WireFault.{WireFault}
+use Rattle.osn_request.specs.declared.wire_fault.WireFault.TheVariants.{WrongReply}
+use Rattle.osn_request.specs.declared.wire_fault.WireFault.TheVariants.{UnknownEdition, EditionFell}
+use Rattle.osn_request.specs.Field.{◌>>=◌}
+use Rattle.osn_reply.specs.ReplyText.{line_of}
+use Rattle.osn_files.specs.Journal.{load}
+use Rattle.osn_files.specs.Turns.{go_on, in_turn}
+use Rattle.osn_audit.specs.Audit.{Entry, line_due, has_line, last_of, after_entry, after_line}
+use Rattle.osn_audit.specs.Audit.{after_lines, no_replies, counted}
+use Rattle.osn_audit.specs.Law.{Agrees, entry_of, IsAnswered, edition_told, editions_told}
+use Rattle.osn_audit.proofs.EntryLemmas.{CountedEntry, entry_counted}
+
+-- what an entry that agrees shows
+record Holds (p : Profile) (s : ObjectState) (last : List ℕ) (e : Entry) (next : List ℕ) :
+    Type 0 where
+  there : e.edition ≤ length s.batches
+  forward : last_of last e.reader ≤ e.edition
+  agrees : has_line e.reply (line_due p s e) ≡ true
+  next_is : set last (e.reader - 1) e.edition ≡ next
+
+Holds-by : (p : Profile) (s : ObjectState) (last : List ℕ) (e : Entry) (next : List ℕ)
+    (a b c : Bool) → nat_lt (length s.batches) e.edition ≡ a
+    → nat_lt e.edition (last_of last e.reader) ≡ b → has_line e.reply (line_due p s e) ≡ c
+    → ((if a then Err UnknownEdition else (if b then Err EditionFell else Ok e.edition))
+    >>= λ edition. (if c then Ok e.reply else Err WrongReply)
+    >>= λ reply. Ok (set last (e.reader - 1) e.edition)) ≡ Ok next
+    → Holds p s last e next
+Holds-by p s last e next true b c there forward agrees h = absurd (cc)
+Holds-by p s last e next false true c there forward agrees h = absurd (cc)
+Holds-by p s last e next false false false there forward agrees h = absurd (cc)
+Holds-by p s last e next false false true there forward agrees h = record {
+  there = ltb-false (length s.batches) e.edition there;
+  forward = ltb-false e.edition (last_of last e.reader) forward;
+  agrees = agrees;
+  next_is = cc;
+}
+
+Holds-entry : (p : Profile) (s : ObjectState) (last : List ℕ) (e : Entry) (next : List ℕ)
+    → after_entry p s last e ≡ Ok next → Holds p s last e next
+Holds-entry p s last e next h = Holds-by p s last e next _ _ _ refl refl refl h
+
+-- a reply that has a line has no float, and is written so
+no_float_by : (a b : Bool) → (not a && b) ≡ true → a ≡ false
+no_float_by true b h = absurd (cc)
+no_float_by false b h = refl
+
+written_by : (a b : Bool) → (not a && b) ≡ true → b ≡ true
+written_by true b h = absurd (cc)
+written_by false b h = h
+
+-- from a lower floor too no number falls
+lower : (a b : ℕ) (ns : List ℕ) → a ≤ b → NeverFalls b ns → NeverFalls a ns
+lower a b [] order h = tt
+lower a b (n ∷ ns) order h = (omega (arith, order, h.0), h.1)
+
+-- where a number is put in place of one that isn't greater, each is as great as before
+set_up : (xs : List ℕ) (i j x : ℕ) → get_or xs i 0 ≤ x → get_or xs j 0 ≤ get_or (set xs i x) j 0
+set_up [] i j x h = omega arith
+set_up (y ∷ ys) zero zero x h = h
+set_up (y ∷ ys) zero (suc j) x h = omega arith
+set_up (y ∷ ys) (suc i) zero x h = omega arith
+set_up (y ∷ ys) (suc i) (suc j) x h = set_up ys i j x h
+
+All-cons : {A : Type 0} (P : A → Type 0) (x : A) (xs : List A) → P x → All P xs → All P (x ∷ xs)
+All-cons P x xs h rest zero d within = h
+All-cons P x xs h rest (suc k) d within = rest k d (omega (arith, within))
+
+-- the lines are answered, and from the editions of the last replies on none falls
+abbrev Follows : Profile → ObjectState → List ℕ → List (List ℕ) → Type 0
+Follows p s last ls =
+    All (IsAnswered p s) ls
+    × ((reader : ℕ) → NeverFalls (last_of last reader) (editions_told reader ls))
+
+-- a reader's editions don't fall by an entry
+forward_by : (reader : ℕ) (last : List ℕ) (e : Entry) (rest : List ℕ) (b : Bool)
+    → (e.reader == reader) ≡ b → e.reader - 1 < length last
+    → last_of last e.reader ≤ e.edition
+    → NeverFalls (last_of (set last (e.reader - 1) e.edition) reader) rest
+    → NeverFalls (last_of last reader) ((if b then e.edition ∷ [] else []) ++ rest)
+forward_by reader last e rest true is within order h =
+    let same : e.reader ≡ reader = eqb-true e.reader reader is in
+    let now : last_of (set last (e.reader - 1) e.edition) reader ≡ e.edition =
+    ap (λ r. last_of (set last (e.reader - 1) e.edition) r) (sym same)
+    ∙ get_or-set_same last (e.reader - 1) e.edition 0 within in (
+      subst (λ r. last_of last r ≤ e.edition) same order,
+      subst (λ n. NeverFalls n rest) now h,
+    )
+forward_by reader last e rest false is within order h =
+    lower (last_of last reader) (last_of (set last (e.reader - 1) e.edition) reader) rest
+    (set_up last (e.reader - 1) (reader - 1) e.edition order) h
+
+-- an entry that agrees, and what follows it
+with_entry : (p : Profile) (s : ObjectState) (last next line : List ℕ) (ls : List (List ℕ))
+    (e : Entry) → length last ≡ 64 → entry_of line ≡ Ok e → Holds p s last e next
+    → Follows p s next ls → Follows p s last (line ∷ ls)
+with_entry p s last next line ls e count says holds rest =
+    let known = subst CountedEntry says (entry_counted line) in
+    let within : e.reader - 1 < length last = omega (arith, count, known.0, known.1) in (
+      All-cons (IsAnswered p s) line ls
+          (record {
+            entry = e;
+            says = says;
+            there = holds.there;
+            no_float = no_float_by (has_float e.reply)
+                (bytes_eq (line_of e.reply) (line_due p s e)) holds.agrees;
+            reply = (bytes_eq-Decides (line_of e.reply) (line_due p s e)).0
+                (written_by (has_float e.reply)
+                (bytes_eq (line_of e.reply) (line_due p s e)) holds.agrees);
+          })
+          rest.0,
+      λ reader.
+          subst
+          (λ r. NeverFalls (last_of last reader) (edition_told reader r ++ editions_told reader ls))
+          (sym says)
+          (forward_by reader last e (editions_told reader ls) _ refl within holds.forward
+          (subst (λ l. NeverFalls (last_of l reader) (editions_told reader ls))
+          (sym holds.next_is) (rest.1 reader))),
+    )
+
+by_next : (p : Profile) (s : ObjectState) (k : ℕ) (last final line : List ℕ) (ls : List (List ℕ))
+    (e : Entry) → length last ≡ 64 → entry_of line ≡ Ok e
+    → ((next : List ℕ) → length next ≡ 64
+    → in_turn (after_line p s) (k + 1) next ls ≡ Ok final → Follows p s next ls)
+    → (r : Result (List ℕ) WireFault) → after_entry p s last e ≡ r
+    → go_on k r (λ t. in_turn (after_line p s) (k + 1) t ls) ≡ Ok final
+    → Follows p s last (line ∷ ls)
+by_next p s k last final line ls e count says rest (Err f) is h = absurd (cc)
+by_next p s k last final line ls e count says rest (Ok next) is h =
+    let holds = Holds-entry p s last e next is in
+    let counted : length next ≡ 64 =
+    ap length (sym holds.next_is) ∙ (length-set last (e.reader - 1) e.edition ∙ count) in
+    with_entry p s last next line ls e count says holds (rest next counted h)
+
+by_entry : (p : Profile) (s : ObjectState) (k : ℕ) (last final line : List ℕ) (ls : List (List ℕ))
+    → length last ≡ 64
+    → ((next : List ℕ) → length next ≡ 64
+    → in_turn (after_line p s) (k + 1) next ls ≡ Ok final → Follows p s next ls)
+    → (r : Result Entry WireFault) → entry_of line ≡ r
+    → go_on k (r >>= after_entry p s last) (λ t. in_turn (after_line p s) (k + 1) t ls) ≡ Ok final
+    → Follows p s last (line ∷ ls)
+by_entry p s k last final line ls count rest (Err f) is h = absurd (cc)
+by_entry p s k last final line ls count rest (Ok e) is h =
+    by_next p s k last final line ls e count is rest (after_entry p s last e) refl h
+
+none_follow : (p : Profile) (s : ObjectState) (i : ℕ) (d : List ℕ) → i < 0
+    → IsAnswered p s (get_or [] i d)
+none_follow p s i d within = absurd (omega (arith, within))
+
+pub follows : (p : Profile) (s : ObjectState) (k : ℕ) (last final : List ℕ) (ls : List (List ℕ))
+    → length last ≡ 64 → in_turn (after_line p s) k last ls ≡ Ok final → Follows p s last ls
+follows p s k last final [] count h = (λ i d within. none_follow p s i d within, λ reader. tt)
+follows p s k last final (line ∷ ls) count h =
+    by_entry p s k last final line ls count
+    (λ next counted go. follows p s (k + 1) next final ls counted go) (entry_of line) refl h
+
+agrees_by : (p : Profile) (s : ObjectState) (ls : List (List ℕ)) (n : ℕ)
+    (r : Result (List ℕ) (ℕ × WireFault)) → after_lines p s ls ≡ r
+    → counted (length ls) r ≡ Ok n → (n ≡ length ls) × Agrees p s ls
+agrees_by p s ls n (Err f) is h = absurd (cc)
+agrees_by p s ls n (Ok final) is h =
+    let all = follows p s 1 no_replies final ls refl is in (
+      cc,
+      record {
+        answered = all.0;
+        forward = λ reader. lower 0 (last_of no_replies reader) (editions_told reader ls)
+            (omega arith) (all.1 reader);
+      },
+    )
+
+-- what an audit's yes says, where both inputs are known
+pub agreed_on : (limits : Limits) (journal transcript : Option (List ℕ)) (s : ObjectState) (n : ℕ)
+    → IfSome journal (λ edits. load present limits (lines edits) ≡ Ok s)
+    → IfSome transcript (λ told.
+    counted (length (lines told)) (after_lines present s (lines told)) ≡ Ok n)
+    → IfSome journal (λ edits. IfSome transcript (λ told. (n ≡ length (lines told))
+    × (object : ObjectState) × (load present limits (lines edits) ≡ Ok object)
+    × Agrees present object (lines told)))
+agreed_on limits None transcript s n loaded agrees = tt
+agreed_on limits (Some edits) None s n loaded agrees = tt
+agreed_on limits (Some edits) (Some told) s n loaded agrees =
+    let all = agrees_by present s (lines told) n _ refl agrees in
+    (all.0, s, loaded, all.1)

@@ -1,0 +1,18 @@
+use Rattle.std.proofs.Common.{ap, ◌∙◌, arith}
+use Rattle.osn_days.specs.Profile.{present}
+use Rattle.osn_register.specs.Plain.{applied_all}
+use Rattle.osn_audit.proofs.EditLemmas.{batch_more}
+use Rattle.osn_audit.proofs.follower.apply_batches.Goals as goal
+
+pub loop-batch-preserved : goal.loop-batch-preserved
+loop-batch-preserved c =
+    let l = c.loop-batch in
+    let one = c.in_ok-apply_edits.ensures in
+    let edits = c.edits.ensures in
+    record {
+      limits = ap (λ r. r.limits) one ∙ l.invariant.limits;
+      lands = batch_more _ _ _ _ _ c.args.batches.now l.batch-index c.batch-item.result
+          (omega arith) c.batch-item.is l.invariant.limits (ap (λ r. r.lands) one
+          ∙ ap (applied_all present l.register.limits l.register.lands) edits)
+          l.invariant.lands;
+    }

@@ -1,0 +1,120 @@
+-- The audit of a transcript: its lines in turn against the object of a journal, up to the first
+-- that is refused. This project's profile.
+use Rattle.std.specs.Prelude.{ℕ, ◌-◌, ℤ, pos, int_le, unsigned_abs, nat_lt, ◌&&◌, not, Bool, List}
+use Rattle.std.specs.Prelude.{length, take, replicate, slice_index, slice_set, if◌then◌else◌}
+use Rattle.std.specs.Prelude.{Option, Some, None, is_some, option_and_then, Result, Ok, Err}
+use Rattle.std.specs.Str.{bytes_eq}
+use Rattle.serde_json.specs.Data.{Data}
+use Rattle.serde_json.specs.Find.{get, as_object}
+use Rattle.serde_json.specs.Written.{has_float}
+use Rattle.osn_days.specs.Profile.{Profile}
+use Rattle.osn_register.specs.declared.limits.Limits.{Limits}
+use Rattle.osn_register.specs.declared.query.Query.{Query}
+use Rattle.osn_core.specs.Sequential.{ObjectState, reply_at}
+use Rattle.osn_request.specs.declared.member.Member.{Member}
+use Rattle.osn_request.specs.declared.member.Member.TheVariants.{Ask, Reply, Edition}
+use Rattle.osn_request.specs.declared.wire_fault.WireFault.{WireFault}
+use Rattle.osn_request.specs.declared.wire_fault.WireFault.TheVariants.{BadField, WrongReply}
+use Rattle.osn_request.specs.declared.wire_fault.WireFault.TheVariants.{UnknownEdition, EditionFell}
+use Rattle.osn_request.specs.Field.{◌>>=◌, or_fault, whole_at}
+use Rattle.osn_request.specs.Member.{member_name}
+use Rattle.osn_request.specs.Request.{object_of}
+use Rattle.osn_files.specs.declared.fault.LineFault.{LineFault}
+use Rattle.osn_files.specs.declared.fault.LineFault.TheVariants.{Wire}
+use Rattle.osn_files.specs.declared.fault.Role.{Role}
+use Rattle.osn_files.specs.declared.fault.Role.TheVariants.{Journal, Transcript}
+use Rattle.osn_files.specs.Journal.{load}
+use Rattle.osn_files.specs.Questions.{most_readers, question_in}
+use Rattle.osn_files.specs.Turns.{in_turn}
+use Rattle.osn_reply.specs.declared.outcome.Outcome.TheVariants.{Replied}
+use Rattle.osn_reply.specs.ReplyText.{line_of, reply_line}
+
+-- what a line of a transcript says: who asked what, the edition that the reply names, and the reply
+pub record Entry : Type 0 where
+  pub reader : ℕ
+  pub query : Query
+  pub edition : ℕ
+  pub reply : Data
+
+abbrev pub if_object : Data → Option Data
+if_object d = if is_some (as_object d) then Some d else None
+
+-- a member that is an object
+abbrev pub object_at : Member → Data → Result Data WireFault
+object_at m d = or_fault (BadField m) (option_and_then if_object (get (member_name m) d))
+
+abbrev pub edition_in : ℤ → Result ℕ WireFault
+edition_in n =
+    if int_le (pos 0) n && int_le n (pos 4294967295) then Ok (unsigned_abs n)
+    else Err (BadField Edition)
+
+-- the edition that a reply names
+abbrev pub edition_of : Data → Result ℕ WireFault
+edition_of reply = whole_at Edition reply >>= edition_in
+
+-- what the object of a line says
+unfoldable pub entry_in : Data → Result Entry WireFault
+entry_in d = do
+  ask ← object_at Ask d
+  asked ← question_in ask
+  reply ← object_at Reply d
+  edition ← edition_of reply
+  Ok (record { reader = asked.0; query = asked.1; edition = edition; reply = reply })
+
+-- an edition that is there, and not before the reader's last one
+abbrev pub known_edition : ℕ → ℕ → ℕ → Result ℕ WireFault
+known_edition editions last edition =
+    if nat_lt editions edition then Err UnknownEdition
+    else (if nat_lt edition last then Err EditionFell else Ok edition)
+
+-- the line of the reply to the query under the edition
+abbrev pub line_due : Profile → ObjectState → Entry → List ℕ
+line_due p s e = reply_line
+    (Replied e.reader (reply_at p s.limits (take e.edition s.batches) e.query))
+
+-- a reply has this line, which has no number that is read as a float: for such a number no text is
+-- laid down
+abbrev pub has_line : Data → List ℕ → Bool
+has_line reply line = not (has_float reply) && bytes_eq (line_of reply) line
+
+abbrev pub agreed : Data → List ℕ → Result Data WireFault
+agreed reply line = if has_line reply line then Ok reply else Err WrongReply
+
+-- the edition of a reader's last reply. Readers are counted from 1
+abbrev pub last_of : List ℕ → ℕ → ℕ
+last_of last reader = slice_index last (reader - 1)
+
+-- the editions of the readers' last replies, with that of an entry, or why it is refused
+abbrev pub after_entry : Profile → ObjectState → List ℕ → Entry → Result (List ℕ) WireFault
+after_entry p s last e =
+    known_edition (length s.batches) (last_of last e.reader) e.edition
+    >>= λ edition. agreed e.reply (line_due p s e)
+    >>= λ reply. Ok (slice_set last (e.reader - 1) e.edition)
+
+-- the same for a line
+abbrev pub after_line : Profile → ObjectState → List ℕ → List ℕ → Result (List ℕ) WireFault
+after_line p s last line = object_of line >>= entry_in >>= after_entry p s last
+
+-- no reader has a reply
+abbrev pub no_replies : List ℕ
+no_replies = replicate most_readers 0
+
+-- the editions of the readers' last replies after the lines of a transcript, or the first fault and
+-- the number of its line, counted from 1
+abbrev pub after_lines : Profile → ObjectState → List (List ℕ) → Result (List ℕ) (ℕ × WireFault)
+after_lines p s = in_turn (after_line p s) 1 no_replies
+
+abbrev pub counted : ℕ → Result (List ℕ) (ℕ × WireFault) → Result ℕ (Role × ℕ × LineFault)
+counted n (Ok last) = Ok n
+counted n (Err f) = Err (Transcript, f.0, Wire f.1)
+
+abbrev pub audited : Profile → List (List ℕ) → Result ObjectState (ℕ × LineFault)
+    → Result ℕ (Role × ℕ × LineFault)
+audited p transcript (Ok s) = counted (length transcript) (after_lines p s transcript)
+audited p transcript (Err f) = Err (Journal, f.0, f.1)
+
+-- how many lines agree, which is all of them; or the first fault, with the file and the number of
+-- its line
+abbrev pub audit : Profile → Limits → List (List ℕ) → List (List ℕ)
+    → Result ℕ (Role × ℕ × LineFault)
+audit p limits journal transcript = audited p transcript (load p limits journal)

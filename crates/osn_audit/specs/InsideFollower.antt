@@ -1,0 +1,13 @@
+-- A register that goes on from edition to edition.
+use Rattle.std.specs.Prelude.{◌≡◌, ◌≤◌, List, length, take}
+use Rattle.osn_days.specs.Profile.{present}
+use Rattle.osn_register.specs.declared.edit.Edit.{Edit}
+use Rattle.osn_register.specs.declared.limits.Limits.{Limits}
+use Rattle.osn_core.specs.Sequential.{lands_of}
+use Rattle.osn_audit.specs.declared.follower.Follower.{Follower}
+
+-- the register is that of the first batches, as many as the edition says
+pub record IsAt (limits : Limits) (batches : List (List Edit)) (f : Follower) : Type 0 where
+  pub there : f.edition ≤ length batches
+  pub same : f.register.limits ≡ limits
+  pub lands : f.register.lands ≡ lands_of present limits (take f.edition batches)

@@ -1,0 +1,42 @@
+-- What an audit's yes says of a transcript: each reply is what the journal gives, and no reader's
+-- editions fall.
+use Rattle.std.specs.Prelude.{◌≡◌, ◌≤◌, ℕ, ◌==◌, if◌then◌else◌, List, [], ◌∷◌, ◌++◌, length}
+use Rattle.std.specs.Prelude.{false, Result, Ok, Err}
+use Rattle.std.specs.List.{All}
+use Rattle.serde_json.specs.Written.{has_float}
+use Rattle.osn_days.specs.Profile.{Profile}
+use Rattle.osn_core.specs.History.{NeverFalls}
+use Rattle.osn_core.specs.Sequential.{ObjectState}
+use Rattle.osn_request.specs.declared.wire_fault.WireFault.{WireFault}
+use Rattle.osn_request.specs.Field.{◌>>=◌}
+use Rattle.osn_request.specs.Request.{object_of}
+use Rattle.osn_reply.specs.ReplyText.{line_of}
+use Rattle.osn_audit.specs.Audit.{Entry, entry_in, line_due}
+
+-- what a line of a transcript says
+abbrev pub entry_of : List ℕ → Result Entry WireFault
+entry_of line = object_of line >>= entry_in
+
+-- a line is a query with a reply, and the reply, written with no space, is the line of the object's
+-- reply to the query after the first batches, as many as the edition that it names
+pub record IsAnswered (p : Profile) (s : ObjectState) (line : List ℕ) : Type 0 where
+  pub entry : Entry
+  pub says : entry_of line ≡ Ok entry
+  pub there : entry.edition ≤ length s.batches
+  pub no_float : has_float entry.reply ≡ false
+  pub reply : line_of entry.reply ≡ line_due p s entry
+
+-- the editions that a reader is told in the lines, in order
+abbrev pub edition_told : ℕ → Result Entry WireFault → List ℕ
+edition_told reader (Ok e) = if e.reader == reader then e.edition ∷ [] else []
+edition_told reader (Err f) = []
+
+abbrev pub editions_told : ℕ → List (List ℕ) → List ℕ
+editions_told reader [] = []
+editions_told reader (line ∷ rest) =
+    edition_told reader (entry_of line) ++ editions_told reader rest
+
+-- each line is answered, and no reader's editions fall
+pub record Agrees (p : Profile) (s : ObjectState) (lines : List (List ℕ)) : Type 0 where
+  pub answered : All (IsAnswered p s) lines
+  pub forward : (reader : ℕ) → NeverFalls 0 (editions_told reader lines)

@@ -1,0 +1,103 @@
+//! A transcript that is being audited, line by line.
+ghost use Rattle.std.specs.Prelude.{◌≡◌, ◌<◌, ◌≤◌, ◌-◌, Ok, IfOk, IfErr, OnOk, length, slice_set};
+ghost use Rattle.serde_json.specs.View.{view};
+ghost use Rattle.osn_days.specs.Profile.{present};
+ghost use Rattle.osn_request.specs.Request.{Fails};
+ghost use Rattle.osn_audit.specs.Audit as said;
+ghost use Rattle.osn_audit.specs.Inside.{entry_shown};
+
+use crate::entry::{Entry, MOST_READERS, entry_in};
+use crate::float::has_float;
+use crate::followers::Followers;
+use osn_lines::LineTaker;
+use osn_reply::{Outcome, push_reply};
+use osn_request::{RequestError, WireFault, object_of};
+use serde_json::Value;
+use std::alloc::{AllocError, Global};
+
+/// Whether a reply, written with no space, has this line.
+fn has_line(alloc: Global, reply: &Value, line: &[u8]) -> Result<bool, AllocError>
+    ensures { IfOk result (λ b. b ≡ said.has_line (view reply.now) line.now) }
+{
+    if has_float(reply) {
+        return Ok(false);
+    }
+    let mut text = reply.to_vec(alloc)?;
+    text.push(b'\n')?;
+    Ok(text.as_slice() == line)
+}
+
+/// The line of the reply that an entry should have. Its edition is the reader's last one then.
+fn line_due(alloc: Global, followers: &mut Followers, entry: &Entry) -> Result<Vec<u8>, AllocError>
+    requires counted { 0 < entry.now.reader }
+    requires known { entry.now.reader ≤ MOST_READERS }
+    requires edition { said.known_edition (length followers.old.object.batches)
+        (said.last_of followers.old.last entry.now.reader) entry.now.edition
+        ≡ Ok entry.now.edition }
+    ensures line { IfOk result (λ line. line.items
+        ≡ said.line_due present followers.old.object (entry_shown entry.now)) }
+    ensures last { OnOk result (followers.new.last
+        ≡ slice_set followers.old.last (entry.now.reader - 1) entry.now.edition) }
+    ensures object { followers.new.object ≡ followers.old.object }
+{
+    let reply = followers.ask(entry.reader, entry.edition, &entry.query)?;
+    let outcome = Outcome::Replied {
+        reader: entry.reader,
+        reply,
+    };
+    let mut line = Vec::new(alloc);
+    push_reply(alloc, &outcome, &mut line)?;
+    Ok(line)
+}
+
+/// Holds an entry against the journal.
+fn take_entry(alloc: Global, followers: &mut Followers, entry: &Entry) -> Result<(), RequestError>
+    requires counted { 0 < entry.now.reader }
+    requires known { entry.now.reader ≤ MOST_READERS }
+    ensures ok { OnOk result (said.after_entry present followers.old.object followers.old.last
+        (entry_shown entry.now) ≡ Ok followers.new.last) }
+    ensures err { IfErr result (λ e. Fails e (said.after_entry present followers.old.object
+        followers.old.last (entry_shown entry.now))) }
+    ensures object { OnOk result (followers.new.object ≡ followers.old.object) }
+{
+    followers.check(entry.reader, entry.edition)?;
+    let line = line_due(alloc, followers, entry)?;
+    if !has_line(alloc, entry.reply, &line)? {
+        return Err(RequestError::Fault(WireFault::WrongReply));
+    }
+    Ok(())
+}
+
+/// Holds a line against the journal.
+fn take_line(alloc: Global, followers: &mut Followers, line: &[u8]) -> Result<(), RequestError>
+    ensures ok { OnOk result (said.after_line present followers.old.object followers.old.last
+        line.now ≡ Ok followers.new.last) }
+    ensures err { IfErr result (λ e. Fails e (said.after_line present followers.old.object
+        followers.old.last line.now)) }
+    ensures object { OnOk result (followers.new.object ≡ followers.old.object) }
+{
+    let value = object_of(alloc, line)?;
+    let entry = entry_in(alloc, &value)?;
+    take_entry(alloc, followers, &entry)
+}
+
+/// A transcript that is being audited: what its lines are held against.
+#[derive(Drop)]
+pub(crate) struct Auditing {
+    pub(crate) alloc: Global,
+    pub(crate) followers: Followers,
+}
+
+impl LineTaker for Auditing {
+    ghost use Rattle.osn_audit.specs.InsideAuditing.{Audits, StopsAuditing};
+
+    type Stop = RequestError;
+
+    ghost after = { Audits };
+
+    ghost stopped = { λ begun lines at _ why. StopsAuditing begun lines at why };
+
+    fn take(&mut self, line: &[u8]) -> Result<(), RequestError> {
+        take_line(self.alloc, &mut self.followers, line)
+    }
+}

@@ -1,0 +1,71 @@
+//! A register that goes on from edition to edition.
+ghost use Rattle.std.specs.Prelude.{◌≡◌, ◌≤◌, [], IfOk, OnOk, length};
+ghost use Rattle.osn_days.specs.Profile.{present};
+ghost use Rattle.osn_register.specs.declared.limits.Limits.{Limits};
+ghost use Rattle.osn_register.specs.Plain.{applied_all, folded};
+ghost use Rattle.osn_core.specs.Sequential.{joined};
+ghost use Rattle.osn_audit.specs.InsideFollower.{IsAt};
+
+use osn_core::Batch;
+use osn_register::{Edit, Limits, Register};
+use std::alloc::{AllocError, Global};
+
+/// Applies edits in turn, and passes over those that are refused.
+fn apply_edits(register: &mut Register, edits: &[Edit]) -> Result<(), AllocError>
+    ensures { OnOk result (register.new ≡ record register.old {
+      lands = applied_all present register.old.limits register.old.lands edits.now;
+    }) }
+{
+    for edit in edits {
+        register.apply_if_lawful(edit)?;
+    }
+    Ok(())
+}
+
+/// Applies the edits of batches in turn.
+fn apply_batches(register: &mut Register, batches: &[Batch]) -> Result<(), AllocError>
+    ensures { OnOk result (register.new ≡ record register.old {
+      lands = applied_all present register.old.limits register.old.lands (joined batches.now);
+    }) }
+{
+    for batch in batches {
+        apply_edits(register, batch.edits())?;
+    }
+    Ok(())
+}
+
+/// A register, and the edition that it is at.
+#[derive(Drop)]
+pub(crate) struct Follower {
+    pub(crate) edition: u32,
+    pub(crate) register: Register,
+}
+
+impl Follower {
+    /// At edition 0, which is empty.
+    pub(crate) fn new(alloc: Global, limits: Limits) -> Follower
+        ensures edition { result.edition ≡ 0 }
+        ensures register { result.register ≡ folded present limits [] }
+    {
+        Follower {
+            edition: 0,
+            register: Register::new(alloc, limits),
+        }
+    }
+
+    /// The same at an edition that is not before its own.
+    pub(crate) fn at(self, batches: &[Batch], edition: u32) -> Result<Follower, AllocError>
+        requires from { self.edition ≤ edition }
+        requires there { edition ≤ length batches.now }
+        ensures edition { IfOk result (λ f. f.edition ≡ edition) }
+        ensures register { IfOk result (λ f. (limits : Limits) → IsAt limits batches.now self
+            → IsAt limits batches.now f) }
+    {
+        let mut register = self.register;
+        apply_batches(
+            &mut register,
+            &batches[self.edition as usize..edition as usize],
+        )?;
+        Ok(Follower { edition, register })
+    }
+}

@@ -1,0 +1,32 @@
+-- What the command of a schedule prints, and why it prints nothing.
+use Rattle.std.specs.Prelude.{◌≡◌, ◌⊎◌, ℕ, Bool, List, Option, None}
+use Rattle.std.specs.List.{flat_map}
+use Rattle.osn_days.specs.Profile.{Profile}
+use Rattle.osn_register.specs.declared.limits.Limits.{Limits}
+use Rattle.osn_core.specs.declared.step.Step.{Step}
+use Rattle.osn_core.specs.Machine.{first_core, outs_of, readers_refusal}
+use Rattle.osn_files.specs.Schedule.{schedule}
+use Rattle.osn_files.specs.declared.fault.Role.TheVariants.{Schedule}
+use Rattle.osn_reply.specs.OutText.{out_line}
+use Rattle.osn_commands.specs.declared.fault.CommandFault.{CommandFault}
+use Rattle.osn_commands.specs.Files.{Makes, IsFileFault, IsUnreadable}
+use Rattle.osn_commands.specs.Refused.{IsRefusedBy}
+
+-- the text has a line for what each of the steps gives, from the first state on
+abbrev pub IsReplayOf : Profile → Limits → ℕ → List Step → List ℕ → Type 0
+IsReplayOf p limits readers steps text =
+    (readers_refusal readers ≡ None)
+    × (text ≡ flat_map out_line (outs_of p (first_core limits readers) steps))
+
+-- the text is that of the schedule's steps
+abbrev pub IsReplay : Profile → Limits → ℕ → Option (List ℕ) → List ℕ → Type 0
+IsReplay p limits readers file text =
+    (steps : List Step) × Makes (schedule p readers) file steps
+    × IsReplayOf p limits readers steps text
+
+-- why there is no text of the schedule's steps
+abbrev pub HasNoReplay : Profile → ℕ → Option (List ℕ) → Bool → CommandFault → Type 0
+HasNoReplay p readers file failed fault =
+    IsFileFault Schedule (schedule p readers) file (IsUnreadable file failed) fault
+    ⊎ ((steps : List Step) × Makes (schedule p readers) file steps
+    × IsRefusedBy (readers_refusal readers) fault)

@@ -1,0 +1,81 @@
+//! The command `audit`.
+ghost use Rattle.std.specs.Prelude.{◌≡◌, Option, IfOk, IfErr, string_bytes};
+ghost use Rattle.osn_days.specs.Profile.{present};
+ghost use Rattle.osn_register.specs.Limits.{standard_limits};
+ghost use Rattle.osn_commands.specs.Audited.{audit_line, Agree, IsAudited, IsNotAudited};
+ghost use Rattle.osn_commands.specs.Printing.{Prints};
+ghost use Rattle.osn_commands.specs.Told.{EndsBy};
+ghost use Rattle.osn_commands.specs.declared.fault.CommandFault.{CommandFault};
+
+use crate::fault::CommandFault;
+use crate::printing::print;
+use crate::status::Status;
+use osn_audit::audit;
+use osn_register::Limits;
+use osn_wire::{Sink, Source};
+use std::alloc::{AllocError, Global};
+
+/// The line on so many replies.
+fn agreed_line(alloc: Global, replies: u64) -> Result<String, AllocError>
+    ensures { IfOk result (λ text. string_bytes text ≡ audit_line replies) }
+{
+    format!(in alloc; "audit: {replies} replies agree\n")
+}
+
+/// How many replies agree.
+fn agreed<J: Source, K: Source>(
+    alloc: Global,
+    journal: &mut J,
+    transcript: &mut K,
+) -> Result<u64, CommandFault>
+    ensures ok { IfOk result (Agree present standard_limits
+        (J.remaining journal.old) (K.remaining transcript.old)) }
+    ensures err { IfErr result (IsNotAudited present standard_limits
+        (J.remaining journal.old) (J.has_failed journal.new)
+        (K.remaining transcript.old) (K.has_failed transcript.new)) }
+{
+    Ok(audit(alloc, Limits::standard(), journal, transcript)?)
+}
+
+/// What is said of the two files.
+fn audit_text<J: Source, K: Source>(
+    alloc: Global,
+    journal: &mut J,
+    transcript: &mut K,
+) -> Result<String, CommandFault>
+    ensures ok { IfOk result (λ text. IsAudited present standard_limits
+        (J.remaining journal.old) (K.remaining transcript.old) (string_bytes text)) }
+    ensures err { IfErr result (IsNotAudited present standard_limits
+        (J.remaining journal.old) (J.has_failed journal.new)
+        (K.remaining transcript.old) (K.has_failed transcript.new)) }
+{
+    let replies = agreed(alloc, journal, transcript)?;
+    Ok(agreed_line(alloc, replies)?)
+}
+
+/// The command `audit`: holds a transcript against what a journal published under the standard
+/// limits, and prints how many replies it has, which all agree. The journal is read whole before
+/// the transcript, and both before anything is printed.
+///
+/// Where a line is refused, as that of a reply that the journal does not give, standard error is
+/// told in a line why, and the status says it.
+pub fn audit_command<J: Source, K: Source, W: Sink, E: Sink>(
+    alloc: Global,
+    journal: &mut J,
+    transcript: &mut K,
+    output: &mut W,
+    errors: &mut E,
+) -> Status
+    ensures { (ending : Option CommandFault)
+        × EndsBy (E.contents errors.old) (E.contents errors.new) (E.has_failed errors.new)
+        ending result
+        × Prints (IsAudited present standard_limits
+        (J.remaining journal.old) (K.remaining transcript.old))
+        (IsNotAudited present standard_limits
+        (J.remaining journal.old) (J.has_failed journal.new)
+        (K.remaining transcript.old) (K.has_failed transcript.new))
+        (W.contents output.old) (W.contents output.new) ending }
+{
+    let made = audit_text(alloc, journal, transcript);
+    print(alloc, made, output, errors)
+}

@@ -1,0 +1,75 @@
+//! Files that a command reads whole.
+ghost use Rattle.std.specs.Prelude.{IfOk, IfErr, map};
+ghost use Rattle.osn_days.specs.Profile.{present};
+ghost use Rattle.osn_register.specs.Limits.{standard_limits};
+ghost use Rattle.osn_files.specs.Journal.{load};
+ghost use Rattle.osn_files.specs.Questions.{questions};
+ghost use Rattle.osn_files.specs.Schedule.{schedule};
+ghost use Rattle.osn_files.specs.Script.{script};
+ghost use Rattle.osn_files.specs.declared.fault.Role.TheVariants.{Journal, Script, Questions};
+ghost use Rattle.osn_files.specs.declared.fault.Role.TheVariants.{Schedule};
+ghost use Rattle.osn_commands.specs.Files.{Makes, IsFileFault, IsUnreadable};
+
+use crate::fault::CommandFault;
+use osn_core::{Command, Object, Step};
+use osn_files::{load_journal, read_questions, read_schedule, read_script};
+use osn_register::{Limits, Query};
+use osn_wire::Source;
+use std::alloc::Global;
+
+/// The object of a journal, under the standard limits.
+pub(crate) fn journal_object<J: Source>(
+    alloc: Global,
+    journal: &mut J,
+) -> Result<Object, CommandFault>
+    ensures ok { IfOk result
+        (Makes (load present standard_limits) (J.remaining journal.old)) }
+    ensures err { IfErr result (IsFileFault Journal (load present standard_limits)
+        (J.remaining journal.old)
+        (IsUnreadable (J.remaining journal.old) (J.has_failed journal.new))) }
+{
+    Ok(load_journal(alloc, Limits::standard(), journal)?)
+}
+
+/// The steps of a schedule.
+pub(crate) fn schedule_steps<J: Source>(
+    alloc: Global,
+    readers: u32,
+    file: &mut J,
+) -> Result<Vec<Step>, CommandFault>
+    ensures ok { IfOk result (λ steps.
+        Makes (schedule present readers) (J.remaining file.old) steps.items) }
+    ensures err { IfErr result (IsFileFault Schedule (schedule present readers)
+        (J.remaining file.old)
+        (IsUnreadable (J.remaining file.old) (J.has_failed file.new))) }
+{
+    Ok(read_schedule(alloc, readers, file)?)
+}
+
+/// The commands of a script.
+pub(crate) fn script_commands<J: Source>(
+    alloc: Global,
+    file: &mut J,
+) -> Result<Vec<Command>, CommandFault>
+    ensures ok { IfOk result (λ commands.
+        Makes (script present) (J.remaining file.old) commands.items) }
+    ensures err { IfErr result (IsFileFault Script (script present)
+        (J.remaining file.old)
+        (IsUnreadable (J.remaining file.old) (J.has_failed file.new))) }
+{
+    Ok(read_script(alloc, file)?)
+}
+
+/// The questions of a file, a list for each reader.
+pub(crate) fn question_lists<J: Source>(
+    alloc: Global,
+    file: &mut J,
+) -> Result<Vec<Vec<Query>>, CommandFault>
+    ensures ok { IfOk result (λ lists. Makes questions (J.remaining file.old)
+        (map (λ asked. asked.items) lists.items)) }
+    ensures err { IfErr result (IsFileFault Questions questions
+        (J.remaining file.old)
+        (IsUnreadable (J.remaining file.old) (J.has_failed file.new))) }
+{
+    Ok(read_questions(alloc, file)?)
+}

@@ -1,0 +1,18 @@
+use Rattle.std.proofs.Common.{◌∙◌, ◌-◌, ◌<◌, ◌≤◌, length, ap, arith, subst, sym}
+use Rattle.std.proofs.lemmas.List.{length-map}
+use Rattle.osn_files.specs.Questions.{with_query}
+use Rattle.osn_files.proofs.QuestionLemmas.{with_query-put}
+use Rattle.osn_files.proofs.lists.Lists.put.Goals as goal
+
+pub returns : goal.returns
+returns c =
+    let lists = c.self.inside.lists.items in
+    let grown : c.args.reader ≤ length lists =
+    subst (λ n. c.args.reader ≤ n)
+    (sym (ap length c.self.view_is) ∙ length-map lists (λ qs. qs.items))
+    c.in_ok-grow.ensures.long in
+    let long : c.args.reader - 1 < length lists = omega (arith, grown, c.requires) in
+    with_query-put lists _ _ (c.args.reader - 1) c.args.query long c.index_mut.ensures.value
+    c.in_ok-push.ensures.items
+    ∙ (ap (λ l. with_query l (c.args.reader - 1) c.args.query) c.self.view_is
+    ∙ c.in_ok-grow.ensures.same c.args.query)

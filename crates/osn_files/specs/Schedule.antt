@@ -1,0 +1,98 @@
+-- What is read from the lines of a schedule, which has no head: the steps of one editor and of so
+-- many readers, in the order of the lines. This project's profile.
+use Rattle.std.specs.Prelude.{ℕ, List, [], ◌∷◌, ◌++◌, codes, Option, Result, Ok, Err}
+use Rattle.serde_json.specs.Data.{Data}
+use Rattle.osn_days.specs.Profile.{Profile}
+use Rattle.osn_core.specs.declared.step.Step.{Step}
+use Rattle.osn_core.specs.declared.step.Step.TheVariants as steps
+use Rattle.osn_request.specs.declared.member.Member.TheVariants as members
+use Rattle.osn_request.specs.declared.request.op.Op.{Op}
+use Rattle.osn_request.specs.declared.request.op.Op.TheVariants as ops
+use Rattle.osn_request.specs.declared.wire_fault.WireFault.{WireFault}
+use Rattle.osn_request.specs.declared.wire_fault.WireFault.TheVariants.{UnknownOp, UnknownStep}
+use Rattle.osn_request.specs.EditRequest.{edit_of}
+use Rattle.osn_request.specs.Field.{◌>>=◌, or_fault, text_at, whole_at}
+use Rattle.osn_request.specs.Op.{op_of}
+use Rattle.osn_request.specs.QueryRequest.{query_of, reader_in}
+use Rattle.osn_request.specs.Request.{object_of}
+use Rattle.osn_words.specs.Words.{meaning}
+use Rattle.osn_files.specs.declared.fault.LineFault.{LineFault}
+use Rattle.osn_files.specs.declared.fault.LineFault.TheVariants.{Wire}
+use Rattle.osn_files.specs.declared.step_line.StepKind.{StepKind}
+use Rattle.osn_files.specs.declared.step_line.StepKind.TheVariants as kinds
+use Rattle.osn_files.specs.Turns.{in_turn}
+
+-- the kind of step of a word
+abbrev pub kind_named : List ℕ → Option StepKind
+kind_named = meaning (
+    (codes "look", kinds.Look)
+    ∷ (codes "pin", kinds.Pin)
+    ∷ (codes "check", kinds.Check)
+    ∷ (codes "answer", kinds.Answer)
+    ∷ (codes "leave", kinds.Leave)
+    ∷ (codes "stage", kinds.Stage)
+    ∷ (codes "publish", kinds.Publish)
+    ∷ (codes "claim", kinds.Claim)
+    ∷ (codes "absorb", kinds.Absorb)
+    ∷ [])
+
+-- the kind of step of an object
+abbrev pub kind_of : Data → Result StepKind WireFault
+kind_of d = text_at members.Step d >>= λ word. or_fault UnknownStep (kind_named word)
+
+-- the look of an object whose op is this one
+abbrev pub look_by : ℕ → Data → Op → Result Step WireFault
+look_by readers d (ops.Edit op) = Err UnknownOp
+look_by readers d ops.Publish = Err UnknownOp
+look_by readers d (ops.Query op) =
+    query_of readers op d >>= λ asked. Ok (steps.Look asked.0 asked.1)
+
+-- the look of an object
+abbrev pub look_of : ℕ → Data → Result Step WireFault
+look_of readers d = op_of d >>= look_by readers d
+
+-- the edit that an object stages whose op is this one
+abbrev pub stage_by : Profile → Data → Op → Result Step WireFault
+stage_by p d (ops.Edit op) = edit_of p op d >>= λ e. Ok (steps.Stage e)
+stage_by p d ops.Publish = Err UnknownOp
+stage_by p d (ops.Query op) = Err UnknownOp
+
+-- the edit that an object stages, as a step
+abbrev pub stage_of : Profile → Data → Result Step WireFault
+stage_of p d = op_of d >>= stage_by p d
+
+-- the reader of an object
+abbrev pub reader_of : ℕ → Data → Result ℕ WireFault
+reader_of readers d = whole_at members.Reader d >>= reader_in readers
+
+-- the step of an object that is of this kind
+abbrev pub step_by : Profile → ℕ → Data → StepKind → Result Step WireFault
+step_by p readers d kinds.Look = look_of readers d
+step_by p readers d kinds.Pin = reader_of readers d >>= λ r. Ok (steps.Pin r)
+step_by p readers d kinds.Check = reader_of readers d >>= λ r. Ok (steps.Check r)
+step_by p readers d kinds.Answer = reader_of readers d >>= λ r. Ok (steps.Answer r)
+step_by p readers d kinds.Leave = reader_of readers d >>= λ r. Ok (steps.Leave r)
+step_by p readers d kinds.Stage = stage_of p d
+step_by p readers d kinds.Publish = Ok steps.Publish
+step_by p readers d kinds.Claim = Ok steps.Claim
+step_by p readers d kinds.Absorb = Ok steps.Absorb
+
+-- the step of an object
+abbrev pub step_in : Profile → ℕ → Data → Result Step WireFault
+step_in p readers d = kind_of d >>= step_by p readers d
+
+-- the step of a line
+abbrev pub step_of : Profile → ℕ → List ℕ → Result Step WireFault
+step_of p readers line = object_of line >>= step_in p readers
+
+abbrev pub with_read : List Step → Result Step WireFault → Result (List Step) LineFault
+with_read done (Ok s) = Ok (done ++ s ∷ [])
+with_read done (Err f) = Err (Wire f)
+
+-- the steps, with that of a line
+abbrev pub with_line : Profile → ℕ → List Step → List ℕ → Result (List Step) LineFault
+with_line p readers done line = with_read done (step_of p readers line)
+
+-- the steps of a schedule's lines, or the first fault and the number of its line, counted from 1
+abbrev pub schedule : Profile → ℕ → List (List ℕ) → Result (List Step) (ℕ × LineFault)
+schedule p readers = in_turn (with_line p readers) 1 []

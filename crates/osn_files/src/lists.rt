@@ -1,0 +1,84 @@
+//! The queries of each reader.
+ghost use Rattle.std.specs.Prelude.{◌≡◌, ◌-◌, ◌<◌, ◌≤◌, [], length, map, OnOk};
+ghost use Rattle.osn_register.specs.declared.query.Query.{Query as QueryValue};
+ghost use Rattle.osn_files.specs.Questions.{with_query};
+
+use crate::question_line::question_of;
+use crate::reading::MadeOfLines;
+use crate::stop::LineStop;
+use osn_register::Query;
+use std::alloc::{AllocError, Global};
+use std::marker::Model;
+
+/// The queries of each reader, the first counted 1, in the order in which they came.
+#[derive(Drop)]
+pub(crate) struct Lists {
+    lists: Vec<Vec<Query>>,
+}
+
+impl Model for Lists {
+    ghost use Rattle.std.specs.Prelude.{List, map};
+    ghost use Rattle.osn_register.specs.declared.query.Query.{Query};
+
+    ghost Value = { List (List Query) };
+
+    ghost view = { λ l. map (λ qs. qs.items) l.lists.items };
+}
+
+impl Lists {
+    /// A list for no reader yet.
+    pub(crate) fn new(alloc: Global) -> Lists
+        ensures { result ≡ [] }
+    {
+        Lists {
+            lists: Vec::new(alloc),
+        }
+    }
+
+    /// The list of each reader.
+    pub(crate) fn into_inner(self) -> Vec<Vec<Query>>
+        ensures { map (λ qs. qs.items) result.items ≡ self }
+    {
+        self.lists
+    }
+
+    /// Gives each reader up to this one a list, which is empty at first.
+    fn grow(&mut self, alloc: Global, reader: u32) -> Result<(), AllocError>
+        ensures long { OnOk result (reader ≤ length self.new) }
+        ensures same { OnOk result ((q : QueryValue) →
+            with_query self.new (reader - 1) q ≡ with_query self.old (reader - 1) q) }
+    {
+        while self.lists.len() < reader as usize {
+            self.lists.push(Vec::new(alloc))?;
+        }
+        Ok(())
+    }
+
+    /// Puts a query behind those of its reader.
+    ///
+    /// # Errors
+    /// Only where no memory is found.
+    pub(crate) fn put(&mut self, alloc: Global, reader: u32, query: Query) -> Result<(), AllocError>
+        requires { 0 < reader }
+        ensures { OnOk result (self.new ≡ with_query self.old (reader - 1) query) }
+    {
+        self.grow(alloc, reader)?;
+        self.lists[(reader - 1) as usize].push(query)?;
+        Ok(())
+    }
+}
+
+impl MadeOfLines for Lists {
+    ghost use Rattle.osn_files.specs.Fronts.{lists-front};
+    ghost use Rattle.osn_files.specs.Questions.{with_line};
+
+    ghost step = { with_line };
+
+    fn take_line(&mut self, alloc: Global, line: &[u8]) -> Result<(), LineStop> {
+        let (reader, query) = question_of(alloc, line)?;
+        self.put(alloc, reader, query)?;
+        Ok(())
+    }
+
+    ghost by_front = { lists-front };
+}

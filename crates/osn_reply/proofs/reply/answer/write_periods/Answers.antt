@@ -1,0 +1,12 @@
+use Rattle.std.proofs.Common.{append_assoc}
+use Rattle.osn_words.proofs.WriteLemmas.{at_last}
+use Rattle.osn_reply.proofs.reply.answer.write_periods.Goals as goal
+
+pub returns-clause-tokens : goal.returns-clause-tokens
+returns-clause-tokens c =
+    at_last c.end_object.result c.end_object.ensures.ok
+    (λ e. rw (
+      e,
+      c.in_ok-write_list.ensures.tokens,
+      c.in_ok-begin_answer.ensures.tokens,
+    ) (simp append_assoc))

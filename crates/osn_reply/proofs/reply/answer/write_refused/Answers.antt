@@ -1,0 +1,18 @@
+use Rattle.std.proofs.Common.{append_assoc}
+use Rattle.osn_words.proofs.WriteLemmas.{at_last}
+use Rattle.osn_reply.proofs.reply.answer.write_refused.Goals as goal
+
+pub returns-clause-tokens : goal.returns-clause-tokens
+returns-clause-tokens c =
+    at_last c.end_object.result c.end_object.ensures.ok
+    (λ e. rw (
+      e,
+      c.in_ok-write_number-3.ensures.tokens,
+      c.in_ok-write_text.ensures.tokens,
+      c.in_ok-write_number-2.ensures.tokens,
+      c.in_ok-write_number.ensures.tokens,
+      c.in_ok-begin_object.ensures.ok,
+      c.from.ensures,
+      c.number.ensures,
+      c.name.ensures,
+    ) (simp append_assoc))

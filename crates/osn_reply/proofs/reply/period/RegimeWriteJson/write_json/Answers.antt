@@ -1,0 +1,17 @@
+use Rattle.std.proofs.Common.{append_assoc}
+use Rattle.osn_words.proofs.WriteLemmas.{at_last}
+use Rattle.osn_reply.proofs.reply.period.RegimeWriteJson.write_json.Goals as goal
+
+pub returns-clause-tokens : goal.returns-clause-tokens
+returns-clause-tokens c =
+    at_last c.end_object.result c.end_object.ensures.ok
+    (λ e. rw (
+      e,
+      c.in_ok-write_text-3.ensures.tokens,
+      c.in_ok-write_text-2.ensures.tokens,
+      c.in_ok-write_text.ensures.tokens,
+      c.in_ok-begin_object.ensures.ok,
+      c.word.ensures,
+      c.word-2.ensures,
+      c.word-3.ensures,
+    ) (simp append_assoc))

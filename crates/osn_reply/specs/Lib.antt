@@ -1,0 +1,3 @@
+pub mod ReplyText
+pub mod OutText
+pub mod Transcript

@@ -1,0 +1,179 @@
+-- The JSON value of each outcome, and the line that is its text: this project's profile. The
+-- members of an object stand in ascending order of their names.
+use Rattle.std.specs.Prelude.{ℕ, Bool, List, [], ◌∷◌, ◌++◌, map, codes}
+use Rattle.serde_json.specs.Data.{Data, boolean, string, object, member, no_members}
+use Rattle.serde_json.specs.Written.{compact_text}
+use Rattle.osn_computus.specs.declared.letters.Letters.{Letters}
+use Rattle.osn_days.specs.declared.calendar.Calendar.TheVariants.{Julian, Gregorian}
+use Rattle.osn_days.specs.Chain.{date_of}
+use Rattle.osn_days.specs.Line.{weekday, julian_day}
+use Rattle.osn_days.specs.Weekday.{weekday_name}
+use Rattle.osn_lands.specs.declared.regime.Regime.{Regime}
+use Rattle.osn_lands.specs.declared.period.Period.{Period}
+use Rattle.osn_register.specs.declared.answer.Answer.{Answer}
+use Rattle.osn_register.specs.declared.answer.Answer.TheVariants as answers
+use Rattle.osn_register.specs.declared.answer.Found.{Found}
+use Rattle.osn_register.specs.declared.answer.Land.{Land}
+use Rattle.osn_register.specs.Refusal.{refusal_number, refusal_name}
+use Rattle.osn_request.specs.declared.wire_fault.WireFault.{WireFault}
+use Rattle.osn_request.specs.declared.wire_fault.WireFault.TheVariants as faults
+use Rattle.osn_reply.specs.declared.outcome.Outcome.{Outcome}
+use Rattle.osn_reply.specs.declared.outcome.Outcome.TheVariants.{Staged, Published, Refused, Fault}
+use Rattle.osn_reply.specs.declared.outcome.Outcome.TheVariants.{Replied}
+use Rattle.osn_request.specs.Member.{member_name}
+use Rattle.osn_request.specs.WireFault.{wire_fault_number, wire_fault_name}
+use Rattle.osn_words.specs.Json.{whole, list_data}
+use Rattle.osn_words.specs.Texts.{date_text, text_of_date, weekday_numbered, epact_text}
+use Rattle.osn_words.specs.Texts.{letters_text}
+use Rattle.osn_words.specs.Words.{calendar_word, style_word, rule_word}
+
+-- a day as a territory names it
+abbrev pub found_data : Found → Data
+found_data f = object (
+    member (codes "day") (whole f.day)
+    (member (codes "dual") (string f.dual)
+    (member (codes "gregorian") (string (text_of_date (date_of Gregorian f.day)))
+    (member (codes "jdn") (whole (julian_day f.day))
+    (member (codes "julian") (string (text_of_date (date_of Julian f.day)))
+    (member (codes "label") (string (date_text f.label.year f.label.month f.label.day))
+    (member (codes "weekday") (string (weekday_name (weekday_numbered (weekday f.day))))
+    no_members)))))))
+
+-- how a territory reckons
+abbrev pub regime_data : Regime → Data
+regime_data r = object (
+    member (codes "calendar") (string (calendar_word r.calendar))
+    (member (codes "rule") (string (rule_word r.rule))
+    (member (codes "style") (string (style_word r.style))
+    no_members)))
+
+-- a period by its first and last day and its regime
+abbrev pub period_data : Period → Data
+period_data p = object (
+    member (codes "calendar") (string (calendar_word p.regime.calendar))
+    (member (codes "first") (whole p.first)
+    (member (codes "last") (whole p.last)
+    (member (codes "rule") (string (rule_word p.regime.rule))
+    (member (codes "style") (string (style_word p.regime.style))
+    no_members)))))
+
+-- a territory
+abbrev pub land_data : Land → Data
+land_data l = object (
+    member (codes "code") (string l.code)
+    (member (codes "name") (string l.name)
+    no_members))
+
+abbrev pub reading_data : List Found → List ℕ → Data
+reading_data found skipped = object (
+    member (codes "days") (list_data (map found_data found))
+    (member (codes "skipped") (list_data (map whole skipped))
+    no_members))
+
+-- a day as the territory names it, and the period that holds it
+abbrev pub on_day_data : Found → Period → Data
+on_day_data found period = object (
+    member (codes "first") (whole period.first)
+    (member (codes "found") (found_data found)
+    (member (codes "last") (whole period.last)
+    (member (codes "regime") (regime_data period.regime)
+    no_members))))
+
+-- the Easters of a year, and whether an exception is listed for it
+abbrev pub easters_data : List Found → Bool → Data
+easters_data found listed = object (
+    member (codes "days") (list_data (map found_data found))
+    (member (codes "listed") (boolean listed)
+    no_members))
+
+-- the figures of a year by one rule
+abbrev pub reckoning_data : ℕ → Data → Letters → Data
+reckoning_data easter epact letters = object (
+    member (codes "easter") (whole easter)
+    (member (codes "epact") epact
+    (member (codes "letters") (string (letters_text letters))
+    no_members)))
+
+-- the figures of a year
+abbrev pub figures_data : ℕ → ℕ → ℕ → Data → Data → Data
+figures_data year golden indiction gregorian julian = object (
+    member (codes "golden") (whole golden)
+    (member (codes "gregorian") gregorian
+    (member (codes "indiction") (whole indiction)
+    (member (codes "julian") julian
+    (member (codes "year") (whole year)
+    no_members)))))
+
+abbrev pub lands_data : List Land → Data
+lands_data lands = object (member (codes "lands") (list_data (map land_data lands)) no_members)
+
+abbrev pub periods_data : List Period → Data
+periods_data periods =
+    object (member (codes "periods") (list_data (map period_data periods)) no_members)
+
+abbrev pub answered_data : ℕ → ℕ → Data → Data
+answered_data reader edition answer = object (
+    member (codes "answer") answer
+    (member (codes "edition") (whole edition)
+    (member (codes "reader") (whole reader)
+    no_members)))
+
+-- what a reader is told under an edition
+abbrev pub replied_data : ℕ → ℕ → Answer → Data
+replied_data reader edition (answers.Reading found skipped) =
+    answered_data reader edition (reading_data found skipped)
+replied_data reader edition (answers.OnDay found period) =
+    answered_data reader edition (on_day_data found period)
+replied_data reader edition (answers.Easters found listed) =
+    answered_data reader edition (easters_data found listed)
+replied_data reader edition
+    (answers.Figures year golden indiction julian_epact gregorian_epact
+    julian_letters gregorian_letters julian_easter gregorian_easter) =
+    answered_data reader edition (figures_data year golden indiction
+    (reckoning_data gregorian_easter (string (epact_text gregorian_epact)) gregorian_letters)
+    (reckoning_data julian_easter (whole julian_epact) julian_letters))
+replied_data reader edition (answers.Lands lands) = answered_data reader edition (lands_data lands)
+replied_data reader edition (answers.Periods periods) =
+    answered_data reader edition (periods_data periods)
+replied_data reader edition (answers.Refused f) = object (
+    member (codes "edition") (whole edition)
+    (member (codes "fault") (whole (refusal_number f))
+    (member (codes "name") (string (refusal_name f))
+    (member (codes "reader") (whole reader)
+    no_members))))
+
+-- a refusal or a fault by its number and name
+abbrev pub refused_data : ℕ → List ℕ → Data
+refused_data n name = object (
+    member (codes "fault") (whole n)
+    (member (codes "name") (string name)
+    no_members))
+
+abbrev pub fault_data : WireFault → Data
+fault_data (faults.BadField m) = object (
+    member (codes "fault") (whole 34)
+    (member (codes "field") (string (member_name m))
+    (member (codes "name") (string (codes "BadField"))
+    no_members)))
+fault_data f = refused_data (wire_fault_number f) (wire_fault_name f)
+
+abbrev pub outcome_data : Outcome → Data
+outcome_data (Staged pending) = object (
+    member (codes "ok") (string (codes "staged"))
+    (member (codes "pending") (whole pending)
+    no_members))
+outcome_data (Published edition) = object (
+    member (codes "edition") (whole edition)
+    (member (codes "ok") (string (codes "published"))
+    no_members))
+outcome_data (Refused f) = refused_data (refusal_number f) (refusal_name f)
+outcome_data (Fault f) = fault_data f
+outcome_data (Replied reader reply) = replied_data reader reply.edition reply.answer
+
+-- the line of a value: its text with no space, and a line feed
+abbrev pub line_of : Data → List ℕ
+line_of d = compact_text d ++ 10 ∷ []
+
+-- the line of an outcome
+unfoldable pub reply_line : Outcome → List ℕ
+reply_line o = line_of (outcome_data o)

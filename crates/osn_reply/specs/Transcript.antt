@@ -1,0 +1,61 @@
+-- The line of a transcript: what a reader asked, and the reply. The members of an object stand in
+-- ascending order of their names. This project's profile.
+use Rattle.std.specs.Prelude.{ℕ, ℤ, List, codes}
+use Rattle.serde_json.specs.Data.{Data, number, string, object, member, no_members}
+use Rattle.serde_json.specs.Find.{of_integer}
+use Rattle.osn_register.specs.declared.query.Query.{Query}
+use Rattle.osn_register.specs.declared.query.Query.TheVariants.{Read, DayIn, Easter, YearFigures}
+use Rattle.osn_register.specs.declared.query.Query.TheVariants.{Lands, Periods}
+use Rattle.osn_core.specs.declared.step.Reply.{Reply}
+use Rattle.osn_words.specs.Json.{whole}
+use Rattle.osn_reply.specs.ReplyText.{replied_data, line_of}
+
+abbrev pub signed : ℤ → Data
+signed n = number (of_integer n)
+
+-- a query with the members of its row, what it asks for, and who asks
+abbrev pub query_data : ℕ → Query → Data
+query_data reader (Read code year month day) = object (
+    member (codes "code") (string code)
+    (member (codes "day") (signed day)
+    (member (codes "month") (signed month)
+    (member (codes "op") (string (codes "read"))
+    (member (codes "reader") (whole reader)
+    (member (codes "year") (signed year)
+    no_members))))))
+query_data reader (DayIn code day) = object (
+    member (codes "code") (string code)
+    (member (codes "day") (signed day)
+    (member (codes "op") (string (codes "day"))
+    (member (codes "reader") (whole reader)
+    no_members))))
+query_data reader (Easter code year) = object (
+    member (codes "code") (string code)
+    (member (codes "op") (string (codes "easter"))
+    (member (codes "reader") (whole reader)
+    (member (codes "year") (signed year)
+    no_members))))
+query_data reader (YearFigures year) = object (
+    member (codes "op") (string (codes "figures"))
+    (member (codes "reader") (whole reader)
+    (member (codes "year") (signed year)
+    no_members)))
+query_data reader Lands = object (
+    member (codes "op") (string (codes "lands"))
+    (member (codes "reader") (whole reader)
+    no_members))
+query_data reader (Periods code) = object (
+    member (codes "code") (string code)
+    (member (codes "op") (string (codes "periods"))
+    (member (codes "reader") (whole reader)
+    no_members)))
+
+-- what a reader asked, and the reply
+abbrev pub asked_data : ℕ → Query → Reply → Data
+asked_data reader q reply = object (
+    member (codes "ask") (query_data reader q)
+    (member (codes "reply") (replied_data reader reply.edition reply.answer)
+    no_members))
+
+unfoldable pub transcript_line : ℕ → Query → Reply → List ℕ
+transcript_line reader q reply = line_of (asked_data reader q reply)

@@ -1,0 +1,169 @@
+//! A reply line: the compact text of a JSON value, and a line feed.
+ghost use Rattle.std.specs.Prelude.{◌≡◌, ◌++◌, IfOk, OnOk, OnErr, string_bytes, IsUtf8};
+ghost use Rattle.osn_reply.specs.declared.outcome.Outcome.TheVariants.{Staged, Published};
+ghost use Rattle.osn_reply.specs.ReplyText.{refused_data, fault_data, outcome_data, line_of};
+ghost use Rattle.osn_reply.specs.ReplyText.{reply_line};
+ghost use Rattle.osn_reply.specs.OutText.{out_line};
+ghost use Rattle.osn_reply.specs.Transcript.{transcript_line};
+ghost use Rattle.osn_words.specs.Json.{value_tokens};
+
+mod answer;
+mod asked;
+mod date;
+mod figures;
+mod found;
+mod period;
+mod step_out;
+mod write_json;
+
+use crate::outcome::Outcome;
+use answer::write_reply;
+use asked::Asked;
+use json::Writer;
+use osn_core::{Out, Reply};
+use osn_register::Query;
+use osn_request::WireFault;
+use osn_words::{write_number, write_text};
+use std::alloc::{AllocError, Global};
+use write_json::WriteJson;
+
+/// The room that a reply line gets at first: that of a day takes some 300 bytes.
+const ROOM: usize = 512;
+
+/// Writes a refusal or a fault by its number and name.
+pub(crate) fn write_refused(out: &mut Writer, number: u8, name: &str) -> Result<(), AllocError>
+    ensures tokens { OnOk result (out.new.tokens
+        ≡ out.old.tokens ++ value_tokens (refused_data number name.now)) }
+    ensures before { out.new.before ≡ out.old.before }
+{
+    out.begin_object()?;
+    write_number(out, "fault", u32::from(number))?;
+    write_text(out, "name", name)?;
+    out.end_object()
+}
+
+/// Writes a fault, with the member that it names.
+fn write_fault(out: &mut Writer, fault: WireFault) -> Result<(), AllocError>
+    ensures tokens { OnOk result (out.new.tokens
+        ≡ out.old.tokens ++ value_tokens (fault_data fault)) }
+    ensures before { out.new.before ≡ out.old.before }
+{
+    match fault {
+        WireFault::BadField(member) => {
+            out.begin_object()?;
+            write_number(out, "fault", u32::from(fault.number()))?;
+            write_text(out, "field", member.name())?;
+            write_text(out, "name", fault.name())?;
+            out.end_object()
+        }
+        _ => write_refused(out, fault.number(), fault.name()),
+    }
+}
+
+pub(crate) fn write_staged(out: &mut Writer, pending: u32) -> Result<(), AllocError>
+    ensures tokens { OnOk result (out.new.tokens
+        ≡ out.old.tokens ++ value_tokens (outcome_data (Staged pending))) }
+    ensures before { out.new.before ≡ out.old.before }
+{
+    out.begin_object()?;
+    write_text(out, "ok", "staged")?;
+    write_number(out, "pending", pending)?;
+    out.end_object()
+}
+
+pub(crate) fn write_published(out: &mut Writer, edition: u32) -> Result<(), AllocError>
+    ensures tokens { OnOk result (out.new.tokens
+        ≡ out.old.tokens ++ value_tokens (outcome_data (Published edition))) }
+    ensures before { out.new.before ≡ out.old.before }
+{
+    out.begin_object()?;
+    write_number(out, "edition", edition)?;
+    write_text(out, "ok", "published")?;
+    out.end_object()
+}
+
+impl WriteJson for Outcome {
+    ghost shown = { outcome_data };
+
+    fn write_json(&self, alloc: Global, out: &mut Writer) -> Result<(), AllocError> {
+        match self {
+            Outcome::Staged(pending) => write_staged(out, *pending),
+            Outcome::Published(edition) => write_published(out, *edition),
+            Outcome::Refused(refusal) => write_refused(out, refusal.number(), refusal.name()),
+            Outcome::Fault(fault) => write_fault(out, *fault),
+            Outcome::Replied { reader, reply } => write_reply(alloc, out, *reader, reply),
+        }
+    }
+}
+
+/// The bytes of a value's line: its compact text, and a line feed.
+fn line_bytes<J: WriteJson>(alloc: Global, value: &J) -> Result<Vec<u8>, AllocError>
+    ensures text { IfOk result (λ bytes. bytes.items ≡ line_of (J.shown value.now)) }
+    ensures utf8 { IfOk result (λ bytes. IsUtf8 bytes.items) }
+{
+    let mut out = Writer::new(Vec::with_capacity(alloc, ROOM)?);
+    value.write_json(alloc, &mut out)?;
+    let mut line = out.into_inner();
+    line.push(b'\n')?;
+    Ok(line)
+}
+
+/// The reply line of an outcome, with its line feed.
+///
+/// # Errors
+/// Want of memory, and nothing else.
+#[tactic(auto, unfolding(crate::specs::ReplyText::reply_line))]
+pub fn reply_text(alloc: Global, outcome: &Outcome) -> Result<String, AllocError>
+    ensures { IfOk result (λ s. string_bytes s ≡ reply_line outcome.now) }
+{
+    let line = line_bytes(alloc, outcome)?;
+    Ok(String::from_utf8(line).unwrap())
+}
+
+/// The line of what a step of the core gave, with its line feed.
+///
+/// # Errors
+/// Want of memory, and nothing else.
+#[tactic(auto, unfolding(crate::specs::OutText::out_line))]
+pub fn out_text(alloc: Global, out: &Out) -> Result<String, AllocError>
+    ensures { IfOk result (λ s. string_bytes s ≡ out_line out.now) }
+{
+    let line = line_bytes(alloc, out)?;
+    Ok(String::from_utf8(line).unwrap())
+}
+
+/// The line of a transcript, with its line feed: the query of a reader, and the reply to it.
+///
+/// # Errors
+/// Want of memory, and nothing else.
+#[tactic(auto, unfolding(crate::specs::Transcript::transcript_line))]
+pub fn transcript_text(
+    alloc: Global,
+    reader: u32,
+    query: &Query,
+    reply: &Reply,
+) -> Result<String, AllocError>
+    ensures { IfOk result (λ s.
+        string_bytes s ≡ transcript_line reader query.now reply.now) }
+{
+    let asked = Asked {
+        reader,
+        query,
+        reply,
+    };
+    let line = line_bytes(alloc, &asked)?;
+    Ok(String::from_utf8(line).unwrap())
+}
+
+/// Appends the reply line of an outcome, or leaves what is there as it was.
+///
+/// # Errors
+/// Want of memory, and nothing else.
+#[tactic(auto, unfolding(crate::specs::ReplyText::reply_line))]
+pub fn push_reply(alloc: Global, outcome: &Outcome, out: &mut Vec<u8>) -> Result<(), AllocError>
+    ensures ok { OnOk result (out.new.items ≡ out.old.items ++ reply_line outcome.now) }
+    ensures err { OnErr result (out.new.items ≡ out.old.items) }
+{
+    let line = line_bytes(alloc, outcome)?;
+    out.extend_from_slice(&line)
+}

@@ -1,0 +1,147 @@
+//! What a reader asked, with the reply, as a line of a transcript.
+ghost use Rattle.std.specs.Prelude.{◌≡◌, ◌++◌, OnOk};
+ghost use Rattle.osn_register.specs.declared.query.Query.TheVariants as queries;
+ghost use Rattle.osn_words.specs.Json.{value_tokens, member_tokens};
+ghost use Rattle.osn_reply.specs.Transcript as said;
+
+use crate::reply::answer::write_reply;
+use crate::reply::write_json::WriteJson;
+use json::Writer;
+use osn_core::Reply;
+use osn_register::{Query, Text};
+use osn_words::{write_number, write_text};
+use std::alloc::{AllocError, Global};
+
+/// Writes a member that is a whole number, which may be negative.
+fn write_whole(out: &mut Writer, name: &str, number: i64) -> Result<(), AllocError>
+    ensures tokens { OnOk result (out.new.tokens
+        ≡ out.old.tokens ++ member_tokens name.now (said.signed number)) }
+    ensures before { out.new.before ≡ out.old.before }
+{
+    out.key(name)?;
+    out.i64(number)
+}
+
+fn write_read(
+    out: &mut Writer,
+    reader: u32,
+    code: &Text,
+    year: i64,
+    month: i64,
+    day: i64,
+) -> Result<(), AllocError>
+    ensures tokens { OnOk result (out.new.tokens ≡ out.old.tokens
+        ++ value_tokens (said.query_data reader (queries.Read code.now year month day))) }
+    ensures before { out.new.before ≡ out.old.before }
+{
+    out.begin_object()?;
+    write_text(out, "code", code.as_str())?;
+    write_whole(out, "day", day)?;
+    write_whole(out, "month", month)?;
+    write_text(out, "op", "read")?;
+    write_number(out, "reader", reader)?;
+    write_whole(out, "year", year)?;
+    out.end_object()
+}
+
+fn write_day_in(out: &mut Writer, reader: u32, code: &Text, day: i64) -> Result<(), AllocError>
+    ensures tokens { OnOk result (out.new.tokens ≡ out.old.tokens
+        ++ value_tokens (said.query_data reader (queries.DayIn code.now day))) }
+    ensures before { out.new.before ≡ out.old.before }
+{
+    out.begin_object()?;
+    write_text(out, "code", code.as_str())?;
+    write_whole(out, "day", day)?;
+    write_text(out, "op", "day")?;
+    write_number(out, "reader", reader)?;
+    out.end_object()
+}
+
+fn write_easter(out: &mut Writer, reader: u32, code: &Text, year: i64) -> Result<(), AllocError>
+    ensures tokens { OnOk result (out.new.tokens ≡ out.old.tokens
+        ++ value_tokens (said.query_data reader (queries.Easter code.now year))) }
+    ensures before { out.new.before ≡ out.old.before }
+{
+    out.begin_object()?;
+    write_text(out, "code", code.as_str())?;
+    write_text(out, "op", "easter")?;
+    write_number(out, "reader", reader)?;
+    write_whole(out, "year", year)?;
+    out.end_object()
+}
+
+fn write_figures(out: &mut Writer, reader: u32, year: i64) -> Result<(), AllocError>
+    ensures tokens { OnOk result (out.new.tokens ≡ out.old.tokens
+        ++ value_tokens (said.query_data reader (queries.YearFigures year))) }
+    ensures before { out.new.before ≡ out.old.before }
+{
+    out.begin_object()?;
+    write_text(out, "op", "figures")?;
+    write_number(out, "reader", reader)?;
+    write_whole(out, "year", year)?;
+    out.end_object()
+}
+
+fn write_lands(out: &mut Writer, reader: u32) -> Result<(), AllocError>
+    ensures tokens { OnOk result (out.new.tokens ≡ out.old.tokens
+        ++ value_tokens (said.query_data reader queries.Lands)) }
+    ensures before { out.new.before ≡ out.old.before }
+{
+    out.begin_object()?;
+    write_text(out, "op", "lands")?;
+    write_number(out, "reader", reader)?;
+    out.end_object()
+}
+
+fn write_periods(out: &mut Writer, reader: u32, code: &Text) -> Result<(), AllocError>
+    ensures tokens { OnOk result (out.new.tokens ≡ out.old.tokens
+        ++ value_tokens (said.query_data reader (queries.Periods code.now))) }
+    ensures before { out.new.before ≡ out.old.before }
+{
+    out.begin_object()?;
+    write_text(out, "code", code.as_str())?;
+    write_text(out, "op", "periods")?;
+    write_number(out, "reader", reader)?;
+    out.end_object()
+}
+
+fn write_query(out: &mut Writer, reader: u32, query: &Query) -> Result<(), AllocError>
+    ensures tokens { OnOk result (out.new.tokens ≡ out.old.tokens
+        ++ value_tokens (said.query_data reader query.now)) }
+    ensures before { out.new.before ≡ out.old.before }
+{
+    match query {
+        Query::Read {
+            code,
+            year,
+            month,
+            day,
+        } => write_read(out, reader, code, *year, *month, *day),
+        Query::DayIn { code, day } => write_day_in(out, reader, code, *day),
+        Query::Easter { code, year } => write_easter(out, reader, code, *year),
+        Query::YearFigures { year } => write_figures(out, reader, *year),
+        Query::Lands => write_lands(out, reader),
+        Query::Periods { code } => write_periods(out, reader, code),
+    }
+}
+
+/// A query, the reader who asked it, and the reply.
+#[derive(Clone, Copy, Debug)]
+pub(crate) struct Asked<'a> {
+    pub(crate) reader: u32,
+    pub(crate) query: &'a Query,
+    pub(crate) reply: &'a Reply,
+}
+
+impl<'a> WriteJson for Asked<'a> {
+    ghost shown = { λ a. said.asked_data a.reader a.query.now a.reply.now };
+
+    fn write_json(&self, alloc: Global, out: &mut Writer) -> Result<(), AllocError> {
+        out.begin_object()?;
+        out.key("ask")?;
+        write_query(out, self.reader, self.query)?;
+        out.key("reply")?;
+        write_reply(alloc, out, self.reader, self.reply)?;
+        out.end_object()
+    }
+}

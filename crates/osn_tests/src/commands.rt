@@ -1,0 +1,231 @@
+//! The commands of the program over memory: the status, what is written, and what standard error is
+//! told.
+use crate::session::joined;
+use osn_commands::{Status, run, serve_command};
+use osn_wire::Plain;
+use std::alloc::Global;
+use std::io;
+use std::io::{ErrorKind, Read, Write};
+use std::process::Abort;
+use std::rt::Files;
+use std::sync::Wait;
+use std::test::Fail;
+use std::thread::Threads;
+
+fn sink(alloc: Global) -> Plain<Vec<u8>> {
+    Plain::new(Vec::new(alloc))
+}
+
+const RM: &str = r#"{"journal":1}
+{"op":"add_land","code":"RM","name":"Rome","calendar":"julian","style":"january","rule":"julian"}
+{"op":"publish"}
+"#;
+
+const RM_PENDING: &str = r#"{"journal":1}
+{"op":"add_land","code":"RM","name":"Rome","calendar":"julian","style":"january","rule":"julian"}"#;
+
+/// A journal or none, request lines, the number of the status, replies, what standard error is
+/// told, and the journal that is left.
+type Row = (
+    Option<&'static str>,
+    &'static str,
+    u8,
+    &'static str,
+    &'static str,
+    Option<&'static str>,
+);
+
+const EMPTY_JOURNAL: &str = "{\"journal\":1}\n";
+
+const RM_SAVED: &str = r#"{"journal":1}
+{"calendar":"julian","code":"RM","name":"Rome","op":"add_land","rule":"julian","style":"january"}
+"#;
+
+const LANDS: &str = "{\"op\":\"lands\",\"reader\":1}\n";
+
+const ROME: &str = "{\"answer\":{\"lands\":[{\"code\":\"RM\",\"name\":\"Rome\"}]},\"edition\":1,
+  \"reader\":1}\n";
+
+const SERVED: [Row; 6] = [
+    (None, "", 0, "", "", Some(EMPTY_JOURNAL)),
+    (
+        Some(RM),
+        LANDS,
+        0,
+        ROME,
+        "",
+        Some(
+            "{\"journal\":1}
+{\"calendar\":\"julian\",\"code\":\"RM\",\"name\":\"Rome\",\"op\":\"add_land\",\"rule\":\"julian\",
+  \"style\":\"january\"}
+{\"op\":\"publish\"}
+",
+        ),
+    ),
+    (Some(RM_PENDING), "", 0, "", "", Some(RM_SAVED)),
+    (
+        Some(RM_PENDING),
+        "{\"op\":\"publish\"}\n",
+        0,
+        "{\"edition\":1,\"ok\":\"published\"}\n",
+        "",
+        Some(
+            "{\"journal\":1}
+{\"calendar\":\"julian\",\"code\":\"RM\",\"name\":\"Rome\",\"op\":\"add_land\",\"rule\":\"julian\",
+  \"style\":\"january\"}
+{\"op\":\"publish\"}
+",
+        ),
+    ),
+    (
+        Some("{\"journal\":3}\n"),
+        LANDS,
+        1,
+        "",
+        "oldstyle: journal line 1: 37 BadHead\n",
+        None,
+    ),
+    (
+        Some("{\"journal\":1}\n[]\n"),
+        LANDS,
+        1,
+        "",
+        "oldstyle: journal line 2: 33 NotObject\n",
+        None,
+    ),
+];
+
+fn are_served(rt: &impl Abort, alloc: Global, rows: &[Row]) -> Result<(), Fail> {
+    for (journal, requests, status, replies, told, saved) in rows {
+        let mut output = sink(alloc);
+        let mut errors = sink(alloc);
+        let mut input = Plain::new(requests.as_bytes());
+        let source = journal.map(|text| Plain::new(text.as_bytes()));
+        let left = serve_command(alloc, source, 8, true, &mut input, &mut output, &mut errors);
+        assert_eq!(rt; left.status.code(), *status);
+        let replies = joined(alloc, replies)?;
+        assert_eq!(rt; str::from_utf8(&output.into_inner())?, replies.as_str());
+        assert_eq!(rt; str::from_utf8(&errors.into_inner())?, *told);
+        match (left.journal, saved) {
+            (Some(text), Some(saved)) => {
+                assert_eq!(rt; text.as_str(), joined(alloc, saved)?.as_str());
+            }
+            (text, saved) => assert_eq!(rt; text.is_some(), saved.is_some()),
+        }
+    }
+    Ok(())
+}
+
+#[test]
+fn journals_are_loaded_and_left(rt: HostRuntime) -> Result<(), Fail> {
+    are_served(&rt, rt.alloc(), &SERVED)
+}
+
+/// What fails at each call.
+#[derive(Drop)]
+struct Failing;
+
+impl Read for Failing {
+    fn read(&mut self, _buffer: &mut [u8]) -> io::Result<usize> {
+        Err(io::Error::from(ErrorKind::TimedOut))
+    }
+}
+
+impl Write for Failing {
+    fn write(&mut self, _bytes: &[u8]) -> io::Result<usize> {
+        Err(io::Error::from(ErrorKind::BrokenPipe))
+    }
+
+    fn flush(&mut self) -> io::Result<()> {
+        Err(io::Error::from(ErrorKind::BrokenPipe))
+    }
+}
+
+#[test]
+fn streams_that_fail(rt: HostRuntime) -> Result<(), Fail> {
+    let alloc = rt.alloc();
+    let mut errors = sink(alloc);
+    let failing = Some(Plain::new(Failing));
+    let mut input = Plain::new(LANDS.as_bytes());
+    let left = serve_command(
+        alloc,
+        failing,
+        8,
+        true,
+        &mut input,
+        &mut sink(alloc),
+        &mut errors,
+    );
+    assert_eq!(rt; left.status, Status::ReadFault);
+    assert!(rt; left.journal.is_none());
+    assert_eq!(rt;
+        str::from_utf8(&errors.into_inner())?,
+        "oldstyle: read fault\n"
+    );
+    let mut errors = sink(alloc);
+    let none: Option<Plain<Failing>> = None;
+    let mut output = Plain::new(Failing);
+    let left = serve_command(alloc, none, 8, true, &mut input, &mut output, &mut errors);
+    assert_eq!(rt; left.status, Status::WriteFault);
+    assert_eq!(rt;
+        str::from_utf8(&errors.into_inner())?,
+        "oldstyle: write fault\n"
+    );
+    Ok(())
+}
+
+/// The words of a command line, and the number of the status.
+type Line = (&'static [&'static str], u8);
+
+const LINES: [Line; 27] = [
+    (&["oldstyle"], 0),
+    (&["oldstyle", "--help"], 0),
+    (&["oldstyle", "--version"], 0),
+    (&["oldstyle", "help", "serve"], 0),
+    (&["oldstyle", "almanac", "--help"], 0),
+    (&["oldstyle", "replay", "--help"], 0),
+    (&["oldstyle", "desk", "--help"], 0),
+    (&["oldstyle", "serve", "--readers", "64"], 0),
+    (&["oldstyle", "serve", "--readers", "0"], 2),
+    (&["oldstyle", "serve", "--readers", "65"], 2),
+    (&["oldstyle", "serve", "--readers"], 2),
+    (&["oldstyle", "fly"], 2),
+    (&["oldstyle", "almanac"], 2),
+    (&["oldstyle", "almanac", "none", "GB", "x"], 2),
+    (&["oldstyle", "almanac", "none", "GB", "4294967296"], 2),
+    (&["oldstyle", "replay", "none"], 2),
+    (&["oldstyle", "replay", "--readers", "0", "none"], 2),
+    (&["oldstyle", "replay", "--readers", "65", "none"], 2),
+    (&["oldstyle", "replay", "--readers", "1"], 2),
+    (&["oldstyle", "desk"], 2),
+    (&["oldstyle", "desk", "none"], 2),
+    (&["oldstyle", "desk", "none", "none", "none"], 2),
+    (&["oldstyle", "almanac", "/nowhere/none", "GB", "1752"], 3),
+    (
+        &["oldstyle", "replay", "--readers", "1", "/nowhere/none"],
+        3,
+    ),
+    (&["oldstyle", "desk", "/nowhere/none", "/nowhere/none"], 3),
+    (&["oldstyle", "serve", "--journal", "/nowhere/none"], 3),
+    (&["oldstyle", "serve", "--save", "/nowhere/none"], 3),
+];
+
+fn are_run<R: Files + Threads + Wait + AllocGlobal + Abort>(
+    rt: &R,
+    rows: &[Line],
+) -> Result<(), Fail> {
+    for (words, status) in rows {
+        let mut output = sink(rt.alloc());
+        let mut errors = sink(rt.alloc());
+        let mut input = Plain::new(b"".as_slice());
+        let left = run(rt, words, &mut input, &mut output, &mut errors);
+        assert_eq!(rt; left.code(), *status, "{words:?}");
+        assert_eq!(rt; errors.into_inner().is_empty(), *status == 0, "{words:?}");
+    }
+    Ok(())
+}
+
+#[test]
+fn words_and_statuses(rt: HostRuntime) -> Result<(), Fail> {
+    are_run(&rt, &LINES)
+}
