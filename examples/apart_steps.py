@@ -4,9 +4,6 @@
     examples/apart_steps.py [COUNT [SEED [PROGRAM]]]     1,000 schedules, seed 1 and ../oldstyle where none is given
     examples/apart_steps.py --replay READERS < SCHEDULE  what the model gives at the steps of one schedule
 
-The program has no command for schedules yet: until it has one, the second form alone is of use, and a program that is
-named has to take the words `replay --readers N FILE`.
-
 The model has two copies of the territories, each with its edits made one by one, and a list of the edits that the
 standby lacks. It was written from docs/DEFINITIONS.md alone, and shares the rules of edits and queries with apart.py.
 """

@@ -1,0 +1,107 @@
+#!/usr/bin/env python3
+"""Audits transcripts of random journals, as they are and with one byte of a reply changed.
+
+    examples/audits.py [COUNT [SEED [PROGRAM]]]     1,000 transcripts, seed 1 and ../oldstyle where none is given
+
+A journal of random edits is served, edition by edition, to readers who ask in between; each query and its reply are put
+down as a transcript, or the journal is worked through at a desk, whose transcript is taken. The audit has to agree to
+all replies. Then one byte within a reply is changed, and the audit has to name that line.
+"""
+import json
+import os
+import random
+import re
+import subprocess
+import sys
+import tempfile
+
+HERE = os.path.dirname(os.path.abspath(__file__))
+JULIAN = {"calendar": "julian", "style": "january", "rule": "julian"}
+CODES = ["RM", "GB", "FR", "DE"]
+
+
+def compact(value):
+    return json.dumps(value, separators=(",", ":"), sort_keys=True, ensure_ascii=False)
+
+
+def run(program, words, lines=()):
+    text = "".join(line + "\n" for line in lines)
+    return subprocess.run([program, *words], input=text, capture_output=True, text=True, check=False)
+
+
+def edit(chance):
+    edits = [{"op": "add_land", "name": "Sample \u00e9", **JULIAN}, {"op": "add_change", "day": 577_736, **JULIAN},
+             {"op": "drop_change", "day": 577_736}, {"op": "add_exception", "year": 1724, "day": 629_412}]
+    return {**chance.choice(edits), "code": chance.choice(CODES)}
+
+
+def query(chance):
+    code = chance.choice(CODES)
+    return chance.choice([{"op": "lands"}, {"op": "periods", "code": code}, {"op": "figures", "year": 1724},
+                          {"op": "easter", "code": code, "year": 1724}, {"op": "day", "code": code, "day": 577_736},
+                          {"op": "read", "code": code, "year": 1582, "month": 10, "day": 4}])
+
+
+def served(program, chance, journal):
+    """The transcript of readers who ask while an editor works, and the journal that is left."""
+    lines = []
+    for _ in range(chance.randrange(5, 60)):
+        ask = {**query(chance), "reader": chance.randint(1, 8)}
+        lines.append(compact(chance.choice([edit(chance), edit(chance), {"op": "publish"}, ask, ask, ask])))
+    replies = run(program, ["serve", "--save", journal], lines).stdout.splitlines()
+    told = [(line, reply) for line, reply in zip(lines, replies) if '"reader"' in line]
+    return [f'{{"ask":{line},"reply":{reply}}}' for line, reply in told]
+
+
+def at_desk(program, chance, journal, questions):
+    """The transcript of a desk that works through a journal."""
+    with open(questions, "w", encoding="utf-8") as file:
+        for _ in range(chance.randrange(1, 40)):
+            file.write(compact({**query(chance), "reader": chance.randint(1, 4)}) + "\n")
+    return run(program, ["desk", journal, questions]).stdout.splitlines()
+
+
+def audited(program, journal, transcript, lines):
+    with open(transcript, "w", encoding="utf-8") as file:
+        file.write("".join(line + "\n" for line in lines))
+    done = run(program, ["audit", journal, transcript])
+    return done.returncode, done.stdout + done.stderr
+
+
+def spoilt(chance, line):
+    """A line with one digit of its reply changed, but for the edition's: another edition may have the same answer."""
+    start = line.index('"reply":')
+    edition = re.compile(r'"edition":\d+').search(line, start)
+    places = [place for place in range(start, len(line)) if line[place].isdigit()
+              and not edition.start() <= place < edition.end()]
+    place = chance.choice(places)
+    digit = chance.choice([other for other in "123456789" if other != line[place]])
+    return line[:place] + digit + line[place + 1:]
+
+
+def main():
+    count = int(sys.argv[1]) if len(sys.argv) > 1 else 1_000
+    chance = random.Random(int(sys.argv[2]) if len(sys.argv) > 2 else 1)
+    program = sys.argv[3] if len(sys.argv) > 3 else os.path.join(HERE, "..", "oldstyle")
+    agreed = refused = 0
+    with tempfile.TemporaryDirectory() as room:
+        journal, questions, transcript = (os.path.join(room, name) for name in ("journal", "questions", "transcript"))
+        for place in range(count):
+            lines = served(program, chance, journal)
+            if place % 2:
+                lines = at_desk(program, chance, journal, questions)
+            status, told = audited(program, journal, transcript, lines)
+            assert (status, told) == (0, f"audit: {len(lines)} replies agree\n"), (status, told, lines)
+            agreed += len(lines)
+            if lines:
+                bad = chance.randrange(len(lines))
+                changed = lines[:bad] + [spoilt(chance, lines[bad])] + lines[bad + 1:]
+                status, told = audited(program, journal, transcript, changed)
+                wanted = f"oldstyle: transcript line {bad + 1}: 42 WrongReply\n"
+                assert (status, told) == (1, wanted), (status, told, changed[bad])
+                refused += 1
+    print(f"{count} transcripts: {agreed} replies agreed to, {refused} changed ones refused")
+
+
+if __name__ == "__main__":
+    main()

@@ -1,0 +1,108 @@
+#!/usr/bin/env python3
+"""Holds what desks write against what the service answers, edition by edition.
+
+    examples/desk_runs.py [RUNS [QUESTIONS [PROGRAM]]]    200 runs of 100,000 questions, ../oldstyle
+
+An editor works through a script while 64 readers ask, each in a thread of its own. Which edition a question meets is
+the schedule's affair, but the reply has to be that of `serve` at the edition that it names, the replies come by reader
+and then by place, and no reader's editions fall. So first all questions are asked of `serve` behind each publish of the
+script; then each line of each transcript is looked up there. Run it on a busy machine too: that moves the threads about.
+"""
+import json
+import os
+import random
+import subprocess
+import sys
+import tempfile
+
+HERE = os.path.dirname(os.path.abspath(__file__))
+READERS, EDITIONS, LANDS = 64, 40, 12
+JULIAN = {"calendar": "julian", "style": "january", "rule": "julian"}
+GREGORIAN = {"calendar": "gregorian", "style": "january", "rule": "gregorian"}
+
+
+def compact(value):
+    return json.dumps(value, separators=(",", ":"), sort_keys=True, ensure_ascii=False)
+
+
+def editions(chance):
+    """The edits of each edition: territories that come, change, and change back."""
+    batches, codes = [], []
+    for place in range(EDITIONS):
+        if place % 3 == 0 and len(codes) < LANDS:
+            codes.append(f"L{len(codes):02}")
+            batches.append([{"op": "add_land", "code": codes[-1], "name": f"Sample {place}", **JULIAN}])
+        else:
+            day = 560_000 + place
+            batches.append([{"op": "alter_change", "code": chance.choice(codes), "day": 1, **GREGORIAN},
+                            {"op": "add_change", "code": chance.choice(codes), "day": day, **JULIAN}])
+    return batches
+
+
+def queries(chance):
+    """Some 50 queries, of territories that come early, late and never."""
+    asked = [{"op": "lands"}]
+    for place in range(LANDS + 1):
+        code = f"L{place:02}"
+        asked += [{"op": "periods", "code": code}, {"op": "easter", "code": code, "year": 1700 + place},
+                  {"op": "read", "code": code, "year": 1534, "month": 3, "day": 1 + place},
+                  {"op": "day", "code": code, "day": 560_000 + chance.randrange(EDITIONS)}]
+    return asked
+
+
+def run(program, words, lines):
+    text = "".join(line + "\n" for line in lines)
+    return subprocess.run([program, *words], input=text, capture_output=True, text=True, check=True).stdout.splitlines()
+
+
+def told_by_service(program, batches, asked):
+    """What the service tells reader 1 of each query at each edition."""
+    lines, ask = [], [compact({**query, "reader": 1}) for query in asked]
+    for batch in [[], *batches]:
+        lines += [compact(edit) for edit in batch] + ([compact({"op": "publish"})] if batch else []) + ask
+    told = [json.loads(line) for line in run(program, ["serve"], lines)]
+    told = [reply for reply in told if "reader" in reply]
+    return {(reply["edition"], compact(query)): reply for reply, query in zip(told, asked * (len(batches) + 1))}
+
+
+def check(transcript, questions, told):
+    """Holds the lines of a transcript against what the service told; answers the editions that were met."""
+    assert len(transcript) == len(questions), "a reply to each question"
+    last, met = {}, set()
+    for line, (reader, query) in zip(transcript, questions):
+        value = json.loads(line)
+        edition = value["reply"]["edition"]
+        wanted = {"ask": {**query, "reader": reader}, "reply": {**told[edition, compact(query)], "reader": reader}}
+        assert line == compact(wanted), f"{line}\nand not\n{compact(wanted)}"
+        assert edition >= last.get(reader, 0), f"reader {reader} went back to edition {edition}"
+        last[reader] = edition
+        met.add(edition)
+    return met
+
+
+def main():
+    runs = int(sys.argv[1]) if len(sys.argv) > 1 else 200
+    count = int(sys.argv[2]) if len(sys.argv) > 2 else 100_000
+    program = sys.argv[3] if len(sys.argv) > 3 else os.path.join(HERE, "..", "oldstyle")
+    chance, met = random.Random(1), set()
+    batches, asked = editions(chance), queries(chance)
+    told = told_by_service(program, batches, asked)
+    script = [compact({"journal": 1})]
+    for batch in batches:
+        script += [compact(edit) for edit in batch] + [compact({"op": "publish"})]
+    with tempfile.TemporaryDirectory() as room:
+        paths = [os.path.join(room, name) for name in ("script", "questions")]
+        for _ in range(runs):
+            questions = [(1 + place % READERS, chance.choice(asked)) for place in range(count)]
+            lines = [compact({**query, "reader": reader}) for reader, query in questions]
+            for path, text in zip(paths, (script, lines)):
+                with open(path, "w", encoding="utf-8") as file:
+                    file.write("".join(line + "\n" for line in text))
+            by_reader = sorted(questions, key=lambda question: question[0])
+            met |= check(run(program, ["desk", *paths], []), by_reader, told)
+    print(f"{runs} desks of {READERS} readers and {count} questions: every reply as the service gives it, "
+          f"{len(met)} of {EDITIONS + 1} editions met")
+
+
+if __name__ == "__main__":
+    main()
