@@ -1,5 +1,5 @@
 #!/usr/bin/env python3
-"""Holds the figures of all 2,999 years against formulas written apart: examples/all_years.py
+"""Holds the figures of all 2,999 years against formulas written apart: examples/all_years.py [PROGRAM]
 
 Easter by the anonymous algorithm of *Nature* (1876) for the Gregorian rule and by Meeus,
 *Astronomical Algorithms*, for the Julian one; Sunday letters from the weekday of 1 January, which
@@ -11,7 +11,8 @@ import os
 import subprocess
 import sys
 
-PROGRAM = os.path.join(os.path.dirname(os.path.abspath(__file__)), "..", "oldstyle")
+HERE = os.path.dirname(os.path.abspath(__file__))
+PROGRAM = sys.argv[1] if len(sys.argv) > 1 else os.path.join(HERE, "..", "oldstyle")
 YEARS = range(1, 3000)
 
 
