@@ -1,5 +1,7 @@
 #!/usr/bin/env python3
-"""Holds the figures of all 2,999 years against formulas written apart: examples/all_years.py [PROGRAM]
+"""Holds the figures of all 2,999 years against formulas written apart.
+
+    examples/all_years.py [PROGRAM]
 
 Easter by the anonymous algorithm of *Nature* (1876) for the Gregorian rule and by Meeus,
 *Astronomical Algorithms*, for the Julian one; Sunday letters from the weekday of 1 January, which

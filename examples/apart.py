@@ -1,9 +1,10 @@
 #!/usr/bin/env python3
 """The service written apart, slowly: examples/apart.py < examples/rome.jsonl
 
-It answers request lines as the program does, from docs/FORMATS.md and docs/DEFINITIONS.md alone, for eight readers
-and the standard limits. Calendars are walks along every day of the line, a reading is a search through every day,
-Easter is found by the tables of the moon. Its replies are to be those of the program, byte for byte.
+It answers request lines as the program does, from docs/FORMATS.md and docs/DEFINITIONS.md alone,
+for eight readers and the standard limits. Calendars are walks along every day of the line, a
+reading is a search through every day, Easter is found by the tables of the moon. Its replies are to
+be those of the program, byte for byte.
 """
 import array
 import functools
@@ -12,7 +13,9 @@ import re
 import sys
 
 HIGH = 1_095_362
-MONTHS = ("January February March April May June July August September October November December").split()
+MONTHS = (
+    "January February March April May June July August September October November December"
+).split()
 WEEKDAYS = "Sunday Monday Tuesday Wednesday Thursday Friday Saturday".split()
 LONGEST_LINE = 65_536
 DEEPEST = 128
@@ -26,7 +29,11 @@ def is_leap(calendar, year):
 
 
 def next_date(calendar, date):
-    swedish = {(1700, 2, 28): (1700, 3, 1), (1712, 2, 29): (1712, 2, 30), (1712, 2, 30): (1712, 3, 1)}
+    swedish = {
+        (1700, 2, 28): (1700, 3, 1),
+        (1712, 2, 29): (1712, 2, 30),
+        (1712, 2, 30): (1712, 3, 1),
+    }
     if calendar == "swedish" and date in swedish:
         return swedish[date]
     year, month, day = date
@@ -66,7 +73,8 @@ def key_of(year, month, day):
 @functools.cache
 def labels(calendar, style):
     """The labels of all days as numbers, the place of a label being its day. No day is 0."""
-    return array.array("l", [-1] + [key_of(style_year(style, d), d[1], d[2]) for d in dates(calendar)[1:]])
+    keys = [key_of(style_year(style, d), d[1], d[2]) for d in dates(calendar)[1:]]
+    return array.array("l", [-1] + keys)
 
 
 def places(numbers, number):
@@ -94,9 +102,12 @@ def dual_text(regime, day):
 
 # Figures of a year by the tables.
 
-JULIAN_MOONS = [(4, 5), (3, 25), (4, 13), (4, 2), (3, 22), (4, 10), (3, 30), (4, 18), (4, 7), (3, 27)]
-JULIAN_MOONS += [(4, 15), (4, 4), (3, 24), (4, 12), (4, 1), (3, 21), (4, 9), (3, 29), (4, 17)]
-NEW_MOONS = {"*": (3, 31), "29": (4, 1), "28": (4, 2), "27": (4, 3), "26": (4, 4), "25'": (4, 4), "25": (4, 5), "24": (4, 5)}
+JULIAN_MOONS = [
+    (4, 5), (3, 25), (4, 13), (4, 2), (3, 22), (4, 10), (3, 30), (4, 18), (4, 7), (3, 27),
+    (4, 15), (4, 4), (3, 24), (4, 12), (4, 1), (3, 21), (4, 9), (3, 29), (4, 17),
+]
+NEW_MOONS = {"*": (3, 31), "29": (4, 1), "28": (4, 2), "27": (4, 3), "26": (4, 4)}
+NEW_MOONS |= {"25'": (4, 4), "25": (4, 5), "24": (4, 5)}
 NEW_MOONS |= {str(31 - day): (3, day) for day in range(8, 31)}
 
 
@@ -183,7 +194,8 @@ class Land:
             of_old, of_new = places(labels(*old[:2]), key), places(labels(*new[:2]), key)
             left = not of_old or any(day >= change for day in of_old)
             passed = not of_new or any(day < change for day in of_new)
-            if left and passed and (of_old or of_new) and not any(first <= day <= last for day in read):
+            is_read = any(first <= day <= last for day in read)
+            if left and passed and (of_old or of_new) and not is_read:
                 found.append(change)
         return found
 
@@ -213,10 +225,11 @@ def written(date):
 
 # The service.
 
-NAMES = {1: "BadCode", 2: "BadName", 3: "UnknownLand", 4: "LandExists", 5: "DayOffLine", 6: "ChangeExists"}
-NAMES |= {7: "NoSuchChange", 8: "OpeningPeriod", 9: "YearOffRange", 10: "ExceptionExists", 11: "NoSuchException"}
-NAMES |= {12: "TooManyLands", 13: "TooManyChanges", 14: "TooManyExceptions", 15: "NothingPending", 16: "JournalFull"}
-NAMES |= {17: "EditionsFull", 18: "BadDate", 31: "LineTooLong", 32: "NotJson", 33: "NotObject", 34: "BadField"}
+NAMES = {1: "BadCode", 2: "BadName", 3: "UnknownLand", 4: "LandExists", 5: "DayOffLine"}
+NAMES |= {6: "ChangeExists", 7: "NoSuchChange", 8: "OpeningPeriod", 9: "YearOffRange"}
+NAMES |= {10: "ExceptionExists", 11: "NoSuchException", 12: "TooManyLands", 13: "TooManyChanges"}
+NAMES |= {14: "TooManyExceptions", 15: "NothingPending", 16: "JournalFull", 17: "EditionsFull"}
+NAMES |= {18: "BadDate", 31: "LineTooLong", 32: "NotJson", 33: "NotObject", 34: "BadField"}
 NAMES |= {35: "UnknownOp", 36: "UnknownReader"}
 REGIME = {"calendar": ("julian", "gregorian", "swedish"), "rule": ("julian", "gregorian")}
 REGIME["style"] = ("january", "annunciation", "nativity", "september")
@@ -291,9 +304,14 @@ def request_of(line, readers):
 
 
 class Service:
-    def __init__(self, readers=8, lands=500, changes=40, exceptions=200, edits=20_000, editions=5_000):
-        self.readers, self.published, self.draft, self.edits, self.pending, self.edition = readers, {}, {}, 0, 0, 0
-        self.most = dict(lands=lands, changes=changes, exceptions=exceptions, edits=edits, editions=editions)
+    def __init__(
+        self, readers=8, lands=500, changes=40, exceptions=200, edits=20_000, editions=5_000
+    ):
+        self.readers, self.published, self.draft = readers, {}, {}
+        self.edits, self.pending, self.edition = 0, 0, 0
+        self.most = dict(
+            lands=lands, changes=changes, exceptions=exceptions, edits=edits, editions=editions
+        )
 
     def reply(self, line):
         try:
@@ -301,7 +319,8 @@ class Service:
             if op == "publish":
                 members = self.publish()
             elif "reader" in MEMBERS[op]:
-                members = {"edition": self.edition, "reader": value["reader"], **self.ask(op, value)}
+                told = self.ask(op, value)
+                members = {"edition": self.edition, "reader": value["reader"], **told}
             else:
                 members = self.stage(op, value)
         except Fault as fault:
@@ -328,7 +347,8 @@ class Service:
         if op in ("add_change", "drop_change"):
             tests += [(lambda: day == 1, 8)]
         if op == "add_change":
-            tests += [(lambda: day in land.starts, 6), (lambda: len(land.starts) > self.most["changes"], 13)]
+            tests += [(lambda: day in land.starts, 6)]
+            tests += [(lambda: len(land.starts) > self.most["changes"], 13)]
         if op in ("alter_change", "drop_change"):
             tests += [(lambda: day not in land.starts, 7)]
         if op in ("add_exception", "drop_exception"):
@@ -362,22 +382,27 @@ class Service:
     def answer(self, op, value):
         code, year, month, day = (value.get(member) for member in ("code", "year", "month", "day"))
         if op == "lands":
-            return {"lands": [{"code": code, "name": land.name} for code, land in self.published.items()]}
+            lands = self.published.items()
+            return {"lands": [{"code": code, "name": land.name} for code, land in lands]}
         if op == "figures":
             refuse((lambda: not 1 <= year <= 2999, 9))
             return figures(year)
         land = self.published.get(code)
         refuse((lambda: not is_code(code), 1), (lambda: land is None, 3))
         if op == "periods":
-            return {"periods": [{"first": p[0], "last": p[1], **regime_of(p[2])} for p in land.periods()]}
+            periods = land.periods()
+            return {"periods": [{"first": p[0], "last": p[1], **regime_of(p[2])} for p in periods]}
         if op == "day":
             refuse((lambda: not 1 <= day <= HIGH, 5))
             first, last, regime = land.period(day)
-            return {"first": first, "found": land.found(day), "last": last, "regime": regime_of(regime)}
+            found = land.found(day)
+            return {"first": first, "found": found, "last": last, "regime": regime_of(regime)}
         if op == "easter":
             refuse((lambda: not 1 <= year <= 2999, 9))
-            return {"days": [land.found(d) for d in land.easters(year)], "listed": year in land.exceptions}
-        refuse((lambda: not 0 <= year <= 3000, 9), (lambda: not 1 <= month <= 12 or not 1 <= day <= 31, 18))
+            days = [land.found(d) for d in land.easters(year)]
+            return {"days": days, "listed": year in land.exceptions}
+        refuse((lambda: not 0 <= year <= 3000, 9))
+        refuse((lambda: not 1 <= month <= 12 or not 1 <= day <= 31, 18))
         key = key_of(year, month, day)
         return {"days": [land.found(d) for d in land.read(key)], "skipped": land.skipped(key)}
 

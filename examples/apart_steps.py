@@ -1,11 +1,14 @@
 #!/usr/bin/env python3
 """Holds what schedules of the nine steps give against a model written apart.
 
-    examples/apart_steps.py [COUNT [SEED [PROGRAM]]]     1,000 schedules, seed 1 and ../oldstyle where none is given
-    examples/apart_steps.py --replay READERS < SCHEDULE  what the model gives at the steps of one schedule
+    examples/apart_steps.py [COUNT [SEED [PROGRAM]]]
+        1,000 schedules, seed 1 and ../oldstyle where none is given
+    examples/apart_steps.py --replay READERS < SCHEDULE
+        what the model gives at the steps of one schedule
 
-The model has two copies of the territories, each with its edits made one by one, and a list of the edits that the
-standby lacks. It was written from docs/DEFINITIONS.md alone, and shares the rules of edits and queries with apart.py.
+The model has two copies of the territories, each with its edits made one by one, and a list of the
+edits that the standby lacks. It was written from docs/DEFINITIONS.md alone, and shares the rules of
+edits and queries with apart.py.
 """
 import json
 import os
@@ -111,7 +114,8 @@ class Machine:
         return {"edition": self.edition, "ok": "published"}
 
     def claim(self, value):
-        marked = [state[2] for state in self.readers if state[0] in ("marked", "entered", "answered")]
+        inside = ("marked", "entered", "answered")
+        marked = [state[2] for state in self.readers if state[0] in inside]
         if self.phase != "draining" or 1 - self.live in marked:
             return "not_now"
         self.phase = "claimed"
@@ -148,7 +152,8 @@ def edit(chance):
 
 
 def schedule(chance, machine):
-    """Steps at random, four of five such as are enabled or nearly so, and what the model gives at them."""
+    """Steps at random, four of five such as are enabled or nearly so, and what the model gives at
+    them."""
     lines, outs = [], []
     for _ in range(chance.randrange(20, 80)):
         usual, place = chance.random() < 0.8, chance.randrange(len(machine.readers))

@@ -1,11 +1,13 @@
 #!/usr/bin/env python3
 """Audits transcripts of random journals, as they are and with one byte of a reply changed.
 
-    examples/audits.py [COUNT [SEED [PROGRAM]]]     1,000 transcripts, seed 1 and ../oldstyle where none is given
+    examples/audits.py [COUNT [SEED [PROGRAM]]]
+        1,000 transcripts, seed 1 and ../oldstyle where none is given
 
-A journal of random edits is served, edition by edition, to readers who ask in between; each query and its reply are put
-down as a transcript, or the journal is worked through at a desk, whose transcript is taken. The audit has to agree to
-all replies. Then one byte within a reply is changed, and the audit has to name that line.
+A journal of random edits is served, edition by edition, to readers who ask in between; each query
+and its reply are put down as a transcript, or the journal is worked through at a desk, whose
+transcript is taken. The audit has to agree to all replies. Then one byte within a reply is changed,
+and the audit has to name that line.
 """
 import json
 import os
@@ -26,19 +28,24 @@ def compact(value):
 
 def run(program, words, lines=()):
     text = "".join(line + "\n" for line in lines)
-    return subprocess.run([program, *words], input=text, capture_output=True, text=True, check=False)
+    command = [program, *words]
+    return subprocess.run(command, input=text, capture_output=True, text=True, check=False)
 
 
 def edit(chance):
-    edits = [{"op": "add_land", "name": "Sample \u00e9", **JULIAN}, {"op": "add_change", "day": 577_736, **JULIAN},
-             {"op": "drop_change", "day": 577_736}, {"op": "add_exception", "year": 1724, "day": 629_412}]
+    edits = [{"op": "add_land", "name": "Sample \u00e9", **JULIAN},
+             {"op": "add_change", "day": 577_736, **JULIAN},
+             {"op": "drop_change", "day": 577_736},
+             {"op": "add_exception", "year": 1724, "day": 629_412}]
     return {**chance.choice(edits), "code": chance.choice(CODES)}
 
 
 def query(chance):
     code = chance.choice(CODES)
-    return chance.choice([{"op": "lands"}, {"op": "periods", "code": code}, {"op": "figures", "year": 1724},
-                          {"op": "easter", "code": code, "year": 1724}, {"op": "day", "code": code, "day": 577_736},
+    return chance.choice([{"op": "lands"}, {"op": "periods", "code": code},
+                          {"op": "figures", "year": 1724},
+                          {"op": "easter", "code": code, "year": 1724},
+                          {"op": "day", "code": code, "day": 577_736},
                           {"op": "read", "code": code, "year": 1582, "month": 10, "day": 4}])
 
 
@@ -47,7 +54,8 @@ def served(program, chance, journal):
     lines = []
     for _ in range(chance.randrange(5, 60)):
         ask = {**query(chance), "reader": chance.randint(1, 8)}
-        lines.append(compact(chance.choice([edit(chance), edit(chance), {"op": "publish"}, ask, ask, ask])))
+        requests = [edit(chance), edit(chance), {"op": "publish"}, ask, ask, ask]
+        lines.append(compact(chance.choice(requests)))
     replies = run(program, ["serve", "--save", journal], lines).stdout.splitlines()
     told = [(line, reply) for line, reply in zip(lines, replies) if '"reader"' in line]
     return [f'{{"ask":{line},"reply":{reply}}}' for line, reply in told]
@@ -69,7 +77,8 @@ def audited(program, journal, transcript, lines):
 
 
 def spoilt(chance, line):
-    """A line with one digit of its reply changed, but for the edition's: another edition may have the same answer."""
+    """A line with one digit of its reply changed, but for the edition's: another edition may have
+    the same answer."""
     start = line.index('"reply":')
     edition = re.compile(r'"edition":\d+').search(line, start)
     places = [place for place in range(start, len(line)) if line[place].isdigit()
@@ -85,13 +94,15 @@ def main():
     program = sys.argv[3] if len(sys.argv) > 3 else os.path.join(HERE, "..", "oldstyle")
     agreed = refused = 0
     with tempfile.TemporaryDirectory() as room:
-        journal, questions, transcript = (os.path.join(room, name) for name in ("journal", "questions", "transcript"))
+        names = ("journal", "questions", "transcript")
+        journal, questions, transcript = (os.path.join(room, name) for name in names)
         for place in range(count):
             lines = served(program, chance, journal)
             if place % 2:
                 lines = at_desk(program, chance, journal, questions)
             status, told = audited(program, journal, transcript, lines)
-            assert (status, told) == (0, f"audit: {len(lines)} replies agree\n"), (status, told, lines)
+            wanted = f"audit: {len(lines)} replies agree\n"
+            assert (status, told) == (0, wanted), (status, told, lines)
             agreed += len(lines)
             if lines:
                 bad = chance.randrange(len(lines))

@@ -3,10 +3,11 @@
 
     examples/desk_runs.py [RUNS [QUESTIONS [PROGRAM]]]    200 runs of 100,000 questions, ../oldstyle
 
-An editor works through a script while 64 readers ask, each in a thread of its own. Which edition a question meets is
-the schedule's affair, but the reply has to be that of `serve` at the edition that it names, the replies come by reader
-and then by place, and no reader's editions fall. So first all questions are asked of `serve` behind each publish of the
-script; then each line of each transcript is looked up there. Run it on a busy machine too: that moves the threads about.
+An editor works through a script while 64 readers ask, each in a thread of its own. Which edition a
+question meets is the schedule's affair, but the reply has to be that of `serve` at the edition that
+it names, the replies come by reader and then by place, and no reader's editions fall. So first all
+questions are asked of `serve` behind each publish of the script; then each line of each transcript
+is looked up there. Run it on a busy machine too: that moves the threads about.
 """
 import json
 import os
@@ -31,11 +32,14 @@ def editions(chance):
     for place in range(EDITIONS):
         if place % 3 == 0 and len(codes) < LANDS:
             codes.append(f"L{len(codes):02}")
-            batches.append([{"op": "add_land", "code": codes[-1], "name": f"Sample {place}", **JULIAN}])
+            name = f"Sample {place}"
+            batches.append([{"op": "add_land", "code": codes[-1], "name": name, **JULIAN}])
         else:
             day = 560_000 + place
-            batches.append([{"op": "alter_change", "code": chance.choice(codes), "day": 1, **GREGORIAN},
-                            {"op": "add_change", "code": chance.choice(codes), "day": day, **JULIAN}])
+            batches.append([
+                {"op": "alter_change", "code": chance.choice(codes), "day": 1, **GREGORIAN},
+                {"op": "add_change", "code": chance.choice(codes), "day": day, **JULIAN},
+            ])
     return batches
 
 
@@ -44,7 +48,8 @@ def queries(chance):
     asked = [{"op": "lands"}]
     for place in range(LANDS + 1):
         code = f"L{place:02}"
-        asked += [{"op": "periods", "code": code}, {"op": "easter", "code": code, "year": 1700 + place},
+        asked += [{"op": "periods", "code": code},
+                  {"op": "easter", "code": code, "year": 1700 + place},
                   {"op": "read", "code": code, "year": 1534, "month": 3, "day": 1 + place},
                   {"op": "day", "code": code, "day": 560_000 + chance.randrange(EDITIONS)}]
     return asked
@@ -52,27 +57,33 @@ def queries(chance):
 
 def run(program, words, lines):
     text = "".join(line + "\n" for line in lines)
-    return subprocess.run([program, *words], input=text, capture_output=True, text=True, check=True).stdout.splitlines()
+    command = [program, *words]
+    done = subprocess.run(command, input=text, capture_output=True, text=True, check=True)
+    return done.stdout.splitlines()
 
 
 def told_by_service(program, batches, asked):
     """What the service tells reader 1 of each query at each edition."""
     lines, ask = [], [compact({**query, "reader": 1}) for query in asked]
     for batch in [[], *batches]:
-        lines += [compact(edit) for edit in batch] + ([compact({"op": "publish"})] if batch else []) + ask
+        publish = [compact({"op": "publish"})] if batch else []
+        lines += [compact(edit) for edit in batch] + publish + ask
     told = [json.loads(line) for line in run(program, ["serve"], lines)]
     told = [reply for reply in told if "reader" in reply]
-    return {(reply["edition"], compact(query)): reply for reply, query in zip(told, asked * (len(batches) + 1))}
+    pairs = zip(told, asked * (len(batches) + 1))
+    return {(reply["edition"], compact(query)): reply for reply, query in pairs}
 
 
 def check(transcript, questions, told):
-    """Holds the lines of a transcript against what the service told; answers the editions that were met."""
+    """Holds the lines of a transcript against what the service told; answers the editions that
+    were met."""
     assert len(transcript) == len(questions), "a reply to each question"
     last, met = {}, set()
     for line, (reader, query) in zip(transcript, questions):
         value = json.loads(line)
         edition = value["reply"]["edition"]
-        wanted = {"ask": {**query, "reader": reader}, "reply": {**told[edition, compact(query)], "reader": reader}}
+        reply = {**told[edition, compact(query)], "reader": reader}
+        wanted = {"ask": {**query, "reader": reader}, "reply": reply}
         assert line == compact(wanted), f"{line}\nand not\n{compact(wanted)}"
         assert edition >= last.get(reader, 0), f"reader {reader} went back to edition {edition}"
         last[reader] = edition
@@ -100,8 +111,8 @@ def main():
                     file.write("".join(line + "\n" for line in text))
             by_reader = sorted(questions, key=lambda question: question[0])
             met |= check(run(program, ["desk", *paths], []), by_reader, told)
-    print(f"{runs} desks of {READERS} readers and {count} questions: every reply as the service gives it, "
-          f"{len(met)} of {EDITIONS + 1} editions met")
+    print(f"{runs} desks of {READERS} readers and {count} questions: "
+          f"every reply as the service gives it, {len(met)} of {EDITIONS + 1} editions met")
 
 
 if __name__ == "__main__":

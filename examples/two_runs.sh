@@ -1,7 +1,7 @@
 #!/bin/sh
 # What one run adds is read in the next one: the samples are loaded, a territory is added, published
-# and saved, and a second run answers from what was saved. The journal stays in a folder that is made
-# for it; the name of its file is printed last.
+# and saved, and a second run answers from what was saved. The journal stays in a folder that is
+# made for it; the name of its file is printed last.
 set -eu
 examples=$(dirname "$0")
 kept=$(mktemp -d)
