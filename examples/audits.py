@@ -7,10 +7,12 @@
 A journal of random edits is served, edition by edition, to readers who ask in between; each query
 and its reply are put down as a transcript, or the journal is worked through at a desk, whose
 transcript is taken. The audit has to agree to all replies. Then one byte within a reply is changed,
-and the audit has to name that line.
+and the audit has to name that line. In the end a transcript of over 128 MiB is audited, which has
+to say on a terminal how far it is, and nowhere else.
 """
 import json
 import os
+import pty
 import random
 import re
 import subprocess
@@ -88,6 +90,23 @@ def spoilt(chance, line):
     return line[:place] + digit + line[place + 1:]
 
 
+def long_audit(program, journal, transcript, line):
+    """What an audit of over 128 MiB says on standard error that is a terminal, and elsewhere."""
+    text = (line + "\n").encode()
+    with open(transcript, "wb") as file:
+        for _ in range((128 << 20) // len(text) + 1):
+            file.write(text)
+    command = [program, "audit", journal, transcript]
+    terminal, ours = pty.openpty()
+    shown = subprocess.run(command, stdout=subprocess.PIPE, stderr=ours, check=True).stdout
+    os.close(ours)
+    told = os.read(terminal, 4096)
+    os.close(terminal)
+    unseen = subprocess.run(command, capture_output=True, check=True)
+    assert shown == unseen.stdout and shown.endswith(b" replies agree\n"), (shown, unseen)
+    return told.decode().splitlines(), unseen.stderr.decode().splitlines()
+
+
 def main():
     count = int(sys.argv[1]) if len(sys.argv) > 1 else 1_000
     chance = random.Random(int(sys.argv[2]) if len(sys.argv) > 2 else 1)
@@ -111,6 +130,10 @@ def main():
                 wanted = f"oldstyle: transcript line {bad + 1}: 42 WrongReply\n"
                 assert (status, told) == (1, wanted), (status, told, changed[bad])
                 refused += 1
+        line = at_desk(program, chance, journal, questions)[0]
+        told = long_audit(program, journal, transcript, line)
+        wanted = [f"oldstyle: {place} MiB of the transcript read" for place in (64, 128)]
+        assert told == (wanted, []), told
     print(f"{count} transcripts: {agreed} replies agreed to, {refused} changed ones refused")
 
 
