@@ -8,11 +8,17 @@ import os
 import subprocess
 import sys
 import tempfile
+import time
 
 HERE = os.path.dirname(os.path.abspath(__file__))
 BUILT = os.path.join(HERE, "..", "crates", "oldstyle", "out", "oldstyle")
 PLAIN = os.path.join(HERE, "plain")
 ROUNDS = 5
+
+CALENDARS = ["julian", "gregorian", "swedish"]
+STYLES = ["january", "annunciation", "nativity", "september"]
+RULES = ["julian", "gregorian"]
+LAST_YEAR = 2_999
 
 JULIAN = {"calendar": "julian", "style": "january", "rule": "julian"}
 GREGORIAN = {"calendar": "gregorian", "style": "january", "rule": "gregorian"}
@@ -56,6 +62,45 @@ def published_after(count):
         if (number + 1) % count == 0:
             lines.append(PUBLISH)
     return lines
+
+
+def regime(number):
+    """A regime of each calendar, style and rule in turn."""
+    calendar, style, rule = CALENDARS[number % 3], STYLES[number // 3 % 4], RULES[number % 2]
+    return {"calendar": calendar, "style": style, "rule": rule}
+
+
+def land_edits(code, opening, changes):
+    """The edits of a territory with its opening regime, and its changes by their days."""
+    yield request("add_land", code=code, name=f"Territory {code}", **opening)
+    for day, words in changes:
+        yield request("add_change", code=code, day=day, **words)
+
+
+def many_territories(count):
+    """500 territories with so many changes each, spread over the whole line, of all regimes."""
+    edits = []
+    for place in range(LANDS):
+        days = [(change * 27_000 + place * 37, change) for change in range(1, count + 1)]
+        changes = [(day, regime(place + change)) for day, change in days]
+        edits += land_edits(f"T{place:05}", regime(place), changes)
+    return edits
+
+
+def land(n):
+    return f"T{n * 7 % LANDS:05}"
+
+
+def year(n):
+    return 1 + n * 7919 % LAST_YEAR
+
+
+def read(code, label_year, month, day):
+    return request("read", reader=1, code=code, year=label_year, month=month, day=day)
+
+
+def usual_read(code, n):
+    return read(code, year(n), 1 + n % 12, 1 + n % 28)
 
 
 def program():
@@ -149,6 +194,25 @@ def peak_memory(child):
     """The peak of resident memory in MiB of a process that waits for more input."""
     with open(f"/proc/{child.pid}/status") as status:
         return next(int(line.split()[1]) for line in status if line.startswith("VmHWM")) / 1024
+
+
+def run_watched(command, source=None):
+    """The processor seconds of a run, its peak of resident memory in MiB, looked at as it runs,
+    and what it wrote."""
+    child = subprocess.Popen(command, stdin=source, stdout=subprocess.PIPE)
+    peak = 0
+    while not os.waitid(os.P_PID, child.pid, os.WEXITED | os.WNOHANG | os.WNOWAIT):
+        try:
+            peak = peak_memory(child)
+        except StopIteration:
+            break
+        time.sleep(0.002)
+    told = child.stdout.read()
+    _, status, usage = os.wait4(child.pid, 0)
+    child.returncode = os.waitstatus_to_exitcode(status)
+    if child.returncode != 0:
+        sys.exit(f"{command}: {told!r}, status {child.returncode}")
+    return usage.ru_utime + usage.ru_stime, peak, told
 
 
 def print_head(title, commands):

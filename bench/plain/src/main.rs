@@ -3,11 +3,13 @@
 
 mod calendar;
 mod computus;
+mod desk;
 mod register;
 mod reply;
 mod request;
 mod territory;
 
+use request::Request;
 use std::io::{self, BufRead, BufReader, BufWriter, Read, Write};
 
 /// Reads the next line without its line feed, and answers whether there is one. Passes on what was
@@ -45,10 +47,31 @@ fn parse_lines() -> io::Result<()> {
     Ok(())
 }
 
-fn main() -> io::Result<()> {
-    if std::env::args().nth(1).as_deref() == Some("parse") {
-        return parse_lines();
+/// Makes the edits of all requests, and then lets readers ask their queries at a desk.
+fn run_desk(words: &[String]) -> io::Result<()> {
+    let mut input = BufReader::with_capacity(1 << 16, io::stdin().lock());
+    let (mut editor, mut queries) = (register::Editor::default(), Vec::new());
+    let mut line = Vec::new();
+    while next_line(&mut input, &mut io::sink(), &mut line)? {
+        match request::read_request(&line) {
+            Ok(Request::Ask { query, .. }) => queries.push(query),
+            request => {
+                reply::reply(&mut editor, request);
+            }
+        }
     }
+    let number = |place: usize| words[place].parse().expect("a number");
+    let load = desk::Load {
+        readers: number(1) as usize,
+        readings: number(2),
+        editions: number(3),
+    };
+    let told = desk::told(&words[0], load, editor, &queries).expect("mutex or rwlock");
+    println!("{} {} {}", told.took.as_nanos(), told.edition, told.sum);
+    Ok(())
+}
+
+fn serve() -> io::Result<()> {
     let mut input = BufReader::with_capacity(1 << 16, io::stdin().lock());
     let mut output = BufWriter::with_capacity(1 << 16, io::stdout().lock());
     let mut editor = register::Editor::default();
@@ -59,4 +82,14 @@ fn main() -> io::Result<()> {
         output.write_all(b"\n")?;
     }
     output.flush()
+}
+
+/// With no word it serves; `parse`, or `desk` with a lock, readers, readings and editions.
+fn main() -> io::Result<()> {
+    let words: Vec<String> = std::env::args().skip(1).collect();
+    match words.first().map(String::as_str) {
+        Some("parse") => parse_lines(),
+        Some("desk") => run_desk(&words[1..]),
+        _ => serve(),
+    }
 }
