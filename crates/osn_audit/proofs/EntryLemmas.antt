@@ -1,12 +1,11 @@
 -- The reader of an ask, and of an entry, is one of those that a transcript knows.
 use Rattle.std.proofs.Common.{◌≡◌, ℕ, ◌<◌, ◌≤◌, ℤ, pos, negsuc, Bool, true, false, List, Result}
-use Rattle.std.proofs.Common.{Ok, Err, IfOk, refl, subst}
+use Rattle.std.proofs.Common.{Ok, Err, refl}
 use Rattle.std.proofs.lemmas.Bool.{leb-true}
 use Rattle.std.specs.Prelude.{nat_le, ◌&&◌, if◌then◌else◌}
 use Rattle.serde_json.specs.Data.{Data}
 use Rattle.osn_register.specs.declared.query.Query.{Query}
 use Rattle.osn_request.specs.declared.member.Member.TheVariants as members
-use Rattle.osn_request.specs.declared.request.RequestError.{RequestError}
 use Rattle.osn_request.specs.declared.request.op.Op.{Op}
 use Rattle.osn_request.specs.declared.request.op.Op.TheVariants as ops
 use Rattle.osn_request.specs.declared.request.op.QueryOp.{QueryOp}
@@ -15,7 +14,7 @@ use Rattle.osn_request.specs.declared.wire_fault.WireFault.TheVariants.{UnknownR
 use Rattle.osn_request.specs.Field.{◌>>=◌, whole_at}
 use Rattle.osn_request.specs.QueryRequest.{query_of, query_by, reader_in}
 use Rattle.osn_request.specs.Op.{op_of}
-use Rattle.osn_request.specs.Request.{Gives, object_of}
+use Rattle.osn_request.specs.Request.{object_of}
 use Rattle.osn_files.specs.Questions.{most_readers, question_by, question_in}
 use Rattle.osn_audit.specs.Audit.{Entry, object_at, edition_of, entry_in}
 use Rattle.osn_audit.specs.Law.{entry_of}
@@ -43,11 +42,6 @@ counted_by n (Ok (negsuc m)) (Ok q) = tt
 counted : (n : ℕ) (op : QueryOp) (d : Data) → Counted n (query_of n op d)
 unfolding query_of
 counted n op d = counted_by n (whole_at members.Reader d) (query_by op d)
-
-pub reader_counted : (n : ℕ) (op : QueryOp) (d : Data) (r : Result (ℕ × Query) RequestError)
-    → Gives r (query_of n op d) → IfOk r (λ asked. (0 < asked.0) × (asked.0 ≤ n))
-reader_counted n op d (Ok asked) h = subst (Counted n) h (counted n op d)
-reader_counted n op d (Err e) h = tt
 
 question_counted : (d : Data) (r : Result Op WireFault) → Counted most_readers (r >>= question_by d)
 question_counted d (Err f) = tt

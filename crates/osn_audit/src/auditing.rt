@@ -6,9 +6,10 @@ ghost use Rattle.osn_request.specs.Request.{Fails};
 ghost use Rattle.osn_audit.specs.Audit as said;
 ghost use Rattle.osn_audit.specs.Inside.{entry_shown};
 
-use crate::entry::{Entry, MOST_READERS, entry_in};
+use crate::entry::{Entry, entry_in};
 use crate::float::has_float;
 use crate::followers::Followers;
+use osn_core::MOST_READERS;
 use osn_lines::LineTaker;
 use osn_reply::{Outcome, push_reply};
 use osn_request::{RequestError, WireFault, object_of};

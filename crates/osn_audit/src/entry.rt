@@ -1,18 +1,16 @@
 //! What a line of a transcript says.
 ghost use Rattle.std.specs.Prelude.{◌≡◌, ◌<◌, ◌≤◌, MatchResult, IfOk, Ok, Err};
 ghost use Rattle.serde_json.specs.View.{view};
-ghost use Rattle.osn_request.specs.Request.{Gives, Fails};
-ghost use Rattle.osn_files.specs.Questions.{question_in};
+ghost use Rattle.osn_request.specs.Request.{Fails};
 ghost use Rattle.osn_audit.specs.Audit as said;
 ghost use Rattle.osn_audit.specs.Inside.{entry_shown};
 
+use osn_core::MOST_READERS;
+use osn_files::question_in;
 use osn_register::Query;
-use osn_request::{Member, Op, RequestError, WireFault, op_of, query_of, whole_at};
+use osn_request::{Member, RequestError, WireFault, whole_at};
 use serde_json::Value;
 use std::alloc::Global;
-
-/// Transcripts know readers from 1 to this number.
-pub(crate) const MOST_READERS: u32 = 64;
 
 /// A member that is an object.
 fn object_at(value: &Value, member: Member) -> Result<&Value, WireFault>
@@ -23,17 +21,6 @@ fn object_at(value: &Value, member: Member) -> Result<&Value, WireFault>
     match value.get(member.name()) {
         Some(object) if object.is_object() => Ok(object),
         _ => Err(WireFault::BadField(member)),
-    }
-}
-
-/// The query of an ask, and the reader who asks it.
-fn question_of(alloc: Global, ask: &Value) -> Result<(u32, Query), RequestError>
-    ensures question { Gives result (question_in (view ask.now)) }
-    ensures reader { IfOk result (λ asked. (0 < asked.0) × (asked.0 ≤ MOST_READERS)) }
-{
-    match op_of(ask)? {
-        Op::Query(op) => query_of(alloc, MOST_READERS, op, ask),
-        Op::Edit(_) | Op::Publish => Err(RequestError::Fault(WireFault::NotAQuery)),
     }
 }
 
@@ -66,7 +53,7 @@ pub(crate) fn entry_in(alloc: Global, value: &Value) -> Result<Entry, RequestErr
     ensures reader { IfOk result (λ e. (0 < e.reader) × (e.reader ≤ MOST_READERS)) }
 {
     let ask = object_at(value, Member::Ask)?;
-    let (reader, query) = question_of(alloc, ask)?;
+    let (reader, query) = question_in(alloc, ask)?;
     let reply = object_at(value, Member::Reply)?;
     let edition = edition_of(reply)?;
     Ok(Entry {

@@ -7,9 +7,8 @@ ghost use Rattle.osn_days.specs.Profile.{present};
 ghost use Rattle.osn_core.specs.Sequential.{reply_at};
 ghost use Rattle.osn_audit.specs.Audit.{known_edition, last_of, no_replies};
 
-use crate::entry::MOST_READERS;
 use crate::follower::Follower;
-use osn_core::{Object, Reply};
+use osn_core::{MOST_READERS, Object, Reply};
 use osn_register::Query;
 use osn_request::WireFault;
 use std::alloc::{AllocError, Global};

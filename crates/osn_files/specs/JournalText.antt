@@ -3,8 +3,7 @@
 -- project's profile.
 use Rattle.std.specs.Prelude.{ℕ, ℤ, List, [], ◌∷◌, ◌++◌, codes}
 use Rattle.std.specs.List.{flat_map}
-use Rattle.serde_json.specs.Data.{Data, number, string, object, member, no_members}
-use Rattle.serde_json.specs.Find.{of_integer}
+use Rattle.serde_json.specs.Data.{Data, string, object, member, no_members}
 use Rattle.serde_json.specs.Written.{compact_text}
 use Rattle.osn_lands.specs.declared.regime.Regime.{Regime}
 use Rattle.osn_register.specs.declared.edit.Edit.{Edit}
@@ -12,11 +11,9 @@ use Rattle.osn_register.specs.declared.edit.Edit.TheVariants.{AddLand, AddChange
 use Rattle.osn_register.specs.declared.edit.Edit.TheVariants.{DropChange, AddException}
 use Rattle.osn_register.specs.declared.edit.Edit.TheVariants.{DropException}
 use Rattle.osn_core.specs.Sequential.{ObjectState}
+use Rattle.osn_words.specs.Json.{signed}
 use Rattle.osn_words.specs.Words.{calendar_word, style_word, rule_word}
 use Rattle.osn_files.specs.Version.{head_data, newest}
-
-abbrev pub signed : ℤ → Data
-signed n = number (of_integer n)
 
 -- what an edit of this op asks for that changes the regime of a territory from a day on
 abbrev pub change_data : List ℕ → List ℕ → ℤ → Regime → Data

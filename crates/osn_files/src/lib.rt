@@ -24,6 +24,7 @@ mod written;
 
 pub use fault::{FileFault, LineFault, Role};
 pub use journal::load_journal;
+pub use question_line::question_in;
 pub use questions::read_questions;
 pub use schedule::read_schedule;
 pub use script::read_script;

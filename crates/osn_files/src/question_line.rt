@@ -1,5 +1,5 @@
 //! The query of a line of a question file.
-ghost use Rattle.std.specs.Prelude.{◌<◌, IfOk};
+ghost use Rattle.std.specs.Prelude.{◌<◌, ◌≤◌, IfOk};
 ghost use Rattle.serde_json.specs.View.{view};
 ghost use Rattle.osn_request.specs.Request.{Gives};
 ghost use Rattle.osn_files.specs.Questions as said;
@@ -10,10 +10,14 @@ use osn_request::{Op, RequestError, WireFault, object_of, op_of, query_of};
 use serde_json::Value;
 use std::alloc::Global;
 
-/// The reader who asks, and the query of a line's object, or its first fault.
-fn question_in(alloc: Global, value: &Value) -> Result<(u32, Query), RequestError>
+/// The reader who asks, from 1 to 64, and the query, of the object of a request.
+///
+/// # Errors
+/// The first fault of the object, which is that of a request, and `NotAQuery` for an edit or a
+/// publish; want of memory.
+pub fn question_in(alloc: Global, value: &Value) -> Result<(u32, Query), RequestError>
     ensures question { Gives result (said.question_in (view value.now)) }
-    ensures among { IfOk result (λ asked. 0 < asked.0) }
+    ensures among { IfOk result (λ asked. (1 ≤ asked.0) × (asked.0 ≤ MOST_READERS)) }
 {
     match op_of(value)? {
         Op::Query(op) => query_of(alloc, MOST_READERS, op, value),

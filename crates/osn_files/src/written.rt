@@ -16,21 +16,11 @@ use osn_core::{Batch, Object};
 use osn_lands::Regime;
 use osn_register::{Edit, Text};
 use osn_request::Member;
-use osn_words::{Word, write_number, write_text};
+use osn_words::{Word, write_number, write_signed, write_text};
 use std::alloc::{AllocError, Global};
 
 /// The room that a journal gets at first.
 const ROOM: usize = 65_536;
-
-/// Writes a member that is a whole number, which may be negative.
-fn write_whole(out: &mut Writer, name: &str, number: i64) -> Result<(), AllocError>
-    ensures tokens { OnOk result (out.new.tokens
-        ≡ out.old.tokens ++ member_tokens name.now (said.signed number)) }
-    ensures before { out.new.before ≡ out.old.before }
-{
-    out.key(name)?;
-    out.i64(number)
-}
 
 fn write_add_land(
     out: &mut Writer,
@@ -67,7 +57,7 @@ fn write_change(
     out.begin_object()?;
     write_text(out, "calendar", regime.calendar.word())?;
     write_text(out, "code", code.as_str())?;
-    write_whole(out, "day", day)?;
+    write_signed(out, "day", day)?;
     write_text(out, "op", op)?;
     write_text(out, "rule", regime.rule.word())?;
     write_text(out, "style", regime.style.word())?;
@@ -81,7 +71,7 @@ fn write_drop_change(out: &mut Writer, code: &Text, day: i64) -> Result<(), Allo
 {
     out.begin_object()?;
     write_text(out, "code", code.as_str())?;
-    write_whole(out, "day", day)?;
+    write_signed(out, "day", day)?;
     write_text(out, "op", "drop_change")?;
     out.end_object()
 }
@@ -93,9 +83,9 @@ fn write_add_exception(out: &mut Writer, code: &Text, year: i64, day: i64) -> Re
 {
     out.begin_object()?;
     write_text(out, "code", code.as_str())?;
-    write_whole(out, "day", day)?;
+    write_signed(out, "day", day)?;
     write_text(out, "op", "add_exception")?;
-    write_whole(out, "year", year)?;
+    write_signed(out, "year", year)?;
     out.end_object()
 }
 
@@ -107,7 +97,7 @@ fn write_drop_exception(out: &mut Writer, code: &Text, year: i64) -> Result<(), 
     out.begin_object()?;
     write_text(out, "code", code.as_str())?;
     write_text(out, "op", "drop_exception")?;
-    write_whole(out, "year", year)?;
+    write_signed(out, "year", year)?;
     out.end_object()
 }
 

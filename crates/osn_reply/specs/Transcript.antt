@@ -1,17 +1,13 @@
 -- The line of a transcript: what a reader asked, and the reply. The members of an object stand in
 -- ascending order of their names. This project's profile.
 use Rattle.std.specs.Prelude.{ℕ, ℤ, List, codes}
-use Rattle.serde_json.specs.Data.{Data, number, string, object, member, no_members}
-use Rattle.serde_json.specs.Find.{of_integer}
+use Rattle.serde_json.specs.Data.{Data, string, object, member, no_members}
 use Rattle.osn_register.specs.declared.query.Query.{Query}
 use Rattle.osn_register.specs.declared.query.Query.TheVariants.{Read, DayIn, Easter, YearFigures}
 use Rattle.osn_register.specs.declared.query.Query.TheVariants.{Lands, Periods}
 use Rattle.osn_core.specs.declared.step.Reply.{Reply}
-use Rattle.osn_words.specs.Json.{whole}
+use Rattle.osn_words.specs.Json.{whole, signed}
 use Rattle.osn_reply.specs.ReplyText.{replied_data, line_of}
-
-abbrev pub signed : ℤ → Data
-signed n = number (of_integer n)
 
 -- a query with the members of its row, what it asks for, and who asks
 abbrev pub query_data : ℕ → Query → Data

@@ -4,9 +4,9 @@ use Rattle.osn_request.specs.declared.wire_fault.WireFault.{WireFault}
 use Rattle.osn_request.specs.declared.wire_fault.WireFault.TheVariants.{LineTooLong, NotJson}
 use Rattle.osn_request.specs.declared.wire_fault.WireFault.TheVariants.{NotObject, BadField}
 use Rattle.osn_request.specs.declared.wire_fault.WireFault.TheVariants.{UnknownOp, UnknownReader}
-use Rattle.osn_request.specs.declared.wire_fault.WireFault.TheVariants.{BadHead, UnknownStep, NotAQuery}
-use Rattle.osn_request.specs.declared.wire_fault.WireFault.TheVariants.{WrongReply, UnknownEdition}
-use Rattle.osn_request.specs.declared.wire_fault.WireFault.TheVariants.{EditionFell}
+use Rattle.osn_request.specs.declared.wire_fault.WireFault.TheVariants.{BadHead, UnknownStep}
+use Rattle.osn_request.specs.declared.wire_fault.WireFault.TheVariants.{NotAQuery, WrongReply}
+use Rattle.osn_request.specs.declared.wire_fault.WireFault.TheVariants.{UnknownEdition, EditionFell}
 
 abbrev pub wire_fault_number : WireFault → ℕ
 wire_fault_number LineTooLong = 31

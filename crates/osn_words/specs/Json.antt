@@ -1,13 +1,17 @@
 -- How values are written as JSON: the tokens of each, one behind another.
-use Rattle.std.specs.Prelude.{ℕ, List, ◌∷◌}
+use Rattle.std.specs.Prelude.{ℕ, ℤ, List, ◌∷◌}
 use Rattle.json.specs.Token.{Token, key}
 use Rattle.json.specs.Tree.{json_tokens}
 use Rattle.serde_json.specs.Data.{Data, number, unsigned, array}
+use Rattle.serde_json.specs.Find.{of_integer}
 use Rattle.serde_json.specs.View.{items_of}
 use Rattle.serde_json.specs.Written.{outline}
 
 abbrev pub whole : ℕ → Data
 whole n = number (unsigned n)
+
+abbrev pub signed : ℤ → Data
+signed n = number (of_integer n)
 
 abbrev pub list_data : List Data → Data
 list_data ds = array (items_of ds)

@@ -14,4 +14,4 @@ pub use date::{date_digits, date_text};
 pub use letters::letters_text;
 pub use weekday::weekday_of;
 pub use words::Word;
-pub use write_json::{write_flag, write_number, write_text};
+pub use write_json::{write_flag, write_number, write_signed, write_text};

@@ -1,7 +1,7 @@
 //! How the members of an object are written as JSON: by their tokens, one behind another.
 ghost use Rattle.std.specs.Prelude.{◌≡◌, ◌++◌, OnOk};
 ghost use Rattle.serde_json.specs.Data.{boolean, string};
-ghost use Rattle.osn_words.specs.Json.{whole, member_tokens};
+ghost use Rattle.osn_words.specs.Json.{whole, signed, member_tokens};
 
 use json::Writer;
 use std::alloc::AllocError;
@@ -14,6 +14,16 @@ pub fn write_number(out: &mut Writer, name: &str, number: u32) -> Result<(), All
 {
     out.key(name)?;
     out.u64(u64::from(number))
+}
+
+/// Writes a member that is a number, which may be negative.
+pub fn write_signed(out: &mut Writer, name: &str, number: i64) -> Result<(), AllocError>
+    ensures tokens { OnOk result (out.new.tokens
+        ≡ out.old.tokens ++ member_tokens name.now (signed number)) }
+    ensures before { out.new.before ≡ out.old.before }
+{
+    out.key(name)?;
+    out.i64(number)
 }
 
 /// Writes a member that is a text.

@@ -9,18 +9,8 @@ use crate::reply::write_json::WriteJson;
 use json::Writer;
 use osn_core::Reply;
 use osn_register::{Query, Text};
-use osn_words::{write_number, write_text};
+use osn_words::{write_number, write_signed, write_text};
 use std::alloc::{AllocError, Global};
-
-/// Writes a member that is a whole number, which may be negative.
-fn write_whole(out: &mut Writer, name: &str, number: i64) -> Result<(), AllocError>
-    ensures tokens { OnOk result (out.new.tokens
-        ≡ out.old.tokens ++ member_tokens name.now (said.signed number)) }
-    ensures before { out.new.before ≡ out.old.before }
-{
-    out.key(name)?;
-    out.i64(number)
-}
 
 fn write_read(
     out: &mut Writer,
@@ -36,11 +26,11 @@ fn write_read(
 {
     out.begin_object()?;
     write_text(out, "code", code.as_str())?;
-    write_whole(out, "day", day)?;
-    write_whole(out, "month", month)?;
+    write_signed(out, "day", day)?;
+    write_signed(out, "month", month)?;
     write_text(out, "op", "read")?;
     write_number(out, "reader", reader)?;
-    write_whole(out, "year", year)?;
+    write_signed(out, "year", year)?;
     out.end_object()
 }
 
@@ -51,7 +41,7 @@ fn write_day_in(out: &mut Writer, reader: u32, code: &Text, day: i64) -> Result<
 {
     out.begin_object()?;
     write_text(out, "code", code.as_str())?;
-    write_whole(out, "day", day)?;
+    write_signed(out, "day", day)?;
     write_text(out, "op", "day")?;
     write_number(out, "reader", reader)?;
     out.end_object()
@@ -66,7 +56,7 @@ fn write_easter(out: &mut Writer, reader: u32, code: &Text, year: i64) -> Result
     write_text(out, "code", code.as_str())?;
     write_text(out, "op", "easter")?;
     write_number(out, "reader", reader)?;
-    write_whole(out, "year", year)?;
+    write_signed(out, "year", year)?;
     out.end_object()
 }
 
@@ -78,7 +68,7 @@ fn write_figures(out: &mut Writer, reader: u32, year: i64) -> Result<(), AllocEr
     out.begin_object()?;
     write_text(out, "op", "figures")?;
     write_number(out, "reader", reader)?;
-    write_whole(out, "year", year)?;
+    write_signed(out, "year", year)?;
     out.end_object()
 }
 

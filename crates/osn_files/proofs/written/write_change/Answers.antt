@@ -11,7 +11,7 @@ returns-clause-tokens c =
       c.in_ok-write_text-5.ensures.tokens,
       c.in_ok-write_text-4.ensures.tokens,
       c.in_ok-write_text-3.ensures.tokens,
-      c.in_ok-write_whole.ensures.tokens,
+      c.in_ok-write_signed.ensures.tokens,
       c.in_ok-write_text-2.ensures.tokens,
       c.in_ok-write_text.ensures.tokens,
       c.in_ok-begin_object.ensures.ok,

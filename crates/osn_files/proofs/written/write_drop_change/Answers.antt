@@ -9,7 +9,7 @@ returns-clause-tokens c =
     (λ e. rw (
       e,
       c.in_ok-write_text-2.ensures.tokens,
-      c.in_ok-write_whole.ensures.tokens,
+      c.in_ok-write_signed.ensures.tokens,
       c.in_ok-write_text.ensures.tokens,
       c.in_ok-begin_object.ensures.ok,
       c.as_str.ensures.value,

@@ -10,7 +10,7 @@ returns-clause-tokens c =
       e,
       c.in_ok-write_number.ensures.tokens,
       c.in_ok-write_text-2.ensures.tokens,
-      c.in_ok-write_whole.ensures.tokens,
+      c.in_ok-write_signed.ensures.tokens,
       c.in_ok-write_text.ensures.tokens,
       c.in_ok-begin_object.ensures.ok,
       c.as_str.ensures.value,

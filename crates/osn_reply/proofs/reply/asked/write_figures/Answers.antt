@@ -8,7 +8,7 @@ returns-clause-tokens c =
     at_last c.end_object.result c.end_object.ensures.ok
     (λ e. rw (
       e,
-      c.in_ok-write_whole.ensures.tokens,
+      c.in_ok-write_signed.ensures.tokens,
       c.in_ok-write_number.ensures.tokens,
       c.in_ok-write_text.ensures.tokens,
       c.in_ok-begin_object.ensures.ok,
