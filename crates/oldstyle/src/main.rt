@@ -3,6 +3,7 @@
 
 use osn_commands::{run, tell_no_words};
 use osn_wire::Plain;
+use std::io::IsTerminal;
 use std::process::ExitCode;
 use std::rt::Env;
 use std::{env, io};
@@ -16,9 +17,10 @@ fn main(rt: HostRuntime) -> ExitCode {
     let mut input = Plain::new(rt.reader());
     let mut output = Plain::new(io::writer(&rt));
     let mut errors = Plain::new(rt.stderr());
+    let terminal = rt.stderr().is_terminal().then(|| Plain::new(rt.stderr()));
     let status = match given_words(&rt) {
-        Ok(words) => run(&rt, &words, &mut input, &mut output, &mut errors),
-        Err(why) => tell_no_words(rt.alloc(), &why, &mut errors),
+        Ok(words) => run(&rt, &words, &mut input, &mut output, &mut errors, terminal),
+        Err(why) => tell_no_words(&why, &mut errors),
     };
     ExitCode::from(status.code())
 }

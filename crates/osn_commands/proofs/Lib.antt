@@ -1,5 +1,9 @@
+pub mod NumberLemmas
+pub mod WordLemmas
+pub mod GrammarLemmas
 pub mod TellLemmas
 pub mod FileLemmas
 pub mod PrintLemmas
 pub mod LineLemmas
 pub mod AuditLemmas
+pub mod RunLemmas

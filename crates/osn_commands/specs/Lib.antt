@@ -10,3 +10,6 @@ pub mod Almanac
 pub mod Replay
 pub mod Transcript
 pub mod Audited
+pub mod Watched
+pub mod Words
+pub mod Run

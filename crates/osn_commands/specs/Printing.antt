@@ -1,15 +1,19 @@
 -- What a command has written that prints one text, made of its files.
-use Rattle.std.specs.Prelude.{◌≡◌, ◌⊎◌, ℕ, List, Option, Some, None, take}
+use Rattle.std.specs.Prelude.{◌≡◌, ◌≤◌, ◌⊎◌, ℕ, Bool, true, List, Option, Some, None, length, take}
 use Rattle.std.specs.Io.KnownBytes.{Appends}
 use Rattle.osn_commands.specs.declared.fault.CommandFault.{CommandFault}
 use Rattle.osn_commands.specs.declared.fault.CommandFault.TheVariants.{WriteFault}
 
+-- the text could not be written: the output failed, or the text may take more writes than are made
+abbrev pub IsUnwritable : Bool → List ℕ → Type 0
+IsUnwritable failed text = (failed ≡ true) ⊎ (4294967295 ≤ length text)
+
 -- what was written by this ending: the text; or nothing, where there is none by this fault; or a
--- front of the text, where a write failed
+-- front of the text, where it could not be written
 abbrev pub Prints : (List ℕ → Type 0) → (CommandFault → Type 0) → Option (List ℕ) → Option (List ℕ)
-    → Option CommandFault → Type 0
-Prints IsText HasNone old new None = (text : List ℕ) × IsText text × Appends old new text
-Prints IsText HasNone old new (Some fault) =
+    → Bool → Option CommandFault → Type 0
+Prints IsText HasNone old new failed None = (text : List ℕ) × IsText text × Appends old new text
+Prints IsText HasNone old new failed (Some fault) =
     (HasNone fault × (new ≡ old))
-    ⊎ ((fault ≡ WriteFault) × (text : List ℕ) × IsText text
+    ⊎ ((fault ≡ WriteFault) × (text : List ℕ) × IsText text × IsUnwritable failed text
     × (n : ℕ) × Appends old new (take n text))

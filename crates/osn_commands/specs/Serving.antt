@@ -12,7 +12,9 @@ use Rattle.osn_commands.specs.declared.fault.CommandFault.{CommandFault}
 use Rattle.osn_commands.specs.declared.fault.CommandFault.TheVariants.{BadLine, Refused, Desk}
 use Rattle.osn_commands.specs.declared.fault.CommandFault.TheVariants.{ReadFault, WriteFault}
 use Rattle.osn_commands.specs.declared.fault.CommandFault.TheVariants.{NoMemory}
+use Rattle.osn_commands.specs.Files.{IsUnreadable}
 use Rattle.osn_commands.specs.Journal.{Begins, HasNoObject}
+use Rattle.osn_commands.specs.Printing.{IsUnwritable}
 
 -- the journal of an object, where it is to be saved
 abbrev pub journal_to_save : Bool → ObjectState → Option (List ℕ)
@@ -25,27 +27,31 @@ pub record AnswersAll (p : Profile) (readers : ℕ) (s : ObjectState) (saves : B
   pub written : Appends old new (outputs p readers s (lines input))
   pub saved : journal ≡ journal_to_save saves (after_lines p readers s (lines input))
 
--- what was answered from this object by the time of a fault: the first lines, and of a failed write
--- a part of the next reply
-abbrev pub AnswersUntil : Profile → ℕ → ObjectState → Option (List ℕ) → Option (List ℕ) → List ℕ
-    → CommandFault → Type 0
-AnswersUntil p readers s old new input (BadLine role line why) = ⊥
-AnswersUntil p readers s old new input (Refused refusal) = ⊥
-AnswersUntil p readers s old new input (Desk fault) = ⊥
-AnswersUntil p readers s old new input ReadFault =
-    (n : ℕ) × WritesFirst p readers s old new (lines input) n
-AnswersUntil p readers s old new input WriteFault =
-    (n : ℕ) × WritesInPart p readers s old new (lines input) n
-AnswersUntil p readers s old new input NoMemory =
+-- what was answered from this object by the time of a fault: the first lines, where the input could
+-- not be read on or memory ran out, and a part of the next reply too, where the replies could not
+-- be written
+abbrev pub AnswersUntil : Profile → ℕ → ObjectState → Option (List ℕ) → Option (List ℕ) → Bool
+    → List ℕ → Bool → CommandFault → Type 0
+AnswersUntil p readers s old new unwritten input unread (BadLine role line why) = ⊥
+AnswersUntil p readers s old new unwritten input unread (Refused refusal) = ⊥
+AnswersUntil p readers s old new unwritten input unread (Desk fault) = ⊥
+AnswersUntil p readers s old new unwritten input unread ReadFault =
+    IsUnreadable (Some input) unread
+    × (n : ℕ) × WritesFirst p readers s old new (lines input) n
+AnswersUntil p readers s old new unwritten input unread WriteFault =
+    IsUnwritable unwritten (outputs p readers s (lines input))
+    × (n : ℕ) × WritesInPart p readers s old new (lines input) n
+AnswersUntil p readers s old new unwritten input unread NoMemory =
     (n : ℕ) × WritesFirst p readers s old new (lines input) n
 
 -- what the service did that ended by this fault, if any: where there was no object to begin with,
 -- it wrote nothing
 abbrev pub Serves : Profile → Limits → ℕ → Option (Option (List ℕ)) → Bool → Option (List ℕ)
-    → Option (List ℕ) → List ℕ → Option (List ℕ) → Option CommandFault → Type 0
-Serves p limits readers begun saves old new input journal None =
+    → Option (List ℕ) → Bool → List ℕ → Bool → Option (List ℕ) → Option CommandFault → Type 0
+Serves p limits readers begun saves old new unwritten input unread journal None =
     (s : ObjectState) × Begins p limits begun s × AnswersAll p readers s saves old new input journal
-Serves p limits readers begun saves old new input journal (Some fault) =
+Serves p limits readers begun saves old new unwritten input unread journal (Some fault) =
     (journal ≡ None)
     × ((HasNoObject p limits begun fault × (new ≡ old))
-    ⊎ ((s : ObjectState) × Begins p limits begun s × AnswersUntil p readers s old new input fault))
+    ⊎ ((s : ObjectState) × Begins p limits begun s
+    × AnswersUntil p readers s old new unwritten input unread fault))

@@ -1,10 +1,13 @@
 -- What standard error is told, and the status that goes with it.
-use Rattle.std.specs.Prelude.{◌≡◌, ◌≤◌, ◌⊎◌, ℕ, Bool, true, List, Option, Some, None, length}
+use Rattle.std.specs.Prelude.{◌≡◌, ◌≢◌, ◌≤◌, ◌⊎◌, ℕ, Bool, true, List, Option, Some, None, length}
+use Rattle.std.specs.Prelude.{codes}
+use Rattle.std.specs.declared.io.ErrorKind.{ErrorKind}
+use Rattle.std.specs.declared.io.ErrorKind.TheVariants.{OutOfMemory}
 use Rattle.std.specs.Io.KnownBytes.{Appends}
 use Rattle.osn_commands.specs.declared.fault.CommandFault.{CommandFault}
 use Rattle.osn_commands.specs.declared.fault.CommandFault.TheVariants.{NoMemory}
 use Rattle.osn_commands.specs.declared.status.Status.{Status}
-use Rattle.osn_commands.specs.declared.status.Status.TheVariants.{Done, Refused}
+use Rattle.osn_commands.specs.declared.status.Status.TheVariants.{Done, Refused, Misused}
 use Rattle.osn_commands.specs.Fault.{fault_status, fault_line}
 
 -- a fault is told as itself; a refusal, whose line takes memory, may be told as want of it
@@ -26,3 +29,10 @@ EndsBy old new failed (Some fault) status =
 abbrev pub Tells : Option (List ℕ) → Option (List ℕ) → Bool → CommandFault → Status → Type 0
 Tells old new failed fault status =
     (told : CommandFault) × IsToldAs fault told × EndsBy old new failed (Some told) status
+
+-- standard error was told why the words of the command line could not be had, by the kind of error
+abbrev pub TellsNoWords : Option (List ℕ) → Option (List ℕ) → Bool → ErrorKind → Status → Type 0
+TellsNoWords old new failed kind status =
+    ((kind ≡ OutOfMemory) × EndsBy old new failed (Some NoMemory) status)
+    ⊎ ((kind ≢ OutOfMemory) × (status ≡ Misused)
+    × WritesLine old new failed (codes "error: a word of the command line is not UTF-8\n"))

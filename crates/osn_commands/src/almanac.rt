@@ -69,7 +69,7 @@ pub fn almanac_command<J: Source, W: Sink, E: Sink>(
         code.now (pos year))
         (HasNoAlmanac present standard_limits (J.remaining journal.old)
         (J.has_failed journal.new) code.now (pos year))
-        (W.contents output.old) (W.contents output.new) ending }
+        (W.contents output.old) (W.contents output.new) (W.has_failed output.new) ending }
 {
     let made = journal_almanac(alloc, journal, code, year);
     print(alloc, made, output, errors)

@@ -74,7 +74,7 @@ pub fn audit_command<J: Source, K: Source, W: Sink, E: Sink>(
         (IsNotAudited present standard_limits
         (J.remaining journal.old) (J.has_failed journal.new)
         (K.remaining transcript.old) (K.has_failed transcript.new))
-        (W.contents output.old) (W.contents output.new) ending }
+        (W.contents output.old) (W.contents output.new) (W.has_failed output.new) ending }
 {
     let made = audit_text(alloc, journal, transcript);
     print(alloc, made, output, errors)

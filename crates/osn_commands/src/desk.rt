@@ -95,7 +95,7 @@ pub fn desk_command<R: Threads + Wait + AllocGlobal, J: Source, K: Source, W: Si
         (HasNoTranscript present standard_limits
         (J.remaining script.old) (J.has_failed script.new)
         (K.remaining questions.old) (K.has_failed questions.new))
-        (W.contents output.old) (W.contents output.new) ending }
+        (W.contents output.old) (W.contents output.new) (W.has_failed output.new) ending }
 {
     let alloc = rt.alloc();
     let made = desk_transcript(rt, alloc, script, questions);

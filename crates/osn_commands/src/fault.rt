@@ -112,14 +112,15 @@ impl From<AllocError> for CommandFault {
 }
 
 /// Writes a line. Where standard error fails too, the status alone tells.
-fn write_line<E: Sink>(errors: &mut E, line: &str)
+pub(crate) fn write_line<E: Sink>(errors: &mut E, line: &str)
     ensures { WritesLine (E.contents errors.old) (E.contents errors.new)
         (E.has_failed errors.new) line.now }
 {
     let _ = write_all(errors, line.as_bytes());
 }
 
-fn tell_no_memory<E: Sink>(errors: &mut E) -> Status
+/// Tells standard error that memory ran out.
+pub(crate) fn tell_no_memory<E: Sink>(errors: &mut E) -> Status
     ensures { EndsBy (E.contents errors.old) (E.contents errors.new) (E.has_failed errors.new)
         (Some CommandFault.NoMemory) result }
 {

@@ -10,6 +10,7 @@ mod desk;
 mod fault;
 mod printing;
 mod program;
+mod progress;
 mod reading;
 mod replay;
 mod saving;

@@ -20,7 +20,7 @@ pub(crate) fn print<W: Sink, E: Sink>(
         × EndsBy (E.contents errors.old) (E.contents errors.new) (E.has_failed errors.new)
         ending result
         × Prints (λ written. written ≡ string_bytes text) (λ _. ⊥)
-        (W.contents output.old) (W.contents output.new) ending) }
+        (W.contents output.old) (W.contents output.new) (W.has_failed output.new) ending) }
     ensures err { IfErr made (λ fault.
         Tells (E.contents errors.old) (E.contents errors.new) (E.has_failed errors.new) fault result
         × (W.contents output.new ≡ W.contents output.old)) }

@@ -1,9 +1,18 @@
 //! The program: the words are read, files are opened, and the command is called.
+ghost use Rattle.std.specs.Prelude.{◌≡◌, ◌⊎◌, Option, true, is_some, map, IfErr, IfOk};
+ghost use Rattle.std.specs.IoError.{error_kind};
+ghost use Rattle.clap.specs.Words.{kind_of};
+ghost use Rattle.osn_commands.specs.Run.{Ran, RunsService, RunsWords, ShowsOrEnds, Finishes};
+ghost use Rattle.osn_commands.specs.Told.{EndsBy, TellsNoWords};
+ghost use Rattle.osn_commands.specs.Words.{asks};
+ghost use Rattle.osn_commands.specs.declared.fault.CommandFault.{CommandFault};
 
 use crate::almanac::almanac_command;
 use crate::audited::audit_command;
 use crate::desk::desk_command;
-use crate::fault::{CommandFault, tell};
+use crate::fault::{CommandFault, tell, tell_no_memory, write_line};
+use crate::printing::print;
+use crate::progress::Watched;
 use crate::replay::replay_command;
 use crate::saving::save_journal;
 use crate::serving::{Served, serve_command};
@@ -11,7 +20,7 @@ use crate::status::Status;
 use crate::words::{ServeWords, Words, read_words};
 use clap::Error;
 use clap::error::ErrorKind;
-use osn_wire::{Plain, Sink, Source, write_all};
+use osn_wire::{Plain, Sink, Source};
 use std::alloc::Global;
 use std::convert::AsStr;
 use std::rt::Files;
@@ -22,16 +31,30 @@ use std::{fs, io};
 /// Does what the words of the command line ask for, of which the first is the program's name, and
 /// answers how that ended. Files that are read are opened before the command begins, in the order
 /// of the words. The journal is saved where the service ended well, and nowhere else.
-pub fn run<F: Files + Threads + Wait + AllocGlobal, S: AsStr, R: Source, W: Sink, E: Sink>(
+///
+/// A terminal, where there is one, is told how far a long audit is.
+pub fn run<F, S: AsStr, R: Source, W: Sink, E: Sink, T: Sink + Drop>(
     rt: &F,
     words: &[S],
     input: &mut R,
     output: &mut W,
     errors: &mut E,
-) -> Status {
+    terminal: Option<T>,
+) -> Status
+where
+    F: Files + Threads + Wait + AllocGlobal,
+    ensures { RunsWords (map S.text words.now)
+        (record { bytes = R.remaining input.old; unread = R.has_failed input.new })
+        (record {
+          old = W.contents output.old;
+          new = W.contents output.new;
+          unwritten = W.has_failed output.new;
+        })
+        (E.contents errors.old) (E.contents errors.new) (E.has_failed errors.new) result }
+{
     let alloc = rt.alloc();
     match read_words(alloc, words) {
-        Ok(words) => match carry_out(rt, words, input, output, errors) {
+        Ok(words) => match carry_out(rt, words, input, output, errors, terminal) {
             Ok(status) => status,
             Err(fault) => tell(alloc, errors, fault),
         },
@@ -39,14 +62,29 @@ pub fn run<F: Files + Threads + Wait + AllocGlobal, S: AsStr, R: Source, W: Sink
     }
 }
 
-/// Opens the files that are read, and calls the command. A fault has not been told.
-fn carry_out<F: Files + Threads + Wait + AllocGlobal, R: Source, W: Sink, E: Sink>(
+/// Opens the files that are read, and calls the command. A file that could not be opened has not
+/// been told, and nothing was done then.
+fn carry_out<F, R: Source, W: Sink, E: Sink, T: Sink + Drop>(
     rt: &F,
     words: Words,
     input: &mut R,
     output: &mut W,
     errors: &mut E,
-) -> Result<Status, CommandFault> {
+    terminal: Option<T>,
+) -> Result<Status, CommandFault>
+where
+    F: Files + Threads + Wait + AllocGlobal,
+    ensures ok { IfOk result (Ran (asks words.entry)
+        (record { bytes = R.remaining input.old; unread = R.has_failed input.new })
+        (record {
+          old = W.contents output.old;
+          new = W.contents output.new;
+          unwritten = W.has_failed output.new;
+        })
+        (E.contents errors.old) (E.contents errors.new) (E.has_failed errors.new)) }
+    ensures err { IfErr result (λ fault. (fault ≡ CommandFault.ReadFault)
+        × (output.new ≡ output.old) × (errors.new ≡ errors.old)) }
+{
     let alloc = rt.alloc();
     match words {
         Words::Serve(words) => serve(rt, words, input, output, errors),
@@ -72,7 +110,7 @@ fn carry_out<F: Files + Threads + Wait + AllocGlobal, R: Source, W: Sink, E: Sin
             transcript,
         } => {
             let mut journal = opened(rt, journal)?;
-            let mut transcript = opened(rt, transcript)?;
+            let mut transcript = Watched::new(alloc, opened(rt, transcript)?, terminal);
             Ok(audit_command(alloc, &mut journal, &mut transcript, output, errors))
         }
     }
@@ -85,7 +123,21 @@ fn serve<F: Files + AllocGlobal, R: Source, W: Sink, E: Sink>(
     input: &mut R,
     output: &mut W,
     errors: &mut E,
-) -> Result<Status, CommandFault> {
+) -> Result<Status, CommandFault>
+    ensures ok { IfOk result (λ status. (ending : Option CommandFault)
+        × EndsBy (E.contents errors.old) (E.contents errors.new) (E.has_failed errors.new)
+        ending status
+        × RunsService (is_some words.entry.journal) (is_some words.entry.save) words.entry.readers
+        (record { bytes = R.remaining input.old; unread = R.has_failed input.new })
+        (record {
+          old = W.contents output.old;
+          new = W.contents output.new;
+          unwritten = W.has_failed output.new;
+        })
+        ending) }
+    ensures err { IfErr result (λ fault. (fault ≡ CommandFault.ReadFault)
+        × (output.new ≡ output.old) × (errors.new ≡ errors.old)) }
+{
     let ServeWords {
         journal,
         save,
@@ -94,11 +146,13 @@ fn serve<F: Files + AllocGlobal, R: Source, W: Sink, E: Sink>(
     let source = opened_if(rt, journal)?;
     let saves = save.is_some();
     let served = serve_command(rt.alloc(), source, readers, saves, input, output, errors);
-    finish(rt, served, save)
+    Ok(finish(rt, served, save, errors))
 }
 
 /// The file of a path as a source.
-fn opened<F: Files>(files: &F, path: &str) -> Result<Plain<F::File>, CommandFault> {
+fn opened<F: Files>(files: &F, path: &str) -> Result<Plain<F::File>, CommandFault>
+    ensures { IfErr result (λ fault. fault ≡ CommandFault.ReadFault) }
+{
     match fs::open(files, path) {
         Ok(file) => Ok(Plain::new(file)),
         Err(_) => Err(CommandFault::ReadFault),
@@ -109,50 +163,74 @@ fn opened<F: Files>(files: &F, path: &str) -> Result<Plain<F::File>, CommandFaul
 fn opened_if<F: Files>(
     files: &F,
     path: Option<&str>,
-) -> Result<Option<Plain<F::File>>, CommandFault> {
+) -> Result<Option<Plain<F::File>>, CommandFault>
+    ensures ok { IfOk result (λ file. is_some file ≡ is_some path.entry) }
+    ensures err { IfErr result (λ fault. fault ≡ CommandFault.ReadFault) }
+{
     match path {
         Some(path) => Ok(Some(opened(files, path)?)),
         None => Ok(None),
     }
 }
 
-/// Saves the journal that the service left, if any.
-fn finish<F: Files + AllocGlobal>(
+/// Saves the journal that the service left, if any, or tells standard error why it could not.
+fn finish<F: Files + AllocGlobal, E: Sink>(
     rt: &F,
     served: Served,
     save: Option<&str>,
-) -> Result<Status, CommandFault> {
+    errors: &mut E,
+) -> Status
+    ensures { ((result ≡ served.status) × (errors.new ≡ errors.old))
+        ⊎ ((is_some served.journal ≡ true)
+        × Finishes (E.contents errors.old) (E.contents errors.new) (E.has_failed errors.new)
+        result) }
+{
     let (Some(path), Some(journal)) = (save, served.journal) else {
-        return Ok(served.status);
+        return served.status;
     };
-    save_journal(rt, path, journal.as_str())?;
-    Ok(served.status)
+    match save_journal(rt, path, journal.as_str()) {
+        Ok(()) => served.status,
+        Err(fault) => tell(rt.alloc(), errors, fault),
+    }
 }
 
 /// Shows help or the version where they were asked for, or else what is wrong with the words.
-fn show<W: Sink, E: Sink>(alloc: Global, shown: &Error, output: &mut W, errors: &mut E) -> Status {
-    if shown.kind() == ErrorKind::OutOfMemory {
-        return tell(alloc, errors, CommandFault::NoMemory);
+fn show<W: Sink, E: Sink>(alloc: Global, shown: &Error, output: &mut W, errors: &mut E) -> Status
+    ensures { ShowsOrEnds (kind_of shown.now)
+        (record {
+          old = W.contents output.old;
+          new = W.contents output.new;
+          unwritten = W.has_failed output.new;
+        })
+        (E.contents errors.old) (E.contents errors.new) (E.has_failed errors.new) result }
+{
+    let kind = shown.kind();
+    if kind == ErrorKind::OutOfMemory {
+        return tell_no_memory(errors);
     }
     let Ok(text) = format!(in alloc; "{shown}") else {
-        return tell(alloc, errors, CommandFault::NoMemory);
+        return tell_no_memory(errors);
     };
-    if shown.use_stderr() {
-        let _ = write_all(errors, text.as_bytes());
-        return Status::Misused;
-    }
-    match write_all(output, text.as_bytes()) {
-        Ok(()) => Status::Done,
-        Err(_) => tell(alloc, errors, CommandFault::WriteFault),
+    match kind {
+        ErrorKind::DisplayHelp | ErrorKind::DisplayVersion => {
+            print(alloc, Ok(text), output, errors)
+        }
+        _ => {
+            write_line(errors, text.as_str());
+            Status::Misused
+        }
     }
 }
 
 /// Tells standard error that the words of the command line could not be had: for want of memory, or
 /// where one of them is no text of UTF-8.
-pub fn tell_no_words<E: Sink>(alloc: Global, why: &io::Error, errors: &mut E) -> Status {
+pub fn tell_no_words<E: Sink>(why: &io::Error, errors: &mut E) -> Status
+    ensures { TellsNoWords (E.contents errors.old) (E.contents errors.new) (E.has_failed errors.new)
+        (error_kind why.now) result }
+{
     if why.kind() == io::ErrorKind::OutOfMemory {
-        return tell(alloc, errors, CommandFault::NoMemory);
+        return tell_no_memory(errors);
     }
-    let _ = write_all(errors, b"error: a word of the command line is not UTF-8\n");
+    write_line(errors, "error: a word of the command line is not UTF-8\n");
     Status::Misused
 }

@@ -78,7 +78,7 @@ pub fn replay_command<J: Source, W: Sink, E: Sink>(
         ending result
         × Prints (IsReplay present standard_limits readers (J.remaining schedule.old))
         (HasNoReplay present readers (J.remaining schedule.old) (J.has_failed schedule.new))
-        (W.contents output.old) (W.contents output.new) ending }
+        (W.contents output.old) (W.contents output.new) (W.has_failed output.new) ending }
 {
     let made = schedule_replay(alloc, readers, schedule);
     print(alloc, made, output, errors)

@@ -1,4 +1,6 @@
 //! Saves a journal, whole or not at all.
+ghost use Rattle.std.specs.Prelude.{IfErr};
+ghost use Rattle.osn_commands.specs.Run.{IsSaveFault};
 
 use crate::fault::CommandFault;
 use std::alloc::AllocError;
@@ -20,7 +22,9 @@ pub(crate) fn save_journal<R: Files + AllocGlobal>(
     rt: &R,
     path: &str,
     text: &str,
-) -> Result<(), CommandFault> {
+) -> Result<(), CommandFault>
+    ensures { IfErr result IsSaveFault }
+{
     let place = match fs::canonicalize(rt, path) {
         Ok(place) => place,
         Err(_) => PathBuf::from_str(rt.alloc(), path)?,

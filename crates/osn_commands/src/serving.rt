@@ -1,5 +1,5 @@
 //! The command `serve`.
-ghost use Rattle.std.specs.Prelude.{◌≡◌, ℕ, List, Option, Some, None, IfOk, IfErr, IfSome};
+ghost use Rattle.std.specs.Prelude.{◌≡◌, ◌⊎◌, ℕ, List, Option, Some, None, IfOk, IfErr, IfSome};
 ghost use Rattle.std.specs.Prelude.{MatchResult, option_map, string_bytes};
 ghost use Rattle.osn_days.specs.Profile.{present};
 ghost use Rattle.osn_register.specs.Limits.{standard_limits};
@@ -53,7 +53,8 @@ fn answer<R: Source, W: Sink>(
         (W.contents output.new) bytes (option_map string_bytes journal))) }
     ensures err { IfErr result (λ fault. IfSome (R.remaining input.old) (λ bytes.
         AnswersUntil present readers object.old (W.contents output.old)
-        (W.contents output.new) bytes fault)) }
+        (W.contents output.new) (W.has_failed output.new) bytes (R.has_failed input.new)
+        fault)) }
 {
     serve_from(alloc, object, readers, input, output)?;
     if !saves {
@@ -72,11 +73,12 @@ fn serve_lines<J: Source + Drop, R: Source, W: Sink>(
 ) -> Result<Option<String>, CommandFault>
     ensures ok { IfOk result (λ text. IfSome (R.remaining input.old) (λ bytes.
         Serves present standard_limits readers (option_map J.remaining journal) saves
-        (W.contents output.old) (W.contents output.new) bytes (option_map string_bytes text)
-        None)) }
+        (W.contents output.old) (W.contents output.new) (W.has_failed output.new) bytes
+        (R.has_failed input.new) (option_map string_bytes text) None)) }
     ensures err { IfErr result (λ fault. IfSome (R.remaining input.old) (λ bytes.
         Serves present standard_limits readers (option_map J.remaining journal) saves
-        (W.contents output.old) (W.contents output.new) bytes None (Some fault))) }
+        (W.contents output.old) (W.contents output.new) (W.has_failed output.new) bytes
+        (R.has_failed input.new) None (Some fault))) }
 {
     let mut object = begun(alloc, journal)?;
     answer(alloc, &mut object, readers, saves, input, output)
@@ -100,10 +102,11 @@ pub fn serve_command<J: Source + Drop, R: Source, W: Sink, E: Sink>(
     ensures { (ending : Option CommandFault)
         × EndsBy (E.contents errors.old) (E.contents errors.new) (E.has_failed errors.new)
         ending result.status
+        × ((ending ≡ None) ⊎ (result.journal ≡ None))
         × IfSome (R.remaining input.old) (λ bytes.
         Serves present standard_limits readers (option_map J.remaining journal) saves
-        (W.contents output.old) (W.contents output.new) bytes
-        (option_map string_bytes result.journal) ending) }
+        (W.contents output.old) (W.contents output.new) (W.has_failed output.new) bytes
+        (R.has_failed input.new) (option_map string_bytes result.journal) ending) }
 {
     match serve_lines(alloc, journal, readers, saves, input, output) {
         Ok(journal) => Served {

@@ -1,7 +1,7 @@
 //! The commands of the program over memory: the status, what is written, and what standard error is
 //! told.
 use crate::session::joined;
-use osn_commands::{Status, run, serve_command};
+use osn_commands::{Status, run, serve_command, tell_no_words};
 use osn_wire::Plain;
 use std::alloc::Global;
 use std::io;
@@ -218,7 +218,8 @@ fn are_run<R: Files + Threads + Wait + AllocGlobal + Abort>(
         let mut output = sink(rt.alloc());
         let mut errors = sink(rt.alloc());
         let mut input = Plain::new(b"".as_slice());
-        let left = run(rt, words, &mut input, &mut output, &mut errors);
+        let terminal = Some(sink(rt.alloc()));
+        let left = run(rt, words, &mut input, &mut output, &mut errors, terminal);
         assert_eq!(rt; left.code(), *status, "{words:?}");
         assert_eq!(rt; errors.into_inner().is_empty(), *status == 0, "{words:?}");
     }
@@ -228,4 +229,16 @@ fn are_run<R: Files + Threads + Wait + AllocGlobal + Abort>(
 #[test]
 fn words_and_statuses(rt: HostRuntime) -> Result<(), Fail> {
     are_run(&rt, &LINES)
+}
+
+#[test]
+fn a_word_that_is_no_text(rt: HostRuntime) {
+    let mut errors = sink(rt.alloc());
+    let status = tell_no_words(&io::Error::from(ErrorKind::InvalidData), &mut errors);
+    let told = errors.into_inner();
+    assert_eq!(rt; status.code(), 2);
+    assert_eq!(rt;
+        told.as_slice(),
+        b"error: a word of the command line is not UTF-8\n"
+    );
 }

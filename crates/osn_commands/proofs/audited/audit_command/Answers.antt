@@ -4,6 +4,6 @@ use Rattle.osn_commands.proofs.audited.audit_command.Goals as goal
 
 pub returns : goal.returns
 returns g c =
-    printed string_bytes _ _ c.audit_text-made.result _ _ _ _ _ _
+    printed string_bytes _ _ c.audit_text-made.result _ _ _ _ _ _ _
     c.audit_text-made.ensures.ok c.audit_text-made.ensures.err tt
     c.print.ensures.ok c.print.ensures.err

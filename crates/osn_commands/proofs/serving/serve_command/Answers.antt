@@ -1,4 +1,4 @@
-use Rattle.std.proofs.Common.{Some}
+use Rattle.std.proofs.Common.{Some, refl, inr}
 use Rattle.osn_commands.proofs.TellLemmas.{serves_known}
 use Rattle.osn_commands.proofs.serving.serve_command.Goals as goal
 
@@ -7,6 +7,7 @@ returns-in-Err g c =
     let t = c.tell.ensures in (
       Some t.0,
       t.2,
-      serves_known _ _ _ _ c.args.saves _ _ _ _ c.in-Err.fault
+      inr refl,
+      serves_known _ _ _ _ c.args.saves _ _ _ _ _ _ c.in-Err.fault
           t.0 t.1 c.in-Err.ensures.err,
     )
