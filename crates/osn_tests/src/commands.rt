@@ -237,8 +237,6 @@ fn a_word_that_is_no_text(rt: HostRuntime) {
     let status = tell_no_words(&io::Error::from(ErrorKind::InvalidData), &mut errors);
     let told = errors.into_inner();
     assert_eq!(rt; status.code(), 2);
-    assert_eq!(rt;
-        told.as_slice(),
-        b"error: a word of the command line is not UTF-8\n"
-    );
+    let line = "error: a word of the command line is not UTF-8\n";
+    assert_eq!(rt; told.as_slice(), line.as_bytes());
 }
