@@ -1,9 +1,9 @@
 #!/usr/bin/env python3
 """Refuses each growth of memory in turn to a program over the running register.
 
-    examples/growths.py [SOURCE]     the program is growths.rt where none is given
+    examples/growths.py [SOURCE]     the program is growths.rattle where none is given
 
-growths.rt opens a desk of one reader and makes three editions: it stages, publishes, learns the
+growths.rattle opens a desk of one reader and makes three editions: it stages, publishes, learns the
 note and asks. A call that finds no memory is made again, and between a refused publish and the next
 one it stages a further edit. After each refused growth all editions have to come, every staged edit
 has to be in the last one exactly once, the reader's edition has to be the number of publishes that
@@ -74,7 +74,7 @@ def refuse_each(program, library):
 
 
 def main():
-    source = sys.argv[1] if len(sys.argv) > 1 else os.path.join(HERE, "growths.rt")
+    source = sys.argv[1] if len(sys.argv) > 1 else os.path.join(HERE, "growths.rattle")
     with cloned() as clone, tempfile.TemporaryDirectory() as room:
         program = built_program(add_program(clone, source, LIBRARIES))
         count, losses = refuse_each(program, refusing_library(room))
