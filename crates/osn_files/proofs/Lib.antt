@@ -2,6 +2,7 @@ pub mod TurnLemmas
 mod HeadLemmas
 mod ReadLemmas
 mod QuestionLemmas
+mod AskedLemmas
 mod ScheduleLemmas
 mod ByteFacts
 mod TextFacts

@@ -12,7 +12,8 @@ use Rattle.osn_register.specs.declared.query.Query.{Query}
 use Rattle.osn_files.specs.declared.version.Version.{Version}
 use Rattle.osn_files.specs.Commands.{command_in, command_of}
 use Rattle.osn_files.specs.Journal.{after_read, after_line}
-use Rattle.osn_files.specs.Questions as questions
+use Rattle.osn_files.specs.Questions.{question_in}
+use Rattle.osn_files.specs.QuestionsInside.{list_read, list_line}
 use Rattle.osn_files.specs.Schedule as schedule
 use Rattle.osn_files.specs.Script.{with_read, with_line}
 use Rattle.osn_files.specs.Version.{rules_of, version_in, version_of}
@@ -41,9 +42,9 @@ with_line-front p version commands line =
 
 -- the lists of queries with that of a line
 pub lists-front : (lists : List (List Query)) (line : List ℕ)
-    → questions.with_line lists (front_of line) ≡ questions.with_line lists line
+    → list_line lists (front_of line) ≡ list_line lists line
 lists-front lists line =
-    ap (λ r. questions.with_read lists (r >>= questions.question_in)) (object_of_front line)
+    ap (λ r. list_read lists (r >>= question_in)) (object_of_front line)
 
 -- the steps with that of a line
 pub steps-front : (p : Profile) (readers : ℕ) (done : List Step) (line : List ℕ)

@@ -9,6 +9,7 @@ pub mod Questions
 pub mod Schedule
 pub mod Stops
 pub mod ReadingInside
+pub mod QuestionsInside
 pub mod Fronts
 pub mod HeadedInside
 pub mod ScheduleInside

@@ -1,6 +1,8 @@
--- What is read from the lines of a question file, which has no head: the queries of each reader, in
--- the order of the lines. This project's profile.
-use Rattle.std.specs.Prelude.{ℕ, zero, suc, ◌-◌, List, [], ◌∷◌, ◌++◌, Result, Ok, Err}
+-- What is read from the lines of a question file, which has no head: for each reader from 1 to the
+-- greatest that is named, the queries of the reader's lines, in order. This project's profile.
+use Rattle.std.specs.Prelude.{ℕ, ◌==◌, if◌then◌else◌, max, List, [], ◌∷◌, ◌++◌, map, Option}
+use Rattle.std.specs.Prelude.{Some, None, Result, Ok, Err}
+use Rattle.std.specs.List.{filter_map, range_with_len}
 use Rattle.serde_json.specs.Data.{Data}
 use Rattle.osn_register.specs.declared.query.Query.{Query}
 use Rattle.osn_request.specs.declared.request.op.Op.{Op}
@@ -32,23 +34,37 @@ question_in d = op_of d >>= question_by d
 abbrev pub question_of : List ℕ → Result (ℕ × Query) WireFault
 question_of line = object_of line >>= question_in
 
--- a list for each reader, with one query more at a place, counted from 0
-abbrev pub with_query : List (List Query) → ℕ → Query → List (List Query)
-with_query [] zero q = (q ∷ []) ∷ []
-with_query [] (suc n) q = [] ∷ with_query [] n q
-with_query (qs ∷ rest) zero q = (qs ++ q ∷ []) ∷ rest
-with_query (qs ∷ rest) (suc n) q = qs ∷ with_query rest n q
+abbrev pub with_read : List (ℕ × Query) → Result (ℕ × Query) WireFault
+    → Result (List (ℕ × Query)) LineFault
+with_read asked (Ok question) = Ok (asked ++ question ∷ [])
+with_read asked (Err f) = Err (Wire f)
 
-abbrev pub with_read : List (List Query) → Result (ℕ × Query) WireFault
-    → Result (List (List Query)) LineFault
-with_read lists (Ok asked) = Ok (with_query lists (asked.0 - 1) asked.1)
-with_read lists (Err f) = Err (Wire f)
+-- the questions, with that of a line
+abbrev pub with_line : List (ℕ × Query) → List ℕ → Result (List (ℕ × Query)) LineFault
+with_line asked line = with_read asked (question_of line)
 
--- the lists, with the query of a line
-abbrev pub with_line : List (List Query) → List ℕ → Result (List (List Query)) LineFault
-with_line lists line = with_read lists (question_of line)
+abbrev pub query_by : ℕ → ℕ × Query → Option Query
+query_by reader question = if question.0 == reader then Some question.1 else None
 
--- a list for each reader from 1 to the greatest that is named, or the first fault and the number of
--- its line, counted from 1
+-- the queries of a reader, in the order of the questions
+abbrev pub queries_of : List (ℕ × Query) → ℕ → List Query
+queries_of asked reader = filter_map (query_by reader) asked
+
+-- the greatest reader that is named, or 0
+abbrev pub greatest_reader : List (ℕ × Query) → ℕ
+greatest_reader [] = 0
+greatest_reader (question ∷ rest) = max question.0 (greatest_reader rest)
+
+-- the queries of each reader, from 1 to the greatest that is named
+abbrev pub by_reader : List (ℕ × Query) → List (List Query)
+by_reader asked = map (queries_of asked) (range_with_len 1 (greatest_reader asked))
+
+abbrev pub all_by_reader : Result (List (ℕ × Query)) (ℕ × LineFault)
+    → Result (List (List Query)) (ℕ × LineFault)
+all_by_reader (Ok asked) = Ok (by_reader asked)
+all_by_reader (Err e) = Err e
+
+-- the queries of each reader in the lines, or the first fault and the number of its line, counted
+-- from 1
 abbrev pub questions : List (List ℕ) → Result (List (List Query)) (ℕ × LineFault)
-questions = in_turn with_line 1 []
+questions lines = all_by_reader (in_turn with_line 1 [] lines)

@@ -1,7 +1,7 @@
 //! The queries of each reader.
 ghost use Rattle.std.specs.Prelude.{◌≡◌, ◌-◌, ◌<◌, ◌≤◌, [], length, map, OnOk};
 ghost use Rattle.osn_register.specs.declared.query.Query.{Query as QueryValue};
-ghost use Rattle.osn_files.specs.Questions.{with_query};
+ghost use Rattle.osn_files.specs.QuestionsInside.{with_query_at, with_query};
 
 use crate::question_line::question_of;
 use crate::reading::MadeOfLines;
@@ -46,7 +46,7 @@ impl Lists {
     fn grow(&mut self, alloc: Global, reader: u32) -> Result<(), AllocError>
         ensures long { OnOk result (reader ≤ length self.new) }
         ensures same { OnOk result ((q : QueryValue) →
-            with_query self.new (reader - 1) q ≡ with_query self.old (reader - 1) q) }
+            with_query_at self.new (reader - 1) q ≡ with_query_at self.old (reader - 1) q) }
     {
         while self.lists.len() < reader as usize {
             self.lists.push(Vec::new(alloc))?;
@@ -60,7 +60,7 @@ impl Lists {
     /// Only where no memory is found.
     pub(crate) fn put(&mut self, alloc: Global, reader: u32, query: Query) -> Result<(), AllocError>
         requires { 0 < reader }
-        ensures { OnOk result (self.new ≡ with_query self.old (reader - 1) query) }
+        ensures { OnOk result (self.new ≡ with_query self.old reader query) }
     {
         self.grow(alloc, reader)?;
         self.lists[(reader - 1) as usize].push(query)?;
@@ -70,9 +70,9 @@ impl Lists {
 
 impl MadeOfLines for Lists {
     ghost use Rattle.osn_files.specs.Fronts.{lists-front};
-    ghost use Rattle.osn_files.specs.Questions.{with_line};
+    ghost use Rattle.osn_files.specs.QuestionsInside.{list_line};
 
-    ghost step = { with_line };
+    ghost step = { list_line };
 
     fn take_line(&mut self, alloc: Global, line: &[u8]) -> Result<(), LineStop> {
         let (reader, query) = question_of(alloc, line)?;

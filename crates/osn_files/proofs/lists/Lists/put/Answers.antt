@@ -1,7 +1,7 @@
 use Rattle.std.proofs.Common.{◌∙◌, ◌-◌, ◌<◌, ◌≤◌, length, ap, arith, subst, sym}
 use Rattle.std.proofs.lemmas.List.{length-map}
-use Rattle.osn_files.specs.Questions.{with_query}
-use Rattle.osn_files.proofs.QuestionLemmas.{with_query-put}
+use Rattle.osn_files.specs.QuestionsInside.{with_query_at}
+use Rattle.osn_files.proofs.QuestionLemmas.{with_query_at-put, with_query-counted}
 use Rattle.osn_files.proofs.lists.Lists.put.Goals as goal
 
 pub returns : goal.returns
@@ -12,7 +12,8 @@ returns c =
     (sym (ap length c.self.view_is) ∙ length-map lists (λ qs. qs.items))
     c.in_ok-grow.ensures.long in
     let long : c.args.reader - 1 < length lists = omega (arith, grown, c.requires) in
-    with_query-put lists _ _ (c.args.reader - 1) c.args.query long c.index_mut.ensures.value
+    with_query_at-put lists _ _ (c.args.reader - 1) c.args.query long c.index_mut.ensures.value
     c.in_ok-push.ensures.items
-    ∙ (ap (λ l. with_query l (c.args.reader - 1) c.args.query) c.self.view_is
-    ∙ c.in_ok-grow.ensures.same c.args.query)
+    ∙ (ap (λ l. with_query_at l (c.args.reader - 1) c.args.query) c.self.view_is
+    ∙ (c.in_ok-grow.ensures.same c.args.query
+    ∙ sym (with_query-counted _ c.args.reader c.args.query c.requires)))
