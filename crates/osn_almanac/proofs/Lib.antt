@@ -1,2 +1,2 @@
-pub mod LineFacts
+pub mod Text
 mod BareFacts

@@ -59,7 +59,7 @@ fn push_change(alloc: Global, out: &mut String, period: &Period) -> Result<(), A
 }
 
 /// Appends the line of a change, where it is one of the year.
-#[tactic(auto, using(crate::proofs::LineFacts::push_none), unfolding(crate::specs::Almanac::change_of))]
+#[tactic(auto, using(crate::proofs::Text::push_none), unfolding(crate::specs::Almanac::change_of))]
 fn push_change_of(
     alloc: Global,
     out: &mut String,

@@ -33,7 +33,7 @@ fn push_heading_line(
 }
 
 /// Appends the heading, where the territory has the code.
-#[tactic(auto, using(crate::proofs::LineFacts::push_none), unfolding(crate::specs::Almanac::heading_of))]
+#[tactic(auto, using(crate::proofs::Text::push_none), unfolding(crate::specs::Almanac::heading_of))]
 fn push_heading_of(
     alloc: Global,
     out: &mut String,

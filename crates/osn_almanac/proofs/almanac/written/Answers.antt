@@ -1,7 +1,7 @@
 use Rattle.std.proofs.Common.{◌≡◌, rules, subst, string_bytes, to_z, of_z, w64}
 use Rattle.osn_days.specs.Profile.{present}
 use Rattle.osn_almanac.specs.Almanac as said
-use Rattle.osn_almanac.proofs.LineFacts.{five_parts}
+use Rattle.osn_almanac.proofs.Text.{five_parts}
 use Rattle.osn_almanac.proofs.almanac.written.Goals as goal
 
 pub returns : goal.returns

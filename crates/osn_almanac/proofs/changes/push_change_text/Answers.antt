@@ -1,6 +1,6 @@
 use Rattle.std.proofs.Common.{◌∙◌, string_bytes}
 use Rattle.osn_almanac.specs.Almanac as said
-use Rattle.osn_almanac.proofs.LineFacts.{line_is}
+use Rattle.osn_almanac.proofs.Text.{line_is}
 use Rattle.osn_almanac.proofs.changes.push_change_text.Goals as goal
 
 pub returns : goal.returns

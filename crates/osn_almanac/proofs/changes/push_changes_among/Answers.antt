@@ -1,6 +1,6 @@
 use Rattle.std.proofs.Common.{string_bytes, rules, ap, to_z, of_z, w64}
 use Rattle.osn_almanac.specs.Almanac as said
-use Rattle.osn_almanac.proofs.LineFacts.{push_none, next_lines}
+use Rattle.osn_almanac.proofs.Text.{push_none, next_lines}
 use Rattle.osn_almanac.proofs.changes.push_changes_among.Goals as goal
 
 pub loop-period-init : goal.loop-period-init

@@ -1,6 +1,6 @@
 use Rattle.std.proofs.Common.{rules, arith}
 use Rattle.osn_almanac.specs.Columns as said
-use Rattle.osn_almanac.proofs.LineFacts.{padded_left}
+use Rattle.osn_almanac.proofs.Text.{padded_left}
 use Rattle.osn_almanac.proofs.columns.push_absent.Goals as goal
 
 pub returns : goal.returns

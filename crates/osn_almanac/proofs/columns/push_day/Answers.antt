@@ -2,7 +2,7 @@ use Rattle.std.proofs.Common.{rules, arith}
 use Rattle.osn_words.specs.Texts.{weekday_numbered}
 use Rattle.osn_days.specs.Line.{weekday}
 use Rattle.osn_almanac.specs.Columns as said
-use Rattle.osn_almanac.proofs.LineFacts.{padded_left, day_right, length-weekday_name}
+use Rattle.osn_almanac.proofs.Text.{padded_left, day_right, length-weekday_name}
 use Rattle.osn_almanac.proofs.columns.push_day.Goals as goal
 
 pub returns : goal.returns

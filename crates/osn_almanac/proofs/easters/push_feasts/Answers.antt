@@ -1,7 +1,7 @@
 use Rattle.std.proofs.Common.{string_bytes}
 use Rattle.osn_days.specs.Profile.{present}
 use Rattle.osn_almanac.specs.Almanac as said
-use Rattle.osn_almanac.proofs.LineFacts.{push_none, next_line}
+use Rattle.osn_almanac.proofs.Text.{push_none, next_line}
 use Rattle.osn_almanac.proofs.easters.push_feasts.Goals as goal
 
 pub loop-feast-init : goal.loop-feast-init

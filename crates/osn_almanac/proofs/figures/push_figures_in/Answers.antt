@@ -1,5 +1,5 @@
 use Rattle.std.proofs.Common.{rules}
-use Rattle.osn_almanac.proofs.LineFacts.{push_none, push_more}
+use Rattle.osn_almanac.proofs.Text.{push_none, push_more}
 use Rattle.osn_almanac.proofs.figures.push_figures_in.Goals as goal
 
 pub returns-in_ok-push_julian-in-Figures : goal.returns-in_ok-push_julian-in-Figures

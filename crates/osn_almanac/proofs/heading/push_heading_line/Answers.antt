@@ -1,6 +1,6 @@
 use Rattle.std.proofs.Common.{◌≡◌, ◌∙◌, ap, rules, string_bytes, to_z, of_z, w64}
 use Rattle.osn_almanac.specs.Almanac as said
-use Rattle.osn_almanac.proofs.LineFacts.{line_is}
+use Rattle.osn_almanac.proofs.Text.{line_is}
 use Rattle.osn_almanac.proofs.heading.push_heading_line.Goals as goal
 
 pub returns : goal.returns

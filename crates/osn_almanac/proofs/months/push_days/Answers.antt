@@ -1,6 +1,6 @@
 use Rattle.std.proofs.Common.{string_bytes}
 use Rattle.osn_almanac.specs.Almanac as said
-use Rattle.osn_almanac.proofs.LineFacts.{push_none, next_line_of}
+use Rattle.osn_almanac.proofs.Text.{push_none, next_line_of}
 use Rattle.osn_almanac.proofs.months.push_days.Goals as goal
 
 pub loop-found-init : goal.loop-found-init

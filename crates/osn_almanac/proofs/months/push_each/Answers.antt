@@ -1,7 +1,7 @@
 use Rattle.std.proofs.Common.{string_bytes, rules, to_z, of_z, w64}
 use Rattle.osn_days.specs.Profile.{present}
 use Rattle.osn_almanac.specs.Almanac as said
-use Rattle.osn_almanac.proofs.LineFacts.{push_none, next_lines}
+use Rattle.osn_almanac.proofs.Text.{push_none, next_lines}
 use Rattle.osn_almanac.proofs.months.push_each.Goals as goal
 
 pub loop-month-init : goal.loop-month-init
