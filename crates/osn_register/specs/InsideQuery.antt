@@ -1,15 +1,20 @@
--- Why a query has no answer of its own.
-use Rattle.std.specs.Prelude.{◌≡◌, Bool, true, Option, Some, None}
+-- How a query is answered, or why it has no answer of its own.
+use Rattle.std.specs.Prelude.{◌≡◌, true, Option, Some, None, Result, MatchResult}
+use Rattle.osn_register.specs.declared.answer.Answer.{Answer}
 use Rattle.osn_register.specs.declared.refusal.Refusal.{Refusal}
 use Rattle.osn_register.specs.declared.unanswered.Unanswered.{Unanswered}
 use Rattle.osn_register.specs.declared.unanswered.Unanswered.TheVariants.{Refused, NoMemory}
+use Rattle.osn_register.specs.Answer.{refusal_in, takes_memory}
 
--- what refuses, or want of memory where nothing does
-abbrev pub IsReasonFor : Option Refusal → Unanswered → Type 0
-IsReasonFor refused (Refused f) = refused ≡ Some f
-IsReasonFor refused NoMemory = refused ≡ None
+-- what is said, which is no refusal, where nothing refuses
+abbrev pub IsAnswer : Option Refusal → Answer → Answer → Type 0
+IsAnswer refused said a = (refused ≡ None) × (a ≡ said) × (refusal_in a ≡ None)
 
--- memory is wanted only where it is taken
-abbrev pub IsWantOfMemory : Bool → Unanswered → Type 0
-IsWantOfMemory takes (Refused f) = Unit {0}
-IsWantOfMemory takes NoMemory = takes ≡ true
+-- what refuses, or want of memory where nothing does and memory is taken
+abbrev pub IsReason : Option Refusal → Answer → Unanswered → Type 0
+IsReason refused said (Refused f) = refused ≡ Some f
+IsReason refused said NoMemory = (refused ≡ None) × (takes_memory said ≡ true)
+
+-- answered as is said, or for a reason not at all
+abbrev pub IsAnswered : Option Refusal → Answer → Result Answer Unanswered → Type 0
+IsAnswered refused said result = MatchResult result (IsAnswer refused said) (IsReason refused said)

@@ -1,9 +1,10 @@
 //! What the register answers to queries.
-ghost use Rattle.std.specs.Prelude.{◌≡◌, true, None, IfOk, IfErr, OnOk, OnErr, ◌<◌, length, map};
+ghost use Rattle.std.specs.Prelude.{◌≡◌, true, None, IfOk, OnErr, ◌<◌, length, map};
 ghost use Rattle.osn_days.specs.Profile.{present};
 ghost use Rattle.osn_register.specs.Answer as said;
 ghost use Rattle.osn_register.specs.Refusal.{IsTestOf};
-ghost use Rattle.osn_register.specs.InsideQuery.{IsReasonFor, IsWantOfMemory};
+ghost use Rattle.osn_register.specs.Plain.{code_refusal};
+ghost use Rattle.osn_register.specs.InsideQuery.{IsAnswered};
 
 use crate::answer::{Answer, Land};
 use crate::figures::figures;
@@ -53,13 +54,9 @@ impl Register {
     }
 
     fn lawful_answer(&self, query: &Query) -> Result<Answer, Unanswered>
-        ensures lawful { OnOk result (said.query_refusal present self.now.lands query.now ≡ None) }
-        ensures value { IfOk result (λ a. a ≡ said.answer present self.now.lands query.now) }
-        ensures answered { IfOk result (λ a. said.refusal_in a ≡ None) }
-        ensures refused { IfErr result
-            (IsReasonFor (said.query_refusal present self.now.lands query.now)) }
-        ensures memory { IfErr result
-            (IsWantOfMemory (said.takes_memory (said.answer present self.now.lands query.now))) }
+        ensures { IsAnswered
+            (said.query_refusal present self.now.lands query.now)
+            (said.answer present self.now.lands query.now) result }
     {
         match query {
             Query::Read {
@@ -67,28 +64,52 @@ impl Register {
                 year,
                 month,
                 day,
-            } => {
-                let territory = self.known_territory(code.as_str())?;
-                let label = asked_label(*year, *month, *day)?;
-                Ok(reading(self.alloc, territory, label)?)
-            }
-            Query::DayIn { code, day } => {
-                let territory = self.known_territory(code.as_str())?;
-                let day = day_on_line(*day)?;
-                Ok(on_day(self.alloc, territory, day)?)
-            }
-            Query::Easter { code, year } => {
-                let territory = self.known_territory(code.as_str())?;
-                let year = year_in_range(*year)?;
-                Ok(easters(self.alloc, territory, year)?)
-            }
+            } => self.read(code.as_str(), *year, *month, *day),
+            Query::DayIn { code, day } => self.day_in(code.as_str(), *day),
+            Query::Easter { code, year } => self.easter(code.as_str(), *year),
             Query::YearFigures { year } => Ok(figures(year_in_range(*year)?)),
             Query::Lands => Ok(Answer::Lands(Listing::new(self.listed()?))),
-            Query::Periods { code } => {
-                let territory = self.known_territory(code.as_str())?;
-                Ok(periods(self.alloc, territory)?)
-            }
+            Query::Periods { code } => self.periods(code.as_str()),
         }
+    }
+
+    fn read(&self, code: &str, year: i64, month: i64, day: i64) -> Result<Answer, Unanswered>
+        ensures { IsAnswered
+            (said.read_refusal present self.now.lands code.now year month day)
+            (said.read_answer present self.now.lands code.now year month day) result }
+    {
+        let territory = self.known_territory(code)?;
+        let label = asked_label(year, month, day)?;
+        Ok(reading(self.alloc, territory, label)?)
+    }
+
+    fn day_in(&self, code: &str, day: i64) -> Result<Answer, Unanswered>
+        ensures { IsAnswered
+            (said.day_refusal present self.now.lands code.now day)
+            (said.day_in_answer present self.now.lands code.now day) result }
+    {
+        let territory = self.known_territory(code)?;
+        let day = day_on_line(day)?;
+        Ok(on_day(self.alloc, territory, day)?)
+    }
+
+    fn easter(&self, code: &str, year: i64) -> Result<Answer, Unanswered>
+        ensures { IsAnswered
+            (said.easter_refusal present self.now.lands code.now year)
+            (said.easter_answer present self.now.lands code.now year) result }
+    {
+        let territory = self.known_territory(code)?;
+        let year = year_in_range(year)?;
+        Ok(easters(self.alloc, territory, year)?)
+    }
+
+    fn periods(&self, code: &str) -> Result<Answer, Unanswered>
+        ensures { IsAnswered
+            (code_refusal self.now.lands code.now)
+            (said.periods_in_answer present self.now.lands code.now) result }
+    {
+        let territory = self.known_territory(code)?;
+        Ok(periods(self.alloc, territory)?)
     }
 
     fn listed(&self) -> Result<Vec<Land>, AllocError>
