@@ -9,7 +9,7 @@ ghost use Rattle.osn_core.specs.History.{editions_to, NeverFalls};
 use crate::machine::Core;
 use crate::step::{Out, Step};
 use osn_register::{Limits, Refusal};
-use std::alloc::Global;
+use std::alloc::{AllocError, Global};
 
 /// Takes a list of steps from the first state, enabled or not, and answers what each gives.
 ///
@@ -39,14 +39,19 @@ pub fn replay(
         (reader : ℕ) → NeverFalls 0 (editions_to reader outs.items)) }
 {
     let mut core = Core::new(alloc, limits, readers)?;
+    let Ok(outs) = taken(alloc, &mut core, steps) else {
+        return Err(Refusal::NoMemory);
+    };
+    Ok(outs)
+}
+
+/// What each step gives, from a state of the core on.
+fn taken(alloc: Global, core: &mut Core, steps: &[Step]) -> Result<Vec<Out>, AllocError>
+    ensures { IfOk result (λ outs. outs.items ≡ outs_of present core.old steps.now) }
+{
     let mut outs = Vec::new(alloc);
     for step in steps {
-        let Ok(out) = core.step(step) else {
-            return Err(Refusal::NoMemory);
-        };
-        if outs.push(out).is_err() {
-            return Err(Refusal::NoMemory);
-        }
+        outs.push(core.step(step)?)?;
     }
     Ok(outs)
 }

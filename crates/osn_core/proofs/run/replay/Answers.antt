@@ -1,5 +1,4 @@
-use Rattle.std.proofs.Common.{◌≡◌, arith}
-use Rattle.std.proofs.lemmas.Grind.{common_steps}
+use Rattle.std.proofs.Common.{◌≡◌, ap, ◌∙◌}
 use Rattle.osn_days.specs.Profile.{present}
 use Rattle.osn_core.specs.Machine.{first_core, outs_of}
 use Rattle.osn_core.specs.History.{no_looks}
@@ -10,20 +9,23 @@ use Rattle.osn_core.proofs.run.replay.Goals as goal
 pub returns-clause-editor : goal.returns-clause-editor
 returns-clause-editor c =
     let first = first_core c.args.limits c.args.readers in
-    let all : c.loop-step.outs.items ≡ outs_of present first c.args.steps.now = grind
-    (arith, common_steps) in
+    let all : c.in-Ok.outs.items ≡ outs_of present first c.args.steps.now =
+    c.in-Ok.ensures
+    ∙ ap (λ core. outs_of present core c.args.steps.now) c.in_ok-core.ensures.ok in
     rw all (editor_told present no_looks first c.args.steps.now)
 
 pub returns-clause-readers : goal.returns-clause-readers
 returns-clause-readers c reader =
     let first = first_core c.args.limits c.args.readers in
-    let all : c.loop-step.outs.items ≡ outs_of present first c.args.steps.now = grind
-    (arith, common_steps) in
+    let all : c.in-Ok.outs.items ≡ outs_of present first c.args.steps.now =
+    c.in-Ok.ensures
+    ∙ ap (λ core. outs_of present core c.args.steps.now) c.in_ok-core.ensures.ok in
     rw all (outs_begin present c.args.limits c.args.readers c.args.steps.now reader)
 
 pub returns-clause-forward : goal.returns-clause-forward
 returns-clause-forward c reader =
     let first = first_core c.args.limits c.args.readers in
-    let all : c.loop-step.outs.items ≡ outs_of present first c.args.steps.now = grind
-    (arith, common_steps) in
+    let all : c.in-Ok.outs.items ≡ outs_of present first c.args.steps.now =
+    c.in-Ok.ensures
+    ∙ ap (λ core. outs_of present core c.args.steps.now) c.in_ok-core.ensures.ok in
     rw all (outs_rise present c.args.limits c.args.readers c.args.steps.now reader)

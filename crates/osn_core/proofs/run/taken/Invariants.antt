@@ -1,10 +1,10 @@
 use Rattle.std.proofs.Common.{◌≡◌, ◌++◌, drop}
 use Rattle.osn_days.specs.Profile.{present}
-use Rattle.osn_core.specs.Machine.{first_core, outs_of}
-use Rattle.osn_core.proofs.run.replay.Given as goal
+use Rattle.osn_core.specs.Machine.{outs_of}
+use Rattle.osn_core.proofs.run.taken.Given as goal
 
 -- the outs so far and those of what is left are those of all
 abbrev pub invariant-loop-step : goal.invariant-loop-step
 invariant-loop-step l =
     l.outs.items ++ outs_of present l.core (drop l.step-index l.steps)
-    ≡ outs_of present (first_core l.fn.limits l.fn.readers) l.steps
+    ≡ outs_of present l.fn.core l.steps
