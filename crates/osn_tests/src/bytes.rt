@@ -5,45 +5,38 @@ use std::alloc::{AllocError, Global};
 use std::process::Abort;
 use std::test::Fail;
 
-/// Bytes that are read, and what is written for them.
-const HOSTILE: [(&[u8], &str); 9] = [
-    (b"\n", "{\"fault\":32,\"name\":\"NotJson\"}\n"),
-    (
-        b"\n\n",
-        "{\"fault\":32,\"name\":\"NotJson\"}\n{\"fault\":32,\"name\":\"NotJson\"}\n",
-    ),
-    (b"\xff\n", "{\"fault\":32,\"name\":\"NotJson\"}\n"),
-    (
-        b"{\"op\":\"publish\",\"x\":\"\xc3\"}\n",
-        "{\"fault\":32,\"name\":\"NotJson\"}\n",
-    ),
-    (
-        b"{\"op\":\"publish\",\"x\":\"\0\"}\n",
-        "{\"fault\":32,\"name\":\"NotJson\"}\n",
-    ),
-    (b"\0", "{\"fault\":32,\"name\":\"NotJson\"}\n"),
-    (b"[1]\r\n", "{\"fault\":33,\"name\":\"NotObject\"}\n"),
-    (
-        b"\xef\xbb\xbf[1]\n",
-        "{\"fault\":32,\"name\":\"NotJson\"}\n",
-    ),
-    (
-        b"\t{\"op\":\"lands\",\r\"reader\":8,\"x\":0}",
-        "{\"answer\":{\"lands\":[]},\"edition\":0,\"reader\":8}\n",
-    ),
-];
+/// Lines, the last of them without its line feed.
+const HOSTILE: &[u8] = b"\n\n\xff\n{\"op\":\"publish\",\"x\":\"\xc3\"}\n\
+{\"op\":\"publish\",\"x\":\"\0\"}\n\0\n[1]\r\n\xef\xbb\xbf[1]\n\
+\t{\"op\":\"lands\",\r\"reader\":8,\"x\":0}";
 
-fn are_told(rt: &impl Abort, alloc: Global, rows: &[(&[u8], &str)]) -> Result<(), Fail> {
-    for (input, want) in rows {
-        let (written, _) = served(alloc, Limits::standard(), 8, input)?;
-        assert_eq!(rt; written.as_slice(), want.as_bytes(), "for {input:?}");
-    }
+const TOLD: &str = r#"{"fault":32,"name":"NotJson"}
+{"fault":32,"name":"NotJson"}
+{"fault":32,"name":"NotJson"}
+{"fault":32,"name":"NotJson"}
+{"fault":32,"name":"NotJson"}
+{"fault":32,"name":"NotJson"}
+{"fault":33,"name":"NotObject"}
+{"fault":32,"name":"NotJson"}
+{"answer":{"lands":[]},"edition":0,"reader":8}
+"#;
+
+/// That so many lines are told this, by eight readers.
+fn are_told(
+    rt: &impl Abort,
+    alloc: Global,
+    input: &[u8],
+    told: &str,
+    count: u64,
+) -> Result<(), Fail> {
+    let (written, lines) = served(alloc, Limits::standard(), 8, input)?;
+    assert_eq!(rt; (str::from_utf8(&written)?, lines), (told, count));
     Ok(())
 }
 
 #[test]
 fn hostile_bytes(rt: HostRuntime) -> Result<(), Fail> {
-    are_told(&rt, rt.alloc(), &HOSTILE)
+    are_told(&rt, rt.alloc(), HOSTILE, TOLD, 9)
 }
 
 /// A query for the territories of so many bytes, with or without its line feed.

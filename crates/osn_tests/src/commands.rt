@@ -174,54 +174,58 @@ fn streams_that_fail(rt: HostRuntime) -> Result<(), Fail> {
     Ok(())
 }
 
-/// The words of a command line, and the number of the status.
-type Line = (&'static [&'static str], u8);
-
-const LINES: [Line; 27] = [
-    (&["oldstyle"], 0),
-    (&["oldstyle", "--help"], 0),
-    (&["oldstyle", "--version"], 0),
-    (&["oldstyle", "help", "serve"], 0),
-    (&["oldstyle", "almanac", "--help"], 0),
-    (&["oldstyle", "replay", "--help"], 0),
-    (&["oldstyle", "desk", "--help"], 0),
-    (&["oldstyle", "serve", "--readers", "64"], 0),
-    (&["oldstyle", "serve", "--readers", "0"], 2),
-    (&["oldstyle", "serve", "--readers", "65"], 2),
-    (&["oldstyle", "serve", "--readers"], 2),
-    (&["oldstyle", "fly"], 2),
-    (&["oldstyle", "almanac"], 2),
-    (&["oldstyle", "almanac", "none", "GB", "x"], 2),
-    (&["oldstyle", "almanac", "none", "GB", "4294967296"], 2),
-    (&["oldstyle", "replay", "none"], 2),
-    (&["oldstyle", "replay", "--readers", "0", "none"], 2),
-    (&["oldstyle", "replay", "--readers", "65", "none"], 2),
-    (&["oldstyle", "replay", "--readers", "1"], 2),
-    (&["oldstyle", "desk"], 2),
-    (&["oldstyle", "desk", "none"], 2),
-    (&["oldstyle", "desk", "none", "none", "none"], 2),
-    (&["oldstyle", "almanac", "/nowhere/none", "GB", "1752"], 3),
-    (
-        &["oldstyle", "replay", "--readers", "1", "/nowhere/none"],
-        3,
-    ),
-    (&["oldstyle", "desk", "/nowhere/none", "/nowhere/none"], 3),
-    (&["oldstyle", "serve", "--journal", "/nowhere/none"], 3),
-    (&["oldstyle", "serve", "--save", "/nowhere/none"], 3),
+/// Command lines, and the number of the status of each.
+const LINES: [(&str, u8); 27] = [
+    ("oldstyle", 0),
+    ("oldstyle --help", 0),
+    ("oldstyle --version", 0),
+    ("oldstyle help serve", 0),
+    ("oldstyle almanac --help", 0),
+    ("oldstyle replay --help", 0),
+    ("oldstyle desk --help", 0),
+    ("oldstyle serve --readers 64", 0),
+    ("oldstyle serve --readers 0", 2),
+    ("oldstyle serve --readers 65", 2),
+    ("oldstyle serve --readers", 2),
+    ("oldstyle fly", 2),
+    ("oldstyle almanac", 2),
+    ("oldstyle almanac none GB x", 2),
+    ("oldstyle almanac none GB 4294967296", 2),
+    ("oldstyle replay none", 2),
+    ("oldstyle replay --readers 0 none", 2),
+    ("oldstyle replay --readers 65 none", 2),
+    ("oldstyle replay --readers 1", 2),
+    ("oldstyle desk", 2),
+    ("oldstyle desk none", 2),
+    ("oldstyle desk none none none", 2),
+    ("oldstyle almanac /nowhere/none GB 1752", 3),
+    ("oldstyle replay --readers 1 /nowhere/none", 3),
+    ("oldstyle desk /nowhere/none /nowhere/none", 3),
+    ("oldstyle serve --journal /nowhere/none", 3),
+    ("oldstyle serve --save /nowhere/none", 3),
 ];
+
+/// The number of the status with which a command line ends over no input, and whether standard
+/// error is told nothing.
+fn left_by<R: Files + Threads + Wait + AllocGlobal + Abort>(
+    rt: &R,
+    line: &str,
+) -> Result<(u8, bool), Fail> {
+    let words: Vec<&str> = line.split_whitespace().collect(rt.alloc())?;
+    let mut output = sink(rt.alloc());
+    let mut errors = sink(rt.alloc());
+    let mut input = Plain::new(b"".as_slice());
+    let terminal = Some(sink(rt.alloc()));
+    let left = run(rt, &words, &mut input, &mut output, &mut errors, terminal);
+    Ok((left.code(), errors.into_inner().is_empty()))
+}
 
 fn are_run<R: Files + Threads + Wait + AllocGlobal + Abort>(
     rt: &R,
-    rows: &[Line],
+    rows: &[(&str, u8)],
 ) -> Result<(), Fail> {
-    for (words, status) in rows {
-        let mut output = sink(rt.alloc());
-        let mut errors = sink(rt.alloc());
-        let mut input = Plain::new(b"".as_slice());
-        let terminal = Some(sink(rt.alloc()));
-        let left = run(rt, words, &mut input, &mut output, &mut errors, terminal);
-        assert_eq!(rt; left.code(), *status, "{words:?}");
-        assert_eq!(rt; errors.into_inner().is_empty(), *status == 0, "{words:?}");
+    for (line, status) in rows {
+        assert_eq!(rt; left_by(rt, line)?, (*status, *status == 0), "{line}");
     }
     Ok(())
 }

@@ -82,8 +82,11 @@ fn has_letters(
         let Some(Letters { january, march }) = sunday_letters(calendar, year(*number)?) else {
             return Err(Fail::new("no letters"));
         };
-        assert_eq!(rt; january.name(), *first, "in {number}");
-        assert_eq!(rt; march.name(), *second, "in {number}");
+        assert_eq!(rt;
+            (january.name(), march.name()),
+            (*first, *second),
+            "in {number}"
+        );
     }
     Ok(())
 }

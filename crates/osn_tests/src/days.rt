@@ -19,9 +19,9 @@ fn date(ymd: Ymd) -> Date {
 /// That the days of some numbers have these dates, and are the days of them.
 fn has_dates(rt: &impl Abort, calendar: Calendar, rows: &[(i64, Ymd)]) -> Result<(), Fail> {
     for (number, ymd) in rows {
-        let day = Day::new(*number).ok_or("a day")?;
-        assert_eq!(rt; date_of(calendar, day), date(*ymd), "on {number}");
-        assert_eq!(rt; day_of(calendar, date(*ymd)), Some(day), "on {number}");
+        let (day, date) = (Day::new(*number).ok_or("a day")?, date(*ymd));
+        let found = (date_of(calendar, day), day_of(calendar, date));
+        assert_eq!(rt; found, (date, Some(day)), "on {number}");
     }
     Ok(())
 }
@@ -33,15 +33,25 @@ fn has_no_day(rt: &impl Abort, calendar: Calendar, dates: &[Ymd]) {
     }
 }
 
+/// Days, what is added to each, and the day that is reached.
+const SUMS: [(i64, i32, Option<Day>); 4] = [
+    (1, 0, Some(Day::FIRST)),
+    (1, 1_095_361, Some(Day::LAST)),
+    (1, i32::MIN, None),
+    (1_095_362, i32::MAX, None),
+];
+
+fn are_sums(rt: &impl Abort, rows: &[(i64, i32, Option<Day>)]) -> Result<(), Fail> {
+    for (number, more, reached) in rows {
+        assert_eq!(rt; Day::new(*number).ok_or("a day")?.plus(*more), *reached);
+    }
+    Ok(())
+}
+
 #[test]
 fn the_ends_of_the_line(rt: HostRuntime) -> Result<(), Fail> {
-    let first = Day::new(1).ok_or("day 1")?;
-    let last = Day::new(1_095_362).ok_or("the last day")?;
-    assert_eq!(rt; (first, last), (Day::FIRST, Day::LAST));
-    assert_eq!(rt; (first.number(), last.number()), (1, HIGH));
-    assert_eq!(rt; first.plus(1_095_361), Some(last));
-    assert_eq!(rt; last.plus(i32::MAX), None);
-    assert_eq!(rt; first.plus(i32::MIN), None);
+    are_sums(&rt, &SUMS)?;
+    assert_eq!(rt; (Day::FIRST.number(), Day::LAST.number()), (1, HIGH));
     assert_eq!(rt; Year::new(2999), Some(Year::LAST));
     Ok(())
 }

@@ -165,10 +165,9 @@ const READ: [Read; 5] = [
 /// That dates are read and skipped so.
 fn reads(rt: &impl Abort, territory: &Territory, rows: &[Read]) -> Result<(), AllocError> {
     for (ymd, day, change) in rows {
-        let read = territory.read(label(*ymd))?;
-        assert_eq!(rt; read.first().copied(), day.map(day_of), "at {ymd:?}");
-        let skipped = territory.skipped(label(*ymd))?;
-        assert_eq!(rt; skipped.first().copied(), change.map(day_of), "at {ymd:?}");
+        let read = territory.read(label(*ymd))?.first().copied();
+        let skipped = territory.skipped(label(*ymd))?.first().copied();
+        assert_eq!(rt; (read, skipped), (day.map(day_of), change.map(day_of)));
     }
     Ok(())
 }

@@ -1,6 +1,6 @@
 //! The calls of `osn_register`: registers folded from edits, copied and changed. Edits and queries
 //! are read from their lines, and answers compared as theirs.
-use crate::session::joined;
+use crate::session::{apart, joined};
 use osn_core::Reply;
 use osn_register::{Answer, Edit, Limits, Query, Refusal, Register, Text};
 use osn_wire::{Outcome, Request, read_request, reply_text};
@@ -40,17 +40,13 @@ pub fn folded(alloc: Global, lines: &str) -> Result<Register, Fail> {
     Ok(Register::fold(alloc, Limits::standard(), &edits)?)
 }
 
-/// That a register answers some queries so, each line with the line of its answer.
-fn answers(
-    rt: &impl Abort,
-    alloc: Global,
-    register: &Register,
-    rows: &[(&str, &str)],
-) -> Result<(), Fail> {
-    for (line, wanted) in rows {
+/// That a register answers the queries of a session so, each line with the line of its answer.
+fn answers(rt: &impl Abort, alloc: Global, register: &Register, session: &str) -> Result<(), Fail> {
+    let (queries, wanted) = apart(alloc, session)?;
+    for (line, wanted) in queries.lines().zip(wanted.lines()) {
         let query = query_of(alloc, line)?.copy()?;
         let got = told(alloc, register.answer(&query)?)?;
-        assert_eq!(rt; got.as_str().trim_end(), joined(alloc, wanted)?.as_str());
+        assert_eq!(rt; got.as_str().trim_end(), wanted, "at {line}");
     }
     Ok(())
 }
@@ -66,54 +62,40 @@ const EDITS: &str = r#"{"op":"add_land","code":"GB","name":"Great Britain","cale
 "#;
 
 /// What its register is asked, and answers.
-const BRITAIN: [(&str, &str); 7] = [
-    (
-        r#"{"op":"read","reader":1,"code":"GB","year":1731,"month":2,"day":11}"#,
-        r#"{"answer":{"days":[{"day":632287,"dual":"11 February 1731/2","gregorian":"1732-02-22",
+const BRITAIN: &str = r#"
+{"op":"read","reader":1,"code":"GB","year":1731,"month":2,"day":11}
+{"answer":{"days":[{"day":632287,"dual":"11 February 1731/2","gregorian":"1732-02-22",
   "jdn":2353712,"julian":"1732-02-11","label":"1731-02-11","weekday":"Friday"}],"skipped":[]},
-  "edition":0,"reader":1}"#,
-    ),
-    (
-        r#"{"op":"read","reader":1,"code":"GB","year":1752,"month":9,"day":3}"#,
-        r#"{"answer":{"days":[],"skipped":[639797]},"edition":0,"reader":1}"#,
-    ),
-    (
-        r#"{"op":"periods","reader":1,"code":"GB"}"#,
-        r#"{"answer":{"periods":[{"calendar":"julian","first":1,"last":639550,"rule":"julian",
+  "edition":0,"reader":1}
+{"op":"read","reader":1,"code":"GB","year":1752,"month":9,"day":3}
+{"answer":{"days":[],"skipped":[639797]},"edition":0,"reader":1}
+{"op":"periods","reader":1,"code":"GB"}
+{"answer":{"periods":[{"calendar":"julian","first":1,"last":639550,"rule":"julian",
   "style":"annunciation"},{"calendar":"julian","first":639551,"last":639796,"rule":"julian",
   "style":"january"},{"calendar":"gregorian","first":639797,"last":1095362,"rule":"gregorian",
-  "style":"january"}]},"edition":0,"reader":1}"#,
-    ),
-    (
-        r#"{"op":"lands","reader":1}"#,
-        r#"{"answer":{"lands":[{"code":"GB","name":"Great Britain"}]},"edition":0,"reader":1}"#,
-    ),
-    (
-        r#"{"op":"figures","reader":1,"year":1753}"#,
-        r#"{"answer":{"golden":6,"gregorian":{"easter":640017,"epact":"25","letters":"G"},
+  "style":"january"}]},"edition":0,"reader":1}
+{"op":"lands","reader":1}
+{"answer":{"lands":[{"code":"GB","name":"Great Britain"}]},"edition":0,"reader":1}
+{"op":"figures","reader":1,"year":1753}
+{"answer":{"golden":6,"gregorian":{"easter":640017,"epact":"25","letters":"G"},
   "indiction":1,"julian":{"easter":640017,"epact":25,"letters":"C"},"year":1753},"edition":0,
-  "reader":1}"#,
-    ),
-    (
-        r#"{"op":"easter","reader":1,"code":"GB","year":1753}"#,
-        r#"{"answer":{"days":[{"day":640017,"dual":"22 April 1753","gregorian":"1753-04-22",
+  "reader":1}
+{"op":"easter","reader":1,"code":"GB","year":1753}
+{"answer":{"days":[{"day":640017,"dual":"22 April 1753","gregorian":"1753-04-22",
   "jdn":2361442,"julian":"1753-04-11","label":"1753-04-22","weekday":"Sunday"}],"listed":false},
-  "edition":0,"reader":1}"#,
-    ),
-    (
-        r#"{"op":"day","reader":1,"code":"GB","day":1}"#,
-        r#"{"answer":{"first":1,"found":{"day":1,"dual":"3 January 0/1","gregorian":"0001-01-01",
+  "edition":0,"reader":1}
+{"op":"day","reader":1,"code":"GB","day":1}
+{"answer":{"first":1,"found":{"day":1,"dual":"3 January 0/1","gregorian":"0001-01-01",
   "jdn":1721426,"julian":"0001-01-03","label":"0000-01-03","weekday":"Monday"},"last":639550,
-  "regime":{"calendar":"julian","rule":"julian","style":"annunciation"}},"edition":0,"reader":1}"#,
-    ),
-];
+  "regime":{"calendar":"julian","rule":"julian","style":"annunciation"}},"edition":0,"reader":1}
+"#;
 
 /// The territories once Rome is added.
-const WITH_ROME: [(&str, &str); 1] = [(
-    r#"{"op":"lands","reader":1}"#,
-    r#"{"answer":{"lands":[{"code":"GB","name":"Great Britain"},{"code":"RM","name":"Rome"}]},
-  "edition":0,"reader":1}"#,
-)];
+const WITH_ROME: &str = r#"
+{"op":"lands","reader":1}
+{"answer":{"lands":[{"code":"GB","name":"Great Britain"},{"code":"RM","name":"Rome"}]},
+  "edition":0,"reader":1}
+"#;
 
 const ROME: &str =
     r#"{"op":"add_land","code":"RM","name":"Rome","calendar":"julian","style":"january",
@@ -130,15 +112,15 @@ fn changed_copy(alloc: Global, register: &Register, line: &str) -> Result<Regist
 #[test]
 fn a_copy_answers_as_its_source(rt: HostRuntime) -> Result<(), Fail> {
     let copied = folded(rt.alloc(), EDITS)?.copy()?;
-    answers(&rt, rt.alloc(), &copied, &BRITAIN)
+    answers(&rt, rt.alloc(), &copied, BRITAIN)
 }
 
 #[test]
 fn a_changed_copy_is_apart_from_its_source(rt: HostRuntime) -> Result<(), Fail> {
     let register = folded(rt.alloc(), EDITS)?;
     let copied = changed_copy(rt.alloc(), &register, ROME)?;
-    answers(&rt, rt.alloc(), &copied, &WITH_ROME)?;
-    answers(&rt, rt.alloc(), &register, &BRITAIN)
+    answers(&rt, rt.alloc(), &copied, WITH_ROME)?;
+    answers(&rt, rt.alloc(), &register, BRITAIN)
 }
 
 /// Edits in turn, and what they are refused by.
@@ -253,13 +235,13 @@ fn made(
 #[test]
 fn edits_are_checked_and_applied(rt: HostRuntime) -> Result<(), Fail> {
     let register = made(&rt, rt.alloc(), &APPLIED, false)?;
-    answers(&rt, rt.alloc(), &register, &WITH_ROME)
+    answers(&rt, rt.alloc(), &register, WITH_ROME)
 }
 
 #[test]
 fn edits_are_checked_and_admitted(rt: HostRuntime) -> Result<(), Fail> {
     let register = made(&rt, rt.alloc(), &APPLIED, true)?;
-    answers(&rt, rt.alloc(), &register, &WITH_ROME)
+    answers(&rt, rt.alloc(), &register, WITH_ROME)
 }
 
 #[test]

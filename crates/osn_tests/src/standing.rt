@@ -47,7 +47,7 @@ fn go_on(rt: &impl Abort, alloc: Global, streams: &[&str]) -> Result<(), Fail> {
         let mut sink = Plain::new(Vec::new(alloc));
         let lines = serve_from(alloc, &mut object, 8, &mut source, &mut sink)?;
         assert_eq!(rt; lines, replies.lines().count() as u64);
-        assert_eq!(rt; sink.into_inner().as_slice(), replies.as_bytes());
+        assert_eq!(rt; str::from_utf8(&sink.into_inner())?, replies.as_str());
     }
     Ok(())
 }
@@ -102,9 +102,12 @@ fn stops(
             Err(ServeFault::WriteFault { lines }) => Some(lines),
             _ => None,
         };
-        assert_eq!(rt; answered, Some(*lines), "at {fails_at}");
-        assert_eq!(rt; object.pending().len(), *pending, "at {fails_at}");
-        assert_eq!(rt; object.batches().len(), *editions, "at {fails_at}");
+        let stands = (object.pending().len(), object.batches().len());
+        assert_eq!(rt;
+            (answered, stands),
+            (Some(*lines), (*pending, *editions)),
+            "at {fails_at}"
+        );
     }
     Ok(())
 }

@@ -167,7 +167,7 @@ fn tried(alloc: Global, input: &[u8], plan: Plan) -> Result<Outcome, AllocError>
     })
 }
 
-/// The session of Rome, on 4 October 1582.
+/// A session of Rome. Its lines end behind 98, 115 and 141 bytes.
 const READ: &str = concat!(
     r#"{"op":"add_land","code":"RM","name":"Rome","calendar":"julian","#,
     r#""style":"january","rule":"julian"}
@@ -176,6 +176,7 @@ const READ: &str = concat!(
 "#
 );
 
+/// What is written for it. The replies end behind 28, 59 and 133 bytes.
 const WRITTEN: &str = r#"{"ok":"staged","pending":1}
 {"edition":1,"ok":"published"}
 {"answer":{"lands":[{"code":"RM","name":"Rome"}]},"edition":1,"reader":1}
@@ -184,58 +185,78 @@ const WRITTEN: &str = r#"{"ok":"staged","pending":1}
 /// What is told of a line that is no JSON.
 const NOT_JSON: &str = "{\"fault\":32,\"name\":\"NotJson\"}\n";
 
-/// The places behind the first and the second line that is read, and behind the first and the
-/// second reply.
-const READ_TO: [usize; 2] = [98, 115];
+/// What is read, what is written for it, and the number of lines.
+const ANSWERED: [(&str, &str, u64); 3] = [("", "", 0), ("\n", NOT_JSON, 1), (READ, WRITTEN, 3)];
 
-const WRITTEN_TO: [usize; 2] = [28, 59];
+fn are_answered(
+    rt: &impl Abort,
+    alloc: Global,
+    plan: Plan,
+    rows: &[(&str, &str, u64)],
+) -> Result<(), Fail> {
+    for (input, want, lines) in rows {
+        let got = tried(alloc, input.as_bytes(), plan)?;
+        let wanted = (End::Answered(*lines), *want);
+        assert_eq!(rt; (got.end, str::from_utf8(&got.text)?), wanted);
+    }
+    Ok(())
+}
 
 #[test]
 fn bytes_in_any_pieces(rt: HostRuntime) -> Result<(), Fail> {
-    for by_bytes in [false, true] {
-        for step in [1, 7, usize::MAX] {
-            let plan = Plan {
-                by_bytes,
-                step,
-                ..WHOLE
-            };
-            for (input, want, lines) in [("", "", 0), ("\n", NOT_JSON, 1), (READ, WRITTEN, 3)] {
-                let got = tried(rt.alloc(), input.as_bytes(), plan)?;
-                assert_eq!(rt; got.end, End::Answered(lines));
-                assert_eq!(rt; got.text.as_slice(), want.as_bytes());
-            }
+    for step in [1, 7, usize::MAX] {
+        are_answered(&rt, rt.alloc(), Plan { step, ..WHOLE }, &ANSWERED)?;
+        are_answered(&rt, rt.alloc(), Plan { step, ..BY_BYTES }, &ANSWERED)?;
+    }
+    Ok(())
+}
+
+/// How many bytes of the input are read, from a number up to another one; how many bytes of the
+/// replies are written then, and whether a line that was cut is told of behind them. A line whose
+/// line feed alone is missing is whole.
+const STARTS: [(usize, usize, usize, bool); 7] = [
+    (0, 1, 0, false),
+    (1, 97, 0, true),
+    (97, 99, 28, false),
+    (99, 114, 28, true),
+    (114, 116, 59, false),
+    (116, 140, 59, true),
+    (140, 142, 133, false),
+];
+
+/// What is written for so many bytes of the input.
+fn written_for(alloc: Global, count: usize) -> Result<Vec<u8>, AllocError> {
+    let input = READ.as_bytes().get(..count).unwrap_or_default();
+    Ok(tried(alloc, input, WHOLE)?.text)
+}
+
+/// So many bytes of the replies, and what is told of a line that was cut.
+fn replies(alloc: Global, count: usize, is_cut: bool) -> Result<Vec<u8>, AllocError> {
+    let whole = WRITTEN.as_bytes().get(..count).unwrap_or_default();
+    let mut replies = Vec::from_slice(alloc, whole)?;
+    if is_cut {
+        replies.extend_from_slice(NOT_JSON.as_bytes())?;
+    }
+    Ok(replies)
+}
+
+fn are_starts(
+    rt: &impl Abort,
+    alloc: Global,
+    rows: &[(usize, usize, usize, bool)],
+) -> Result<(), AllocError> {
+    for (from, to, written, is_cut) in rows {
+        for count in *from..*to {
+            let wanted = replies(alloc, *written, *is_cut)?;
+            assert_eq!(rt; written_for(alloc, count)?, wanted);
         }
     }
     Ok(())
 }
 
-/// The whole lines of each start of the input are answered. What is left of a line that was cut is
-/// no JSON, except where its line feed alone is missing.
 #[test]
-fn each_start_of_an_input(rt: HostRuntime) -> Result<(), Fail> {
-    for (start, end, told, replied) in [
-        (0, READ_TO[0], 0, WRITTEN_TO[0]),
-        (READ_TO[0], READ_TO[1], WRITTEN_TO[0], WRITTEN_TO[1]),
-        (READ_TO[1], READ.len(), WRITTEN_TO[1], WRITTEN.len()),
-    ] {
-        for cut in start..=end {
-            let input = READ.as_bytes().get(..cut).unwrap_or_default();
-            let got = tried(rt.alloc(), input, WHOLE)?;
-            let whole = if cut < end - 1 { told } else { replied };
-            let (front, rest) = got
-                .text
-                .split_at_checked(whole)
-                .ok_or("too little is written")?;
-            assert_eq!(rt; Some(front), WRITTEN.as_bytes().get(..whole), "at {cut}");
-            let is_cut = start < cut && cut < end - 1;
-            assert_eq!(rt;
-                rest,
-                if is_cut { NOT_JSON.as_bytes() } else { b"" },
-                "at {cut}"
-            );
-        }
-    }
-    Ok(())
+fn each_start_of_an_input(rt: HostRuntime) -> Result<(), AllocError> {
+    are_starts(&rt, rt.alloc(), &STARTS)
 }
 
 #[test]
@@ -243,39 +264,45 @@ fn replies_are_written_together_and_before_the_next_read(rt: HostRuntime) -> Res
     let queries = b"{\"op\":\"lands\",\"reader\":1}\n{\"op\":\"lands\",\"reader\":2}\nx\n";
     let together = tried(rt.alloc(), queries, WHOLE)?;
     assert_eq!(rt; together.writes, 1, "lines that came together");
+    // What came alone was flushed before the last read.
     let alone = tried(rt.alloc(), queries, BY_BYTES)?;
-    assert_eq!(rt; alone.writes, 3, "lines that came alone");
-    assert_eq!(rt;
-        alone.seen,
-        alone.text.len(),
-        "all was flushed before the last read"
-    );
+    assert_eq!(rt; (alone.writes, alone.seen), (3, alone.text.len()));
     Ok(())
 }
 
-/// A partial line before a read that fails is not answered.
-#[test]
-fn a_failed_read_is_no_end(rt: HostRuntime) -> Result<(), Fail> {
-    for (read_fails_at, lines, written) in [
-        (0, 0, 0),
-        (READ_TO[0] - 1, 0, 0),
-        (READ_TO[0], 1, WRITTEN_TO[0]),
-        (READ_TO[1], 2, WRITTEN_TO[1]),
-        (READ_TO[1] + 9, 2, WRITTEN_TO[1]),
-        (READ.len(), 3, WRITTEN.len()),
-    ] {
+/// Where reading fails, how many lines were answered then, and how many bytes are written. A
+/// partial line before a read that fails is not answered.
+const UNREAD: [(usize, u64, usize); 6] = [
+    (0, 0, 0),
+    (97, 0, 0),
+    (98, 1, 28),
+    (115, 2, 59),
+    (124, 2, 59),
+    (141, 3, 133),
+];
+
+fn fail_in_reading(
+    rt: &impl Abort,
+    alloc: Global,
+    plan: Plan,
+    rows: &[(usize, u64, usize)],
+) -> Result<(), Fail> {
+    for (read_fails_at, lines, written) in rows {
         let plan = Plan {
-            read_fails_at,
-            ..BY_BYTES
+            read_fails_at: *read_fails_at,
+            ..plan
         };
-        let got = tried(rt.alloc(), READ.as_bytes(), plan)?;
-        assert_eq!(rt; got.end, End::ReadFault(lines), "at {read_fails_at}");
-        assert_eq!(rt;
-            Some(got.text.as_slice()),
-            WRITTEN.as_bytes().get(..written)
-        );
+        let got = tried(alloc, READ.as_bytes(), plan)?;
+        let written = WRITTEN.as_bytes().get(..*written);
+        let wanted = (End::ReadFault(*lines), written);
+        assert_eq!(rt; (got.end, Some(got.text.as_slice())), wanted);
     }
     Ok(())
+}
+
+#[test]
+fn a_failed_read_is_no_end(rt: HostRuntime) -> Result<(), Fail> {
+    fail_in_reading(&rt, rt.alloc(), BY_BYTES, &UNREAD)
 }
 
 /// Where writing fails, and how many lines were answered whole then.
@@ -294,9 +321,9 @@ fn fail_in_writing(
             ..plan
         };
         let got = tried(alloc, READ.as_bytes(), plan)?;
-        assert_eq!(rt; got.end, End::WriteFault(*lines), "at {write_fails_at}");
         let written = WRITTEN.as_bytes().get(..*write_fails_at);
-        assert_eq!(rt; Some(got.text.as_slice()), written);
+        let wanted = (End::WriteFault(*lines), written);
+        assert_eq!(rt; (got.end, Some(got.text.as_slice())), wanted);
     }
     Ok(())
 }
@@ -309,15 +336,9 @@ fn a_failed_write_ends_it(rt: HostRuntime) -> Result<(), Fail> {
 
 #[test]
 fn a_writer_that_takes_nothing_has_failed(rt: HostRuntime) -> Result<(), Fail> {
-    for by_bytes in [false, true] {
-        let plan = Plan {
-            by_bytes,
-            step: 0,
-            ..WHOLE
-        };
-        let got = tried(rt.alloc(), READ.as_bytes(), plan)?;
-        assert_eq!(rt; got.end, End::WriteFault(0));
-        assert_eq!(rt; got.text.len(), 0);
+    for plan in [WHOLE, BY_BYTES] {
+        let got = tried(rt.alloc(), READ.as_bytes(), Plan { step: 0, ..plan })?;
+        assert_eq!(rt; (got.end, got.text.len()), (End::WriteFault(0), 0));
     }
     Ok(())
 }
@@ -331,7 +352,7 @@ fn a_failed_flush_is_a_failed_write(rt: HostRuntime) -> Result<(), Fail> {
     let got = tried(rt.alloc(), READ.as_bytes(), plan)?;
     assert!(rt; matches!(got.end, End::WriteFault(_)));
     assert!(rt; WRITTEN.as_bytes().starts_with(&got.text));
-    assert!(rt; got.text.len() < WRITTEN_TO[1]);
+    assert!(rt; got.text.len() < 59);
     Ok(())
 }
 

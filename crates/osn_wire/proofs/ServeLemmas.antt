@@ -35,9 +35,9 @@ FailsAt-all old mid new some all same le h =
     ⊎_elim (λ k. inl k) (λ k. inr (k.0 ∙ same, omega (arith, k.1))) h
 
 -- one session is another with its references kept
-pub IsSame-then : {W : Type 0} (begun s t : Session W) → IsSame begun s → IsSame s t →
+pub IsSame-then : {W : Type 0} {begun s t : Session W} → IsSame begun s → IsSame s t →
     IsSame begun t
-IsSame-then begun s t h k = record {
+IsSame-then h k = record {
   readers = k.readers ∙ h.readers;
   object = k.object ∙ h.object;
   sink = k.sink ∙ h.sink;
@@ -57,7 +57,7 @@ Serving-settle contents has_failed begun s t lines mid w h lent same settled aga
     Waits-settle text after begun.object.now s.object.now s.object.now lines _ _ mid
     s.waiting.now w h.waits settled refl in
     record {
-      same = IsSame-then begun s t h.same lent;
+      same = IsSame-then h.same lent;
       waits =
           Waits-settle text after begun.object.now s.object.now t.object.now lines _ mid _ w
           t.waiting.now first again same;
@@ -90,7 +90,7 @@ Serving-add contents has_failed begun s t before given whole mid w h lent settle
     ap (λ r. line_after present r now given) h.same.readers
     ∙ line_after_front readers now given whole front in
     record {
-      same = IsSame-then begun s t h.same lent;
+      same = IsSame-then h.same lent;
       waits =
           Waits-add text after begun.object.now now t.object.now _ before whole _ mid _ w
           t.waiting.now first adds reply (e ∙ stands);
@@ -123,7 +123,7 @@ Failing-from contents has_failed begun s t lines unwritten mid failed w h lent s
     record {
       whole = part.n;
       count = part.count;
-      same = IsSame-then begun s t h.same lent;
+      same = IsSame-then h.same lent;
       part =
           subst (λ (v : ObjectState). InPart text after begun.object.now v lines old new part.n)
           (sym same) part.part;
@@ -221,55 +221,56 @@ pub record Behind {W : Type 0} (contents : W → Option (List ℕ)) (has_failed 
   pub count : n ≡ length taken
   pub first : IfSome input (λ bytes. take (length taken) (lines bytes) ≡ taken)
 
-pub Behind-all : {W : Type 0} (contents : W → Option (List ℕ)) (has_failed : W → Bool)
-    (s t : Session W) (input : Option (List ℕ)) (n : ℕ) → s.waiting.now.text.items ≡ [] →
+pub Behind-all : {W : Type 0} {contents : W → Option (List ℕ)} {has_failed : W → Bool}
+    {s t : Session W} {input : Option (List ℕ)} {n : ℕ} → s.waiting.now.text.items ≡ [] →
     s.waiting.now.ends.items ≡ [] → TakesAll (Serving contents has_failed) s t input n →
     Behind contents has_failed s t input n
-Behind-all contents has_failed s t input n text ends h = record {
+Behind-all {W} {contents} {has_failed} {s} {t} {input} {n} text ends h = record {
   taken = h.taken;
   serving = h.takes s [] (Serving-nothing contents has_failed s text ends);
   count = h.count;
   first = first_of_all input h.taken h.all;
 }
 
-pub Behind-first : {W : Type 0} (contents : W → Option (List ℕ)) (has_failed : W → Bool)
-    (s t : Session W) (input : Option (List ℕ)) (n : ℕ) → s.waiting.now.text.items ≡ [] →
+pub Behind-first : {W : Type 0} {contents : W → Option (List ℕ)} {has_failed : W → Bool}
+    {s t : Session W} {input : Option (List ℕ)} {n : ℕ} → s.waiting.now.text.items ≡ [] →
     s.waiting.now.ends.items ≡ [] → TakesFirst (Serving contents has_failed) s t input n →
     Behind contents has_failed s t input n
-Behind-first contents has_failed s t input n text ends h = record {
+Behind-first {W} {contents} {has_failed} {s} {t} {input} {n} text ends h = record {
   taken = h.taken;
   serving = h.takes s [] (Serving-nothing contents has_failed s text ends);
   count = h.count;
   first = first_counted input h.taken n h.count h.first;
 }
 
-pub Behind-stopped : {W : Type 0} (contents : W → Option (List ℕ)) (has_failed : W → Bool)
-    (s t : Session W) (input : Option (List ℕ)) (n : ℕ) (why : Stop) →
+pub Behind-stopped : {W : Type 0} {contents : W → Option (List ℕ)} {has_failed : W → Bool}
+    {s t : Session W} {input : Option (List ℕ)} {n : ℕ} {why : Stop} →
     s.waiting.now.text.items ≡ [] → s.waiting.now.ends.items ≡ [] → why ≡ NoMemory →
     StopsAfter (Serving contents has_failed) (λ begun taken at now why. StopsServing contents
     has_failed begun taken now why) s t input n why → Behind contents has_failed s t input n
-Behind-stopped contents has_failed s t input n why text ends is_memory h = record {
-  taken = h.taken;
-  serving =
-      subst (StopsServing contents has_failed s h.taken t) is_memory
-      (h.stops s [] (Serving-nothing contents has_failed s text ends));
-  count = h.count;
-  first = first_counted input h.taken n h.count h.first;
-}
+Behind-stopped {W} {contents} {has_failed} {s} {t} {input} {n} {why} text ends is_memory h =
+    record {
+      taken = h.taken;
+      serving =
+          subst (StopsServing contents has_failed s h.taken t) is_memory
+          (h.stops s [] (Serving-nothing contents has_failed s text ends));
+      count = h.count;
+      first = first_counted input h.taken n h.count h.first;
+    }
 
 -- as many replies wait as lines were taken, at most
-pub Behind-few : {W : Type 0} (contents : W → Option (List ℕ)) (has_failed : W → Bool)
-    (s t : Session W) (input : Option (List ℕ)) (n : ℕ) → Behind contents has_failed s t input n →
+pub Behind-few : {W : Type 0} {contents : W → Option (List ℕ)} {has_failed : W → Bool}
+    {s t : Session W} {input : Option (List ℕ)} {n : ℕ} → Behind contents has_failed s t input n →
     length t.waiting.now.ends.items ≤ n
-Behind-few contents has_failed s t input n h =
+Behind-few {W} {contents} {has_failed} {s} {t} {input} {n} h =
     omega (arith, h.count, Serving-few contents has_failed s t h.taken h.serving)
 
 -- what waited is written then
-pub Behind-written : {W : Type 0} (contents : W → Option (List ℕ)) (has_failed : W → Bool)
-    (s t u : Session W) (input : Option (List ℕ)) (n : ℕ) → Behind contents has_failed s t input n →
+pub Behind-written : {W : Type 0} {contents : W → Option (List ℕ)} {has_failed : W → Bool}
+    {s t u : Session W} {input : Option (List ℕ)} {n : ℕ} → Behind contents has_failed s t input n →
     Writes (contents t.sink.now) (contents u.sink.now) t.waiting.now u.waiting.now →
     u.object.now ≡ t.object.now → AnswersFirst contents s u input n
-Behind-written contents has_failed s t u input n h k same = record {
+Behind-written {W} {contents} {has_failed} {s} {t} {u} {input} {n} h k same = record {
   taken = h.taken;
   count = h.count;
   written = Serving-written contents has_failed s t u h.taken h.serving k;
@@ -277,12 +278,12 @@ Behind-written contents has_failed s t u input n h k same = record {
   first = h.first;
 }
 
-pub Behind-all_written : {W : Type 0} (contents : W → Option (List ℕ)) (has_failed : W → Bool)
-    (s t u : Session W) (input : Option (List ℕ)) (n : ℕ) → s.waiting.now.text.items ≡ [] →
+pub Behind-all_written : {W : Type 0} {contents : W → Option (List ℕ)} {has_failed : W → Bool}
+    {s t u : Session W} {input : Option (List ℕ)} {n : ℕ} → s.waiting.now.text.items ≡ [] →
     s.waiting.now.ends.items ≡ [] → TakesAll (Serving contents has_failed) s t input n →
     Writes (contents t.sink.now) (contents u.sink.now) t.waiting.now u.waiting.now →
     u.object.now ≡ t.object.now → AnswersAll contents s u input n
-Behind-all_written contents has_failed s t u input n text ends h k same =
+Behind-all_written {W} {contents} {has_failed} {s} {t} {u} {input} {n} text ends h k same =
     let serving = h.takes s [] (Serving-nothing contents has_failed s text ends) in
     record {
       taken = h.taken;
@@ -298,12 +299,12 @@ RestFails contents t u m n =
     (unwritten : ℕ) × (n + unwritten ≡ m)
     × WritesSome (contents t.sink.now) (contents u.sink.now) t.waiting.now unwritten
 
-pub Behind-failed : {W : Type 0} (contents : W → Option (List ℕ)) (has_failed : W → Bool)
-    (s t u : Session W) (input : Option (List ℕ)) (n m : ℕ) →
+pub Behind-failed : {W : Type 0} {contents : W → Option (List ℕ)} {has_failed : W → Bool}
+    {s t u : Session W} {input : Option (List ℕ)} {n m : ℕ} →
     Behind contents has_failed s t input m → IsSame t u → u.object.now ≡ t.object.now →
     FailsAt (has_failed t.sink.now) (has_failed u.sink.now) t.waiting.now.text.items →
     RestFails contents t u m n → AnswersInPart contents s u input has_failed n
-Behind-failed contents has_failed s t u input n m h lent same reason k =
+Behind-failed {W} {contents} {has_failed} {s} {t} {u} {input} {n} {m} h lent same reason k =
     AnswersInPart-rest contents has_failed s t u input h.taken n m k.0 h.serving h.count h.first
     lent same k.1 k.2 reason
 
@@ -324,31 +325,32 @@ pub record BehindFailure {W : Type 0} (contents : W → Option (List ℕ)) (has_
   pub count : n ≡ length taken
   pub first : IfSome input (λ bytes. take (length taken) (lines bytes) ≡ taken)
 
-pub BehindFailure-from : {W : Type 0} (contents : W → Option (List ℕ)) (has_failed : W → Bool)
-    (s t : Session W) (input : Option (List ℕ)) (n : ℕ) (why : Stop) (failed : Unfinished) →
+pub BehindFailure-from : {W : Type 0} {contents : W → Option (List ℕ)} {has_failed : W → Bool}
+    {s t : Session W} {input : Option (List ℕ)} {n : ℕ} {why : Stop} {failed : Unfinished} →
     s.waiting.now.text.items ≡ [] → s.waiting.now.ends.items ≡ [] → why ≡ WriteFailed failed →
     StopsAfter (Serving contents has_failed) (λ begun taken at now why. StopsServing contents
     has_failed begun taken now why) s t input n why →
     BehindFailure contents has_failed s t input n failed.unwritten
-BehindFailure-from contents has_failed s t input n why failed text ends is_failed h = record {
-  taken = h.taken;
-  failing =
-      subst (StopsServing contents has_failed s h.taken t) is_failed
-      (h.stops s [] (Serving-nothing contents has_failed s text ends));
-  count = h.count;
-  first = first_counted input h.taken n h.count h.first;
-}
+BehindFailure-from {W} {contents} {has_failed} {s} {t} {input} {n} {why} {failed} text ends
+    is_failed h = record {
+      taken = h.taken;
+      failing =
+          subst (StopsServing contents has_failed s h.taken t) is_failed
+          (h.stops s [] (Serving-nothing contents has_failed s text ends));
+      count = h.count;
+      first = first_counted input h.taken n h.count h.first;
+    }
 
-pub BehindFailure-few : {W : Type 0} (contents : W → Option (List ℕ)) (has_failed : W → Bool)
-    (s t : Session W) (input : Option (List ℕ)) (n unwritten : ℕ) →
+pub BehindFailure-few : {W : Type 0} {contents : W → Option (List ℕ)} {has_failed : W → Bool}
+    {s t : Session W} {input : Option (List ℕ)} {n unwritten : ℕ} →
     BehindFailure contents has_failed s t input n unwritten → unwritten ≤ n
-BehindFailure-few contents has_failed s t input n unwritten h =
+BehindFailure-few {W} {contents} {has_failed} {s} {t} {input} {n} {unwritten} h =
     omega (arith, h.count, h.failing.count)
 
-pub BehindFailure-part : {W : Type 0} (contents : W → Option (List ℕ)) (has_failed : W → Bool)
-    (s t : Session W) (input : Option (List ℕ)) (n unwritten m : ℕ) →
+pub BehindFailure-part : {W : Type 0} {contents : W → Option (List ℕ)} {has_failed : W → Bool}
+    {s t : Session W} {input : Option (List ℕ)} {n unwritten m : ℕ} →
     BehindFailure contents has_failed s t input n unwritten → m + unwritten ≡ n →
     AnswersInPart contents s t input has_failed m
-BehindFailure-part contents has_failed s t input n unwritten m h e =
+BehindFailure-part {W} {contents} {has_failed} {s} {t} {input} {n} {unwritten} {m} h e =
     AnswersInPart-from contents has_failed s t input h.taken m unwritten h.failing (e ∙ h.count)
     h.first
