@@ -5,9 +5,9 @@ use std::alloc::{AllocError, Global};
 use std::process::Abort;
 use std::test::Fail;
 
-/// Lines, the last of them without its line feed.
-const HOSTILE: &[u8] = b"\n\n\xff\n{\"op\":\"publish\",\"x\":\"\xc3\"}\n\
-{\"op\":\"publish\",\"x\":\"\0\"}\n\0\n[1]\r\n\xef\xbb\xbf[1]\n\
+/// Lines, the first of them behind a byte order mark, the last without its line feed.
+const HOSTILE: &[u8] = b"\xef\xbb\xbf[1]\n\n\n\xff\n{\"op\":\"publish\",\"x\":\"\xc3\"}\n\
+{\"op\":\"publish\",\"x\":\"\0\"}\n\0\n[1]\r\n\
 \t{\"op\":\"lands\",\r\"reader\":8,\"x\":0}";
 
 const TOLD: &str = r#"{"fault":32,"name":"NotJson"}
@@ -16,8 +16,8 @@ const TOLD: &str = r#"{"fault":32,"name":"NotJson"}
 {"fault":32,"name":"NotJson"}
 {"fault":32,"name":"NotJson"}
 {"fault":32,"name":"NotJson"}
-{"fault":33,"name":"NotObject"}
 {"fault":32,"name":"NotJson"}
+{"fault":33,"name":"NotObject"}
 {"answer":{"lands":[]},"edition":0,"reader":8}
 "#;
 
