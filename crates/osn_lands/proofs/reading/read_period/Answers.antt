@@ -1,4 +1,4 @@
-use Rattle.std.proofs.Common.{◌++◌, filter, sym, ap, ◌∙◌}
+use Rattle.std.proofs.Common.{◌++◌, filter, sym, ap, ◌∙◌, rules}
 use Rattle.std.proofs.lemmas.List.{append-nil}
 use Rattle.osn_days.specs.Profile.{present}
 use Rattle.osn_lands.specs.Inside.{is_held}
@@ -24,3 +24,6 @@ returns-clause-value c =
     ∙ ap (λ found. c.args.days.now.items ++ found)
     (held_days present c.args.search.now.label p c.requires.line.0 c.requires.line.1
     c.requires.line.2)
+
+pub returns-clause-tested : goal.returns-clause-tested
+returns-clause-tested c = search rules

@@ -8,3 +8,6 @@ returns-in-Err-NoMemory-clause-after g c = tt
 
 pub returns-in-Err-NoMemory-clause-sound : goal.returns-in-Err-NoMemory-clause-sound
 returns-in-Err-NoMemory-clause-sound g c = tt
+
+pub returns-in_ok-push-in-Err-Fault-clause-err : goal.returns-in_ok-push-in-Err-Fault-clause-err
+returns-in_ok-push-in-Err-Fault-clause-err g c = tt

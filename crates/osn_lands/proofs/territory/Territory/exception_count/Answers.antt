@@ -1,4 +1,4 @@
-use Rattle.std.proofs.Common.{subst}
+use Rattle.std.proofs.Common.{subst, rules}
 use Rattle.std.proofs.lemmas.Map.Keys.{IsStrictlyIncreasing-from_sorted}
 use Rattle.std.specs.Map.{keys_of}
 use Rattle.osn_lands.specs.Exceptions.{HasAscendingYears}
@@ -9,3 +9,6 @@ returns-clause-ascending c =
     subst HasAscendingYears c.self.view_is
     (IsStrictlyIncreasing-from_sorted (keys_of c.self.inside.exceptions.entries)
     c.len.ensures.ordered)
+
+pub returns-clause-value : goal.returns-clause-value
+returns-clause-value c = search rules
