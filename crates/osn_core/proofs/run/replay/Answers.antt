@@ -1,4 +1,4 @@
-use Rattle.std.proofs.Common.{◌≡◌, ap, ◌∙◌}
+use Rattle.std.proofs.Common.{◌≡◌, ap, ◌∙◌, rules}
 use Rattle.osn_days.specs.Profile.{present}
 use Rattle.osn_core.specs.Machine.{first_core, outs_of}
 use Rattle.osn_core.specs.History.{no_looks}
@@ -29,3 +29,6 @@ returns-clause-forward c reader =
     c.in-Ok.ensures
     ∙ ap (λ core. outs_of present core c.args.steps.now) c.in_ok-core.ensures.ok in
     rw all (outs_rise present c.args.limits c.args.readers c.args.steps.now reader)
+
+pub returns-in_default-clause-refused : goal.returns-in_default-clause-refused
+returns-in_default-clause-refused c = search rules

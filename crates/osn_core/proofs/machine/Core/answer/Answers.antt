@@ -1,4 +1,4 @@
-use Rattle.std.proofs.Common.{◌≡◌, Some, length, sym, subst, ap, ◌∙◌}
+use Rattle.std.proofs.Common.{◌≡◌, Some, length, sym, subst, ap, ◌∙◌, rules}
 use Rattle.osn_core.specs.declared.reader.ReaderState.TheVariants.{Entered, Answered}
 use Rattle.osn_core.specs.Control.{reader_at}
 use Rattle.osn_core.specs.CoreInside.{IsPlaced}
@@ -43,3 +43,6 @@ invariant_of-self c =
           c.self.invariant.readers (subst (IsPlaced live phase n) standing
           (c.self.invariant.readers c.args.reader)) r);
     }
+
+pub returns-clause-out : goal.returns-clause-out
+returns-clause-out c = search rules

@@ -1,4 +1,4 @@
-use Rattle.std.proofs.Common.{arith, ap, sym, subst, length}
+use Rattle.std.proofs.Common.{arith, ap, sym, subst, length, rules}
 use Rattle.osn_core.specs.declared.phase.Phase.TheVariants.{Ready}
 use Rattle.osn_core.specs.Control.{reader_at}
 use Rattle.osn_core.specs.CoreInside.{IsPlaced}
@@ -14,3 +14,6 @@ invariant_of-result c =
       readers = λ r. subst (λ rs. IsPlaced 0 Ready n (reader_at rs r)) (sym c.in-Ok.ensures)
           (idle_at (IsPlaced 0 Ready n) tt tt c.args.readers r);
     }
+
+pub returns-then-readers-eq0-clause-refused : goal.returns-then-readers-eq0-clause-refused
+returns-then-readers-eq0-clause-refused c = search rules
