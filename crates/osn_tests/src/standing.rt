@@ -38,23 +38,34 @@ const STREAMS: [&str; 2] = [
 "#,
 ];
 
-/// That streams go so in turn, from one object.
-fn go_on(rt: &impl Abort, alloc: Global, streams: &[&str]) -> Result<(), Fail> {
-    let mut object = Object::new(alloc, Limits::standard());
-    for stream in streams {
-        let (requests, replies) = apart(alloc, stream)?;
-        let mut source = Plain::new(requests.as_bytes());
-        let mut sink = Plain::new(Vec::new(alloc));
-        let lines = serve_from(alloc, &mut object, 8, &mut source, &mut sink)?;
-        assert_eq!(rt; lines, replies.lines().count() as u64);
-        assert_eq!(rt; str::from_utf8(&sink.into_inner())?, replies.as_str());
-    }
+/// What is written for some bytes by an object that stands, and the number of lines.
+fn served_from(
+    alloc: Global,
+    object: &mut Object,
+    input: &[u8],
+) -> Result<(Vec<u8>, u64), ServeFault> {
+    let mut source = Plain::new(input);
+    let mut sink = Plain::new(Vec::new(alloc));
+    let lines = serve_from(alloc, object, 8, &mut source, &mut sink)?;
+    Ok((sink.into_inner(), lines))
+}
+
+/// That a stream goes so, from an object that stands.
+fn goes_on(rt: &impl Abort, alloc: Global, object: &mut Object, stream: &str) -> Result<(), Fail> {
+    let (requests, replies) = apart(alloc, stream)?;
+    let (written, lines) = served_from(alloc, object, requests.as_bytes())?;
+    assert_eq!(rt; lines, replies.lines().count() as u64);
+    assert_eq!(rt; str::from_utf8(&written)?, replies.as_str());
     Ok(())
 }
 
 #[test]
 fn an_object_that_stands_goes_on(rt: HostRuntime) -> Result<(), Fail> {
-    go_on(&rt, rt.alloc(), &STREAMS)
+    let mut object = Object::new(rt.alloc(), Limits::standard());
+    for stream in &STREAMS {
+        goes_on(&rt, rt.alloc(), &mut object, stream)?;
+    }
+    Ok(())
 }
 
 /// Queries before and behind an edit and a publish.

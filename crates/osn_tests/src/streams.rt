@@ -31,27 +31,27 @@ impl Notes {
     }
 }
 
-/// Gives one byte a read, and fails at a place.
+/// Gives at most so many bytes a read, and fails at a place.
 #[derive(Drop)]
-struct OneByte {
+struct Pieces {
     bytes: Vec<u8>,
     place: usize,
+    step: usize,
     fails_at: usize,
     notes: Rc<Notes>,
 }
 
-impl Read for OneByte {
+impl Read for Pieces {
     fn read(&mut self, buffer: &mut [u8]) -> io::Result<usize> {
         self.notes.seen.set(self.notes.flushed.get());
         if self.place == self.fails_at {
             return Err(io::Error::from(ErrorKind::TimedOut));
         }
-        if buffer.is_empty() || self.place >= self.bytes.len() {
-            return Ok(0);
-        }
-        buffer[0] = self.bytes[self.place];
-        self.place += 1;
-        Ok(1)
+        let left = self.bytes.get(self.place..).unwrap_or_default();
+        let count = self.step.min(left.len()).min(buffer.len());
+        buffer[..count].copy_from_slice(&left[..count]);
+        self.place = self.place.saturating_add(count);
+        Ok(count)
     }
 }
 
@@ -105,11 +105,10 @@ struct Outcome {
     seen: usize,
 }
 
-/// How a try goes: whether one byte is read at a time, how many are written at most, and what
-/// fails.
+/// How a try goes: how many bytes are read and written at a time at most, and what fails.
 #[derive(Clone, Copy)]
 struct Plan {
-    by_bytes: bool,
+    read_step: usize,
     read_fails_at: usize,
     step: usize,
     write_fails_at: usize,
@@ -117,7 +116,7 @@ struct Plan {
 }
 
 const WHOLE: Plan = Plan {
-    by_bytes: false,
+    read_step: usize::MAX,
     read_fails_at: usize::MAX,
     step: usize::MAX,
     write_fails_at: usize::MAX,
@@ -125,7 +124,7 @@ const WHOLE: Plan = Plan {
 };
 
 const BY_BYTES: Plan = Plan {
-    by_bytes: true,
+    read_step: 1,
     read_fails_at: usize::MAX,
     step: usize::MAX,
     write_fails_at: usize::MAX,
@@ -141,18 +140,14 @@ fn tried(alloc: Global, input: &[u8], plan: Plan) -> Result<Outcome, AllocError>
         flush_fails: plan.flush_fails,
         notes: notes.clone()?,
     });
-    let limits = Limits::standard();
-    let answered = if plan.by_bytes {
-        let mut source = Plain::new(OneByte {
-            bytes: Vec::from_slice(alloc, input)?,
-            place: 0,
-            fails_at: plan.read_fails_at,
-            notes: notes.clone()?,
-        });
-        serve(alloc, limits, 8, &mut source, &mut sink)
-    } else {
-        serve(alloc, limits, 8, &mut Plain::new(input), &mut sink)
-    };
+    let mut source = Plain::new(Pieces {
+        bytes: Vec::from_slice(alloc, input)?,
+        place: 0,
+        step: plan.read_step,
+        fails_at: plan.read_fails_at,
+        notes: notes.clone()?,
+    });
+    let answered = serve(alloc, Limits::standard(), 8, &mut source, &mut sink);
     let end = match answered {
         Ok(lines) => End::Answered(lines),
         Err(ServeFault::NoMemory { lines }) => End::NoMemory(lines),
