@@ -1,4 +1,5 @@
 //! Transcripts held against journals, and the lines of a transcript.
+use crate::compare::same;
 use crate::session::joined;
 use osn_core::Object;
 use osn_register::{Limits, Query};
@@ -158,7 +159,7 @@ fn audits_end_so(rt: HostRuntime) -> Result<(), Fail> {
     for (transcript, end) in &AUDITS {
         let text = joined(alloc, transcript)?;
         let lines = text.trim_start();
-        assert_eq!(rt; ended(alloc, JOURNAL, lines), *end, "{lines}");
+        same(&rt, (lines, ended(alloc, JOURNAL, lines)), (lines, *end));
     }
     Ok(())
 }
@@ -167,10 +168,15 @@ fn audits_end_so(rt: HostRuntime) -> Result<(), Fail> {
 #[test]
 fn a_journal_is_refused_first(rt: HostRuntime) -> Result<(), Fail> {
     let alloc = rt.alloc();
-    assert_eq!(rt; ended(alloc, "", "x"), End::Refused(Role::Journal, 1, 37));
-    assert_eq!(rt;
+    same(
+        &rt,
+        ended(alloc, "", "x"),
+        End::Refused(Role::Journal, 1, 37),
+    );
+    same(
+        &rt,
         ended(alloc, "{\"journal\":1}\n\n", "x"),
-        End::Refused(Role::Journal, 2, 32)
+        End::Refused(Role::Journal, 2, 32),
     );
     Ok(())
 }
@@ -182,7 +188,7 @@ fn a_transcript_is_written_so(rt: HostRuntime) -> Result<(), Fail> {
     let reply = Object::new(alloc, Limits::standard()).ask(&Query::Lands)?;
     let line = joined(alloc, LINE)?;
     let text = transcript_text(alloc, 7, &Query::Lands, &reply)?;
-    assert_eq!(rt; text.as_str().trim_end(), line.as_str());
+    same(&rt, text.as_str().trim_end(), line.as_str());
     Ok(())
 }
 

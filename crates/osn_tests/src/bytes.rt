@@ -1,4 +1,5 @@
 //! Lines of hostile bytes: long, not UTF-8, and without their line feed.
+use crate::compare::same;
 use crate::session::served;
 use osn_register::Limits;
 use std::alloc::{AllocError, Global};
@@ -30,7 +31,7 @@ fn are_told(
     count: u64,
 ) -> Result<(), Fail> {
     let (written, lines) = served(alloc, Limits::standard(), 8, input)?;
-    assert_eq!(rt; (str::from_utf8(&written)?, lines), (told, count));
+    same(rt, (str::from_utf8(&written)?, lines), (told, count));
     Ok(())
 }
 
@@ -72,10 +73,10 @@ fn are_long(
 ) -> Result<(), Fail> {
     for (length, want) in rows {
         let line = line_of(alloc, *length, feeds)?;
-        assert_eq!(rt; line.trim_ascii_end().len(), *length);
+        same(rt, line.trim_ascii_end().len(), *length);
         let (written, lines) = served(alloc, Limits::standard(), 8, &line)?;
-        assert_eq!(rt; written.as_slice(), want.as_bytes(), "{length} bytes");
-        assert_eq!(rt; lines, 1);
+        let told = str::from_utf8(&written)?;
+        same(rt, (length, told, lines), (length, *want, 1));
     }
     Ok(())
 }

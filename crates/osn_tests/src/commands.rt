@@ -1,5 +1,6 @@
 //! The commands of the program over memory: the status, what is written, and what standard error is
 //! told.
+use crate::compare::same;
 use crate::session::joined;
 use osn_commands::{Status, run, serve_command, tell_no_words};
 use osn_wire::Plain;
@@ -102,15 +103,15 @@ fn are_served(rt: &impl Abort, alloc: Global, rows: &[Row]) -> Result<(), Fail> 
         let mut input = Plain::new(requests.as_bytes());
         let source = journal.map(|text| Plain::new(text.as_bytes()));
         let left = serve_command(alloc, source, 8, true, &mut input, &mut output, &mut errors);
-        assert_eq!(rt; left.status.code(), *status);
+        same(rt, left.status.code(), *status);
         let replies = joined(alloc, replies)?;
-        assert_eq!(rt; str::from_utf8(&output.into_inner())?, replies.as_str());
-        assert_eq!(rt; str::from_utf8(&errors.into_inner())?, *told);
+        same(rt, str::from_utf8(&output.into_inner())?, replies.as_str());
+        same(rt, str::from_utf8(&errors.into_inner())?, *told);
         match (left.journal, saved) {
             (Some(text), Some(saved)) => {
-                assert_eq!(rt; text.as_str(), joined(alloc, saved)?.as_str());
+                same(rt, text.as_str(), joined(alloc, saved)?.as_str());
             }
-            (text, saved) => assert_eq!(rt; text.is_some(), saved.is_some()),
+            (text, saved) => same(rt, text.is_some(), saved.is_some()),
         }
     }
     Ok(())
@@ -156,20 +157,22 @@ fn streams_that_fail(rt: HostRuntime) -> Result<(), Fail> {
         &mut sink(alloc),
         &mut errors,
     );
-    assert_eq!(rt; left.status, Status::ReadFault);
+    same(&rt, left.status, Status::ReadFault);
     assert!(rt; left.journal.is_none());
-    assert_eq!(rt;
+    same(
+        &rt,
         str::from_utf8(&errors.into_inner())?,
-        "oldstyle: read fault\n"
+        "oldstyle: read fault\n",
     );
     let mut errors = sink(alloc);
     let none: Option<Plain<Failing>> = None;
     let mut output = Plain::new(Failing);
     let left = serve_command(alloc, none, 8, true, &mut input, &mut output, &mut errors);
-    assert_eq!(rt; left.status, Status::WriteFault);
-    assert_eq!(rt;
+    same(&rt, left.status, Status::WriteFault);
+    same(
+        &rt,
         str::from_utf8(&errors.into_inner())?,
-        "oldstyle: write fault\n"
+        "oldstyle: write fault\n",
     );
     Ok(())
 }
@@ -225,7 +228,8 @@ fn are_run<R: Files + Threads + Wait + AllocGlobal + Abort>(
     rows: &[(&str, u8)],
 ) -> Result<(), Fail> {
     for (line, status) in rows {
-        assert_eq!(rt; left_by(rt, line)?, (*status, *status == 0), "{line}");
+        let (code, is_quiet) = left_by(rt, line)?;
+        same(rt, (line, code, is_quiet), (line, *status, *status == 0));
     }
     Ok(())
 }
@@ -240,7 +244,7 @@ fn a_word_that_is_no_text(rt: HostRuntime) {
     let mut errors = sink(rt.alloc());
     let status = tell_no_words(&io::Error::from(ErrorKind::InvalidData), &mut errors);
     let told = errors.into_inner();
-    assert_eq!(rt; status.code(), 2);
+    same(&rt, status.code(), 2);
     let line = "error: a word of the command line is not UTF-8\n";
-    assert_eq!(rt; told.as_slice(), line.as_bytes());
+    same(&rt, told.as_slice(), line.as_bytes());
 }

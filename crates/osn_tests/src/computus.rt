@@ -1,6 +1,7 @@
 //! The calls of `osn_computus`, with values from outside: `ncal` 12.1.8 of Debian, Python's
 //! `datetime`, and the cycles and epacts of years by the formulas of *Calendrical Calculations*,
 //! run in Python.
+use crate::compare::same;
 use osn_computus::{
     Letter, Letters, Rule, easter, golden_number, gregorian_epact, indiction, julian_epact,
     sunday_letters,
@@ -25,11 +26,10 @@ const CYCLES: [(i64, u8, u8, u8); 7] = [
 ];
 
 fn has_cycles(rt: &impl Abort, rows: &[(i64, u8, u8, u8)]) -> Result<(), Fail> {
-    for (number, golden, of_fifteen, epact) in rows {
-        let year = year(*number)?;
-        assert_eq!(rt; golden_number(year), *golden);
-        assert_eq!(rt; indiction(year), *of_fifteen);
-        assert_eq!(rt; julian_epact(year), *epact);
+    for row in rows {
+        let year = year(row.0)?;
+        let (golden, epact) = (golden_number(year), julian_epact(year));
+        same(rt, (row.0, golden, indiction(year), epact), *row);
     }
     Ok(())
 }
@@ -57,13 +57,9 @@ const EPACTS: [(i64, u8, bool); 12] = [
 ];
 
 fn has_epacts(rt: &impl Abort, rows: &[(i64, u8, bool)]) -> Result<(), Fail> {
-    for (number, epact, prime) in rows {
-        let found = gregorian_epact(year(*number)?);
-        assert_eq!(rt;
-            (found.number, found.prime),
-            (*epact, *prime),
-            "in {number}"
-        );
+    for row in rows {
+        let epact = gregorian_epact(year(row.0)?);
+        same(rt, (row.0, epact.number, epact.prime), *row);
     }
     Ok(())
 }
@@ -78,15 +74,11 @@ fn has_letters(
     calendar: Calendar,
     rows: &[(i64, &str, &str)],
 ) -> Result<(), Fail> {
-    for (number, first, second) in rows {
-        let Some(Letters { january, march }) = sunday_letters(calendar, year(*number)?) else {
+    for row in rows {
+        let Some(Letters { january, march }) = sunday_letters(calendar, year(row.0)?) else {
             return Err(Fail::new("no letters"));
         };
-        assert_eq!(rt;
-            (january.name(), march.name()),
-            (*first, *second),
-            "in {number}"
-        );
+        same(rt, (row.0, january.name(), march.name()), *row);
     }
     Ok(())
 }
@@ -131,7 +123,7 @@ const GREGORIAN_LETTERS: [(i64, &str, &str); 15] = [
 fn letters(rt: HostRuntime) -> Result<(), Fail> {
     has_letters(&rt, Calendar::Julian, &JULIAN_LETTERS)?;
     has_letters(&rt, Calendar::Gregorian, &GREGORIAN_LETTERS)?;
-    assert_eq!(rt; sunday_letters(Calendar::Swedish, year(1712)?), None);
+    same(&rt, sunday_letters(Calendar::Swedish, year(1712)?), None);
     Ok(())
 }
 
@@ -147,7 +139,7 @@ const NAMES: [(Letter, &str); 7] = [
 
 fn are_named(rt: &impl Abort, rows: &[(Letter, &str)]) {
     for (letter, name) in rows {
-        assert_eq!(rt; letter.name(), *name);
+        same(rt, letter.name(), *name);
     }
 }
 
@@ -170,7 +162,7 @@ fn has_easters(
             day: *day,
         };
         let found = easter(rule, year(i64::from(*number))?);
-        assert_eq!(rt; date_of(calendar, found), expected);
+        same(rt, date_of(calendar, found), expected);
     }
     Ok(())
 }

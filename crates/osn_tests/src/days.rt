@@ -1,6 +1,7 @@
 //! The calls of `osn_days`, with values from outside: the sample dates of *Calendrical
 //! Calculations*, appendix C, the numbers of Python's `datetime.date.toordinal`, and the Julian day
 //! numbers that astronomers give.
+use crate::compare::same;
 use osn_days::{Calendar, Date, Day, HIGH, Weekday, Year, date_of, day_of};
 use std::process::Abort;
 use std::test::Fail;
@@ -21,7 +22,7 @@ fn has_dates(rt: &impl Abort, calendar: Calendar, rows: &[(i64, Ymd)]) -> Result
     for (number, ymd) in rows {
         let (day, date) = (Day::new(*number).ok_or("a day")?, date(*ymd));
         let found = (date_of(calendar, day), day_of(calendar, date));
-        assert_eq!(rt; found, (date, Some(day)), "on {number}");
+        same(rt, found, (date, Some(day)));
     }
     Ok(())
 }
@@ -29,7 +30,7 @@ fn has_dates(rt: &impl Abort, calendar: Calendar, rows: &[(i64, Ymd)]) -> Result
 /// That no day has one of these dates.
 fn has_no_day(rt: &impl Abort, calendar: Calendar, dates: &[Ymd]) {
     for ymd in dates {
-        assert_eq!(rt; day_of(calendar, date(*ymd)), None, "at {ymd:?}");
+        same(rt, (ymd, day_of(calendar, date(*ymd))), (ymd, None));
     }
 }
 
@@ -43,7 +44,7 @@ const SUMS: [(i64, i32, Option<Day>); 4] = [
 
 fn are_sums(rt: &impl Abort, rows: &[(i64, i32, Option<Day>)]) -> Result<(), Fail> {
     for (number, more, reached) in rows {
-        assert_eq!(rt; Day::new(*number).ok_or("a day")?.plus(*more), *reached);
+        same(rt, Day::new(*number).ok_or("a day")?.plus(*more), *reached);
     }
     Ok(())
 }
@@ -51,8 +52,8 @@ fn are_sums(rt: &impl Abort, rows: &[(i64, i32, Option<Day>)]) -> Result<(), Fai
 #[test]
 fn the_ends_of_the_line(rt: HostRuntime) -> Result<(), Fail> {
     are_sums(&rt, &SUMS)?;
-    assert_eq!(rt; (Day::FIRST.number(), Day::LAST.number()), (1, HIGH));
-    assert_eq!(rt; Year::new(2999), Some(Year::LAST));
+    same(&rt, (Day::FIRST.number(), Day::LAST.number()), (1, HIGH));
+    same(&rt, Year::new(2999), Some(Year::LAST));
     Ok(())
 }
 
@@ -71,7 +72,7 @@ const WEEKDAYS: [&str; 8] = [
 fn are_weekdays(rt: &impl Abort, names: &[&str]) -> Result<(), Fail> {
     for (number, name) in (1..9).zip(names) {
         let day = Day::new(number).ok_or("a day")?;
-        assert_eq!(rt; day.weekday().name(), *name);
+        same(rt, day.weekday().name(), *name);
     }
     Ok(())
 }
@@ -94,9 +95,12 @@ const OF_HISTORY: [(i64, u32, Weekday, Ymd); 6] = [
 fn are_of_history(rt: &impl Abort, rows: &[(i64, u32, Weekday, Ymd)]) -> Result<(), Fail> {
     for (number, julian_day_number, weekday, julian) in rows {
         let day = Day::new(*number).ok_or("a day")?;
-        assert_eq!(rt; day.julian_day_number(), *julian_day_number);
-        assert_eq!(rt; day.weekday(), *weekday);
-        assert_eq!(rt; date_of(Calendar::Julian, day), date(*julian));
+        same(
+            rt,
+            (day.julian_day_number(), day.weekday()),
+            (*julian_day_number, *weekday),
+        );
+        same(rt, date_of(Calendar::Julian, day), date(*julian));
     }
     Ok(())
 }

@@ -1,4 +1,5 @@
 //! Journals: what is written of an object, what is loaded from lines, and what is refused.
+use crate::compare::same;
 use crate::session::{apart, joined};
 use osn_register::Limits;
 use osn_wire::{FileFault, Plain, journal_text, load_journal, serve_from};
@@ -131,7 +132,7 @@ fn are_kept(rt: &impl Abort, alloc: Global, texts: &[&str]) -> Result<(), Fail> 
     for text in texts {
         let text = joined(alloc, text)?;
         let again = reloaded(alloc, text.as_bytes())?;
-        assert_eq!(rt; again.as_str(), text.as_str());
+        same(rt, again.as_str(), text.as_str());
     }
     Ok(())
 }
@@ -140,7 +141,7 @@ fn give(rt: &impl Abort, alloc: Global, rows: &[(&str, &str)]) -> Result<(), Fai
     for (text, want) in rows {
         let want = joined(alloc, want)?;
         let got = reloaded(alloc, joined(alloc, text)?.as_bytes())?;
-        assert_eq!(rt; got.as_str(), want.as_str(), "of {text}");
+        same(rt, (text, got.as_str()), (text, want.as_str()));
     }
     Ok(())
 }
@@ -178,7 +179,7 @@ fn are_too_long(rt: &impl Abort, alloc: Global, rows: &[(&str, &str)]) -> Result
     for (head, want) in rows {
         let bytes = long_line(alloc, head)?;
         let got = reloaded(alloc, bytes.as_slice())?;
-        assert_eq!(rt; got.as_str(), *want);
+        same(rt, got.as_str(), *want);
     }
     Ok(())
 }
@@ -230,7 +231,7 @@ fn fail(rt: &impl Abort, alloc: Global, rows: &[(usize, &str)]) -> Result<(), Fa
             fails_at: *fails_at,
         };
         let got = reloaded(alloc, reader)?;
-        assert_eq!(rt; got.as_str(), *want, "failing at {fails_at}");
+        same(rt, (fails_at, got.as_str()), (fails_at, *want));
     }
     Ok(())
 }
@@ -276,7 +277,7 @@ fn are_answered(rt: &impl Abort, alloc: Global, rows: &[(&str, &str)]) -> Result
         let mut input = Plain::new(requests.as_bytes());
         let mut sink = Plain::new(Vec::new(alloc));
         serve_from(alloc, &mut object, 8, &mut input, &mut sink)?;
-        assert_eq!(rt; sink.into_inner().as_slice(), replies.as_bytes());
+        same(rt, sink.into_inner().as_slice(), replies.as_bytes());
     }
     Ok(())
 }

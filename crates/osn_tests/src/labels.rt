@@ -1,6 +1,7 @@
 //! Labels and texts of days, and the days of labels: worked days of the Calendar (New Style) Act
 //! 1750 and of Sweden, and days beside the beginnings of years and the ends of the line, whose
 //! numbers are Python's `toordinal` and those of the Julian day number's formula.
+use crate::compare::same;
 use osn_computus::Rule;
 use osn_days::{Calendar, Day};
 use osn_lands::{Label, Regime, Style, day_of_label, dual_text, label_of};
@@ -314,9 +315,9 @@ fn regime_of(calendar: Calendar, style: Style) -> Regime {
 fn are_named(rt: &impl Abort, alloc: Global, rows: &[Named]) -> Result<(), AllocError> {
     for (calendar, style, number, ymd, text) in rows {
         let (regime, day) = (regime_of(*calendar, *style), day_of(*number));
-        assert_eq!(rt; label_of(regime, day), label(*ymd), "on {number}");
-        assert_eq!(rt; day_of_label(regime, label(*ymd)), Some(day), "on {number}");
-        assert_eq!(rt; dual_text(alloc, regime, day)?.as_str(), *text);
+        let found = (label_of(regime, day), day_of_label(regime, label(*ymd)));
+        same(rt, found, (label(*ymd), Some(day)));
+        same(rt, dual_text(alloc, regime, day)?.as_str(), *text);
     }
     Ok(())
 }
@@ -343,7 +344,7 @@ const OF_NO_DAY: [(Calendar, Style, (i32, u8, u8)); 10] = [
 fn have_no_day(rt: &impl Abort, rows: &[(Calendar, Style, (i32, u8, u8))]) {
     for (calendar, style, ymd) in rows {
         let found = day_of_label(regime_of(*calendar, *style), label(*ymd));
-        assert_eq!(rt; found, None, "at {ymd:?}");
+        same(rt, (ymd, found), (ymd, None));
     }
 }
 

@@ -2,6 +2,7 @@
 //! read and skipped then. The days are those of the Calendar (New Style) Act 1750, and days beside
 //! the ends of the line, whose numbers are Python's `toordinal` and those of the Julian day
 //! number's formula.
+use crate::compare::same;
 use crate::labels::{day_of, label};
 use osn_computus::Rule;
 use osn_days::{Calendar, Day, Year};
@@ -91,24 +92,26 @@ fn changed(
 ) -> Result<Territory, AllocError> {
     let mut territory = Territory::new(alloc, JULIAN)?;
     for (call, answer) in calls {
-        assert_eq!(rt; made(&mut territory, *call), *answer);
+        same(rt, made(&mut territory, *call), *answer);
     }
     Ok(territory)
 }
 
 /// That a territory has some periods, and their regimes from edge to edge.
 fn has_periods(rt: &impl Abort, territory: &Territory, periods: &[(u32, u32, Regime)]) {
-    assert_eq!(rt; territory.periods().len(), periods.len());
+    same(rt, territory.periods().len(), periods.len());
     for (found, (first, last, regime)) in territory.periods().iter().zip(periods) {
+        let (first, last) = (day_of(*first), day_of(*last));
+        let regime = *regime;
         let wanted = Period {
-            first: day_of(*first),
-            last: day_of(*last),
-            regime: *regime,
+            first,
+            last,
+            regime,
         };
-        assert_eq!(rt; *found, wanted);
-        assert_eq!(rt; territory.regime_at(wanted.first), *regime);
-        assert_eq!(rt; territory.regime_at(wanted.last), *regime);
-        assert!(rt; territory.starts_on(wanted.first));
+        same(rt, *found, wanted);
+        let regimes = (territory.regime_at(first), territory.regime_at(last));
+        same(rt, regimes, (regime, regime));
+        assert!(rt; territory.starts_on(first));
     }
 }
 
@@ -136,10 +139,9 @@ fn has_easters(
 ) -> Result<(), AllocError> {
     for (year, listed, easter) in rows {
         let year = year_of(*year);
-        assert_eq!(rt; territory.exception(year), listed.map(day_of));
+        same(rt, territory.exception(year), listed.map(day_of));
         let found = territory.easters(year)?;
-        assert_eq!(rt; found.first().copied(), Some(day_of(*easter)));
-        assert_eq!(rt; found.len(), 1);
+        same(rt, found.as_slice(), [day_of(*easter)].as_slice());
     }
     Ok(())
 }
@@ -147,7 +149,7 @@ fn has_easters(
 #[test]
 fn exceptions_and_easters(rt: HostRuntime) -> Result<(), AllocError> {
     let territory = changed(&rt, rt.alloc(), &CALLS)?;
-    assert_eq!(rt; territory.exception_count(), 2);
+    same(&rt, territory.exception_count(), 2);
     has_easters(&rt, &territory, &EASTERS)
 }
 
@@ -167,7 +169,7 @@ fn reads(rt: &impl Abort, territory: &Territory, rows: &[Read]) -> Result<(), Al
     for (ymd, day, change) in rows {
         let read = territory.read(label(*ymd))?.first().copied();
         let skipped = territory.skipped(label(*ymd))?.first().copied();
-        assert_eq!(rt; (read, skipped), (day.map(day_of), change.map(day_of)));
+        same(rt, (read, skipped), (day.map(day_of), change.map(day_of)));
     }
     Ok(())
 }
@@ -193,10 +195,10 @@ pub fn of_forty_changes(alloc: Global) -> Result<Territory, AllocError> {
 fn tests_are_counted(rt: HostRuntime) -> Result<(), AllocError> {
     let territory = of_forty_changes(rt.alloc())?;
     let (place, starts) = territory.period_at(day_of(421_000));
-    assert_eq!(rt; place, 21);
+    same(&rt, place, 21);
     assert!(rt; 1 <= starts && starts <= 6);
     let (days, tested) = territory.read_counted(label((1153, 8, 29)))?;
-    assert_eq!(rt; days.as_slice(), [day_of(421_000)].as_slice());
+    same(&rt, days.as_slice(), [day_of(421_000)].as_slice());
     assert!(rt; 1 <= tested && tested <= 123);
     Ok(())
 }
@@ -260,7 +262,7 @@ fn admitting(
 ) -> Result<Territory, AllocError> {
     let mut territory = Territory::new(alloc, JULIAN)?;
     for (call, answer) in calls {
-        assert_eq!(rt; admitted(&mut territory, *call)?, answer.is_ok());
+        same(rt, admitted(&mut territory, *call)?, answer.is_ok());
     }
     Ok(territory)
 }

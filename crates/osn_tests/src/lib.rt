@@ -17,6 +17,8 @@ mod changes;
 #[cfg(test)]
 mod commands;
 #[cfg(test)]
+mod compare;
+#[cfg(test)]
 mod computus;
 #[cfg(test)]
 mod days;

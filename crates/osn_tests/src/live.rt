@@ -2,6 +2,7 @@
 ghost use Rattle.std.specs.Prelude.{◌≡◌, IfOk, IfSome};
 ghost use Rattle.std.specs.List.{All};
 
+use crate::compare::same;
 use crate::register::edit_of;
 use crate::session::joined;
 use osn_core::{Command, Reply};
@@ -70,15 +71,15 @@ fn in_turn<R: Wait + Abort>(
 ) -> Result<(), Fail>
     requires { reader.old.origin ≡ editor.old.origin }
 {
-    assert_eq!(rt; told(alloc, reader)?.as_str().trim_end(), NONE);
+    same(rt, told(alloc, reader)?.as_str().trim_end(), NONE);
     let note = published(rt, alloc, editor, ROME)?;
-    assert_eq!(rt; note.edition(), 1);
+    same(rt, note.edition(), 1);
     reader.learn(note);
-    assert_eq!(rt; told(alloc, reader)?.as_str().trim_end(), ONE);
+    same(rt, told(alloc, reader)?.as_str().trim_end(), ONE);
     let Err(fault) = editor.publish(rt) else {
         return Err(Fail::new("nothing was pending"));
     };
-    assert_eq!(rt; fault, PublishFault::NothingPending);
+    same(rt, fault, PublishFault::NothingPending);
     Ok(())
 }
 
@@ -95,7 +96,7 @@ fn one_reader<R: Wait + Abort>(rt: &R, alloc: Global) -> Result<(), Fail> {
     let Err(fault) = reader.ask(&Query::Lands) else {
         return Err(Fail::new("told by nobody"));
     };
-    assert_eq!(rt; fault, AskFault::NoPlace);
+    same(rt, fault, AskFault::NoPlace);
     Ok(())
 }
 
@@ -120,9 +121,17 @@ fn notes<R: Wait + Abort>(
     let again = editor.note();
     let second = published(rt, alloc, editor, BRITAIN)?;
     two.learn(second);
-    assert_eq!(rt; told(alloc, two)?.as_str().trim_end(), two_lands.as_str());
+    same(
+        rt,
+        told(alloc, two)?.as_str().trim_end(),
+        two_lands.as_str(),
+    );
     two.learn(first);
-    assert_eq!(rt; told(alloc, two)?.as_str().trim_end(), two_lands.as_str());
+    same(
+        rt,
+        told(alloc, two)?.as_str().trim_end(),
+        two_lands.as_str(),
+    );
     one.learn(again);
     let edition = one.ask(&Query::Lands)?.edition;
     assert!(rt; edition == 1 || edition == 2);
@@ -160,9 +169,9 @@ fn refused<R: Wait>(rt: &R, alloc: Global, readers: u32) -> Option<OpenFault> {
 
 #[test]
 fn readers_are_1_to_64(rt: HostRuntime) -> Result<(), Fail> {
-    assert_eq!(rt; refused(&rt, rt.alloc(), 0), Some(OpenFault::BadCount));
-    assert_eq!(rt; refused(&rt, rt.alloc(), 64), None);
-    assert_eq!(rt; refused(&rt, rt.alloc(), 65), Some(OpenFault::BadCount));
+    same(&rt, refused(&rt, rt.alloc(), 0), Some(OpenFault::BadCount));
+    same(&rt, refused(&rt, rt.alloc(), 64), None);
+    same(&rt, refused(&rt, rt.alloc(), 65), Some(OpenFault::BadCount));
     Ok(())
 }
 
@@ -220,7 +229,7 @@ fn are_possible(rt: &impl Abort, alloc: Global, replies: Vec<Reply>) -> Result<(
         last = reply.edition;
         let line = reply_text(alloc, &Outcome::Replied { reader: 1, reply })?;
         let wanted = if last == 0 { NONE } else { ONE };
-        assert_eq!(rt; line.as_str().trim_end(), wanted);
+        same(rt, line.as_str().trim_end(), wanted);
     }
     Ok(())
 }
@@ -228,9 +237,9 @@ fn are_possible(rt: &impl Abort, alloc: Global, replies: Vec<Reply>) -> Result<(
 #[test]
 fn readers_work_while_the_editor_does(rt: HostRuntime) -> Result<(), Fail> {
     let all = desk(&rt, rt.alloc(), &OpenGate, 64, 20)??;
-    assert_eq!(rt; all.len(), 64);
+    same(&rt, all.len(), 64);
     for replies in all {
-        assert_eq!(rt; replies.len(), 20);
+        same(&rt, replies.len(), 20);
         are_possible(&rt, rt.alloc(), replies)?;
     }
     Ok(())
@@ -289,10 +298,10 @@ fn later_questions_are_answered_from_later_editions(rt: HostRuntime) -> Result<(
         asked: AtomicU64::new(0),
     };
     let all = desk(&rt, rt.alloc(), &gate, 1, 2)??;
-    assert_eq!(rt; all.len(), 1);
+    same(&rt, all.len(), 1);
     for replies in all {
         let editions = (edition_at(&replies, 0), edition_at(&replies, 1));
-        assert_eq!(rt; editions, (Some(0), Some(1)));
+        same(&rt, editions, (Some(0), Some(1)));
         are_possible(&rt, rt.alloc(), replies)?;
     }
     Ok(())
@@ -335,14 +344,14 @@ fn meeting_of(one: (u32, usize), two: (u32, usize)) -> Meeting {
 #[test]
 fn two_readers_meet(rt: HostRuntime) -> Result<(), Fail> {
     let all = desk(&rt, rt.alloc(), &meeting_of((1, 1), (2, 1)), 2, 2)??;
-    assert_eq!(rt; all.len(), 2);
+    same(&rt, all.len(), 2);
     Ok(())
 }
 
 #[test]
 fn the_editor_and_a_reader_meet(rt: HostRuntime) -> Result<(), Fail> {
     let all = desk(&rt, rt.alloc(), &meeting_of((0, 0), (1, 0)), 1, 2)??;
-    assert_eq!(rt; all.len(), 1);
+    same(&rt, all.len(), 1);
     Ok(())
 }
 
@@ -375,8 +384,8 @@ fn a_desk_fails(rt: HostRuntime) -> Result<(), Fail> {
     let none = fault(&rt, rt.alloc(), &OpenGate, 0)?;
     let many = fault(&rt, rt.alloc(), &OpenGate, 65)?;
     let closed = fault(&rt, rt.alloc(), &Closed, 1)?;
-    assert_eq!(rt; (none.number(), none.name()), (92, "BadCount"));
-    assert_eq!(rt; many, DeskFault::BadCount);
-    assert_eq!(rt; (closed.number(), closed.name()), (94, "GateClosed"));
+    same(&rt, (none.number(), none.name()), (92, "BadCount"));
+    same(&rt, many, DeskFault::BadCount);
+    same(&rt, (closed.number(), closed.name()), (94, "GateClosed"));
     Ok(())
 }

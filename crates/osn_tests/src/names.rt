@@ -1,5 +1,6 @@
 //! The numbers and names that replies give, as the formats list them, and the lists that answers
 //! hold.
+use crate::compare::same;
 use osn_register::{Listing, Refusal};
 use osn_wire::{Member, WireFault};
 use std::alloc::AllocError;
@@ -31,8 +32,7 @@ const REFUSALS: [(Refusal, u8, &str); 20] = [
 
 fn are_refusals(rt: &impl Abort, rows: &[(Refusal, u8, &str)]) {
     for (refusal, number, name) in rows {
-        assert_eq!(rt; refusal.number(), *number);
-        assert_eq!(rt; refusal.name(), *name);
+        same(rt, (refusal.number(), refusal.name()), (*number, *name));
     }
 }
 
@@ -54,8 +54,7 @@ const FAULTS: [(WireFault, u8, &str); 12] = [
 
 fn are_faults(rt: &impl Abort, rows: &[(WireFault, u8, &str)]) {
     for (fault, number, name) in rows {
-        assert_eq!(rt; fault.number(), *number);
-        assert_eq!(rt; fault.name(), *name);
+        same(rt, (fault.number(), fault.name()), (*number, *name));
     }
 }
 
@@ -80,7 +79,7 @@ const MEMBERS: [(Member, &str); 15] = [
 
 fn are_members(rt: &impl Abort, rows: &[(Member, &str)]) {
     for (member, name) in rows {
-        assert_eq!(rt; member.name(), *name);
+        same(rt, member.name(), *name);
     }
 }
 
@@ -95,6 +94,6 @@ fn numbers_and_names(rt: HostRuntime) {
 fn a_listing_has_what_was_moved_in(rt: HostRuntime) -> Result<(), AllocError> {
     let items = Vec::from_slice(rt.alloc(), &[3_u32, 1, 2])?;
     let listing = Listing::new(items);
-    assert_eq!(rt; listing.as_slice(), [3, 1, 2].as_slice());
+    same(&rt, listing.as_slice(), [3, 1, 2].as_slice());
     Ok(())
 }

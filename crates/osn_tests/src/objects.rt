@@ -1,4 +1,5 @@
 //! The calls of the object of `osn_core`. Edits and queries are read from their lines.
+use crate::compare::same;
 use crate::register::edit_of;
 use crate::session::joined;
 use osn_core::{Batch, Object};
@@ -83,16 +84,14 @@ fn lands_of(alloc: Global, object: &Object) -> Result<String, Fail> {
 
 /// That two editions stand, of two edits and of one, and one edit is pending.
 fn has_two_editions(rt: &impl Abort, alloc: Global, object: &Object) -> Result<(), Fail> {
-    let batches = object.batches();
-    assert_eq!(rt; batches.len(), 2);
-    assert_eq!(rt;
-        (batches[0].edits().len(), batches[1].edits().len()),
-        (2, 1)
-    );
-    assert_eq!(rt; object.pending().len(), 1);
-    assert_eq!(rt; object.register().limits(), Limits::standard());
+    let [first, second] = object.batches() else {
+        return Err(Fail::new("not two editions"));
+    };
+    same(rt, (first.edits().len(), second.edits().len()), (2, 1));
+    same(rt, object.pending().len(), 1);
+    same(rt, object.register().limits(), Limits::standard());
     let told = lands_of(alloc, object)?;
-    assert_eq!(rt; told.as_str().trim_end(), joined(alloc, LANDS)?.as_str());
+    same(rt, told.as_str().trim_end(), joined(alloc, LANDS)?.as_str());
     Ok(())
 }
 
@@ -111,7 +110,7 @@ fn made(
         } else {
             told(alloc, &mut object, line)?
         };
-        assert_eq!(rt; got, *answer, "at {line}");
+        same(rt, (line, got), (line, *answer));
     }
     Ok(object)
 }
@@ -134,7 +133,7 @@ fn batches_hold_edits(rt: HostRuntime) -> Result<(), Fail> {
     let mut edits = Vec::new(rt.alloc());
     edits.push(edit)?;
     let batch = Batch::new(edits);
-    assert_eq!(rt; batch.edits().len(), 1);
-    assert_eq!(rt; batch.into_edits().len(), 1);
+    same(&rt, batch.edits().len(), 1);
+    same(&rt, batch.into_edits().len(), 1);
     Ok(())
 }

@@ -1,5 +1,6 @@
 //! The commands that print what they make of files, over memory: the number of the status, what is
 //! written, and what standard error is told.
+use crate::compare::same;
 use crate::session::joined;
 use osn_commands::{Status, almanac_command, audit_command, desk_command, replay_command};
 use osn_wire::Plain;
@@ -38,9 +39,9 @@ type Wanted = (u8, &'static str, &'static str);
 fn is_left(rt: &impl Abort, alloc: Global, left: Left, wanted: &Wanted) -> Result<(), Fail> {
     let (status, written, told) = wanted;
     let written = joined(alloc, written)?;
-    assert_eq!(rt; left.status.code(), *status);
-    assert_eq!(rt; str::from_utf8(&left.written)?, written.as_str());
-    assert_eq!(rt; str::from_utf8(&left.told)?, *told);
+    same(rt, left.status.code(), *status);
+    same(rt, str::from_utf8(&left.written)?, written.as_str());
+    same(rt, str::from_utf8(&left.told)?, *told);
     Ok(())
 }
 
@@ -106,9 +107,8 @@ fn an_almanac_is_printed(rt: HostRuntime) -> Result<(), Fail> {
     let left = left_by(status, output, errors);
     let text = str::from_utf8(&left.written)?;
     assert!(rt; text.starts_with("Almanac of Rome (RM) for 1500\nGolden number 19, indiction 3\n"));
-    assert_eq!(rt; text.lines().count(), 23);
-    assert_eq!(rt; left.status.code(), 0);
-    assert_eq!(rt; left.told.len(), 0);
+    same(&rt, text.lines().count(), 23);
+    same(&rt, (left.status.code(), left.told.len()), (0, 0));
     Ok(())
 }
 

@@ -1,5 +1,6 @@
 //! The calls of `osn_register`: registers folded from edits, copied and changed. Edits and queries
 //! are read from their lines, and answers compared as theirs.
+use crate::compare::same;
 use crate::session::{apart, joined};
 use osn_core::Reply;
 use osn_register::{Answer, Edit, Limits, Query, Refusal, Register, Text};
@@ -46,7 +47,7 @@ fn answers(rt: &impl Abort, alloc: Global, register: &Register, session: &str) -
     for (line, wanted) in queries.lines().zip(wanted.lines()) {
         let query = query_of(alloc, line)?.copy()?;
         let got = told(alloc, register.answer(&query)?)?;
-        assert_eq!(rt; got.as_str().trim_end(), wanted, "at {line}");
+        same(rt, (line, got.as_str().trim_end()), (line, wanted));
     }
     Ok(())
 }
@@ -227,7 +228,7 @@ fn made(
         } else {
             applied(alloc, &mut register, line)?
         };
-        assert_eq!(rt; got, *answer, "at {line}");
+        same(rt, (line, got), (line, *answer));
     }
     Ok(register)
 }
@@ -247,8 +248,8 @@ fn edits_are_checked_and_admitted(rt: HostRuntime) -> Result<(), Fail> {
 #[test]
 fn texts_are_read_copied_and_moved(rt: HostRuntime) -> Result<(), Fail> {
     let text = Text::from_str(rt.alloc(), "Île")?;
-    assert_eq!(rt; text.as_str(), "Île");
-    assert_eq!(rt; text.copy()?.into_string().as_str(), "Île");
-    assert_eq!(rt; Text::new(text.into_string()).as_str(), "Île");
+    same(&rt, text.as_str(), "Île");
+    same(&rt, text.copy()?.into_string().as_str(), "Île");
+    same(&rt, Text::new(text.into_string()).as_str(), "Île");
     Ok(())
 }

@@ -1,5 +1,6 @@
 //! Schedules of one reader and of two, as lines: read, taken step by step, and all at once. Every
 //! second line is what the step before it gives.
+use crate::compare::same;
 use crate::session::apart;
 use osn_core::{Core, MOST_READERS, Out, Reply, Step, replay};
 use osn_register::{Limits, Query, Refusal, Register};
@@ -224,8 +225,16 @@ fn holds(rt: &impl Abort, alloc: Global, readers: u32, schedule: &str) -> Result
     let (lines, outs) = apart(alloc, schedule)?;
     let steps = steps_of(alloc, lines.as_str())?;
     let mut core = Core::new(alloc, Limits::standard(), readers)?;
-    assert_eq!(rt; stepped(alloc, &mut core, &steps)?.as_str(), outs.as_str());
-    assert_eq!(rt; replayed(alloc, readers, &steps)?.as_str(), outs.as_str());
+    same(
+        rt,
+        stepped(alloc, &mut core, &steps)?.as_str(),
+        outs.as_str(),
+    );
+    same(
+        rt,
+        replayed(alloc, readers, &steps)?.as_str(),
+        outs.as_str(),
+    );
     Ok(())
 }
 
@@ -273,8 +282,16 @@ fn sides(
     for step in steps.iter().take(count) {
         core.step(step)?;
     }
-    assert_eq!(rt; lands_of(alloc, core.side(0))?.as_str().trim_end(), shown.0);
-    assert_eq!(rt; lands_of(alloc, core.side(1))?.as_str().trim_end(), shown.1);
+    same(
+        rt,
+        lands_of(alloc, core.side(0))?.as_str().trim_end(),
+        shown.0,
+    );
+    same(
+        rt,
+        lands_of(alloc, core.side(1))?.as_str().trim_end(),
+        shown.1,
+    );
     Ok(())
 }
 
@@ -313,10 +330,10 @@ fn refused(alloc: Global, readers: u32) -> (Option<Refusal>, Option<Refusal>) {
 fn readers_are_1_to_64(rt: HostRuntime) -> Result<(), Fail> {
     let bad = Some(Refusal::BadCount);
     for readers in [0, 65, u32::MAX] {
-        assert_eq!(rt; refused(rt.alloc(), readers), (bad, bad));
+        same(&rt, refused(rt.alloc(), readers), (bad, bad));
     }
     for (reader, wanted) in [(0, false), (1, true), (64, true), (65, false)] {
-        assert_eq!(rt; moves(rt.alloc(), reader)?, wanted, "reader {reader}");
+        same(&rt, (reader, moves(rt.alloc(), reader)?), (reader, wanted));
     }
     Ok(())
 }

@@ -5,6 +5,7 @@ ghost use Rattle.osn_days.specs.Profile.{present};
 ghost use Rattle.osn_lands.specs.Label.{days_with_label};
 ghost use Rattle.osn_lands.specs.Territory.{reading};
 
+use crate::compare::same;
 use crate::lands::of_forty_changes;
 use crate::walk::day_at;
 use osn_computus::Rule;
@@ -74,7 +75,7 @@ fn labels_agree(
     for ymd in dates {
         let found = days_under(alloc, regime, label(*ymd))?;
         let quick = day_of_label(regime, label(*ymd));
-        assert_eq!(rt; found.first().copied(), quick, "at {ymd:?}");
+        same(rt, (ymd, found.first().copied()), (ymd, quick));
         assert!(rt; found.len() <= 1);
     }
     Ok(())
@@ -110,7 +111,7 @@ fn readings_agree(
     for ymd in dates {
         let found = read(alloc, territory, label(*ymd))?;
         let quick = territory.read(label(*ymd))?;
-        assert_eq!(rt; found.as_slice(), quick.as_slice(), "at {ymd:?}");
+        same(rt, (ymd, found.as_slice()), (ymd, quick.as_slice()));
     }
     Ok(())
 }

@@ -1,4 +1,5 @@
 //! Sessions of the service over memory, written as what is read and what is written.
+use crate::compare::same;
 use osn_register::Limits;
 use osn_wire::{Plain, serve};
 use std::alloc::{AllocError, Global};
@@ -57,9 +58,9 @@ pub fn serves(
     let (written, lines) = served(alloc, limits, readers, requests.as_bytes())?;
     let text = str::from_utf8(&written)?;
     for (place, (got, wanted)) in text.lines().zip(replies.lines()).enumerate() {
-        assert_eq!(rt; got, wanted, "reply {place}");
+        same(rt, (place, got), (place, wanted));
     }
-    assert_eq!(rt; text.len(), replies.len());
-    assert_eq!(rt; lines, replies.lines().count() as u64);
+    let counts = (replies.len(), replies.lines().count() as u64);
+    same(rt, (text.len(), lines), counts);
     Ok(())
 }

@@ -1,5 +1,6 @@
 //! The service from an object that stands already, and where the object stands after a write that
 //! failed.
+use crate::compare::same;
 use crate::session::apart;
 use crate::streams::sink_that_fails;
 use osn_core::Object;
@@ -54,8 +55,8 @@ fn served_from(
 fn goes_on(rt: &impl Abort, alloc: Global, object: &mut Object, stream: &str) -> Result<(), Fail> {
     let (requests, replies) = apart(alloc, stream)?;
     let (written, lines) = served_from(alloc, object, requests.as_bytes())?;
-    assert_eq!(rt; lines, replies.lines().count() as u64);
-    assert_eq!(rt; str::from_utf8(&written)?, replies.as_str());
+    same(rt, lines, replies.lines().count() as u64);
+    same(rt, str::from_utf8(&written)?, replies.as_str());
     Ok(())
 }
 
@@ -114,10 +115,10 @@ fn stops(
             _ => None,
         };
         let stands = (object.pending().len(), object.batches().len());
-        assert_eq!(rt;
-            (answered, stands),
-            (Some(*lines), (*pending, *editions)),
-            "at {fails_at}"
+        same(
+            rt,
+            (fails_at, answered, stands),
+            (fails_at, Some(*lines), (*pending, *editions)),
         );
     }
     Ok(())

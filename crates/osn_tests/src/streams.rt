@@ -1,4 +1,5 @@
 //! Streams: bytes that come and go in any pieces, and reads, writes and flushes that fail.
+use crate::compare::same;
 use osn_register::Limits;
 use osn_wire::{Plain, ServeFault, Sink, serve, write_all};
 use std::alloc::{AllocError, Global};
@@ -192,7 +193,7 @@ fn are_answered(
     for (input, want, lines) in rows {
         let got = tried(alloc, input.as_bytes(), plan)?;
         let wanted = (End::Answered(*lines), *want);
-        assert_eq!(rt; (got.end, str::from_utf8(&got.text)?), wanted);
+        same(rt, (got.end, str::from_utf8(&got.text)?), wanted);
     }
     Ok(())
 }
@@ -243,7 +244,7 @@ fn are_starts(
     for (from, to, written, is_cut) in rows {
         for count in *from..*to {
             let wanted = replies(alloc, *written, *is_cut)?;
-            assert_eq!(rt; written_for(alloc, count)?, wanted);
+            same(rt, written_for(alloc, count)?, wanted);
         }
     }
     Ok(())
@@ -258,10 +259,10 @@ fn each_start_of_an_input(rt: HostRuntime) -> Result<(), AllocError> {
 fn replies_are_written_together_and_before_the_next_read(rt: HostRuntime) -> Result<(), Fail> {
     let queries = b"{\"op\":\"lands\",\"reader\":1}\n{\"op\":\"lands\",\"reader\":2}\nx\n";
     let together = tried(rt.alloc(), queries, WHOLE)?;
-    assert_eq!(rt; together.writes, 1, "lines that came together");
+    same(&rt, together.writes, 1);
     // What came alone was flushed before the last read.
     let alone = tried(rt.alloc(), queries, BY_BYTES)?;
-    assert_eq!(rt; (alone.writes, alone.seen), (3, alone.text.len()));
+    same(&rt, (alone.writes, alone.seen), (3, alone.text.len()));
     Ok(())
 }
 
@@ -290,7 +291,7 @@ fn fail_in_reading(
         let got = tried(alloc, READ.as_bytes(), plan)?;
         let written = WRITTEN.as_bytes().get(..*written);
         let wanted = (End::ReadFault(*lines), written);
-        assert_eq!(rt; (got.end, Some(got.text.as_slice())), wanted);
+        same(rt, (got.end, Some(got.text.as_slice())), wanted);
     }
     Ok(())
 }
@@ -318,7 +319,7 @@ fn fail_in_writing(
         let got = tried(alloc, READ.as_bytes(), plan)?;
         let written = WRITTEN.as_bytes().get(..*write_fails_at);
         let wanted = (End::WriteFault(*lines), written);
-        assert_eq!(rt; (got.end, Some(got.text.as_slice())), wanted);
+        same(rt, (got.end, Some(got.text.as_slice())), wanted);
     }
     Ok(())
 }
@@ -333,7 +334,7 @@ fn a_failed_write_ends_it(rt: HostRuntime) -> Result<(), Fail> {
 fn a_writer_that_takes_nothing_has_failed(rt: HostRuntime) -> Result<(), Fail> {
     for plan in [WHOLE, BY_BYTES] {
         let got = tried(rt.alloc(), READ.as_bytes(), Plan { step: 0, ..plan })?;
-        assert_eq!(rt; (got.end, got.text.len()), (End::WriteFault(0), 0));
+        same(&rt, (got.end, got.text.len()), (End::WriteFault(0), 0));
     }
     Ok(())
 }
@@ -382,8 +383,8 @@ fn are_written(
 ) -> Result<(), AllocError> {
     for (step, fails_at, want) in rows {
         let mut sink = sink_that_fails(alloc, *step, *fails_at)?;
-        assert_eq!(rt; write_all(&mut sink, b"abcdefg"), *want);
-        assert_eq!(rt; sink.failed(), want.is_err());
+        let written = write_all(&mut sink, b"abcdefg");
+        same(rt, (written, sink.failed()), (*want, want.is_err()));
     }
     Ok(())
 }

@@ -1,6 +1,7 @@
 //! The loop over lines, with a taker of its own that stops.
 ghost use Rattle.std.specs.Prelude.{⊤};
 
+use crate::compare::same;
 use osn_wire::{LineTaker, Plain, TakeFault, take_lines};
 use std::alloc::Global;
 use std::process::Abort;
@@ -79,8 +80,8 @@ fn take_up_to(rt: &impl Abort, alloc: Global, rows: &[(&[u8], u32, End, u64)]) {
             Err(TakeFault::ReadFault { lines }) => (End::ReadFault, lines),
             Err(TakeFault::Stopped { lines, why }) => (End::Stopped(why), lines),
         };
-        assert_eq!(rt; end, *wanted, "for {input:?}");
-        assert_eq!(rt; (taker.taken, lines), (*count, *count), "for {input:?}");
+        same(rt, (input, end), (input, *wanted));
+        same(rt, (input, taker.taken, lines), (input, *count, *count));
     }
 }
 

@@ -7,6 +7,7 @@ ghost use Rattle.osn_days.specs.Line.{IsDay};
 ghost use Rattle.osn_days.specs.Chain as chain;
 ghost use Rattle.osn_days.specs.declared.calendar.Calendar.TheVariants.{Swedish};
 
+use crate::compare::same;
 use osn_days::{Calendar, Date, Day, HIGH};
 
 /// The day of a number of the line.
@@ -154,8 +155,8 @@ fn the_whole_line_in_each_calendar(rt: HostRuntime) {
         let mut date = first_date(calendar);
         for number in 1..HIGH + 1 {
             let day = day_at(number);
-            assert_eq!(rt; osn_days::date_of(calendar, day), date);
-            assert_eq!(rt; osn_days::day_of(calendar, date), Some(day));
+            same(&rt, osn_days::date_of(calendar, day), date);
+            same(&rt, osn_days::day_of(calendar, date), Some(day));
             assert!(rt; date.year <= 2999);
             date = next(calendar, date);
         }
@@ -169,8 +170,8 @@ fn searches_agree(rt: HostRuntime) {
         let day = day_at(number);
         for calendar in [Calendar::Julian, Calendar::Gregorian, Calendar::Swedish] {
             let date = date_of(calendar, day);
-            assert_eq!(rt; osn_days::date_of(calendar, day), date);
-            assert_eq!(rt; day_of(calendar, date), Some(day));
+            same(&rt, osn_days::date_of(calendar, day), date);
+            same(&rt, day_of(calendar, date), Some(day));
         }
     }
 }
@@ -188,8 +189,8 @@ fn searches_find_no_day(rt: HostRuntime) {
     ] {
         let date = Date { year, month, day };
         for calendar in [Calendar::Julian, Calendar::Gregorian, Calendar::Swedish] {
-            assert_eq!(rt; osn_days::day_of(calendar, date), None);
-            assert_eq!(rt; day_of(calendar, date), None);
+            same(&rt, osn_days::day_of(calendar, date), None);
+            same(&rt, day_of(calendar, date), None);
         }
     }
 }
