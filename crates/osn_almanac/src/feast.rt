@@ -2,7 +2,7 @@ ghost use Rattle.std.specs.Prelude.{◌≡◌};
 ghost use Rattle.osn_almanac.specs.Feast as said;
 
 /// A feast that is counted from Easter.
-#[derive(Clone, Copy, Debug, PartialEq, Eq)]
+#[derive(Clone, Copy)]
 pub(crate) enum Feast {
     Septuagesima,
     AshWednesday,

@@ -5,7 +5,7 @@ use osn_request::RequestError;
 use std::alloc::AllocError;
 
 /// Why a line ends the reading of a file.
-#[derive(Debug, Drop)]
+#[derive(Drop)]
 pub(crate) enum LineStop {
     /// Memory ran out.
     NoMemory,

@@ -9,7 +9,7 @@ use serde_json::Value;
 use std::alloc::Global;
 
 /// A version of the form of journals and scripts.
-#[derive(Clone, Copy, Debug, PartialEq, Eq)]
+#[derive(Clone, Copy)]
 pub(crate) enum Version {
     /// The first version.
     First,

@@ -2,13 +2,13 @@
 use std::alloc::AllocError;
 
 /// A write of the replies that wait failed, and so many of them are not written whole.
-#[derive(Clone, Copy, Debug)]
+#[derive(Clone, Copy)]
 pub(crate) struct Unfinished {
     pub(crate) unwritten: u64,
 }
 
 /// Why the service stops before the end of the input.
-#[derive(Debug, Drop)]
+#[derive(Drop)]
 pub(crate) enum Stop {
     /// Memory ran out.
     NoMemory,

@@ -30,7 +30,7 @@ fn write_epact(out: &mut Writer, epact: Epact) -> Result<(), AllocError>
 }
 
 /// The figures of a year by the Julian rule.
-#[derive(Clone, Copy, Debug)]
+#[derive(Clone, Copy)]
 pub(crate) struct JulianFigures {
     pub(crate) easter: Day,
     pub(crate) epact: u8,
@@ -51,7 +51,7 @@ impl WriteJson for JulianFigures {
 }
 
 /// The figures of a year by the Gregorian rule.
-#[derive(Clone, Copy, Debug)]
+#[derive(Clone, Copy)]
 pub(crate) struct GregorianFigures {
     pub(crate) easter: Day,
     pub(crate) epact: Epact,
