@@ -1,18 +1,18 @@
 //! Holds a transcript against a journal.
-ghost use Rattle.std.specs.Prelude.{◌≡◌, ◌≤◌, ◌⊎◌, ⊤, Ok, Err, true, length, IfOk, IfErr, IfSome};
-ghost use Rattle.std.specs.Prelude.{OnOk};
+ghost use Rattle.std.specs.Prelude.{◌≡◌, ◌⊎◌, ⊤, Ok, Err, length, IfOk, IfErr, IfSome, OnOk};
 ghost use Rattle.std.specs.Io.KnownBytes.{IsAtEnd};
 ghost use Rattle.osn_days.specs.Profile.{present};
 ghost use Rattle.osn_core.specs.Sequential.{ObjectState};
+ghost use Rattle.osn_lines.specs.Faults.{IsReadFault};
 ghost use Rattle.osn_lines.specs.Lines.{lines};
-ghost use Rattle.osn_files.specs.Faults.{MatchFileFault};
+ghost use Rattle.osn_files.specs.Faults.{MatchFileFault, FailsAsTold};
 ghost use Rattle.osn_files.specs.Journal.{load};
 ghost use Rattle.osn_files.specs.declared.fault.LineFault.TheVariants.{Wire};
 ghost use Rattle.osn_files.specs.declared.fault.Role.TheVariants.{Journal, Transcript};
 ghost use Rattle.osn_request.specs.declared.wire_fault.WireFault.{WireFault};
 ghost use Rattle.osn_audit.specs.Audit as said;
 ghost use Rattle.osn_audit.specs.Law.{Agrees};
-ghost use Rattle.osn_audit.specs.Reasons.{FailsNowhere, FailsOrGoesOn};
+ghost use Rattle.osn_audit.specs.Reasons.{FailsNowhere};
 
 use crate::auditing::Auditing;
 use crate::followers::Followers;
@@ -40,11 +40,8 @@ fn audit_lines<S: Source>(
         role ≡ Transcript)) }
     ensures end { OnOk result (IsAtEnd (S.remaining transcript.new)) }
     ensures sound { OnOk result (S.has_failed transcript.new ≡ S.has_failed transcript.old) }
-    ensures reason { IfErr result (λ fault. MatchFileFault fault
-        (S.has_failed transcript.new ≡ S.has_failed transcript.old)
-        ((S.has_failed transcript.new ≡ true)
-        ⊎ IfSome (S.remaining transcript.old) (λ input. 4294967295 ≤ length input))
-        (λ _ _ _. S.has_failed transcript.new ≡ S.has_failed transcript.old)) }
+    ensures reason { IfErr result (FailsAsTold (S.has_failed transcript.old)
+        (S.has_failed transcript.new) (S.remaining transcript.old)) }
 {
     let Ok(followers) = Followers::new(alloc, object) else {
         return Err(FileFault::NoMemory);
@@ -122,8 +119,8 @@ pub fn audit<R: Source, S: Source>(
     ensures reason { IfErr result (λ fault. MatchFileFault fault
         (FailsNowhere (R.has_failed journal.old) (R.has_failed journal.new)
         (S.has_failed transcript.old) (S.has_failed transcript.new))
-        (FailsOrGoesOn (R.has_failed journal.new) (R.remaining journal.old)
-        ⊎ FailsOrGoesOn (S.has_failed transcript.new) (S.remaining transcript.old))
+        (IsReadFault (R.has_failed journal.new) (R.remaining journal.old)
+        ⊎ IsReadFault (S.has_failed transcript.new) (S.remaining transcript.old))
         (λ _ _ _. FailsNowhere (R.has_failed journal.old) (R.has_failed journal.new)
         (S.has_failed transcript.old) (S.has_failed transcript.new))) }
 {

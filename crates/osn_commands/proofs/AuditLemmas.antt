@@ -16,7 +16,7 @@ use Rattle.osn_commands.proofs.FileLemmas.{if_err_made}
 use Rattle.osn_commands.specs.declared.fault.CommandFault.{CommandFault}
 use Rattle.osn_commands.specs.Audited.{IsNotAudited}
 use Rattle.osn_commands.specs.Fault.{by_file}
-use Rattle.osn_commands.specs.Files.{IsUnreadable}
+use Rattle.osn_lines.specs.Faults.{IsReadFault}
 
 -- the fault of an audit
 pub audit_fault : (A : Type 0) (C : Role → ℕ → LineFault → Type 0) (p : Profile) (limits : Limits)
@@ -24,7 +24,7 @@ pub audit_fault : (A : Type 0) (C : Role → ℕ → LineFault → Type 0) (p : 
     (fault : FileFault)
     → IfSome journal (λ edits. IfSome transcript (λ told. MatchFileFault fault ⊤ ⊤
     (λ role line why. audit p limits (lines edits) (lines told) ≡ Err (role, line, why))))
-    → MatchFileFault fault A (IsUnreadable journal failed ⊎ IsUnreadable transcript failed_too) C
+    → MatchFileFault fault A (IsReadFault failed journal ⊎ IsReadFault failed_too transcript) C
     → IsNotAudited p limits journal failed transcript failed_too (by_file fault)
 audit_fault A C p limits journal failed transcript failed_too file_faults.NoMemory h reason = tt
 audit_fault A C p limits journal failed transcript failed_too file_faults.ReadFault h reason =
@@ -41,7 +41,7 @@ pub made_audit_fault : {T : Type 0} (A : Type 0) (C : Role → ℕ → LineFault
     → IsErrAnd r (λ made. made ≡ by_file fault)
     → IfSome journal (λ edits. IfSome transcript (λ told. MatchFileFault fault ⊤ ⊤
     (λ role line why. audit p said (lines edits) (lines told) ≡ Err (role, line, why))))
-    → MatchFileFault fault A (IsUnreadable journal failed ⊎ IsUnreadable transcript failed_too) C
+    → MatchFileFault fault A (IsReadFault failed journal ⊎ IsReadFault failed_too transcript) C
     → IfErr r (IsNotAudited p limits journal failed transcript failed_too)
 made_audit_fault A C p said limits journal failed transcript failed_too fault r same made h k =
     subst (λ l. IfErr r (IsNotAudited p l journal failed transcript failed_too)) same

@@ -3,7 +3,8 @@ use Rattle.std.proofs.Common.{◌≡◌, ◌≤◌, ◌⊎◌, ℕ, Bool, true, 
 use Rattle.std.proofs.Common.{Err, IfOk, IfErr, length, take, sym, subst, inl, inr}
 use Rattle.std.specs.Io.KnownBytes.{Appends}
 use Rattle.osn_commands.proofs.TellLemmas.{write_is_no_refusal}
-use Rattle.osn_commands.specs.Printing.{IsUnwritable, Prints}
+use Rattle.osn_lines.specs.Faults.{IsWriteFault}
+use Rattle.osn_commands.specs.Printing.{Prints}
 use Rattle.osn_commands.specs.Told.{IsToldAs, EndsBy, Tells}
 use Rattle.osn_commands.specs.declared.fault.CommandFault.{CommandFault}
 use Rattle.osn_commands.specs.declared.fault.CommandFault.TheVariants.{WriteFault, NoMemory}
@@ -12,7 +13,7 @@ use Rattle.osn_commands.specs.declared.status.Status.{Status}
 -- why the writes of a text ended early
 unwritable : (old new : Bool) (bytes : List ℕ)
     → (new ≡ true) ⊎ ((new ≡ old) × (4294967295 ≤ length bytes))
-    → IsUnwritable new bytes
+    → IsWriteFault new bytes
 unwritable old new bytes (inl failed) = inl failed
 unwritable old new bytes (inr long) = inr long.1
 

@@ -8,7 +8,8 @@ use Rattle.osn_files.specs.Journal.{load}
 use Rattle.osn_files.specs.declared.fault.Role.TheVariants.{Journal}
 use Rattle.osn_almanac.specs.Almanac.{almanac, almanac_refusal}
 use Rattle.osn_commands.specs.declared.fault.CommandFault.{CommandFault}
-use Rattle.osn_commands.specs.Files.{Makes, IsFileFault, IsUnreadable}
+use Rattle.osn_lines.specs.Faults.{IsReadFault}
+use Rattle.osn_commands.specs.Files.{Makes, IsFileFault}
 use Rattle.osn_commands.specs.Refused.{IsRefusedBy}
 
 -- the territories that an object has published
@@ -30,6 +31,6 @@ IsAlmanac p limits journal code year text =
 abbrev pub HasNoAlmanac : Profile → Limits → Option (List ℕ) → Bool → List ℕ → ℤ → CommandFault
     → Type 0
 HasNoAlmanac p limits journal failed code year fault =
-    IsFileFault Journal (load p limits) journal (IsUnreadable journal failed) fault
+    IsFileFault Journal (load p limits) journal (IsReadFault failed journal) fault
     ⊎ ((s : ObjectState) × Makes (load p limits) journal s
     × IsRefusedBy (almanac_refusal p (published p s) code year) fault)

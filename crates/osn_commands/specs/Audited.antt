@@ -9,7 +9,7 @@ use Rattle.osn_commands.specs.declared.fault.CommandFault.{CommandFault}
 use Rattle.osn_commands.specs.declared.fault.CommandFault.TheVariants.{BadLine, Refused, Desk}
 use Rattle.osn_commands.specs.declared.fault.CommandFault.TheVariants.{ReadFault, WriteFault}
 use Rattle.osn_commands.specs.declared.fault.CommandFault.TheVariants.{NoMemory}
-use Rattle.osn_commands.specs.Files.{IsUnreadable}
+use Rattle.osn_lines.specs.Faults.{IsReadFault}
 
 -- the line on so many replies
 abbrev pub audit_line : ℕ → List ℕ
@@ -34,6 +34,6 @@ IsNotAudited p limits journal failed transcript failed_too (BadLine role line wh
 IsNotAudited p limits journal failed transcript failed_too (Refused refusal) = ⊥
 IsNotAudited p limits journal failed transcript failed_too (Desk fault) = ⊥
 IsNotAudited p limits journal failed transcript failed_too ReadFault =
-    IsUnreadable journal failed ⊎ IsUnreadable transcript failed_too
+    IsReadFault failed journal ⊎ IsReadFault failed_too transcript
 IsNotAudited p limits journal failed transcript failed_too WriteFault = ⊥
 IsNotAudited p limits journal failed transcript failed_too NoMemory = ⊤

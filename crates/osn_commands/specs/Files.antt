@@ -1,6 +1,5 @@
 -- What a command makes of a file's lines, by the rule of the file, and why it makes nothing.
-use Rattle.std.specs.Prelude.{◌≡◌, ◌≤◌, ◌⊎◌, ⊤, ℕ, Bool, true, List, length, Option, Some, None}
-use Rattle.std.specs.Prelude.{Result, Ok, Err, IfSome}
+use Rattle.std.specs.Prelude.{◌≡◌, ⊤, ℕ, List, Option, Some, None, Result, Ok, Err}
 use Rattle.osn_lines.specs.Lines.{lines}
 use Rattle.osn_files.specs.declared.fault.LineFault.{LineFault}
 use Rattle.osn_files.specs.declared.fault.Role.{Role}
@@ -22,10 +21,6 @@ abbrev pub HasFault : {S : Type 0} → Role → (List (List ℕ) → Result S (�
 HasFault role rule None named line why = named ≡ role
 HasFault role rule (Some bytes) named line why =
     (named ≡ role) × (rule (lines bytes) ≡ Err (line, why))
-
--- the file could not be read: it failed, or has more bytes than reads are made
-abbrev pub IsUnreadable : Option (List ℕ) → Bool → Type 0
-IsUnreadable bytes failed = (failed ≡ true) ⊎ IfSome bytes (λ input. 4294967295 ≤ length input)
 
 -- why the rule makes nothing of the file of this role, where a read fault shows what is given
 abbrev pub IsFileFault : {S : Type 0} → Role → (List (List ℕ) → Result S (ℕ × LineFault))

@@ -1,12 +1,9 @@
 -- What a command has written that prints one text, made of its files.
-use Rattle.std.specs.Prelude.{◌≡◌, ◌≤◌, ◌⊎◌, ℕ, Bool, true, List, Option, Some, None, length, take}
+use Rattle.std.specs.Prelude.{◌≡◌, ◌⊎◌, ℕ, Bool, List, Option, Some, None, take}
 use Rattle.std.specs.Io.KnownBytes.{Appends}
+use Rattle.osn_lines.specs.Faults.{IsWriteFault}
 use Rattle.osn_commands.specs.declared.fault.CommandFault.{CommandFault}
 use Rattle.osn_commands.specs.declared.fault.CommandFault.TheVariants.{WriteFault}
-
--- the text could not be written: the output failed, or the text may take more writes than are made
-abbrev pub IsUnwritable : Bool → List ℕ → Type 0
-IsUnwritable failed text = (failed ≡ true) ⊎ (4294967295 ≤ length text)
 
 -- what was written by this ending: the text; or nothing, where there is none by this fault; or a
 -- front of the text, where it could not be written
@@ -15,5 +12,5 @@ abbrev pub Prints : (List ℕ → Type 0) → (CommandFault → Type 0) → Opti
 Prints IsText HasNone old new failed None = (text : List ℕ) × IsText text × Appends old new text
 Prints IsText HasNone old new failed (Some fault) =
     (HasNone fault × (new ≡ old))
-    ⊎ ((fault ≡ WriteFault) × (text : List ℕ) × IsText text × IsUnwritable failed text
+    ⊎ ((fault ≡ WriteFault) × (text : List ℕ) × IsText text × IsWriteFault failed text
     × (n : ℕ) × Appends old new (take n text))

@@ -9,7 +9,8 @@ use Rattle.osn_files.specs.Schedule.{schedule}
 use Rattle.osn_files.specs.declared.fault.Role.TheVariants.{Schedule}
 use Rattle.osn_reply.specs.OutText.{out_line}
 use Rattle.osn_commands.specs.declared.fault.CommandFault.{CommandFault}
-use Rattle.osn_commands.specs.Files.{Makes, IsFileFault, IsUnreadable}
+use Rattle.osn_lines.specs.Faults.{IsReadFault}
+use Rattle.osn_commands.specs.Files.{Makes, IsFileFault}
 use Rattle.osn_commands.specs.Refused.{IsRefusedBy}
 
 -- the text has a line for what each of the steps gives, from the first state on
@@ -27,6 +28,6 @@ IsReplay p limits readers file text =
 -- why there is no text of the schedule's steps
 abbrev pub HasNoReplay : Profile → ℕ → Option (List ℕ) → Bool → CommandFault → Type 0
 HasNoReplay p readers file failed fault =
-    IsFileFault Schedule (schedule p readers) file (IsUnreadable file failed) fault
+    IsFileFault Schedule (schedule p readers) file (IsReadFault failed file) fault
     ⊎ ((steps : List Step) × Makes (schedule p readers) file steps
     × IsRefusedBy (readers_refusal readers) fault)

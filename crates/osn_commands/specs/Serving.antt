@@ -12,9 +12,8 @@ use Rattle.osn_commands.specs.declared.fault.CommandFault.{CommandFault}
 use Rattle.osn_commands.specs.declared.fault.CommandFault.TheVariants.{BadLine, Refused, Desk}
 use Rattle.osn_commands.specs.declared.fault.CommandFault.TheVariants.{ReadFault, WriteFault}
 use Rattle.osn_commands.specs.declared.fault.CommandFault.TheVariants.{NoMemory}
-use Rattle.osn_commands.specs.Files.{IsUnreadable}
+use Rattle.osn_lines.specs.Faults.{IsReadFault, IsWriteFault}
 use Rattle.osn_commands.specs.Journal.{Begins, HasNoObject}
-use Rattle.osn_commands.specs.Printing.{IsUnwritable}
 
 -- the journal of an object, where it is to be saved
 abbrev pub journal_to_save : Bool → ObjectState → Option (List ℕ)
@@ -36,10 +35,10 @@ AnswersUntil p readers s old new unwritten input unread (BadLine role line why) 
 AnswersUntil p readers s old new unwritten input unread (Refused refusal) = ⊥
 AnswersUntil p readers s old new unwritten input unread (Desk fault) = ⊥
 AnswersUntil p readers s old new unwritten input unread ReadFault =
-    IsUnreadable (Some input) unread
+    IsReadFault unread (Some input)
     × (n : ℕ) × WritesFirst p readers s old new (lines input) n
 AnswersUntil p readers s old new unwritten input unread WriteFault =
-    IsUnwritable unwritten (outputs p readers s (lines input))
+    IsWriteFault unwritten (outputs p readers s (lines input))
     × (n : ℕ) × WritesInPart p readers s old new (lines input) n
 AnswersUntil p readers s old new unwritten input unread NoMemory =
     (n : ℕ) × WritesFirst p readers s old new (lines input) n

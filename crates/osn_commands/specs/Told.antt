@@ -1,9 +1,9 @@
 -- What standard error is told, and the status that goes with it.
-use Rattle.std.specs.Prelude.{◌≡◌, ◌≢◌, ◌≤◌, ◌⊎◌, ℕ, Bool, true, List, Option, Some, None, length}
-use Rattle.std.specs.Prelude.{codes}
+use Rattle.std.specs.Prelude.{◌≡◌, ◌≢◌, ◌⊎◌, ℕ, Bool, List, Option, Some, None, codes}
 use Rattle.std.specs.declared.io.ErrorKind.{ErrorKind}
 use Rattle.std.specs.declared.io.ErrorKind.TheVariants.{OutOfMemory}
 use Rattle.std.specs.Io.KnownBytes.{Appends}
+use Rattle.osn_lines.specs.Faults.{IsWriteFault}
 use Rattle.osn_commands.specs.declared.fault.CommandFault.{CommandFault}
 use Rattle.osn_commands.specs.declared.fault.CommandFault.TheVariants.{NoMemory}
 use Rattle.osn_commands.specs.declared.status.Status.{Status}
@@ -17,7 +17,7 @@ IsToldAs fault told = (told ≡ fault) ⊎ ((fault_status fault ≡ Refused) × 
 -- the line was written whole, or the sink failed or took it in too many writes
 abbrev pub WritesLine : Option (List ℕ) → Option (List ℕ) → Bool → List ℕ → Type 0
 WritesLine old new failed line =
-    Appends old new line ⊎ ((failed ≡ true) ⊎ (4294967295 ≤ length line))
+    Appends old new line ⊎ IsWriteFault failed line
 
 -- a command that ended by this fault, if any, has this status, and wrote the line of the fault
 abbrev pub EndsBy : Option (List ℕ) → Option (List ℕ) → Bool → Option CommandFault → Status → Type 0

@@ -18,7 +18,8 @@ use Rattle.osn_commands.specs.declared.fault.CommandFault.{CommandFault}
 use Rattle.osn_commands.specs.declared.fault.CommandFault.TheVariants.{BadLine, Refused, Desk}
 use Rattle.osn_commands.specs.declared.fault.CommandFault.TheVariants.{ReadFault, WriteFault}
 use Rattle.osn_commands.specs.declared.fault.CommandFault.TheVariants.{NoMemory}
-use Rattle.osn_commands.specs.Files.{Makes, IsFileFault, IsUnreadable}
+use Rattle.osn_lines.specs.Faults.{IsReadFault}
+use Rattle.osn_commands.specs.Files.{Makes, IsFileFault}
 
 -- the lines of one reader, a question each with its reply
 abbrev pub reader_lines : ℕ → List Query → List Reply → List ℕ
@@ -43,9 +44,9 @@ MakeDesk p editor readers commands lists =
 abbrev pub MakeNoDesk : Profile → Option (List ℕ) → Bool → Option (List ℕ) → Bool → CommandFault
     → Type 0
 MakeNoDesk p editor failed readers failed_too fault =
-    IsFileFault Script (script p) editor (IsUnreadable editor failed) fault
+    IsFileFault Script (script p) editor (IsReadFault failed editor) fault
     ⊎ ((commands : List Command) × Makes (script p) editor commands
-    × IsFileFault Questions questions readers (IsUnreadable readers failed_too) fault)
+    × IsFileFault Questions questions readers (IsReadFault failed_too readers) fault)
 
 -- the text has the lines of replies that a desk gives
 abbrev pub IsTranscriptOf : Profile → Limits → List Command → List (Vec Query Global) → List ℕ

@@ -8,7 +8,8 @@ ghost use Rattle.osn_files.specs.Schedule.{schedule};
 ghost use Rattle.osn_files.specs.Script.{script};
 ghost use Rattle.osn_files.specs.declared.fault.Role.TheVariants.{Journal, Script, Questions};
 ghost use Rattle.osn_files.specs.declared.fault.Role.TheVariants.{Schedule};
-ghost use Rattle.osn_commands.specs.Files.{Makes, IsFileFault, IsUnreadable};
+ghost use Rattle.osn_lines.specs.Faults.{IsReadFault};
+ghost use Rattle.osn_commands.specs.Files.{Makes, IsFileFault};
 
 use crate::fault::CommandFault;
 use osn_core::{Command, Object, Step};
@@ -26,7 +27,7 @@ pub(crate) fn journal_object<J: Source>(
         (Makes (load present standard_limits) (J.remaining journal.old)) }
     ensures err { IfErr result (IsFileFault Journal (load present standard_limits)
         (J.remaining journal.old)
-        (IsUnreadable (J.remaining journal.old) (J.has_failed journal.new))) }
+        (IsReadFault (J.has_failed journal.new) (J.remaining journal.old))) }
 {
     Ok(load_journal(alloc, Limits::standard(), journal)?)
 }
@@ -41,7 +42,7 @@ pub(crate) fn schedule_steps<J: Source>(
         Makes (schedule present readers) (J.remaining file.old) steps.items) }
     ensures err { IfErr result (IsFileFault Schedule (schedule present readers)
         (J.remaining file.old)
-        (IsUnreadable (J.remaining file.old) (J.has_failed file.new))) }
+        (IsReadFault (J.has_failed file.new) (J.remaining file.old))) }
 {
     Ok(read_schedule(alloc, readers, file)?)
 }
@@ -55,7 +56,7 @@ pub(crate) fn script_commands<J: Source>(
         Makes (script present) (J.remaining file.old) commands.items) }
     ensures err { IfErr result (IsFileFault Script (script present)
         (J.remaining file.old)
-        (IsUnreadable (J.remaining file.old) (J.has_failed file.new))) }
+        (IsReadFault (J.has_failed file.new) (J.remaining file.old))) }
 {
     Ok(read_script(alloc, file)?)
 }
@@ -69,7 +70,7 @@ pub(crate) fn question_lists<J: Source>(
         (map (λ asked. asked.items) lists.items)) }
     ensures err { IfErr result (IsFileFault Questions questions
         (J.remaining file.old)
-        (IsUnreadable (J.remaining file.old) (J.has_failed file.new))) }
+        (IsReadFault (J.has_failed file.new) (J.remaining file.old))) }
 {
     Ok(read_questions(alloc, file)?)
 }

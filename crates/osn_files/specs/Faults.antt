@@ -1,6 +1,7 @@
 -- The faults of a file's line by number and name, and what holds where a file gave nothing, by the
 -- reason.
-use Rattle.std.specs.Prelude.{ℕ, List}
+use Rattle.std.specs.Prelude.{◌≡◌, ℕ, Bool, List, Option}
+use Rattle.osn_lines.specs.Faults.{IsReadFault}
 use Rattle.osn_register.specs.Refusal.{refusal_number, refusal_name}
 use Rattle.osn_request.specs.WireFault.{wire_fault_number, wire_fault_name}
 use Rattle.osn_files.specs.declared.fault.LineFault.{LineFault}
@@ -22,3 +23,9 @@ abbrev pub MatchFileFault : FileFault → Type 0 → Type 0 → (Role → ℕ �
 MatchFileFault NoMemory P Q R = P
 MatchFileFault ReadFault P Q R = Q
 MatchFileFault (BadLine role line fault) P Q R = R role line fault
+
+-- the source failed where a read fault says so, or gives no end in 4,294,967,295 reads, and nowhere
+-- else
+abbrev pub FailsAsTold : Bool → Bool → Option (List ℕ) → FileFault → Type 0
+FailsAsTold old new input fault =
+    MatchFileFault fault (new ≡ old) (IsReadFault new input) (λ _ _ _. new ≡ old)

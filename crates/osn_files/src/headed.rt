@@ -1,11 +1,10 @@
 //! The lines of a file behind its head.
-ghost use Rattle.std.specs.Prelude.{◌≡◌, ◌≤◌, ◌⊎◌, ⊤, ℕ, List, Result, Ok, Err, true, length};
-ghost use Rattle.std.specs.Prelude.{IfOk, IfErr, IfSome, OnOk};
+ghost use Rattle.std.specs.Prelude.{◌≡◌, ⊤, ℕ, List, Result, Ok, Err, IfOk, IfErr, IfSome, OnOk};
 ghost use Rattle.std.specs.Io.KnownBytes.{IsAtEnd};
 ghost use Rattle.osn_lines.specs.Lines.{lines, front_of};
 ghost use Rattle.osn_files.specs.declared.fault.LineFault.{LineFault};
 ghost use Rattle.osn_files.specs.declared.version.Version.{Version};
-ghost use Rattle.osn_files.specs.Faults.{MatchFileFault};
+ghost use Rattle.osn_files.specs.Faults.{MatchFileFault, FailsAsTold};
 ghost use Rattle.osn_files.specs.Stops.{Stops};
 ghost use Rattle.osn_files.specs.Turns.{behind_head};
 
@@ -85,11 +84,8 @@ pub(crate) fn read_headed<M: MadeBehindHead + Drop, R: Source>(
     // The source failed where a read fault says so, or gave no end in 4,294,967,295 reads, and
     // nowhere else.
     ensures sound { OnOk result (R.has_failed source.new ≡ R.has_failed source.old) }
-    ensures reason { IfErr result (λ fault. MatchFileFault fault
-        (R.has_failed source.new ≡ R.has_failed source.old)
-        ((R.has_failed source.new ≡ true)
-        ⊎ IfSome (R.remaining source.old) (λ input. 4294967295 ≤ length input))
-        (λ _ _ _. R.has_failed source.new ≡ R.has_failed source.old)) }
+    ensures reason { IfErr result (FailsAsTold (R.has_failed source.old)
+        (R.has_failed source.new) (R.remaining source.old)) }
 {
     let begun = Headed {
         head: None,

@@ -1,10 +1,9 @@
 //! Loads a journal.
-ghost use Rattle.std.specs.Prelude.{◌≡◌, ◌≤◌, ◌⊎◌, ⊤, Ok, Err, true, length, IfOk, IfErr, IfSome};
-ghost use Rattle.std.specs.Prelude.{OnOk};
+ghost use Rattle.std.specs.Prelude.{◌≡◌, ⊤, Ok, Err, IfOk, IfErr, IfSome, OnOk};
 ghost use Rattle.std.specs.Io.KnownBytes.{IsAtEnd};
 ghost use Rattle.osn_days.specs.Profile.{present};
 ghost use Rattle.osn_lines.specs.Lines.{lines};
-ghost use Rattle.osn_files.specs.Faults.{MatchFileFault};
+ghost use Rattle.osn_files.specs.Faults.{MatchFileFault, FailsAsTold};
 ghost use Rattle.osn_files.specs.Journal.{load};
 ghost use Rattle.osn_files.specs.declared.fault.Role.TheVariants.{Journal};
 
@@ -41,11 +40,8 @@ pub fn load_journal<R: Source>(
     // The source failed where a read fault says so, or gave no end in 4,294,967,295 reads, and
     // nowhere else.
     ensures sound { OnOk result (R.has_failed source.new ≡ R.has_failed source.old) }
-    ensures reason { IfErr result (λ fault. MatchFileFault fault
-        (R.has_failed source.new ≡ R.has_failed source.old)
-        ((R.has_failed source.new ≡ true)
-        ⊎ IfSome (R.remaining source.old) (λ input. 4294967295 ≤ length input))
-        (λ _ _ _. R.has_failed source.new ≡ R.has_failed source.old)) }
+    ensures reason { IfErr result (FailsAsTold (R.has_failed source.old)
+        (R.has_failed source.new) (R.remaining source.old)) }
 {
     read_headed(alloc, Role::Journal, Object::new(alloc, limits), source)
 }

@@ -1,10 +1,9 @@
 //! Reads a schedule.
-ghost use Rattle.std.specs.Prelude.{◌≡◌, ◌≤◌, ◌⊎◌, ⊤, Ok, Err, true, length, IfOk, IfErr, IfSome};
-ghost use Rattle.std.specs.Prelude.{OnOk};
+ghost use Rattle.std.specs.Prelude.{◌≡◌, ⊤, Ok, Err, IfOk, IfErr, IfSome, OnOk};
 ghost use Rattle.std.specs.Io.KnownBytes.{IsAtEnd};
 ghost use Rattle.osn_days.specs.Profile.{present};
 ghost use Rattle.osn_lines.specs.Lines.{lines};
-ghost use Rattle.osn_files.specs.Faults.{MatchFileFault};
+ghost use Rattle.osn_files.specs.Faults.{MatchFileFault, FailsAsTold};
 ghost use Rattle.osn_files.specs.Schedule as said;
 ghost use Rattle.osn_files.specs.declared.fault.Role.TheVariants.{Schedule};
 
@@ -38,11 +37,8 @@ pub fn read_schedule<R: Source>(
     // The source failed where a read fault says so, or gave no end in 4,294,967,295 reads, and
     // nowhere else.
     ensures sound { OnOk result (R.has_failed source.new ≡ R.has_failed source.old) }
-    ensures reason { IfErr result (λ fault. MatchFileFault fault
-        (R.has_failed source.new ≡ R.has_failed source.old)
-        ((R.has_failed source.new ≡ true)
-        ⊎ IfSome (R.remaining source.old) (λ input. 4294967295 ≤ length input))
-        (λ _ _ _. R.has_failed source.new ≡ R.has_failed source.old)) }
+    ensures reason { IfErr result (FailsAsTold (R.has_failed source.old)
+        (R.has_failed source.new) (R.remaining source.old)) }
 {
     let steps = read_lines(alloc, Role::Schedule, Steps::new(alloc, readers), source)?;
     Ok(steps.into_inner())

@@ -1,5 +1,5 @@
--- What holds where taking lines ended early, by the reason.
-use Rattle.std.specs.Prelude.{ℕ}
+-- What holds where taking lines ended early, by the reason, and why a read or a write fails.
+use Rattle.std.specs.Prelude.{◌≡◌, ◌≤◌, ◌⊎◌, ℕ, Bool, true, List, length, Option, IfSome}
 use Rattle.osn_lines.specs.declared.fault.TakeFault.{TakeFault}
 use Rattle.osn_lines.specs.declared.fault.TakeFault.TheVariants.{NoMemory, ReadFault, Stopped}
 
@@ -9,3 +9,15 @@ abbrev pub MatchFault : {S : Type 0} → TakeFault S → (ℕ → Type 0) → (�
 MatchFault (NoMemory n) P Q R = P n
 MatchFault (ReadFault n) P Q R = Q n
 MatchFault (Stopped n why) P Q R = R n why
+
+-- the source failed, or it gives no end in 4,294,967,295 reads
+abbrev pub IsReadFault : Bool → Option (List ℕ) → Type 0
+IsReadFault failed input = (failed ≡ true) ⊎ IfSome input (λ bytes. 4294967295 ≤ length bytes)
+
+-- the sink failed, or it may take the text in more writes than the 4,294,967,295 that are made
+abbrev pub IsWriteFault : Bool → List ℕ → Type 0
+IsWriteFault failed text = (failed ≡ true) ⊎ (4294967295 ≤ length text)
+
+-- the sink failed, or it is as sound as it was and the writes that are made did not do
+abbrev pub WriteFails : Bool → Bool → List ℕ → Type 0
+WriteFails old new text = (new ≡ true) ⊎ ((new ≡ old) × (4294967295 ≤ length text))

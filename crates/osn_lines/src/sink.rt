@@ -1,8 +1,9 @@
 //! Where bytes go.
 ghost use Rattle.std.specs.Prelude.{◌≡◌, ◌<◌, ◌≤◌, ℕ, List, Option, Bool, true, is_ok, length};
-ghost use Rattle.std.specs.Prelude.{take, IfOk, IfErr, OnOk, OnErr, ◌⊎◌, if◌then◌else◌};
+ghost use Rattle.std.specs.Prelude.{take, IfOk, IfErr, OnOk, OnErr, if◌then◌else◌};
 ghost use Rattle.std.specs.Io.{WritesAtMost};
 ghost use Rattle.std.specs.Io.KnownBytes.{Appends, Keeps, WriteAppends};
+ghost use Rattle.osn_lines.specs.Faults.{WriteFails};
 
 /// A write that failed. Its sink is failed from then on.
 #[derive(Clone, Copy, Debug, PartialEq, Eq)]
@@ -49,8 +50,8 @@ pub fn write_all<W: Sink>(sink: &mut W, bytes: &[u8]) -> Result<(), usize>
     ensures err { IfErr result (λ n. (n ≤ length bytes.now)
         × Appends (W.contents sink.old) (W.contents sink.new) (take n bytes.now)) }
     ensures sound { OnOk result (W.has_failed sink.new ≡ W.has_failed sink.old) }
-    ensures reason { OnErr result ((W.has_failed sink.new ≡ true)
-        ⊎ ((W.has_failed sink.new ≡ W.has_failed sink.old) × (4294967295 ≤ length bytes.now))) }
+    ensures reason { OnErr result
+        (WriteFails (W.has_failed sink.old) (W.has_failed sink.new) bytes.now) }
 {
     let mut written = 0;
     for _call in 0..u32::MAX {

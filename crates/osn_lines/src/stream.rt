@@ -2,7 +2,7 @@
 ghost use Rattle.std.specs.Prelude.{◌≡◌, ◌+◌, ◌^◌, ◌<◌, ◌≤◌, ◌⊎◌, ℕ, List, Some, length, true};
 ghost use Rattle.std.specs.Prelude.{IfOk, IfErr, IfSome, OnOk, ⊤, [], ◌∷◌};
 ghost use Rattle.std.specs.Io.KnownBytes.{IsAtEnd};
-ghost use Rattle.osn_lines.specs.Faults.{MatchFault};
+ghost use Rattle.osn_lines.specs.Faults.{MatchFault, IsReadFault};
 ghost use Rattle.osn_lines.specs.Inside.{IsKept};
 ghost use Rattle.osn_lines.specs.Lines.{lines};
 ghost use Rattle.osn_lines.specs.Taking.{Takes, Stops, TakesAll, TakesFirst, StopsAfter, HasRead};
@@ -85,8 +85,7 @@ pub fn take_lines<T: LineTaker, R: Source>(
     ensures sound { OnOk result (R.has_failed source.new ≡ R.has_failed source.old) }
     ensures reason { IfErr result (λ fault. MatchFault fault
         (λ _. R.has_failed source.new ≡ R.has_failed source.old)
-        (λ _. (R.has_failed source.new ≡ true)
-        ⊎ IfSome (R.remaining source.old) (λ input. 4294967295 ≤ length input))
+        (λ _. IsReadFault (R.has_failed source.new) (R.remaining source.old))
         (λ _ _. R.has_failed source.new ≡ R.has_failed source.old)) }
 {
     let Ok(mut buffer) = zeros(alloc, READ_SIZE) else {

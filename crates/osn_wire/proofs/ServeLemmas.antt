@@ -5,6 +5,7 @@ use Rattle.std.proofs.Common.{◌∙◌, length-append, arith, ⊎_elim, inl, in
 use Rattle.std.proofs.lemmas.List.{take_all}
 use Rattle.std.specs.Io.KnownBytes.{Appends}
 use Rattle.osn_days.specs.Profile.{present}
+use Rattle.osn_lines.specs.Faults.{WriteFails}
 use Rattle.osn_core.specs.Sequential.{ObjectState}
 use Rattle.osn_lines.specs.Lines.{lines, front_of}
 use Rattle.osn_lines.specs.Taking.{TakesAll, TakesFirst, StopsAfter}
@@ -19,7 +20,7 @@ use Rattle.osn_wire.specs.declared.stop.Unfinished.{Unfinished}
 use Rattle.osn_wire.specs.Faults.{MatchFault}
 use Rattle.osn_wire.specs.declared.waiting.Waiting.{Waiting}
 use Rattle.osn_wire.specs.Served.{line_text, outputs}
-use Rattle.osn_wire.specs.ServiceInside.{Writes, WritesSome, Adds, Settles, FailsAt, InPart}
+use Rattle.osn_wire.specs.ServiceInside.{Writes, WritesSome, Adds, Settles, InPart}
 use Rattle.osn_wire.specs.Session.{line_after}
 use Rattle.osn_wire.specs.SessionInside.{IsSame, Serving, Failing, StopsServing, AnswersAll}
 use Rattle.osn_wire.specs.SessionInside.{AnswersFirst, AnswersInPart}
@@ -29,9 +30,9 @@ use Rattle.osn_wire.proofs.WaitLemmas.{length-ends, Waits-nothing, Waits-add, Wa
 use Rattle.osn_wire.proofs.WaitLemmas.{Waits-settle, Waits-written}
 
 -- a failed write of what waits is one of the replies
-pub FailsAt-all : (old mid new : Bool) (some all : List ℕ) → mid ≡ old → length some ≤ length all →
-    FailsAt mid new some → FailsAt old new all
-FailsAt-all old mid new some all same le h =
+pub WriteFails-all : (old mid new : Bool) (some all : List ℕ) → mid ≡ old →
+    length some ≤ length all → WriteFails mid new some → WriteFails old new all
+WriteFails-all old mid new some all same le h =
     ⊎_elim (λ k. inl k) (λ k. inr (k.0 ∙ same, omega (arith, k.1))) h
 
 -- one session is another with its references kept
@@ -103,7 +104,7 @@ pub Failing-from : {W : Type 0} (contents : W → Option (List ℕ)) (has_failed
     (failed : Bool) (w : Waiting) → Serving contents has_failed begun lines s → IsSame s t →
     t.object.now ≡ s.object.now → Settles (contents s.sink.now) mid s.waiting.now w →
     failed ≡ has_failed s.sink.now → WritesSome mid (contents t.sink.now) w unwritten →
-    FailsAt failed (has_failed t.sink.now) w.text.items →
+    WriteFails failed (has_failed t.sink.now) w.text.items →
     Failing contents has_failed begun lines t unwritten
 Failing-from contents has_failed begun s t lines unwritten mid failed w h lent same settled sound
     some reason =
@@ -127,7 +128,8 @@ Failing-from contents has_failed begun s t lines unwritten mid failed w h lent s
       part =
           subst (λ (v : ObjectState). InPart text after begun.object.now v lines old new part.n)
           (sym same) part.part;
-      reason = FailsAt-all _ _ _ _ _ (sound ∙ h.sound) (omega (arith, ap length all, size)) reason;
+      reason =
+          WriteFails-all _ _ _ _ _ (sound ∙ h.sound) (omega (arith, ap length all, size)) reason;
     }
 
 -- nothing is answered yet
@@ -204,7 +206,7 @@ pub AnswersInPart-rest : {W : Type 0} (contents : W → Option (List ℕ)) (has_
     IfSome input (λ bytes. take (length taken) (lines bytes) ≡ taken) → IsSame s t →
     t.object.now ≡ s.object.now → n + unwritten ≡ m →
     WritesSome (contents s.sink.now) (contents t.sink.now) s.waiting.now unwritten →
-    FailsAt (has_failed s.sink.now) (has_failed t.sink.now) s.waiting.now.text.items →
+    WriteFails (has_failed s.sink.now) (has_failed t.sink.now) s.waiting.now.text.items →
     AnswersInPart contents begun t input has_failed n
 AnswersInPart-rest contents has_failed begun s t input taken n m unwritten serving count first lent
     same left some reason =
@@ -302,7 +304,7 @@ RestFails contents t u m n =
 pub Behind-failed : {W : Type 0} {contents : W → Option (List ℕ)} {has_failed : W → Bool}
     {s t u : Session W} {input : Option (List ℕ)} {n m : ℕ} →
     Behind contents has_failed s t input m → IsSame t u → u.object.now ≡ t.object.now →
-    FailsAt (has_failed t.sink.now) (has_failed u.sink.now) t.waiting.now.text.items →
+    WriteFails (has_failed t.sink.now) (has_failed u.sink.now) t.waiting.now.text.items →
     RestFails contents t u m n → AnswersInPart contents s u input has_failed n
 Behind-failed {W} {contents} {has_failed} {s} {t} {u} {input} {n} {m} h lent same reason k =
     AnswersInPart-rest contents has_failed s t u input h.taken n m k.0 h.serving h.count h.first

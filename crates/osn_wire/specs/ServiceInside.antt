@@ -58,10 +58,6 @@ pub record WritesSome (written now : Option (List ℕ)) (waiting : Waiting)
   pub count : unwritten + count_by (λ end. nat_le end bytes) waiting.ends.items
       ≡ length waiting.ends.items
 
--- why a write failed: the sink did, or so many bytes were to be written that the calls didn't do
-abbrev pub FailsAt : Bool → Bool → List ℕ → Type 0
-FailsAt old new bytes = (new ≡ true) ⊎ ((new ≡ old) × (4294967295 ≤ length bytes))
-
 -- a reply was added that changes nothing, or what waited was written before it
 abbrev pub Adds : {S : Type 0} → S → S → List ℕ → Option (List ℕ) → Option (List ℕ) → Waiting →
     Waiting → Type 0

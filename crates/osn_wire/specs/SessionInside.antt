@@ -1,12 +1,13 @@
 -- A session as what takes lines.
 use Rattle.std.specs.Prelude.{◌≡◌, ◌+◌, ℕ, Bool, List, Option, length, take, IfSome}
 use Rattle.std.specs.Io.KnownBytes.{Appends}
+use Rattle.osn_lines.specs.Faults.{WriteFails}
 use Rattle.osn_lines.specs.Lines.{lines}
 use Rattle.osn_days.specs.Profile.{present}
 use Rattle.osn_wire.specs.declared.session.Session.{Session}
 use Rattle.osn_wire.specs.declared.stop.Stop.{Stop}
 use Rattle.osn_wire.specs.Served.{line_text, outputs, after_lines}
-use Rattle.osn_wire.specs.ServiceInside.{Waits, InPart, FailsAt}
+use Rattle.osn_wire.specs.ServiceInside.{Waits, InPart}
 use Rattle.osn_wire.specs.Session.{line_after}
 use Rattle.osn_wire.specs.Stop.{MatchStop}
 
@@ -33,7 +34,7 @@ pub record Failing {W : Type 0} (contents : W → Option (List ℕ)) (has_failed
   pub same : IsSame begun now
   pub part : InPart (line_text present begun.readers) (line_after present begun.readers)
       begun.object.now now.object.now lines (contents begun.sink.now) (contents now.sink.now) whole
-  pub reason : FailsAt (has_failed begun.sink.now) (has_failed now.sink.now)
+  pub reason : WriteFails (has_failed begun.sink.now) (has_failed now.sink.now)
       (outputs present begun.readers begun.object.now lines)
 
 -- it took these lines and stopped, between two lines or at one
@@ -71,6 +72,6 @@ pub record AnswersInPart {W : Type 0} (contents : W → Option (List ℕ)) (begu
   pub taken : List (List ℕ)
   pub part : InPart (line_text present begun.readers) (line_after present begun.readers)
       begun.object.now now.object.now taken (contents begun.sink.now) (contents now.sink.now) n
-  pub reason : FailsAt (has_failed begun.sink.now) (has_failed now.sink.now)
+  pub reason : WriteFails (has_failed begun.sink.now) (has_failed now.sink.now)
       (outputs present begun.readers begun.object.now taken)
   pub first : IfSome input (λ bytes. take (length taken) (lines bytes) ≡ taken)

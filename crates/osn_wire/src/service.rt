@@ -1,15 +1,16 @@
 //! The service: every request line of a source is answered, in order.
-ghost use Rattle.std.specs.Prelude.{◌≡◌, ◌≤◌, ◌+◌, ◌⊎◌, ⊤, [], ℕ, true, length, take, IfOk, IfErr};
-ghost use Rattle.std.specs.Prelude.{IfSome, OnOk, OnErr};
+ghost use Rattle.std.specs.Prelude.{◌≡◌, ◌≤◌, ◌+◌, ⊤, [], ℕ, length, IfOk, IfErr, IfSome, OnOk};
+ghost use Rattle.std.specs.Prelude.{OnErr};
 ghost use Rattle.std.specs.Io.KnownBytes.{Appends, IsAtEnd};
 ghost use Rattle.osn_days.specs.Profile.{present};
+ghost use Rattle.osn_lines.specs.Faults.{IsReadFault, WriteFails};
 ghost use Rattle.osn_lines.specs.Lines.{lines};
 ghost use Rattle.osn_lines.specs.Taking.{HasRead};
 ghost use Rattle.osn_core.specs.Sequential.{opened};
-ghost use Rattle.osn_wire.specs.Faults.{MatchFault};
+ghost use Rattle.osn_wire.specs.Faults.{MatchFault, IsUnwritten};
 ghost use Rattle.osn_wire.specs.Served.{outputs, after_lines, WritesFirst, WritesInPart, StandsAt};
 ghost use Rattle.osn_wire.specs.Served.{StandsNear};
-ghost use Rattle.osn_wire.specs.ServiceInside.{Writes, WritesSome, FailsAt};
+ghost use Rattle.osn_wire.specs.ServiceInside.{Writes, WritesSome};
 ghost use Rattle.osn_wire.specs.SessionInside.{IsSame, AnswersAll, AnswersFirst, AnswersInPart};
 
 use crate::fault::ServeFault;
@@ -34,7 +35,7 @@ fn write_rest<W: Sink>(session: &mut Session<'_, W>, lines: u64) -> Result<(), S
         (λ n. (unwritten : ℕ) × (n + unwritten ≡ lines) × WritesSome
         (W.contents session.old.sink.now) (W.contents session.new.sink.now)
         session.old.waiting.now unwritten)) }
-    ensures reason { OnErr result (FailsAt (W.has_failed session.old.sink.now)
+    ensures reason { OnErr result (WriteFails (W.has_failed session.old.sink.now)
         (W.has_failed session.new.sink.now) session.old.waiting.now.text.items) }
 {
     match session.waiting.write(session.sink) {
@@ -66,8 +67,7 @@ fn run<R: Source, W: Sink>(session: &mut Session<'_, W>, source: &mut R) -> Resu
         (W.has_failed session.new.sink.now ≡ W.has_failed session.old.sink.now) }
     ensures source_reason { IfErr result (λ fault. MatchFault fault
         (λ _. R.has_failed source.new ≡ R.has_failed source.old)
-        (λ _. (R.has_failed source.new ≡ true)
-        ⊎ IfSome (R.remaining source.old) (λ input. 4294967295 ≤ length input))
+        (λ _. IsReadFault (R.has_failed source.new) (R.remaining source.old))
         (λ _. ⊤)) }
     ensures sink_reason { IfErr result (λ fault. MatchFault fault
         (λ _. W.has_failed session.new.sink.now ≡ W.has_failed session.old.sink.now)
@@ -149,16 +149,13 @@ fn answer_lines<R: Source, W: Sink>(
         (HasRead (R.remaining source.old) (R.remaining source.new)) (λ _. ⊤)) }
     ensures source_reason { IfErr result (λ fault. MatchFault fault
         (λ _. R.has_failed source.new ≡ R.has_failed source.old)
-        (λ _. (R.has_failed source.new ≡ true)
-        ⊎ IfSome (R.remaining source.old) (λ input. 4294967295 ≤ length input))
+        (λ _. IsReadFault (R.has_failed source.new) (R.remaining source.old))
         (λ _. ⊤)) }
     ensures sink_reason { IfErr result (λ fault. MatchFault fault
         (λ _. W.has_failed session.new.sink.now ≡ W.has_failed session.old.sink.now)
         (λ _. W.has_failed session.new.sink.now ≡ W.has_failed session.old.sink.now)
-        (λ _. (W.has_failed session.new.sink.now ≡ true)
-        ⊎ IfSome (R.remaining source.old) (λ input. 4294967295 ≤ length
-        (outputs present session.old.readers session.old.object.now
-        (lines input))))) }
+        (λ _. IsUnwritten present session.old.readers session.old.object.now
+        (R.remaining source.old) (W.has_failed session.new.sink.now))) }
 {
     run(session, source)
 }
@@ -220,15 +217,13 @@ pub fn serve_from<R: Source, W: Sink>(
     // Which side failed, if any: it did, or a loop over it came to its end.
     ensures source_reason { IfErr result (λ fault. MatchFault fault
         (λ _. R.has_failed source.new ≡ R.has_failed source.old)
-        (λ _. (R.has_failed source.new ≡ true)
-        ⊎ IfSome (R.remaining source.old) (λ input. 4294967295 ≤ length input))
+        (λ _. IsReadFault (R.has_failed source.new) (R.remaining source.old))
         (λ _. ⊤)) }
     ensures sink_reason { IfErr result (λ fault. MatchFault fault
         (λ _. W.has_failed sink.new ≡ W.has_failed sink.old)
         (λ _. W.has_failed sink.new ≡ W.has_failed sink.old)
-        (λ _. (W.has_failed sink.new ≡ true)
-        ⊎ IfSome (R.remaining source.old) (λ input.
-        4294967295 ≤ length (outputs present readers object.old (lines input))))) }
+        (λ _. IsUnwritten present readers object.old (R.remaining source.old)
+        (W.has_failed sink.new))) }
 {
     let mut waiting = Waiting::new(alloc);
     let mut session = Session {
@@ -283,15 +278,13 @@ pub fn serve<R: Source, W: Sink>(
     // Which side failed, if any: it did, or a loop over it came to its end.
     ensures source_reason { IfErr result (λ fault. MatchFault fault
         (λ _. R.has_failed source.new ≡ R.has_failed source.old)
-        (λ _. (R.has_failed source.new ≡ true)
-        ⊎ IfSome (R.remaining source.old) (λ input. 4294967295 ≤ length input))
+        (λ _. IsReadFault (R.has_failed source.new) (R.remaining source.old))
         (λ _. ⊤)) }
     ensures sink_reason { IfErr result (λ fault. MatchFault fault
         (λ _. W.has_failed sink.new ≡ W.has_failed sink.old)
         (λ _. W.has_failed sink.new ≡ W.has_failed sink.old)
-        (λ _. (W.has_failed sink.new ≡ true)
-        ⊎ IfSome (R.remaining source.old) (λ input.
-        4294967295 ≤ length (outputs present readers (opened limits) (lines input))))) }
+        (λ _. IsUnwritten present readers (opened limits) (R.remaining source.old)
+        (W.has_failed sink.new))) }
 {
     let mut object = Object::new(alloc, limits);
     serve_from(alloc, &mut object, readers, source, sink)

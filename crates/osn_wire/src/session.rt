@@ -4,8 +4,9 @@
 //! wait only the first has changed it.
 ghost use Rattle.std.specs.Prelude.{◌≡◌, IfErr, OnOk, OnErr};
 ghost use Rattle.osn_days.specs.Profile.{present};
+ghost use Rattle.osn_lines.specs.Faults.{WriteFails};
 ghost use Rattle.osn_reply.specs.ReplyText.{reply_line};
-ghost use Rattle.osn_wire.specs.ServiceInside.{Pushes, Adds, Settles, WritesSome, FailsAt};
+ghost use Rattle.osn_wire.specs.ServiceInside.{Pushes, Adds, Settles, WritesSome};
 ghost use Rattle.osn_wire.specs.Served.{line_text};
 ghost use Rattle.osn_wire.specs.Session as said;
 ghost use Rattle.osn_wire.specs.Stop.{MatchStop};
@@ -37,7 +38,7 @@ fn stage<W: Sink>(
     ensures kept { OnErr result (object.new ≡ object.old) }
     ensures reason { IfErr result (λ stop. MatchStop stop
         (W.has_failed sink.new ≡ W.has_failed sink.old)
-        (λ _. FailsAt (W.has_failed sink.old) (W.has_failed sink.new) waiting.old.text.items)) }
+        (λ _. WriteFails (W.has_failed sink.old) (W.has_failed sink.new) waiting.old.text.items)) }
 {
     let pending = match object.check(edit) {
         Ok(pending) => pending,
@@ -71,7 +72,7 @@ fn publish<W: Sink>(
     ensures kept { OnErr result (object.new ≡ object.old) }
     ensures reason { IfErr result (λ stop. MatchStop stop
         (W.has_failed sink.new ≡ W.has_failed sink.old)
-        (λ _. FailsAt (W.has_failed sink.old) (W.has_failed sink.new) waiting.old.text.items)) }
+        (λ _. WriteFails (W.has_failed sink.old) (W.has_failed sink.new) waiting.old.text.items)) }
 {
     let edition = match object.check_publish() {
         Ok(edition) => edition,
@@ -125,7 +126,7 @@ fn answer<W: Sink>(
     ensures kept { OnErr result (object.new ≡ object.old) }
     ensures reason { IfErr result (λ stop. MatchStop stop
         (W.has_failed sink.new ≡ W.has_failed sink.old)
-        (λ _. FailsAt (W.has_failed sink.old) (W.has_failed sink.new) waiting.old.text.items)) }
+        (λ _. WriteFails (W.has_failed sink.old) (W.has_failed sink.new) waiting.old.text.items)) }
 {
     match read_request(alloc, readers, line) {
         Ok(Request::Stage(edit)) => stage(alloc, object, sink, waiting, &edit),
@@ -144,7 +145,7 @@ fn make_room<W: Sink>(sink: &mut W, waiting: &mut Waiting) -> Result<(), Unfinis
     ensures err { IfErr result (λ failed.
         WritesSome (W.contents sink.old) (W.contents sink.new) waiting.old failed.unwritten) }
     ensures reason { OnErr result
-        (FailsAt (W.has_failed sink.old) (W.has_failed sink.new) waiting.old.text.items) }
+        (WriteFails (W.has_failed sink.old) (W.has_failed sink.new) waiting.old.text.items) }
 {
     if waiting.is_full() {
         return waiting.write(sink);

@@ -1,7 +1,8 @@
 //! Replies that wait to be written.
 ghost use Rattle.std.specs.Prelude.{◌≡◌, [], IfErr, OnOk, OnErr};
+ghost use Rattle.osn_lines.specs.Faults.{WriteFails};
 ghost use Rattle.osn_reply.specs.ReplyText.{reply_line};
-ghost use Rattle.osn_wire.specs.ServiceInside.{Pushes, Writes, WritesSome, FailsAt};
+ghost use Rattle.osn_wire.specs.ServiceInside.{Pushes, Writes, WritesSome};
 
 use crate::stop::Unfinished;
 use osn_lines::{Sink, write_all};
@@ -69,7 +70,7 @@ impl Waiting {
         ensures err { IfErr result (λ failed. WritesSome (W.contents sink.old)
             (W.contents sink.new) self.old failed.unwritten) }
         ensures reason { OnErr result
-            (FailsAt (W.has_failed sink.old) (W.has_failed sink.new) self.old.text.items) }
+            (WriteFails (W.has_failed sink.old) (W.has_failed sink.new) self.old.text.items) }
     {
         match write_all(sink, &self.text) {
             Ok(()) => {
