@@ -4,5 +4,6 @@ pub mod Dual
 pub mod Territory
 pub mod Changes
 pub mod Exceptions
+pub mod Faults
 pub mod Easters
 pub mod Inside

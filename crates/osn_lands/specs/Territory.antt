@@ -46,6 +46,10 @@ periods_from high (s ∷ rest) =
 abbrev pub periods_of : Profile → PlainTerritory → List Period
 periods_of p t = periods_from p.high t.starts
 
+-- the period holds the day
+abbrev pub Holds : ℕ → Period → Type 0
+Holds d p = (p.first ≤ d) × (d ≤ p.last)
+
 -- the periods cover the days from the first to the last, each once and in order, and none is empty
 abbrev pub Covers : ℕ → ℕ → List Period → Type 0
 Covers first last [] = first ≡ last + 1

@@ -3,7 +3,7 @@
 ghost use Rattle.std.specs.Prelude.{◌≡◌, ◌+◌, ◌<◌, ◌≤◌, true, false, length, map, OnOk, OnErr};
 ghost use Rattle.std.specs.List.{HoldsAt};
 ghost use Rattle.osn_days.specs.Profile.{present};
-ghost use Rattle.osn_lands.specs.Territory.{CoversLine, IsWithinBinaryDigits};
+ghost use Rattle.osn_lands.specs.Territory.{CoversLine, Holds, IsWithinBinaryDigits};
 ghost use Rattle.osn_lands.specs.Changes as changes;
 ghost use Rattle.osn_lands.specs.Inside.{start_of, has_start, with_regime, without_start};
 
@@ -17,7 +17,7 @@ use std::alloc::AllocError;
 pub(crate) fn find_period(periods: &[Period], day: Day) -> (usize, u32)
     requires { CoversLine present periods.now }
     ensures within { result.0 < length periods.now }
-    ensures holds { HoldsAt (λ p. (p.first ≤ day) × (day ≤ p.last)) periods.now result.0 }
+    ensures holds { HoldsAt (Holds day) periods.now result.0 }
     ensures tested { IsWithinBinaryDigits result.1 (length periods.now) }
 {
     let number = day.number();
@@ -40,7 +40,7 @@ pub(crate) fn find_period(periods: &[Period], day: Day) -> (usize, u32)
 fn place_of(periods: &[Period], day: Day) -> usize
     requires { CoversLine present periods.now }
     ensures within { result < length periods.now }
-    ensures holds { HoldsAt (λ p. (p.first ≤ day) × (day ≤ p.last)) periods.now result }
+    ensures holds { HoldsAt (Holds day) periods.now result }
 {
     find_period(periods, day).0
 }

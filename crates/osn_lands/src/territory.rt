@@ -1,5 +1,5 @@
-ghost use Rattle.std.specs.Prelude.{◌≡◌, ◌⊎◌, ◌≤◌, ◌<◌, ◌*◌, Some, None, IfOk, IfErr, OnOk, OnErr};
-ghost use Rattle.std.specs.Prelude.{MatchResult, length};
+ghost use Rattle.std.specs.Prelude.{◌≡◌, ◌≤◌, ◌<◌, ◌*◌, Some, None, IfOk, IfErr, OnOk, OnErr};
+ghost use Rattle.std.specs.Prelude.{length};
 ghost use Rattle.std.specs.List.{HoldsAt};
 ghost use Rattle.std.specs.Option.{option_to_list};
 ghost use Rattle.osn_days.specs.Profile.{present};
@@ -8,7 +8,7 @@ ghost use Rattle.osn_lands.specs.Changes as changes;
 ghost use Rattle.osn_lands.specs.Easters as feast;
 ghost use Rattle.osn_lands.specs.Inside.{easters_in_force};
 ghost use Rattle.osn_lands.specs.Exceptions as exceptions;
-ghost use Rattle.osn_lands.specs.declared.fault.LandFault.TheVariants.{NoMemory};
+ghost use Rattle.osn_lands.specs.Faults.{IsTestOf, IsFaultOrNoMemory};
 
 mod readings;
 
@@ -75,8 +75,7 @@ impl Territory {
     pub fn add_change(&mut self, day: Day, regime: Regime) -> Result<(), LandFault>
         ensures lawful { OnOk result (changes.add_fault self.old day ≡ None) }
         ensures ok { OnOk result (self.new ≡ changes.with_change self.old day regime) }
-        ensures refused { IfErr result (λ f. (changes.add_fault self.old day ≡ Some f)
-            ⊎ ((f ≡ NoMemory) × (changes.add_fault self.old day ≡ None))) }
+        ensures refused { IfErr result (IsFaultOrNoMemory (changes.add_fault self.old day)) }
         ensures unchanged { OnErr result (self.new ≡ self.old) }
     {
         if day == Day::FIRST {
@@ -108,9 +107,7 @@ impl Territory {
     ///
     /// `NoSuchChange` where no period starts on the day.
     pub fn alter_change(&mut self, day: Day, regime: Regime) -> Result<(), LandFault>
-        ensures value { MatchResult result
-            (λ _. changes.alter_fault self.old day ≡ None)
-            (λ f. changes.alter_fault self.old day ≡ Some f) }
+        ensures value { IsTestOf (changes.alter_fault self.old day) result }
         ensures ok { OnOk result (self.new ≡ changes.with_altered self.old day regime) }
         ensures unchanged { OnErr result (self.new ≡ self.old) }
     {
@@ -135,9 +132,7 @@ impl Territory {
     ///
     /// `OpeningPeriod` for day 1, then `NoSuchChange` where no period starts on the day.
     pub fn drop_change(&mut self, day: Day) -> Result<(), LandFault>
-        ensures value { MatchResult result
-            (λ _. changes.drop_fault self.old day ≡ None)
-            (λ f. changes.drop_fault self.old day ≡ Some f) }
+        ensures value { IsTestOf (changes.drop_fault self.old day) result }
         ensures ok { OnOk result (self.new ≡ changes.without_change self.old day) }
         ensures unchanged { OnErr result (self.new ≡ self.old) }
     {
@@ -169,8 +164,8 @@ impl Territory {
         ensures ok { OnOk result (self.new ≡ exceptions.with_exception self.old year day) }
         ensures listed { OnOk result (exceptions.exception_of self.new year ≡ Some day) }
         ensures others { OnOk result (exceptions.KeepsOtherYears self.old self.new year) }
-        ensures refused { IfErr result (λ f. (exceptions.add_exception_fault self.old year ≡ Some f)
-            ⊎ ((f ≡ NoMemory) × (exceptions.add_exception_fault self.old year ≡ None))) }
+        ensures refused { IfErr result
+            (IsFaultOrNoMemory (exceptions.add_exception_fault self.old year)) }
         ensures unchanged { OnErr result (self.new ≡ self.old) }
     {
         if self.exception(year).is_some() {
@@ -202,9 +197,7 @@ impl Territory {
     ///
     /// `NoSuchException` where none is listed for the year.
     pub fn drop_exception(&mut self, year: Year) -> Result<(), LandFault>
-        ensures value { MatchResult result
-            (λ _. exceptions.drop_exception_fault self.old year ≡ None)
-            (λ f. exceptions.drop_exception_fault self.old year ≡ Some f) }
+        ensures value { IsTestOf (exceptions.drop_exception_fault self.old year) result }
         ensures ok { OnOk result (self.new ≡ exceptions.without_exception self.old year) }
         ensures gone { OnOk result (exceptions.exception_of self.new year ≡ None) }
         ensures others { OnOk result (exceptions.KeepsOtherYears self.old self.new year) }
@@ -238,8 +231,7 @@ impl Territory {
     /// were tested to find it: at most as many as the number of periods has binary digits.
     pub fn period_at(&self, day: Day) -> (usize, u32)
         ensures within { result.0 < length (plain.periods_of present self.now) }
-        ensures holds { HoldsAt (λ p. (p.first ≤ day) × (day ≤ p.last))
-            (plain.periods_of present self.now) result.0 }
+        ensures holds { HoldsAt (plain.Holds day) (plain.periods_of present self.now) result.0 }
         ensures tested { plain.IsWithinBinaryDigits result.1
             (length (plain.periods_of present self.now)) }
     {
