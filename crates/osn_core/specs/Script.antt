@@ -1,11 +1,16 @@
 -- A script: what one editor is told to do, in order, and the editions that come of it.
-use Rattle.std.specs.Prelude.{List, fold}
+use Rattle.std.specs.Prelude.{Bool, true, false, List, fold}
 use Rattle.osn_days.specs.Profile.{Profile}
 use Rattle.osn_register.specs.declared.limits.Limits.{Limits}
 use Rattle.osn_register.specs.declared.edit.Edit.{Edit}
 use Rattle.osn_core.specs.declared.command.Command.{Command}
 use Rattle.osn_core.specs.declared.command.Command.TheVariants.{Stage, Publish}
 use Rattle.osn_core.specs.Sequential.{ObjectState, opened, stage_after, publish_after}
+
+-- whether a copy of a command takes memory
+abbrev pub copy_takes_memory : Command → Bool
+copy_takes_memory (Stage edit) = true
+copy_takes_memory Publish = false
 
 -- what a command leaves: a refused one is passed over
 abbrev pub command_after : Profile → ObjectState → Command → ObjectState

@@ -1,4 +1,5 @@
-ghost use Rattle.std.specs.Prelude.{◌≡◌, IfOk};
+ghost use Rattle.std.specs.Prelude.{◌≡◌, true, IfOk, OnErr};
+ghost use Rattle.osn_core.specs.Script.{copy_takes_memory};
 
 use osn_register::Edit;
 use std::alloc::AllocError;
@@ -19,7 +20,8 @@ impl Command {
     ///
     /// Only where no memory is found.
     pub fn copy(&self) -> Result<Command, AllocError>
-        ensures { IfOk result (λ c. c ≡ self.now) }
+        ensures value { IfOk result (λ c. c ≡ self.now) }
+        ensures memory { OnErr result (copy_takes_memory self.now ≡ true) }
     {
         match self {
             Command::Stage(edit) => Ok(Command::Stage(edit.copy()?)),

@@ -18,7 +18,5 @@ pub use batch::Batch;
 pub use command::Command;
 pub use machine::{Core, MOST_READERS};
 pub use object::Object;
-pub use phase::Phase;
-pub use reader::ReaderState;
 pub use run::replay;
 pub use step::{Out, Reply, Step};

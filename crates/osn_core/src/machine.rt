@@ -214,7 +214,7 @@ impl Core {
         let Phase::Draining = self.phase else {
             return Out::NotNow;
         };
-        if self.readers.mark(1 - self.side) {
+        if self.readers.marks(1 - self.side) {
             return Out::NotNow;
         }
         self.phase = Phase::Claimed;

@@ -1,5 +1,5 @@
 /// How far the standby is behind the live side.
-#[derive(Debug, Drop, Clone, Copy)]
+#[derive(Drop, Clone, Copy)]
 pub enum Phase {
     /// It has all edits, published and pending.
     Ready,

@@ -7,7 +7,7 @@ use osn_register::Query;
 use std::alloc::AllocError;
 
 /// Where a reader stands. A side is 0 or 1.
-#[derive(Debug, Drop)]
+#[derive(Drop)]
 pub enum ReaderState {
     /// It has looked for nothing that it was not told.
     Idle,

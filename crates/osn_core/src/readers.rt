@@ -57,10 +57,8 @@ impl Readers {
     pub fn get(&self, reader: u32) -> Option<&ReaderState>
         ensures { option_map (λ r. r.now) result ≡ reader_at self.now reader }
     {
-        if reader == 0 {
-            return None;
-        }
-        self.states.get((reader - 1) as usize)
+        let place = self.place(reader)?;
+        self.states.get(place)
     }
 
     /// Puts a reader, which is there, elsewhere.
@@ -127,7 +125,7 @@ impl Readers {
     }
 
     /// Whether a reader marks a side.
-    pub fn mark(&self, side: u8) -> bool
+    pub fn marks(&self, side: u8) -> bool
         ensures { result ≡ is_marked side self.now }
     {
         self.states.iter().any(|state| state.marks(side))

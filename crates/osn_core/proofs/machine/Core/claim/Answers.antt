@@ -9,7 +9,7 @@ invariant_of-self c =
     let live = c.self.inside.side in
     let n = length c.self.inside.copies.object.batches in
     let rs = c.self.inside.readers in
-    let none : is_marked (1 - live) rs ≡ false = sym c.mark.ensures ∙ c.if-mark.false in
+    let none : is_marked (1 - live) rs ≡ false = sym c.marks.ensures ∙ c.if-marks.false in
     let lag = subst (IsLag c.self.inside.copies.object c.self.inside.copies.lag) c.in-Draining.is
     c.self.invariant.lag in
     record {
