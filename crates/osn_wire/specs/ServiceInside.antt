@@ -7,6 +7,10 @@ use Rattle.std.specs.Io.KnownBytes.{Appends}
 use Rattle.osn_wire.specs.declared.waiting.Waiting.{Waiting}
 use Rattle.osn_wire.specs.Replies.{replies}
 
+-- with so many bytes what waits is written
+abbrev pub full : ℕ
+full = 65536
+
 -- where each reply ends, the first of which begins at a place
 abbrev pub ends_from : {S : Type 0} → (S → List ℕ → List ℕ) → (S → List ℕ → S) → ℕ → S →
     List (List ℕ) → List ℕ

@@ -12,7 +12,7 @@ pub enum ServeFault {
     /// answered.
     #[error("the input failed behind {lines} lines, which are answered; no other is")]
     ReadFault { lines: u64 },
-    /// The sink failed, or took a text in more than 4,294,967,295 writes. The reply to the next
+    /// The sink failed, or did not take a text within 4,294,967,295 writes. The reply to the next
     /// line may be written in part. That line may have changed the object, and no line behind it
     /// has.
     #[error("the output failed behind {lines} replies; the next line may have been applied")]

@@ -171,9 +171,9 @@ fn answer_lines<R: Source, W: Sink>(
 /// # Errors
 ///
 /// `NoMemory` where memory ran out, `ReadFault` where the source failed or gave no end within
-/// 4,294,967,295 reads, `WriteFault` where the sink failed or took a text in more writes than that:
-/// each with the number of lines whose reply was written whole. The object stands after those
-/// lines, or after a failed write one line further.
+/// 4,294,967,295 reads, `WriteFault` where the sink failed or did not take a text within as many
+/// writes: each with the number of lines whose reply was written whole. The object stands after
+/// those lines, or after a failed write one line further.
 pub fn serve_from<R: Source, W: Sink>(
     alloc: Global,
     object: &mut Object,

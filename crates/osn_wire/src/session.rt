@@ -2,11 +2,11 @@
 //!
 //! What waits is written before a line that changes the object, so that of the lines whose replies
 //! wait only the first has changed it.
-ghost use Rattle.std.specs.Prelude.{◌≡◌, IfErr, OnOk, OnErr};
+ghost use Rattle.std.specs.Prelude.{◌≡◌, ◌<◌, length, IfErr, OnOk, OnErr};
 ghost use Rattle.osn_days.specs.Profile.{present};
 ghost use Rattle.osn_lines.specs.Faults.{WriteFails};
 ghost use Rattle.osn_reply.specs.ReplyText.{reply_line};
-ghost use Rattle.osn_wire.specs.ServiceInside.{Pushes, Adds, Settles, WritesSome};
+ghost use Rattle.osn_wire.specs.ServiceInside.{full, Pushes, Adds, Settles, WritesSome};
 ghost use Rattle.osn_wire.specs.Served.{line_text};
 ghost use Rattle.osn_wire.specs.Session as said;
 ghost use Rattle.osn_wire.specs.Stop.{MatchStop};
@@ -137,10 +137,11 @@ fn answer<W: Sink>(
     }
 }
 
-/// Writes what waits where it is so much that it is to be written.
+/// Writes what waits where it is so much that it is to be written, so that less waits then.
 fn make_room<W: Sink>(sink: &mut W, waiting: &mut Waiting) -> Result<(), Unfinished>
     ensures ok { OnOk result
         (Settles (W.contents sink.old) (W.contents sink.new) waiting.old waiting.new) }
+    ensures room { OnOk result (length waiting.new.text.items < full) }
     ensures sound { OnOk result (W.has_failed sink.new ≡ W.has_failed sink.old) }
     ensures err { IfErr result (λ failed.
         WritesSome (W.contents sink.old) (W.contents sink.new) waiting.old failed.unwritten) }

@@ -1,8 +1,8 @@
 //! Replies that wait to be written.
-ghost use Rattle.std.specs.Prelude.{◌≡◌, [], IfErr, OnOk, OnErr};
+ghost use Rattle.std.specs.Prelude.{◌≡◌, [], length, nat_le, IfErr, OnOk, OnErr};
 ghost use Rattle.osn_lines.specs.Faults.{WriteFails};
 ghost use Rattle.osn_reply.specs.ReplyText.{reply_line};
-ghost use Rattle.osn_wire.specs.ServiceInside.{Pushes, Writes, WritesSome};
+ghost use Rattle.osn_wire.specs.ServiceInside.{full, Pushes, Writes, WritesSome};
 
 use crate::stop::Unfinished;
 use osn_lines::{Sink, write_all};
@@ -32,7 +32,9 @@ impl Waiting {
     }
 
     /// Whether so much waits that it is to be written.
-    pub(crate) fn is_full(&self) -> bool {
+    pub(crate) fn is_full(&self) -> bool
+        ensures { result ≡ nat_le full (length self.now.text.items) }
+    {
         self.text.len() >= FULL
     }
 
@@ -42,15 +44,10 @@ impl Waiting {
         ensures err { OnErr result (self.new.text.items ≡ self.old.text.items) }
         ensures err_ends { OnErr result (self.new.ends.items ≡ self.old.ends.items) }
     {
-        let before = self.text.len();
+        self.ends.reserve(1)?;
         push_reply(alloc, outcome, &mut self.text)?;
-        match self.ends.push(self.text.len()) {
-            Ok(()) => Ok(()),
-            Err(_) => {
-                self.text.truncate(before);
-                Err(AllocError)
-            }
-        }
+        self.ends.push_reserved(self.text.len());
+        Ok(())
     }
 
     /// Takes every reply back.
