@@ -1,39 +1,72 @@
 -- What is started, and what comes back, one by one.
-use Rattle.std.proofs.Common.{◌≡◌, List, [], ◌∷◌, ◌++◌, length}
-use Rattle.std.proofs.Common.{subst, arith, length-append, Vec}
-use Rattle.std.specs.List.{All}
+use Rattle.std.proofs.Common.{◌≡◌, ◌∙◌, ◌⊎◌, ℕ, ◌≤◌, ◌+◌, List, [], ◌∷◌, ◌++◌, length, Option, None}
+use Rattle.std.proofs.Common.{Some, refl, ap, sym, subst, arith, add-one, append_assoc, append-nil}
+use Rattle.std.proofs.Common.{inl, inr, suc, Iter, Bor, Vec}
+use Rattle.std.proofs.iter.Yields.{fronts}
+use Rattle.std.proofs.lemmas.Iterator.{zips}
+use Rattle.std.proofs.lemmas.List.{nil_from_length}
+use Rattle.std.specs.Iterator.Adapters.{zip_first, zip_second}
+use Rattle.std.specs.Slice.Iter.{iter_rest}
+use Rattle.std.specs.Vec.Iter.{into_iter_items, into_iter_len, into_iter_steps}
 use Rattle.std.specs.declared.alloc.Global.{Global}
-use Rattle.std.proofs.Math.Seq.{get_or-append_seam}
-use Rattle.std.proofs.lemmas.List.{get_or_append_left}
+use Rattle.std.specs.declared.iter.Zip.{Zip}
+use Rattle.std.specs.declared.vec.IntoIter.{IntoIter}
 use Rattle.core.specs.declared.thread.PromisedHandle.{PromisedHandle}
-use Rattle.osn_days.specs.Profile.{Profile}
-use Rattle.osn_register.specs.declared.limits.Limits.{Limits}
-use Rattle.osn_register.specs.declared.edit.Edit.{Edit}
 use Rattle.osn_register.specs.declared.query.Query.{Query}
-use Rattle.osn_core.specs.declared.step.Reply.{Reply}
 use Rattle.osn_live.specs.declared.rule.Origin.{Origin}
 use Rattle.osn_live.specs.declared.work.Worked.{Worked}
 use Rattle.osn_live.specs.declared.work.Works.{Works}
-use Rattle.osn_live.specs.Desk.{AreReplies, AreAll}
-use Rattle.osn_live.specs.InsideDesk.{IsStarted, AreStarted}
+use Rattle.osn_live.specs.InsideDesk.{AreStarted}
 
-pub all_last : {X : Type 0} (P : X → Type 0) (xs : List X) (x : X) → All P (xs ++ x ∷ []) →
-    All P xs × P x
-all_last P xs x h = (
-  (λ k d low. subst P (get_or_append_left xs (x ∷ []) d k low)
-      (h k d (omega (arith, length-append xs (x ∷ []), low)))),
-  subst P (get_or-append_seam xs x [] x)
-      (h (length xs) x (omega (arith, length-append xs (x ∷ [])))),
-)
+-- ---- lists, and beside them as many values of a vector
+module _ {A B Z : Type 0} where
+  pub next_pair : (s t : Zip (Iter A) (IntoIter B Z)) (r : Option (Bor A × B)) (p : Bor A × B) →
+      r ≡ Some p → zips fronts into_iter_steps s r t →
+      (iter_rest (zip_first s) ≡ p.0.now ∷ iter_rest (zip_first t))
+      × (into_iter_items (zip_second s) ≡ p.1 ∷ into_iter_items (zip_second t))
+      × (into_iter_len (zip_second t) + 1 ≡ into_iter_len (zip_second s))
+  next_pair s t r p e h =
+      let k = subst (λ o. zips fronts into_iter_steps s o t) e h in (k.0, k.1.0, k.1.1)
 
-pub started_more : (o : Origin) (hs : List (PromisedHandle Worked Works))
-    (ls : List (Vec Query Global)) (h : PromisedHandle Worked Works) (l : Vec Query Global) →
-    AreStarted o hs ls → IsStarted o h l → AreStarted o (hs ++ h ∷ []) (ls ++ l ∷ [])
-started_more o [] [] h l all one = (one, tt)
-started_more o (x ∷ hs) (y ∷ ls) h l all one = (all.0, started_more o hs ls h l all.1 one)
-started_more o [] (y ∷ ls) h l all one = absurd all
-started_more o (x ∷ hs) [] h l all one = absurd all
+  pub no_pair : (s t : Zip (Iter A) (IntoIter B Z)) (r : Option (Bor A × B)) → r ≡ None →
+      zips fronts into_iter_steps s r t →
+      into_iter_len (zip_second s) ≡ length (iter_rest (zip_first s)) →
+      iter_rest (zip_first s) ≡ []
+  no_pair s t r e h count = by (subst (λ o. zips fronts into_iter_steps s o t) e h)
+    where
+      by : ((u : Iter A) × fronts (zip_first s) None u)
+          ⊎ ((u : IntoIter B Z) × into_iter_steps (zip_second s) None u) →
+          iter_rest (zip_first s) ≡ []
+      by (inl a) = nil_from_length (iter_rest (zip_first s)) a.1.0
+      by (inr b) = nil_from_length (iter_rest (zip_first s)) (sym count ∙ b.1.0)
 
+one_longer : {X : Type 0} (ls xs : List X) (x : X) → ls ≡ x ∷ xs → length ls ≡ length xs + 1
+one_longer ls xs x e = ap length e ∙ sym (add-one (length xs))
+
+pub few_left : {X : Type 0} (who : ℕ) (ls : List X) (x : X) (xs : List X) → ls ≡ x ∷ xs →
+    who + length ls ≤ 64 → who + 1 + length xs ≤ 64
+few_left who ls x xs e few = omega (arith, one_longer ls xs x e, few)
+
+pub count_left : {X : Type 0} (n m : ℕ) (ls : List X) (x : X) (xs : List X) → ls ≡ x ∷ xs →
+    m + 1 ≡ n → n ≡ length ls → m ≡ length xs
+count_left n m ls x xs e less count = omega (arith, one_longer ls xs x e, less, count)
+
+-- ---- two lists of which the second goes on
+module _ {A B : Type 0} (R : List A → List B → Type 0) (all : List A) where
+  pub one_done : (rest next : List A) (x : A) (done : List B) (y : B) → rest ≡ x ∷ next →
+      ((ys : List B) → R next ys → R (x ∷ next) (y ∷ ys)) →
+      ((ys : List B) → R rest ys → R all (done ++ ys)) →
+      (ys : List B) → R next ys → R all ((done ++ y ∷ []) ++ ys)
+  one_done rest next x done y e one so_far ys h =
+      subst (R all) (sym (append_assoc done (y ∷ []) ys))
+      (so_far (y ∷ ys) (subst (λ l. R l (y ∷ ys)) (sym e) (one ys h)))
+
+  pub all_done : (rest : List A) (done : List B) → rest ≡ [] → R [] [] →
+      ((ys : List B) → R rest ys → R all (done ++ ys)) → R all done
+  all_done rest done e none so_far =
+      subst (R all) (append-nil done) (so_far [] (subst (λ l. R l []) (sym e) none))
+
+-- ---- readers at work
 pub started_rest : (o : Origin) (hs more : List (PromisedHandle Worked Works))
     (ls next : List (Vec Query Global)) (h : PromisedHandle Worked Works) (l : Vec Query Global) →
     hs ≡ h ∷ more → ls ≡ l ∷ next → AreStarted o hs ls → AreStarted o more next
@@ -41,12 +74,9 @@ started_rest o hs more ls next h l e f a =
     (subst (λ (x : List (Vec Query Global)). AreStarted o (h ∷ more) x) f
     (subst (λ (x : List (PromisedHandle Worked Works)). AreStarted o x ls) e a)).1
 
-pub all_more : (p : Profile) (l : Limits) (batches : List (List Edit))
-    (qs : List (Vec Query Global)) (rs : List (Vec Reply Global)) (q : Vec Query Global)
-    (r : Vec Reply Global) → AreAll p l batches qs rs → AreReplies p l batches 0 q.items r.items →
-    AreAll p l batches (qs ++ q ∷ []) (rs ++ r ∷ [])
-all_more p l batches [] [] q r all one = (one, tt)
-all_more p l batches (x ∷ qs) (y ∷ rs) q r all one =
-    (all.0, all_more p l batches qs rs q r all.1 one)
-all_more p l batches [] (y ∷ rs) q r all one = absurd all
-all_more p l batches (x ∷ qs) [] q r all one = absurd all
+pub started_count : (o : Origin) (hs : List (PromisedHandle Worked Works))
+    (ls : List (Vec Query Global)) → AreStarted o hs ls → length hs ≡ length ls
+started_count o [] [] a = refl
+started_count o (h ∷ hs) (l ∷ ls) a = ap suc (started_count o hs ls a.1)
+started_count o [] (l ∷ ls) a = absurd a
+started_count o (h ∷ hs) [] a = absurd a

@@ -1,5 +1,5 @@
 //! Readers and one editor at work at once, each in a thread of its own.
-ghost use Rattle.std.specs.Prelude.{◌≡◌, ◌≤◌, length, IfOk, IfErr, OnOk, Err};
+ghost use Rattle.std.specs.Prelude.{◌≡◌, ◌≤◌, length, vec_len, IfOk, IfErr, OnOk, Err};
 ghost use Rattle.std.specs.List.{All};
 ghost use Rattle.osn_days.specs.Profile.{present};
 ghost use Rattle.osn_core.specs.Script.{script_after, editions_of};
@@ -17,7 +17,7 @@ use crate::note::Note;
 use crate::opening::open;
 use crate::reader::Reader;
 use crate::work::{Worked, Works, work};
-use osn_core::{Command, MOST_READERS, Reply};
+use osn_core::{Command, Reply};
 use osn_register::{Limits, Query};
 use std::alloc::Global;
 use std::sync::Wait;
@@ -34,19 +34,16 @@ fn start_all<'s, E, G: Gate + Sync>(
     readers: Vec<Reader>,
     lists: &'s [Vec<Query>],
 ) -> Result<Vec<Handle>, DeskFault>
-    requires { length lists.now ≤ 64 }
+    requires few { length lists.now ≤ 64 }
+    requires count { vec_len readers ≡ length lists.now }
     ensures started { IfOk result (λ hs. (o : Origin) → All (λ r. r.origin ≡ o) readers.items →
         AreStarted o hs.items lists.now) }
     ensures fault { IfErr result IsPlain }
 {
-    let mut readers = readers;
     let mut handles = Vec::new(alloc);
     let mut who = 0u32;
-    for list in lists {
+    for (list, reader) in lists.iter().zip(readers) {
         who += 1;
-        let Some(reader) = readers.pop() else {
-            return Err(DeskFault::NoPlace);
-        };
         let promise = Works::of(&reader, list);
         let Ok(handle) = scope.spawn_with(promise, move || {
             work(alloc, gate, who, reader, list.as_slice())
@@ -129,14 +126,10 @@ fn collect<R: Threads>(
         editor.now.object.batches lists.now all.items) }
     ensures fault { IfErr result (IsFaultAt (length editor.now.object.batches)) }
 {
-    let mut handles = handles.into_iter();
     let mut all = Vec::new(alloc);
     let mut who = 0u32;
-    for list in lists {
+    for (list, handle) in lists.iter().zip(handles) {
         who += 1;
-        let Some(handle) = handles.next() else {
-            return Err(DeskFault::NoPlace);
-        };
         let worked = handle.join(rt);
         let replies = settle(worked, editor.note(), who, list.as_slice())?;
         let Ok(()) = all.push(replies) else {
@@ -158,6 +151,7 @@ fn at_desk<'s, E, R: Threads + Wait, G: Gate + Sync>(
     lists: &'s [Vec<Query>],
 ) -> Result<Vec<Vec<Reply>>, DeskFault>
     requires few { length lists.now ≤ 64 }
+    requires count { vec_len readers ≡ length lists.now }
     requires new { All (λ r. IsNew editor.old r) readers.items }
     ensures replies { IfOk result (λ all. AreAll present editor.old.origin.limits
         (script_after present editor.old.object commands.now).batches lists.now all.items) }
@@ -195,10 +189,10 @@ pub fn run_desk<R: Threads + Wait, G: Gate + Sync>(
     ensures fault { IfErr result
         (IsDeskFault (length lists.now) (length (editions_of present limits commands.now))) }
 {
-    if lists.is_empty() || lists.len() > MOST_READERS as usize {
+    let Ok(count) = u32::try_from(lists.len()) else {
         return Err(DeskFault::BadCount);
-    }
-    let (mut editor, readers) = match open(rt, alloc, limits, lists.len() as u32) {
+    };
+    let (mut editor, readers) = match open(rt, alloc, limits, count) {
         Ok(opened) => opened,
         Err(OpenFault::BadCount) => return Err(DeskFault::BadCount),
         Err(OpenFault::NoPlace) => return Err(DeskFault::NoPlace),
@@ -210,6 +204,7 @@ pub fn run_desk<R: Threads + Wait, G: Gate + Sync>(
         rt,
         |scope| -> Result<Vec<Vec<Reply>>, DeskFault>
             requires few { length lists.now ≤ 64 }
+            requires count { vec_len readers ≡ length lists.now }
             requires new { All (λ r. IsNew held.now r) readers.items }
             ensures replies { IfOk result (λ all. AreAll present held.entry.now.origin.limits
                 (script_after present held.entry.now.object commands.entry.now).batches

@@ -24,8 +24,8 @@ pub enum PublishFault {
     /// There is no edit to publish.
     #[error("nothing is pending")]
     NothingPending,
-    /// There are as many editions as the limit lets it.
-    #[error("there are as many editions as the limit lets it")]
+    /// There are as many editions as the limit allows.
+    #[error("there are as many editions as the limit allows")]
     EditionsFull,
     /// A growth of memory was refused; the call may be tried again.
     #[error("memory ran out; what is pending stands")]
@@ -49,11 +49,15 @@ pub enum DeskFault {
     /// A growth of memory was refused.
     #[error("memory ran out")]
     NoMemory,
-    /// Once all had ended, a reader had been told of more editions than there were. It never comes.
+    /// Once all had ended, a reader had been told of more editions than there were. No contract
+    /// excludes it, and no cause for it is known.
     #[error("reader {reader} was told of edition {last}, of {editions} editions")]
     HistoryBroken {
+        /// Which reader, from 1.
         reader: u32,
+        /// The edition that the reader had been told of.
         last: u32,
+        /// How many editions the script has.
         editions: u32,
     },
     /// The lists of questions are 1 to 64.

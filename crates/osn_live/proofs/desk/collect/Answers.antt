@@ -1,34 +1,42 @@
-use Rattle.std.proofs.Common.{rules, ◌+◌, get_or, take, drop, subst, Vec}
-use Rattle.std.specs.declared.alloc.Global.{Global}
-use Rattle.std.proofs.lemmas.List.{take_more, drop_more}
+use Rattle.std.proofs.Common.{rules, ◌≡◌, []}
 use Rattle.osn_days.specs.Profile.{present}
-use Rattle.osn_register.specs.declared.query.Query.{Query}
-use Rattle.osn_live.specs.Desk.{AreReplies}
-use Rattle.osn_live.proofs.AtWork.{started_rest, all_more}
+use Rattle.osn_live.specs.Desk.{AreReplies, AreAll}
+use Rattle.osn_live.proofs.AtWork.{next_pair, no_pair, few_left, count_left, one_done, all_done}
+use Rattle.osn_live.proofs.AtWork.{started_rest, started_count}
 use Rattle.osn_live.proofs.desk.collect.Goals as goal
+
+pub loop-list-init : goal.loop-list-init
+loop-list-init g c =
+    let count = started_count c.args.editor.now.origin c.args.handles.items c.args.lists.now
+    c.requires.started in
+    search (rules, count)
 
 pub loop-list-preserved : goal.loop-list-preserved
 loop-list-preserved g c =
     let loop = c.loop-list in
-    let i = loop.list-index in
-    let lists = c.args.lists.now in
     let origin = c.args.editor.now.origin in
     let batches = c.args.editor.now.object.batches in
-    let list : Vec Query Global = c.list-item.result in
-    let q : Vec Query Global = get_or lists i list in
+    let list = c.in-Some.list in
     let told = c.in_ok-replies.replies in
-    let one : AreReplies present origin.limits batches 0 list.items told.items =
+    let step = next_pair loop.list-iterator c.next.new.self _ (list, c.in-Some.handle)
+    c.in-Some.is c.next.ensures.steps in
+    let one : AreReplies present origin.limits batches 0 list.now.items told.items =
     rw (c.note.ensures.batches, c.note.ensures.origin, c.as_slice.ensures.value)
     at c.in_ok-replies.ensures.replies in
-    let here : AreReplies present origin.limits batches 0 q.items told.items =
-    subst (λ (v : Vec Query Global).
-    AreReplies present origin.limits batches 0 v.items told.items) c.list-item.is one in
     record {
-      started = started_rest origin loop.handles.rest.items c.next.new.self.rest.items
-          (drop i lists) (drop (i + 1) lists) c.in-Some.handle q c.in-Some.ensures.items
-          (drop_more lists i list c.loop-list-test.true) loop.invariant.started;
-      replies = rw (take_more lists i list c.loop-list-test.true, c.in-Ok.ensures.items)
-          (all_more present origin.limits batches (take i lists) loop.all.items q told
-          loop.invariant.replies here);
-      who = search rules;
+      few = few_left loop.who _ list.now _ step.0 loop.invariant.few;
+      count = count_left _ _ _ list.now _ step.0 step.2 loop.invariant.count;
+      started = started_rest origin _ _ _ _ c.in-Some.handle list.now step.1 step.0
+          loop.invariant.started;
+      replies = rw c.in-Ok.ensures.items (one_done (AreAll present origin.limits batches)
+          c.args.lists.now _ _ list.now loop.all.items told step.0 (λ more rest. (one, rest))
+          loop.invariant.replies);
     }
+
+pub returns-clause-replies : goal.returns-clause-replies
+returns-clause-replies g c =
+    let loop = c.loop-list in
+    let none = no_pair loop.list-iterator c.next.new.self _ c.in-None.is c.next.ensures.steps
+    loop.invariant.count in
+    all_done (AreAll present c.args.editor.now.origin.limits c.args.editor.now.object.batches)
+    c.args.lists.now _ loop.all.items none tt loop.invariant.replies

@@ -1,13 +1,25 @@
-use Rattle.std.proofs.Common.{◌≡◌, take, drop}
+use Rattle.std.proofs.Common.{◌≡◌, ◌≤◌, ◌+◌, ◌++◌, List, length, Vec}
+use Rattle.std.specs.Iterator.Adapters.{zip_first, zip_second}
+use Rattle.std.specs.Slice.Iter.{iter_rest}
+use Rattle.std.specs.Vec.Iter.{into_iter_items, into_iter_len}
+use Rattle.std.specs.declared.alloc.Global.{Global}
 use Rattle.osn_days.specs.Profile.{present}
+use Rattle.osn_core.specs.declared.step.Reply.{Reply}
 use Rattle.osn_live.specs.Desk.{AreAll}
 use Rattle.osn_live.specs.InsideDesk.{AreStarted}
 use Rattle.osn_live.proofs.desk.collect.Given as goal
 
+-- what is told, and behind it what is told to the lists that are left
 abbrev pub invariant-loop-list : goal.invariant-loop-list
 invariant-loop-list g l = record {
-  started : AreStarted l.fn.editor.origin l.handles.rest.items (drop l.list-index l.lists);
-  replies : AreAll present l.fn.editor.origin.limits l.fn.editor.object.batches
-      (take l.list-index l.lists) l.all.items;
-  who : l.who ≡ l.list-index;
+  few : l.who + length (iter_rest (zip_first l.list-iterator)) ≤ 64;
+  count : into_iter_len (zip_second l.list-iterator)
+      ≡ length (iter_rest (zip_first l.list-iterator));
+  started : AreStarted l.fn.editor.origin (into_iter_items (zip_second l.list-iterator))
+      (iter_rest (zip_first l.list-iterator));
+  replies : (more : List (Vec Reply Global)) →
+      AreAll present l.fn.editor.origin.limits l.fn.editor.object.batches
+      (iter_rest (zip_first l.list-iterator)) more →
+      AreAll present l.fn.editor.origin.limits l.fn.editor.object.batches l.lists
+      (l.all.items ++ more);
 }

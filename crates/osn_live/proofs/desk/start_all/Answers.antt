@@ -1,43 +1,48 @@
-use Rattle.std.proofs.Common.{rules, ◌≡◌, get_or, take, ap, subst}
-use Rattle.std.proofs.Common.{◌∙◌, Vec}
+use Rattle.std.proofs.Common.{◌≡◌, ◌∙◌, List, [], ◌∷◌, Vec, ap, subst, sym}
 use Rattle.std.specs.List.{All}
 use Rattle.std.specs.declared.alloc.Global.{Global}
-use Rattle.std.proofs.lemmas.List.{take_more, take_all}
+use Rattle.std.proofs.lemmas.List.Elements.{All-head, All-tail}
+use Rattle.core.specs.declared.thread.PromisedHandle.{PromisedHandle}
 use Rattle.osn_register.specs.declared.query.Query.{Query}
+use Rattle.osn_live.specs.declared.work.Worked.{Worked}
 use Rattle.osn_live.specs.declared.work.Works.{Works}
 use Rattle.osn_live.specs.Running.{ReaderState}
 use Rattle.osn_live.specs.InsideDesk.{IsStarted, AreStarted}
-use Rattle.osn_live.proofs.AtWork.{all_last, started_more}
+use Rattle.osn_live.proofs.AtWork.{next_pair, no_pair, few_left, count_left, one_done, all_done}
 use Rattle.osn_live.proofs.desk.start_all.Goals as goal
 
 pub loop-list-preserved : goal.loop-list-preserved
-loop-list-preserved g c = record {
-  started = λ o all.
-      let loop = c.loop-list in
-      let lists = c.args.lists.now in
-      let list : Vec Query Global = c.list-item.result in
-      let q : Vec Query Global = get_or lists loop.list-index list in
-      let inv = loop.invariant.started o all in
-      let split = all_last (λ (r : ReaderState). r.origin ≡ o) c.pop.new.self.items
-      c.in-Some.reader (subst (All (λ (r : ReaderState). r.origin ≡ o)) c.in-Some.ensures.items
-      inv.0) in
-      let one : IsStarted o c.in-Ok.handle q = record {
-        reader = ap (λ (p : Works). p.0.value.origin) c.in-Ok.ensures.ok
-            ∙ ap (λ (r : ReaderState). r.origin) c.of-promise.ensures.reader ∙ split.1;
-        list_is = ap (λ (p : Works). p.1.value) c.in-Ok.ensures.ok
-            ∙ c.of-promise.ensures.questions ∙ c.list-item.is;
-      } in (
-        split.0,
-        rw (
-          take_more lists loop.list-index list c.loop-list-test.true,
-          c.in-Ok-push.ensures.items,
-        ) (started_more o loop.handles.items
-            (take loop.list-index lists) c.in-Ok.handle q inv.1 one),
-      );
-  who = search rules;
-}
+loop-list-preserved g c =
+    let loop = c.loop-list in
+    let list = c.in-Some.list in
+    let reader = c.in-Some.reader in
+    let step = next_pair loop.list-iterator c.next.new.self _ (list, reader)
+    c.in-Some.is c.next.ensures.steps in
+    record {
+      few = few_left loop.who _ list.now _ step.0 loop.invariant.few;
+      count = count_left _ _ _ list.now _ step.0 step.2 loop.invariant.count;
+      started = λ o all.
+          let inv = loop.invariant.started o all in
+          let P : ReaderState → Type 0 = λ r. r.origin ≡ o in
+          let left : All P (reader ∷ _) = subst (All P) step.1 inv.0 in
+          let one : IsStarted o c.in-Ok.handle list.now = record {
+            reader = ap (λ (p : Works). p.0.value.origin) c.in-Ok.ensures.ok
+                ∙ ap (λ (r : ReaderState). r.origin) c.of-promise.ensures.reader
+                ∙ All-head P reader _ left;
+            list_is = ap (λ (p : Works). p.1.value) c.in-Ok.ensures.ok
+                ∙ c.of-promise.ensures.questions;
+          } in (
+            All-tail P reader _ left,
+            rw c.in-Ok-push.ensures.items (one_done (λ ls hs. AreStarted o hs ls) c.args.lists.now
+                _ _ list.now loop.handles.items c.in-Ok.handle step.0 (λ hs rest. (one, rest))
+                inv.1),
+          );
+    }
 
 pub returns-clause-started : goal.returns-clause-started
-returns-clause-started g c o all = subst (AreStarted o c.loop-list.handles.items)
-    (take_all c.loop-list.list-index c.args.lists.now c.loop-list-test.false)
-    (c.loop-list.invariant.started o all).1
+returns-clause-started g c o all =
+    let loop = c.loop-list in
+    let none = no_pair loop.list-iterator c.next.new.self _ c.in-None.is c.next.ensures.steps
+    loop.invariant.count in
+    all_done (λ ls hs. AreStarted o hs ls) c.args.lists.now _ loop.handles.items none tt
+    (loop.invariant.started o all).1
