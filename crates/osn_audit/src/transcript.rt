@@ -12,7 +12,7 @@ ghost use Rattle.osn_files.specs.declared.fault.Role.TheVariants.{Journal, Trans
 ghost use Rattle.osn_request.specs.declared.wire_fault.WireFault.{WireFault};
 ghost use Rattle.osn_audit.specs.Audit as said;
 ghost use Rattle.osn_audit.specs.Law.{Agrees};
-ghost use Rattle.osn_audit.specs.Reasons.{FailsNowhere};
+ghost use Rattle.osn_audit.specs.Reasons.{FailsNowhere, IsEither, JournalSays};
 
 use crate::auditing::Auditing;
 use crate::followers::Followers;
@@ -100,6 +100,12 @@ pub fn audit<R: Source, S: Source>(
         said.audit present limits (lines edits) (lines told) ≡ Err (role, line, why))))) }
     ensures end { OnOk result
         (IsAtEnd (R.remaining journal.new) × IsAtEnd (S.remaining transcript.new)) }
+
+    // Whatever is known of the files, a line that is told is of one of them. Whatever is known of
+    // the transcript, it is the first that is refused of the journal, or the journal is loaded.
+    ensures role { IfErr result (λ fault. MatchFileFault fault ⊤ ⊤ (λ role _ _. IsEither role)) }
+    ensures journal { IfErr result (λ fault. IfSome (R.remaining journal.old) (λ edits.
+        MatchFileFault fault ⊤ ⊤ (JournalSays (load present limits (lines edits))))) }
 
     // As a law: each line's reply is what the journal gives, and no reader's editions fall.
     ensures agrees { IfOk result (λ n. IfSome (R.remaining journal.old) (λ edits.

@@ -11,7 +11,9 @@ use Rattle.osn_files.specs.declared.fault.FileFault.{FileFault}
 use Rattle.osn_files.specs.declared.fault.FileFault.TheVariants as file_faults
 use Rattle.osn_files.specs.declared.fault.LineFault.{LineFault}
 use Rattle.osn_files.specs.declared.fault.Role.{Role}
+use Rattle.osn_files.specs.Journal.{load}
 use Rattle.osn_audit.specs.Audit.{audit}
+use Rattle.osn_audit.specs.Reasons.{IsEither, JournalSays}
 use Rattle.osn_commands.proofs.FileLemmas.{if_err_made}
 use Rattle.osn_commands.specs.declared.fault.CommandFault.{CommandFault}
 use Rattle.osn_commands.specs.Audited.{IsNotAudited}
@@ -22,15 +24,20 @@ use Rattle.osn_lines.specs.Faults.{IsReadFault}
 pub audit_fault : (A : Type 0) (C : Role → ℕ → LineFault → Type 0) (p : Profile) (limits : Limits)
     (journal : Option (List ℕ)) (failed : Bool) (transcript : Option (List ℕ)) (failed_too : Bool)
     (fault : FileFault)
+    → MatchFileFault fault ⊤ ⊤ (λ role _ _. IsEither role)
+    → IfSome journal (λ edits.
+    MatchFileFault fault ⊤ ⊤ (JournalSays (load p limits (lines edits))))
     → IfSome journal (λ edits. IfSome transcript (λ told. MatchFileFault fault ⊤ ⊤
     (λ role line why. audit p limits (lines edits) (lines told) ≡ Err (role, line, why))))
     → MatchFileFault fault A (IsReadFault failed journal ⊎ IsReadFault failed_too transcript) C
     → IsNotAudited p limits journal failed transcript failed_too (by_file fault)
-audit_fault A C p limits journal failed transcript failed_too file_faults.NoMemory h reason = tt
-audit_fault A C p limits journal failed transcript failed_too file_faults.ReadFault h reason =
+audit_fault A C p limits journal failed transcript failed_too file_faults.NoMemory r j h reason =
+    tt
+audit_fault A C p limits journal failed transcript failed_too file_faults.ReadFault r j h reason =
     reason
-audit_fault A C p limits journal failed transcript failed_too (file_faults.BadLine r line why) h k =
-    h
+audit_fault A C p limits journal failed transcript failed_too (file_faults.BadLine role line why)
+    r j h reason =
+    (r, j, h)
 
 -- the same, where the error that a `?` makes is the same one
 pub made_audit_fault : {T : Type 0} (A : Type 0) (C : Role → ℕ → LineFault → Type 0) (p : Profile)
@@ -39,12 +46,15 @@ pub made_audit_fault : {T : Type 0} (A : Type 0) (C : Role → ℕ → LineFault
     (fault : FileFault) (r : Result T CommandFault)
     → said ≡ limits
     → IsErrAnd r (λ made. made ≡ by_file fault)
+    → MatchFileFault fault ⊤ ⊤ (λ role _ _. IsEither role)
+    → IfSome journal (λ edits. MatchFileFault fault ⊤ ⊤ (JournalSays (load p said (lines edits))))
     → IfSome journal (λ edits. IfSome transcript (λ told. MatchFileFault fault ⊤ ⊤
     (λ role line why. audit p said (lines edits) (lines told) ≡ Err (role, line, why))))
     → MatchFileFault fault A (IsReadFault failed journal ⊎ IsReadFault failed_too transcript) C
     → IfErr r (IsNotAudited p limits journal failed transcript failed_too)
-made_audit_fault A C p said limits journal failed transcript failed_too fault r same made h k =
+made_audit_fault A C p said limits journal failed transcript failed_too fault r same made role j h
+    k =
     subst (λ l. IfErr r (IsNotAudited p l journal failed transcript failed_too)) same
     (if_err_made r made (λ e is.
     subst (λ f. IsNotAudited p said journal failed transcript failed_too f) (sym is)
-    (audit_fault A C p said journal failed transcript failed_too fault h k)))
+    (audit_fault A C p said journal failed transcript failed_too fault role j h k)))

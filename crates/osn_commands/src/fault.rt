@@ -18,8 +18,11 @@ use std::alloc::{AllocError, Global};
 pub enum CommandFault {
     /// A line of a file is refused. Lines are counted from 1.
     BadLine {
+        /// What the file is read as.
         role: Role,
+        /// The number of the line.
         line: u64,
+        /// Why it is refused.
         fault: LineFault,
     },
     /// What the words ask for is refused.
@@ -95,10 +98,10 @@ impl From<DeskFault> for CommandFault {
     fn from(fault: DeskFault) -> CommandFault {
         match fault {
             DeskFault::NoMemory => CommandFault::NoMemory,
-            DeskFault::HistoryBroken { .. } => CommandFault::Desk(fault),
-            DeskFault::BadCount => CommandFault::Desk(fault),
-            DeskFault::NoPlace => CommandFault::Desk(fault),
-            DeskFault::GateClosed => CommandFault::Desk(fault),
+            DeskFault::HistoryBroken { .. }
+            | DeskFault::BadCount
+            | DeskFault::NoPlace
+            | DeskFault::GateClosed => CommandFault::Desk(fault),
         }
     }
 }

@@ -21,8 +21,11 @@ const READERS: u32 = 8;
 /// The words of the service. Files are named by their paths; the readers are 1 to 64.
 #[derive(Clone, Copy, Debug, PartialEq, Eq)]
 pub struct ServeWords<'a> {
+    /// The journal to begin with, if any.
     pub journal: Option<&'a str>,
+    /// Where the journal is saved in the end, if anywhere.
     pub save: Option<&'a str>,
+    /// How many readers ask.
     pub readers: u32,
 }
 
@@ -33,23 +36,32 @@ pub enum Words<'a> {
     Serve(ServeWords<'a>),
     /// To print what each step of a schedule gives. The readers are 1 to 64.
     Replay {
+        /// How many readers there are.
         readers: u32,
+        /// The file of the steps.
         schedule: &'a str,
     },
     /// To print what readers are told while an editor works through a script.
     Desk {
+        /// The file of what the editor does.
         script: &'a str,
+        /// The file of what the readers ask.
         questions: &'a str,
     },
     /// To print the almanac of a territory and year.
     Almanac {
+        /// The file of the journal.
         journal: &'a str,
+        /// The code of the territory.
         code: &'a str,
+        /// The year, counted from 1 January.
         year: u32,
     },
     /// To hold a transcript against a journal.
     Audit {
+        /// The file of the journal.
         journal: &'a str,
+        /// The file of what readers asked and were told.
         transcript: &'a str,
     },
 }

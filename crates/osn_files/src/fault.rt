@@ -64,8 +64,11 @@ pub enum FileFault {
     /// A line is refused. Lines are counted from 1.
     #[error("line {line} is refused")]
     BadLine {
+        /// What the file is read as.
         role: Role,
+        /// The number of the line.
         line: u64,
+        /// Why it is refused.
         fault: LineFault,
     },
 }
