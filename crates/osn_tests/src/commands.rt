@@ -1,6 +1,7 @@
 //! The commands of the program over memory: the status, what is written, and what standard error is
 //! told.
 use crate::compare::same;
+use crate::printed::{Left, Wanted, is_left, left_by, sink};
 use crate::session::joined;
 use osn_commands::{Status, run, serve_command, tell_no_words};
 use osn_wire::Plain;
@@ -12,10 +13,6 @@ use std::rt::Files;
 use std::sync::Wait;
 use std::test::Fail;
 use std::thread::Threads;
-
-fn sink(alloc: Global) -> Plain<Vec<u8>> {
-    Plain::new(Vec::new(alloc))
-}
 
 const RM: &str = r#"{"journal":1}
 {"op":"add_land","code":"RM","name":"Rome","calendar":"julian","style":"january","rule":"julian"}
@@ -178,7 +175,7 @@ fn streams_that_fail(rt: HostRuntime) -> Result<(), Fail> {
 }
 
 /// Command lines, and the number of the status of each.
-const LINES: [(&str, u8); 27] = [
+const LINES: [(&str, u8); 22] = [
     ("oldstyle", 0),
     ("oldstyle --help", 0),
     ("oldstyle --version", 0),
@@ -201,34 +198,31 @@ const LINES: [(&str, u8); 27] = [
     ("oldstyle desk", 2),
     ("oldstyle desk none", 2),
     ("oldstyle desk none none none", 2),
-    ("oldstyle almanac /nowhere/none GB 1752", 3),
-    ("oldstyle replay --readers 1 /nowhere/none", 3),
-    ("oldstyle desk /nowhere/none /nowhere/none", 3),
-    ("oldstyle serve --journal /nowhere/none", 3),
-    ("oldstyle serve --save /nowhere/none", 3),
 ];
 
-/// The number of the status with which a command line ends over no input, and whether standard
-/// error is told nothing.
-fn left_by<R: Files + Threads + Wait + AllocGlobal + Abort>(
+/// What a command line leaves over this input.
+pub fn left_over<R: Files + Threads + Wait + AllocGlobal>(
     rt: &R,
     line: &str,
-) -> Result<(u8, bool), Fail> {
+    read: &str,
+) -> Result<Left, Fail> {
     let words: Vec<&str> = line.split_whitespace().collect(rt.alloc())?;
     let mut output = sink(rt.alloc());
     let mut errors = sink(rt.alloc());
-    let mut input = Plain::new(b"".as_slice());
+    let mut input = Plain::new(read.as_bytes());
     let terminal = Some(sink(rt.alloc()));
-    let left = run(rt, &words, &mut input, &mut output, &mut errors, terminal);
-    Ok((left.code(), errors.into_inner().is_empty()))
+    let status = run(rt, &words, &mut input, &mut output, &mut errors, terminal);
+    Ok(left_by(status, output, errors))
 }
 
-fn are_run<R: Files + Threads + Wait + AllocGlobal + Abort>(
+/// That standard error is told something where the status is not 0, and nothing else.
+fn have_status<R: Files + Threads + Wait + AllocGlobal + Abort>(
     rt: &R,
     rows: &[(&str, u8)],
 ) -> Result<(), Fail> {
     for (line, status) in rows {
-        let (code, is_quiet) = left_by(rt, line)?;
+        let left = left_over(rt, line, "")?;
+        let (code, is_quiet) = (left.status.code(), left.told.is_empty());
         same(rt, (line, code, is_quiet), (line, *status, *status == 0));
     }
     Ok(())
@@ -236,7 +230,64 @@ fn are_run<R: Files + Threads + Wait + AllocGlobal + Abort>(
 
 #[test]
 fn words_and_statuses(rt: HostRuntime) -> Result<(), Fail> {
-    are_run(&rt, &LINES)
+    have_status(&rt, &LINES)
+}
+
+/// A command line, what is read, and what is left.
+pub type RunRow = (&'static str, &'static str, Wanted);
+
+const FAULTS: [RunRow; 6] = [
+    (
+        "oldstyle almanac /nowhere/none GB 1752",
+        "",
+        (3, "", "oldstyle: read fault\n"),
+    ),
+    (
+        "oldstyle replay --readers 1 /nowhere/none",
+        "",
+        (3, "", "oldstyle: read fault\n"),
+    ),
+    (
+        "oldstyle desk /nowhere/none /nowhere/none",
+        "",
+        (3, "", "oldstyle: read fault\n"),
+    ),
+    (
+        "oldstyle audit /nowhere/none /nowhere/none",
+        "",
+        (3, "", "oldstyle: read fault\n"),
+    ),
+    (
+        "oldstyle serve --journal /nowhere/none",
+        "{}\n",
+        (3, "", "oldstyle: read fault\n"),
+    ),
+    (
+        "oldstyle serve --save /nowhere/none",
+        "{\"op\":\"publish\"}\n",
+        (
+            3,
+            "{\"fault\":15,\"name\":\"NothingPending\"}\n",
+            "oldstyle: write fault\n",
+        ),
+    ),
+];
+
+/// That runs leave this, one behind the other.
+pub fn are_run<R: Files + Threads + Wait + AllocGlobal + Abort>(
+    rt: &R,
+    rows: &[RunRow],
+) -> Result<(), Fail> {
+    for (line, read, wanted) in rows {
+        let left = left_over(rt, line, read)?;
+        is_left(rt, rt.alloc(), left, wanted)?;
+    }
+    Ok(())
+}
+
+#[test]
+fn faults_of_files(rt: HostRuntime) -> Result<(), Fail> {
+    are_run(&rt, &FAULTS)
 }
 
 #[test]

@@ -31,6 +31,8 @@ mod faults;
 #[cfg(test)]
 mod figures;
 #[cfg(test)]
+mod files;
+#[cfg(test)]
 mod forty;
 #[cfg(test)]
 mod journals;
@@ -70,3 +72,5 @@ mod tables;
 mod takers;
 #[cfg(test)]
 mod walk;
+#[cfg(test)]
+mod whole_writes;

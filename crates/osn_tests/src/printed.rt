@@ -13,19 +13,19 @@ use std::thread::Threads;
 
 /// What a command left.
 #[derive(Drop)]
-struct Left {
-    status: Status,
-    written: Vec<u8>,
-    told: Vec<u8>,
+pub struct Left {
+    pub status: Status,
+    pub written: Vec<u8>,
+    pub told: Vec<u8>,
 }
 
 type Memory = Plain<Vec<u8>>;
 
-fn sink(alloc: Global) -> Memory {
+pub fn sink(alloc: Global) -> Memory {
     Plain::new(Vec::new(alloc))
 }
 
-fn left_by(status: Status, output: Memory, errors: Memory) -> Left {
+pub fn left_by(status: Status, output: Memory, errors: Memory) -> Left {
     Left {
         status,
         written: output.into_inner(),
@@ -34,9 +34,9 @@ fn left_by(status: Status, output: Memory, errors: Memory) -> Left {
 }
 
 /// The number of a status, what is written, and what standard error is told.
-type Wanted = (u8, &'static str, &'static str);
+pub type Wanted = (u8, &'static str, &'static str);
 
-fn is_left(rt: &impl Abort, alloc: Global, left: Left, wanted: &Wanted) -> Result<(), Fail> {
+pub fn is_left(rt: &impl Abort, alloc: Global, left: Left, wanted: &Wanted) -> Result<(), Fail> {
     let (status, written, told) = wanted;
     let written = joined(alloc, written)?;
     same(rt, left.status.code(), *status);

@@ -1,7 +1,7 @@
 //! Streams: bytes that come and go in any pieces, and reads, writes and flushes that fail.
 use crate::compare::same;
 use osn_register::Limits;
-use osn_wire::{Plain, ServeFault, Sink, serve, write_all};
+use osn_wire::{Plain, ServeFault, serve};
 use std::alloc::{AllocError, Global};
 use std::cell::Cell;
 use std::io;
@@ -10,11 +10,13 @@ use std::process::Abort;
 use std::rc::Rc;
 use std::test::Fail;
 
-/// How many bytes were flushed, in how many writes, and how many of them before the last read.
+/// How many bytes were flushed, in how many writes, how many the longest of them took, and how many
+/// were flushed before the last read.
 #[derive(Drop)]
 struct Notes {
     flushed: Cell<usize>,
     writes: Cell<usize>,
+    longest: Cell<usize>,
     seen: Cell<usize>,
 }
 
@@ -26,6 +28,7 @@ impl Notes {
             Notes {
                 flushed: Cell::new(0),
                 writes: Cell::new(0),
+                longest: Cell::new(0),
                 seen: Cell::new(0),
             },
         )?)
@@ -76,6 +79,7 @@ impl Write for Bounded {
         self.notes
             .writes
             .set(self.notes.writes.get().saturating_add(1));
+        self.notes.longest.set(self.notes.longest.get().max(taken));
         Ok(taken)
     }
 
@@ -103,6 +107,7 @@ struct Outcome {
     text: Vec<u8>,
     end: End,
     writes: usize,
+    longest: usize,
     seen: usize,
 }
 
@@ -159,6 +164,7 @@ fn tried(alloc: Global, input: &[u8], plan: Plan) -> Result<Outcome, AllocError>
         text: sink.into_inner().bytes,
         end,
         writes: notes.writes.get(),
+        longest: notes.longest.get(),
         seen: notes.seen.get(),
     })
 }
@@ -266,6 +272,27 @@ fn replies_are_written_together_and_before_the_next_read(rt: HostRuntime) -> Res
     Ok(())
 }
 
+/// The text so many times.
+fn repeated(alloc: Global, text: &str, count: usize) -> Result<Vec<u8>, AllocError> {
+    let mut whole = Vec::new(alloc);
+    for _time in 0..count {
+        whole.extend_from_slice(text.as_bytes())?;
+    }
+    Ok(whole)
+}
+
+/// One read gives all of these lines. The reply to each has 30 bytes, so that 65,536 bytes of them
+/// wait behind the first 2,185, and then behind the next 2,185.
+#[test]
+fn many_replies_to_one_read_are_written_in_parts(rt: HostRuntime) -> Result<(), AllocError> {
+    let lines = repeated(rt.alloc(), "\n", 5_000)?;
+    let many = tried(rt.alloc(), &lines, WHOLE)?;
+    let wanted = (End::Answered(5_000), 3, 30 * 2_185);
+    same(&rt, (many.end, many.writes, many.longest), wanted);
+    same(&rt, many.text, repeated(rt.alloc(), NOT_JSON, 5_000)?);
+    Ok(())
+}
+
 /// Where reading fails, how many lines were answered then, and how many bytes are written. A
 /// partial line before a read that fails is not answered.
 const UNREAD: [(usize, u64, usize); 6] = [
@@ -352,15 +379,6 @@ fn a_failed_flush_is_a_failed_write(rt: HostRuntime) -> Result<(), Fail> {
     Ok(())
 }
 
-/// How `write_all` ends for seven bytes, by the bytes a write and where writing fails.
-const WRITTEN_WHOLE: [(usize, usize, Result<(), usize>); 5] = [
-    (1, usize::MAX, Ok(())),
-    (usize::MAX, usize::MAX, Ok(())),
-    (1, 4, Err(4)),
-    (3, 4, Err(6)),
-    (0, usize::MAX, Err(0)),
-];
-
 /// A sink that takes so many bytes a write, and fails once it has so many.
 pub fn sink_that_fails(
     alloc: Global,
@@ -374,22 +392,4 @@ pub fn sink_that_fails(
         flush_fails: false,
         notes: Notes::shared(alloc)?,
     }))
-}
-
-fn are_written(
-    rt: &impl Abort,
-    alloc: Global,
-    rows: &[(usize, usize, Result<(), usize>)],
-) -> Result<(), AllocError> {
-    for (step, fails_at, want) in rows {
-        let mut sink = sink_that_fails(alloc, *step, *fails_at)?;
-        let written = write_all(&mut sink, b"abcdefg");
-        same(rt, (written, sink.failed()), (*want, want.is_err()));
-    }
-    Ok(())
-}
-
-#[test]
-fn all_bytes_are_written(rt: HostRuntime) -> Result<(), AllocError> {
-    are_written(&rt, rt.alloc(), &WRITTEN_WHOLE)
 }
