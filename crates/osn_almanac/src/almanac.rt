@@ -35,8 +35,8 @@ fn written(alloc: Global, register: &Register, code: &str, year: i64) -> Result<
 ///
 /// # Errors
 ///
-/// The refusals of a query of the territory's Easters, in their order, and else `NoMemory` where no
-/// memory is found.
+/// Those of a query of the territory's Easters, in their order: `BadCode`, `UnknownLand`,
+/// `YearOffRange`. Else `NoMemory` where no memory is found.
 pub fn almanac_text(
     alloc: Global,
     register: &Register,

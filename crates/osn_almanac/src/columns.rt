@@ -1,4 +1,5 @@
-//! Lines about a day, in columns.
+//! Lines about a day, in columns: 13 places for a name, as long as `Ash Wednesday`, 9 for a weekday,
+//! as long as `Wednesday`, and 7 for the number of a day, of which the line has no more digits.
 ghost use Rattle.std.specs.Prelude.{◌≡◌, [], ◌∷◌, ◌++◌, OnOk, string_bytes};
 ghost use Rattle.osn_almanac.specs.Columns as said;
 ghost use Rattle.osn_almanac.specs.Almanac.{lines_text};

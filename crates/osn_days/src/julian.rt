@@ -27,6 +27,8 @@ pub fn date_of(day: Day) -> Date
     ensures value { result ≡ chain.date_of Julian day }
     ensures year { IsYearNumber present result.year }
 {
+    // Four times the days since 1 March of year 0, and 3 more, so that of four years from March on
+    // the last is the longest.
     let quarters = 4 * (day.number() + DAYS_BEFORE) - 1;
     let year = quarters / FOUR_YEARS;
     let fifths = 5 * (quarters % FOUR_YEARS / 4) + 2;

@@ -7,7 +7,7 @@ use crate::style::year_of;
 use osn_days::{Day, date_of};
 use std::alloc::{AllocError, Global};
 
-/// The English name of a month from 1 to 12.
+/// The English name of a month from 1 to 12. Any other number is taken for 12.
 pub fn month_name(month: u8) -> &'static str
     ensures { result.now ≡ dual.month_name month }
 {

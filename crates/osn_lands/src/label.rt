@@ -8,7 +8,8 @@ use crate::regime::Regime;
 use crate::style::year_of;
 use osn_days::{Day, date_of};
 
-/// A date as a territory writes it: the style's year, the month and the day of the month.
+/// A date as a territory writes it: the style's year, the month and the day of the month. The
+/// numbers may be any; the label of a day of the line has a year from 0 to 3000.
 #[derive(Clone, Copy, Debug, PartialEq, Eq, Hash)]
 pub struct Label {
     pub year: i32,

@@ -35,7 +35,8 @@ pub(crate) struct LabelTable {
     pub swedish: YearDays,
 }
 
-/// The day of a calendar with the label's month and day in a year. The date is tested, and counted.
+/// The day of a calendar with the label's month and day in a year. The date is tested, and counted
+/// as one of the nine of a table.
 fn dated_day(calendar: Calendar, label: Label, year: i64, tested: &mut u32) -> Option<Day>
     requires { tested.old ≤ 8 }
     ensures value { option_to_list result ≡ days_with_date present calendar (date_in year label) }

@@ -8,6 +8,7 @@ use std::alloc::{AllocError, Global};
 /// `1582-10-04`. No year is negative.
 ///
 /// # Errors
+///
 /// Want of memory, and nothing else.
 pub fn date_text(alloc: Global, year: i32, month: u8, day: u8) -> Result<String, AllocError>
     ensures { IfOk result (λ s. string_bytes s ≡ said.date_text year month day) }

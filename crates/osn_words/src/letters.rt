@@ -7,6 +7,7 @@ use std::alloc::{AllocError, Global};
 /// One letter in a common year and two in a leap year, that of January first.
 ///
 /// # Errors
+///
 /// Want of memory, and nothing else.
 #[tactic(auto, unfolding(crate::specs::Texts::letters_text))]
 pub fn letters_text(alloc: Global, letters: Letters) -> Result<String, AllocError>

@@ -7,6 +7,10 @@ use json::Writer;
 use std::alloc::AllocError;
 
 /// Writes a member that is a number.
+///
+/// # Errors
+///
+/// Want of memory, and nothing else.
 pub fn write_number(out: &mut Writer, name: &str, number: u32) -> Result<(), AllocError>
     ensures tokens { OnOk result (out.new.tokens
         ≡ out.old.tokens ++ member_tokens name.now (whole number)) }
@@ -17,6 +21,10 @@ pub fn write_number(out: &mut Writer, name: &str, number: u32) -> Result<(), All
 }
 
 /// Writes a member that is a number, which may be negative.
+///
+/// # Errors
+///
+/// Want of memory, and nothing else.
 pub fn write_signed(out: &mut Writer, name: &str, number: i64) -> Result<(), AllocError>
     ensures tokens { OnOk result (out.new.tokens
         ≡ out.old.tokens ++ member_tokens name.now (signed number)) }
@@ -27,6 +35,10 @@ pub fn write_signed(out: &mut Writer, name: &str, number: i64) -> Result<(), All
 }
 
 /// Writes a member that is a text.
+///
+/// # Errors
+///
+/// Want of memory, and nothing else.
 pub fn write_text(out: &mut Writer, name: &str, text: &str) -> Result<(), AllocError>
     ensures tokens { OnOk result (out.new.tokens
         ≡ out.old.tokens ++ member_tokens name.now (string text.now)) }
@@ -37,6 +49,10 @@ pub fn write_text(out: &mut Writer, name: &str, text: &str) -> Result<(), AllocE
 }
 
 /// Writes a member that is true or false.
+///
+/// # Errors
+///
+/// Want of memory, and nothing else.
 pub fn write_flag(out: &mut Writer, name: &str, flag: bool) -> Result<(), AllocError>
     ensures tokens { OnOk result (out.new.tokens
         ≡ out.old.tokens ++ member_tokens name.now (boolean flag)) }

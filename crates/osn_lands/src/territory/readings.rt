@@ -25,7 +25,7 @@ impl Territory {
         Ok(days)
     }
 
-    /// The same, and how many days were tested to find them: at most three a period.
+    /// The same, and how many dates were tested to find them: at most three a period.
     ///
     /// # Errors
     ///
