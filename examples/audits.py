@@ -1,12 +1,12 @@
 #!/usr/bin/env python3
-"""Audits transcripts of random journals, as they are and with one byte of a reply changed.
+"""Audits transcripts of random journals, as they are and with one digit of a reply changed.
 
     examples/audits.py [COUNT [SEED [PROGRAM]]]
         1,000 transcripts, seed 1 and ../oldstyle where none is given
 
 A journal of random edits is served, edition by edition, to readers who ask in between; each query
 and its reply are put down as a transcript, or the journal is worked through at a desk, whose
-transcript is taken. The audit has to agree to all replies. Then one byte within a reply is changed,
+transcript is taken. The audit has to agree to all replies. Then one digit within a reply is changed,
 and the audit has to name that line. In the end a transcript of over 128 MiB is audited, which has
 to say on a terminal how far it is, and nowhere else.
 """
