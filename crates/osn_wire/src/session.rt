@@ -2,7 +2,8 @@
 //!
 //! What waits is written before a line that changes the object, so that of the lines whose replies
 //! wait only the first has changed it.
-ghost use Rattle.std.specs.Prelude.{◌≡◌, ◌<◌, length, IfErr, OnOk, OnErr};
+ghost use Rattle.std.specs.Prelude.{◌≡◌, ◌<◌, [], ◌∷◌, length, IfErr, OnOk, OnErr};
+ghost use Rattle.std.specs.Io.KnownBytes.{Appends};
 ghost use Rattle.osn_days.specs.Profile.{present};
 ghost use Rattle.osn_lines.specs.Faults.{WriteFails};
 ghost use Rattle.osn_reply.specs.ReplyText.{reply_line};
@@ -19,6 +20,29 @@ use osn_register::{Edit, Query};
 use osn_reply::Outcome;
 use osn_request::{Request, RequestError, read_request};
 use std::alloc::{AllocError, Global};
+
+/// Writes what waits, and then adds the reply to a change, which is made behind it.
+fn write_and_push<W: Sink>(
+    alloc: Global,
+    sink: &mut W,
+    waiting: &mut Waiting,
+    outcome: Outcome,
+) -> Result<(), Stop>
+    ensures ok { OnOk result
+        (Appends (W.contents sink.old) (W.contents sink.new) waiting.old.text.items) }
+    ensures text { OnOk result (waiting.new.text.items ≡ reply_line outcome) }
+    ensures ends { OnOk result (waiting.new.ends.items ≡ length (reply_line outcome) ∷ []) }
+    ensures sound { OnOk result (W.has_failed sink.new ≡ W.has_failed sink.old) }
+    ensures err { IfErr result (λ stop. MatchStop stop
+        (Settles (W.contents sink.old) (W.contents sink.new) waiting.old waiting.new)
+        (WritesSome (W.contents sink.old) (W.contents sink.new) waiting.old)) }
+    ensures reason { IfErr result (λ stop. MatchStop stop
+        (W.has_failed sink.new ≡ W.has_failed sink.old)
+        (λ _. WriteFails (W.has_failed sink.old) (W.has_failed sink.new) waiting.old.text.items)) }
+{
+    waiting.write(sink)?;
+    Ok(waiting.push(alloc, outcome)?)
+}
 
 fn stage<W: Sink>(
     alloc: Global,
@@ -42,10 +66,9 @@ fn stage<W: Sink>(
 {
     let pending = match object.check(edit) {
         Ok(pending) => pending,
-        Err(refusal) => return Ok(waiting.push(alloc, &Outcome::Refused(refusal))?),
+        Err(refusal) => return Ok(waiting.push(alloc, Outcome::Refused(refusal))?),
     };
-    waiting.write(sink)?;
-    waiting.push(alloc, &Outcome::Staged(pending))?;
+    write_and_push(alloc, sink, waiting, Outcome::Staged(pending))?;
     match object.admit(edit) {
         Ok(_) => Ok(()),
         Err(_) => {
@@ -76,10 +99,9 @@ fn publish<W: Sink>(
 {
     let edition = match object.check_publish() {
         Ok(edition) => edition,
-        Err(refusal) => return Ok(waiting.push(alloc, &Outcome::Refused(refusal))?),
+        Err(refusal) => return Ok(waiting.push(alloc, Outcome::Refused(refusal))?),
     };
-    waiting.write(sink)?;
-    waiting.push(alloc, &Outcome::Published(edition))?;
+    write_and_push(alloc, sink, waiting, Outcome::Published(edition))?;
     match object.make_edition() {
         Ok(_) => Ok(()),
         Err(_) => {
@@ -102,7 +124,7 @@ fn ask(
     ensures err_ends { OnErr result (waiting.new.ends.items ≡ waiting.old.ends.items) }
 {
     let reply = object.ask(query)?;
-    waiting.push(alloc, &Outcome::Replied { reader, reply })
+    waiting.push(alloc, Outcome::Replied { reader, reply })
 }
 
 /// Answers a line: adds the reply to its request, or to its first fault, which leaves the object. A
@@ -132,7 +154,7 @@ fn answer<W: Sink>(
         Ok(Request::Stage(edit)) => stage(alloc, object, sink, waiting, &edit),
         Ok(Request::Publish) => publish(alloc, object, sink, waiting),
         Ok(Request::Ask { reader, query }) => Ok(ask(alloc, object, reader, &query, waiting)?),
-        Err(RequestError::Fault(fault)) => Ok(waiting.push(alloc, &Outcome::Fault(fault))?),
+        Err(RequestError::Fault(fault)) => Ok(waiting.push(alloc, Outcome::Fault(fault))?),
         Err(RequestError::NoMemory) => Err(Stop::NoMemory),
     }
 }

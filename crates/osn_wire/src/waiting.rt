@@ -39,13 +39,13 @@ impl Waiting {
     }
 
     /// Adds the reply line of an outcome.
-    pub(crate) fn push(&mut self, alloc: Global, outcome: &Outcome) -> Result<(), AllocError>
-        ensures ok { OnOk result (Pushes self.old self.new (reply_line outcome.now)) }
+    pub(crate) fn push(&mut self, alloc: Global, outcome: Outcome) -> Result<(), AllocError>
+        ensures ok { OnOk result (Pushes self.old self.new (reply_line outcome)) }
         ensures err { OnErr result (self.new.text.items ≡ self.old.text.items) }
         ensures err_ends { OnErr result (self.new.ends.items ≡ self.old.ends.items) }
     {
         self.ends.reserve(1)?;
-        push_reply(alloc, outcome, &mut self.text)?;
+        push_reply(alloc, &outcome, &mut self.text)?;
         self.ends.push_reserved(self.text.len());
         Ok(())
     }
