@@ -159,25 +159,19 @@ AreSound-within p limits [] l rest few = few.0
 AreSound-within p limits (k ∷ front) l rest few = AreSound-within p limits front l rest few.1
 
 pub copied_within : (p : Profile) (copied : List PlainLand) (l : PlainLand)
-    (rest lands : List PlainLand) (limits room : Limits) (t : PlainTerritory) →
-    copied ++ l ∷ rest ≡ lands → AreSound p limits lands → room ≡ limits → t ≡ l.territory →
-    IsSoundTerritory p room t
-copied_within p copied l rest lands limits room t e few same land =
-    subst (λ m. IsSoundTerritory p m t) (sym same)
-    (subst (IsSoundTerritory p limits) (sym land) (AreSound-within p limits copied l rest
-    (subst (AreSound p limits) (sym e) few)))
+    (rest lands : List PlainLand) (limits room : Limits) → copied ++ l ∷ rest ≡ lands →
+    AreSound p limits lands → room ≡ limits → IsSoundTerritory p room l.territory
+copied_within p copied l rest lands limits room e few same =
+    subst (λ m. IsSoundTerritory p m l.territory) (sym same) (AreSound-within p limits copied l rest
+    (subst (AreSound p limits) (sym e) few))
 
-pub copied_more : (copied : List PlainLand) (l k : PlainLand) (rest lands : List PlainLand) →
-    copied ++ l ∷ rest ≡ lands → k.code ≡ l.code → k.name ≡ l.name → k.territory ≡ l.territory →
-    (copied ++ k ∷ []) ++ rest ≡ lands
-copied_more copied l k rest lands e code called land =
-    append_assoc copied (k ∷ []) rest
-    ∙ ap (λ (c : List ℕ). copied ++ record { code = c; name = k.name; territory = k.territory } ∷
-    rest) code
-    ∙ ap (λ (n : List ℕ). copied ++ record { code = l.code; name = n; territory = k.territory } ∷
-    rest) called
-    ∙ ap (λ (t : PlainTerritory). copied ++ record { code = l.code; name = l.name; territory = t } ∷
-    rest) land
+pub copied_more : (copied : List PlainLand) (l : PlainLand) (rest lands : List PlainLand)
+    (code : List ℕ) → copied ++ l ∷ rest ≡ lands → code ≡ l.code →
+    (copied ++ record { code = code; name = l.name; territory = l.territory } ∷ []) ++ rest ≡ lands
+copied_more copied l rest lands code e same =
+    append_assoc copied (record { code = code; name = l.name; territory = l.territory } ∷ []) rest
+    ∙ ap (λ (c : List ℕ). copied ++ record { code = c; name = l.name; territory = l.territory } ∷
+    rest) same
     ∙ e
 
 pub same_register : (a b : PlainRegister) → a.limits ≡ b.limits → a.lands ++ [] ≡ b.lands → a ≡ b

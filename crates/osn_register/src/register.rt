@@ -37,6 +37,26 @@ struct Entry {
     territory: Territory,
 }
 
+impl Entry {
+    fn new(alloc: Global, name: &Text, regime: Regime) -> Result<Entry, AllocError>
+        ensures { IfOk result (λ e. (e.name ≡ name.now) × (e.territory ≡ opened regime)) }
+    {
+        Ok(Entry {
+            name: name.copy()?,
+            territory: Territory::new(alloc, regime)?,
+        })
+    }
+
+    fn copy(&self) -> Result<Entry, AllocError>
+        ensures { IfOk result (λ e. e ≡ self.now) }
+    {
+        Ok(Entry {
+            name: self.name.copy()?,
+            territory: self.territory.copy()?,
+        })
+    }
+}
+
 /// The territories, in the order in which they were added, under limits.
 #[derive(Drop)]
 pub struct Register {
@@ -259,9 +279,7 @@ impl Register {
         ensures err { OnErr result (self.new ≡ self.old) }
     {
         let key = String::from_str(self.alloc, code.as_str())?;
-        let name = name.copy()?;
-        let territory = Territory::new(self.alloc, regime)?;
-        self.insert(key, Entry { name, territory })
+        self.insert(key, Entry::new(self.alloc, name, regime)?)
     }
 
     fn insert(&mut self, code: String, entry: Entry) -> Result<(), AllocError>

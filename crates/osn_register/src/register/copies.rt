@@ -1,7 +1,8 @@
 //! Registers made of another one, and of edits.
-ghost use Rattle.std.specs.Prelude.{◌≡◌, [], true, IfOk, OnErr, ◌<◌, length};
+ghost use Rattle.std.specs.Prelude.{◌≡◌, [], true, None, IfOk, OnOk, OnErr, ◌<◌, length};
 ghost use Rattle.osn_days.specs.Profile.{present};
 ghost use Rattle.osn_register.specs.Plain.{folded, fold_takes_memory};
+ghost use Rattle.osn_register.specs.Plain.{land_of, with_land, IsSoundTerritory};
 
 use crate::edit::Edit;
 use crate::limits::Limits;
@@ -20,11 +21,22 @@ impl Register {
     {
         let mut copied = Register::new(self.alloc, self.limits);
         for (code, entry) in &self.lands {
-            let name = entry.name.copy()?;
-            let territory = entry.territory.copy()?;
-            copied.insert(code.clone()?, Entry { name, territory })?;
+            copied.insert_copy(code.as_str(), entry)?;
         }
         Ok(copied)
+    }
+
+    fn insert_copy(&mut self, code: &str, entry: &Entry) -> Result<(), AllocError>
+        requires absent { land_of code.now self.old.lands ≡ None }
+        requires room { length self.old.lands < self.old.limits.lands }
+        requires territory { IsSoundTerritory present self.old.limits entry.now.territory }
+        ensures ok { OnOk result (self.new ≡ record self.old {
+          lands = with_land self.old.lands code.now entry.now.name entry.now.territory;
+        }) }
+        ensures err { OnErr result (self.new ≡ self.old) }
+    {
+        let key = String::from_str(self.alloc, code)?;
+        self.insert(key, entry.copy()?)
     }
 
     /// The register of edits applied in turn to the empty one, refused ones passed over.

@@ -16,7 +16,16 @@ use crate::register::Register;
 use crate::territory_answer::{easters, on_day, periods, reading};
 use crate::text::Text;
 use crate::unanswered::Unanswered;
-use std::alloc::AllocError;
+use std::alloc::{AllocError, Global};
+
+fn land(alloc: Global, code: &str, name: &Text) -> Result<Land, AllocError>
+    ensures { IfOk result (λ l. (l.code ≡ code.now) × (l.name ≡ name.now)) }
+{
+    Ok(Land {
+        code: Text::from_str(alloc, code)?,
+        name: name.copy()?,
+    })
+}
 
 impl Register {
     /// What the register answers to a query: `Answer::Refused` exactly where the query is refused.
@@ -118,10 +127,7 @@ impl Register {
     {
         let mut listed = Vec::with_capacity(self.alloc, self.lands.len())?;
         for (code, entry) in &self.lands {
-            listed.push(Land {
-                code: Text::from_str(self.alloc, code.as_str())?,
-                name: entry.name.copy()?,
-            })?;
+            listed.push(land(self.alloc, code.as_str(), &entry.name)?)?;
         }
         Ok(listed)
     }

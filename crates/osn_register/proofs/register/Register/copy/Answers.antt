@@ -1,52 +1,44 @@
 use Rattle.std.proofs.Common.{◌≡◌, ◌∷◌, ◌++◌, map, ap, sym, subst, ◌∙◌, string_bytes}
 use Rattle.osn_days.specs.Profile.{present}
 use Rattle.osn_register.specs.declared.register.Entry.{Entry}
-use Rattle.osn_register.specs.Plain.{PlainLand, IsWellFormed}
+use Rattle.osn_register.specs.Plain.{IsWellFormed}
 use Rattle.osn_register.specs.Inside.{land_in}
 use Rattle.osn_register.proofs.Kept.{copied_absent, copied_room, copied_within, copied_more}
 use Rattle.osn_register.proofs.Kept.{same_register}
 use Rattle.osn_register.proofs.register.Register.copy.Goals as goal
+use Rattle.osn_register.proofs.register.Register.copy.Goals.{After-as_str}
 
-well_formed : (c : goal.In_ok-clone) → IsWellFormed present c.args.self.now
+well_formed : (c : After-as_str) → IsWellFormed present c.args.self.now
 well_formed c = subst (IsWellFormed present) c.self.view_is c.self.invariant
 
--- what is copied, this territory and those that are left are all
-all : (c : goal.In_ok-clone) → c.loop-code.copied.lands ++ land_in string_bytes (λ v. v.name)
+-- what is copied, this territory and those left are all
+all : (c : After-as_str) → c.loop-code.copied.lands ++ land_in string_bytes (λ v. v.name)
     (λ v. v.territory) (c.in-Some.code.now, c.in-Some.entry.now) ∷ map
     (land_in string_bytes (λ v. v.name) (λ v. v.territory)) c.next.new.self ≡ c.args.self.now.lands
 all c = ap (λ it. c.loop-code.copied.lands ++ map (land_in string_bytes (λ v. v.name)
     (λ v. v.territory)) it) (sym c.in-Some.ensures.steps) ∙ c.loop-code.invariant.1
 
-pub insert-requires-clause-absent : goal.insert-requires-clause-absent
-insert-requires-clause-absent c = copied_absent _ _ _ _ (string_bytes c.in_ok-clone.field-0) (all c)
-    (well_formed c).distinct c.in_ok-clone.ensures.cases
+pub insert_copy-requires-clause-absent : goal.insert_copy-requires-clause-absent
+insert_copy-requires-clause-absent c = copied_absent _ _ _ _ c.as_str.result.now (all c)
+    (well_formed c).distinct c.as_str.ensures.value
 
-pub insert-requires-clause-room : goal.insert-requires-clause-room
-insert-requires-clause-room c = copied_room _ _ _ _ _ _ (all c) (well_formed c).within
+pub insert_copy-requires-clause-room : goal.insert_copy-requires-clause-room
+insert_copy-requires-clause-room c = copied_room _ _ _ _ _ _ (all c) (well_formed c).within
     (ap (λ m. m.lands) c.loop-code.invariant.0)
 
-pub insert-requires-clause-territory : goal.insert-requires-clause-territory
-insert-requires-clause-territory c = copied_within present _ _ _ _ _ _ _ (all c)
-    (well_formed c).territories c.loop-code.invariant.0 c.in_ok-territory.ensures
+pub insert_copy-requires-clause-territory : goal.insert_copy-requires-clause-territory
+insert_copy-requires-clause-territory c = copied_within present _ _ _ _ _ _ (all c)
+    (well_formed c).territories c.loop-code.invariant.0
 
 pub loop-code-preserved : goal.loop-code-preserved
 loop-code-preserved c =
-    let L = land_in {V = Entry} string_bytes (λ v. v.name) (λ v. v.territory) in
-    let left : c.loop-code.copied.lands ++ L (c.in-Some.code.now, c.in-Some.entry.now) ∷ map L
-    c.next.new.self ≡ c.args.self.now.lands =
-    ap (λ it. c.loop-code.copied.lands ++ map L it) (sym c.in-Some.ensures.steps) ∙
-    c.loop-code.invariant.1 in
-    let copy : PlainLand = record {
-      code = string_bytes c.in_ok-clone.field-0;
-      name =
-          c.in_ok-name.name;
-      territory = c.in_ok-territory.territory;
-    } in (
-      ap (λ r. r.limits) c.in_ok-insert.ensures.ok ∙ c.loop-code.invariant.0,
-      ap (λ r. r.lands ++ map L c.next.new.self) c.in_ok-insert.ensures.ok
-          ∙ copied_more c.loop-code.copied.lands (L (c.in-Some.code.now, c.in-Some.entry.now)) copy
-          (map L c.next.new.self) c.args.self.now.lands left
-          c.in_ok-clone.ensures.cases c.in_ok-name.ensures c.in_ok-territory.ensures,
+    let L = land_in {V = Entry} string_bytes (λ v. v.name) (λ v. v.territory) in (
+      ap (λ r. r.limits) c.in_ok-insert_copy.ensures.ok ∙ c.loop-code.invariant.0,
+      ap (λ r. r.lands ++ map L c.next.new.self) c.in_ok-insert_copy.ensures.ok
+          ∙ copied_more c.loop-code.copied.lands (L (c.in-Some.code.now, c.in-Some.entry.now))
+          (map L c.next.new.self) c.args.self.now.lands c.as_str.result.now
+          (ap (λ it. c.loop-code.copied.lands ++ map L it) (sym c.in-Some.ensures.steps)
+          ∙ c.loop-code.invariant.1) c.as_str.ensures.value,
     )
 
 pub returns-clause-value : goal.returns-clause-value
