@@ -1,4 +1,5 @@
 pub mod CoverFacts
+pub mod FoundFacts
 pub mod Kept
 pub mod PeriodCount
 pub mod TerritoryFacts
