@@ -1,11 +1,13 @@
 -- What is kept by code, seen as the plain list of territories.
 use Rattle.std.proofs.Common.{◌≡◌, ℕ, ◌<◌, ◌≤◌, Bool, true, false, cond, List, [], ◌∷◌, ◌++◌}
-use Rattle.std.proofs.Common.{length, map, Option, Some, None, option_map, is_some, refl, sym, ap}
+use Rattle.std.proofs.Common.{length, map, Option, Some, None, option_map, is_some, Ok, Err, refl, sym, ap}
 use Rattle.std.proofs.Common.{subst, ◌∙◌, arith, length-append, append_assoc, append-nil}
 use Rattle.std.proofs.lemmas.Bool.{false≢true}
 use Rattle.std.proofs.lemmas.Slice.Eq.{bytes_eq-Decides}
 use Rattle.std.specs.Str.{bytes_eq}
+use Rattle.std.specs.declared.result.Result.{Result}
 use Rattle.std.specs.Map.{lookup}
+use Rattle.std.specs.Result.{OnErr}
 use Rattle.osn_days.specs.Profile.{Profile}
 use Rattle.osn_lands.specs.Territory.{PlainTerritory}
 use Rattle.osn_register.specs.declared.limits.Limits.{Limits}
@@ -152,6 +154,10 @@ pub copied_room : (copied : List PlainLand) (l : PlainLand) (rest lands : List P
 copied_room copied l rest lands limit room e within same = omega
     (arith, ap length e, length-append copied (l ∷ rest))
 
+pub copied_some : (copied : List PlainLand) (l : PlainLand) (rest lands : List PlainLand) →
+    copied ++ l ∷ rest ≡ lands → 0 < length lands
+copied_some copied l rest lands e = omega (arith, ap length e, length-append copied (l ∷ rest))
+
 AreSound-within : (p : Profile) (limits : Limits) (front : List PlainLand) (l : PlainLand)
     (rest : List PlainLand) → AreSound p limits (front ++ l ∷ rest) →
     IsSoundTerritory p limits l.territory
@@ -179,3 +185,8 @@ same_register a b limits lands =
     ap (λ (m : Limits). let r : PlainRegister = record { limits = m; lands = a.lands } in r) limits
     ∙ ap (λ (ls : List PlainLand). let r : PlainRegister = record { limits = b.limits; lands = ls }
     in r) (sym (append-nil a.lands) ∙ lands)
+
+-- what holds anyway holds where a call fails
+pub on_err : {X Y A : Type 0} (r : Result X Y) → A → OnErr r A
+on_err (Ok x) a = tt
+on_err (Err y) a = a

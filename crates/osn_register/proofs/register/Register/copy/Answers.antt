@@ -4,7 +4,7 @@ use Rattle.osn_register.specs.declared.register.Entry.{Entry}
 use Rattle.osn_register.specs.Plain.{IsWellFormed}
 use Rattle.osn_register.specs.Inside.{land_in}
 use Rattle.osn_register.proofs.Kept.{copied_absent, copied_room, copied_within, copied_more}
-use Rattle.osn_register.proofs.Kept.{same_register}
+use Rattle.osn_register.proofs.Kept.{copied_some, same_register, on_err}
 use Rattle.osn_register.proofs.register.Register.copy.Goals as goal
 use Rattle.osn_register.proofs.register.Register.copy.Goals.{After-as_str}
 
@@ -45,3 +45,11 @@ pub returns-clause-value : goal.returns-clause-value
 returns-clause-value c = same_register c.loop-code.copied c.args.self.now c.loop-code.invariant.0
     (ap (λ it. c.loop-code.copied.lands ++ map (land_in string_bytes (λ v. v.name)
     (λ v. v.territory)) it) (sym c.in-None.ensures.steps.0) ∙ c.loop-code.invariant.1)
+
+pub returns-in_err-insert_copy-clause-memory : goal.returns-in_err-insert_copy-clause-memory
+returns-in_err-insert_copy-clause-memory c =
+    let L = land_in {V = Entry} string_bytes (λ v. v.name) (λ v. v.territory) in
+    on_err c.from_residual.result (copied_some c.loop-code.copied.lands
+    (L (c.in-Some.code.now, c.in-Some.entry.now)) (map L c.next.new.self) c.args.self.now.lands
+    (ap (λ it. c.loop-code.copied.lands ++ map L it) (sym c.in-Some.ensures.steps)
+    ∙ c.loop-code.invariant.1))

@@ -1,12 +1,11 @@
 use Rattle.std.proofs.Common.{◌≡◌, ℕ, ◌<◌, ◌+◌, ◌||◌, Bool, true, false, List, ◌∷◌, length, get_or}
-use Rattle.std.proofs.Common.{drop, Ok, Err, refl, ap, sym, ◌∙◌, arith}
-use Rattle.std.specs.declared.result.Result.{Result}
-use Rattle.std.specs.Result.{OnErr}
+use Rattle.std.proofs.Common.{drop, refl, ap, sym, ◌∙◌, arith}
 use Rattle.std.proofs.lemmas.List.{drop_more}
 use Rattle.osn_days.specs.Profile.{present}
 use Rattle.osn_register.specs.declared.edit.Edit.{Edit}
 use Rattle.osn_register.specs.Plain.{applied, applied_all, apply_takes_memory}
 use Rattle.osn_register.specs.Plain.{fold_takes_memory}
+use Rattle.osn_register.proofs.Kept.{on_err}
 use Rattle.osn_register.proofs.register.Register.fold.Goals as goal
 
 left_from : (es : List Edit) (i : ℕ) (e : Edit) → i < length es → e ≡ get_or es i e →
@@ -16,10 +15,6 @@ left_from es i e within is = drop_more es i e within ∙ ap (λ x. x ∷ drop (i
 or_true : (b : Bool) → (b || true) ≡ true
 or_true true = refl
 or_true false = refl
-
-on_err : {X Y A : Type 0} (r : Result X Y) → A → OnErr r A
-on_err (Ok x) a = tt
-on_err (Err y) a = a
 
 pub loop-edit-preserved : goal.loop-edit-preserved
 loop-edit-preserved c =

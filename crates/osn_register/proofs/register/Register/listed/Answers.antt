@@ -1,9 +1,12 @@
-use Rattle.std.proofs.Common.{◌≡◌, List, ℕ, [], ◌∷◌, ◌++◌, map, ap, sym, ◌∙◌, string_bytes}
-use Rattle.std.proofs.Common.{append_assoc, append-nil}
+use Rattle.std.proofs.Common.{◌≡◌, List, ℕ, ◌<◌, [], ◌∷◌, ◌++◌, length, map, ap, sym, ◌∙◌, arith}
+use Rattle.std.proofs.Common.{string_bytes, append_assoc, append-nil, length-append}
+use Rattle.std.proofs.lemmas.List.{length-map}
 use Rattle.osn_register.specs.declared.answer.Land.{Land}
 use Rattle.osn_register.specs.declared.register.Entry.{Entry}
 use Rattle.osn_register.specs.Answer as said
 use Rattle.osn_register.specs.Inside.{land_in}
+use Rattle.osn_register.specs.Plain.{PlainLand}
+use Rattle.osn_register.proofs.Kept.{on_err}
 use Rattle.osn_register.proofs.register.Register.listed.Goals as goal
 
 -- what is listed, with one more behind it, and what is left are all
@@ -15,6 +18,21 @@ listed_more so_far land rest all code name e coded named =
     ∙ ap (λ (c : List ℕ). so_far ++ record { code = c; name = land.name } ∷ rest) coded
     ∙ ap (λ (n : List ℕ). so_far ++ record { code = code; name = n } ∷ rest) named
     ∙ e
+
+-- where one is left to list, there are some
+some_left : {E : Type 0} (L : E → PlainLand) (so_far : List Land) (left rest all : List E) (e : E)
+    (lands : List PlainLand) → left ≡ e ∷ rest →
+    so_far ++ map said.listed (map L left) ≡ map said.listed (map L all) → map L all ≡ lands →
+    0 < length lands
+some_left L so_far left rest all e lands is listed kept =
+    let counted = ap length (ap (λ es. so_far ++ map said.listed (map L es)) (sym is) ∙ listed
+    ∙ ap (map said.listed) kept) in
+    omega (
+      arith,
+      counted,
+      length-append so_far (map said.listed (map L (e ∷ rest))),
+      length-map lands said.listed,
+    )
 
 pub loop-code-preserved : goal.loop-code-preserved
 loop-code-preserved c =
@@ -35,3 +53,17 @@ returns-clause-value c =
     (sym c.in-None.ensures.steps.0)
     ∙ c.loop-code.invariant
     ∙ ap (λ r. map said.listed r.lands) c.self.view_is
+
+pub returns-in_err-land-clause-memory : goal.returns-in_err-land-clause-memory
+returns-in_err-land-clause-memory c = on_err c.from_residual-in_err-land.result
+    (some_left (land_in {V = Entry} string_bytes (λ v. v.name) (λ v. v.territory))
+    c.loop-code.listed.items c.loop-code.code-iterator c.next.new.self c.self.inside.lands.entries
+    (c.in-Some.code.now, c.in-Some.entry.now) c.args.self.now.lands c.in-Some.ensures.steps
+    c.loop-code.invariant (ap (λ r. r.lands) c.self.view_is))
+
+pub returns-in_err-push-clause-memory : goal.returns-in_err-push-clause-memory
+returns-in_err-push-clause-memory c = on_err c.from_residual-in_err-push.result
+    (some_left (land_in {V = Entry} string_bytes (λ v. v.name) (λ v. v.territory))
+    c.loop-code.listed.items c.loop-code.code-iterator c.next.new.self c.self.inside.lands.entries
+    (c.in-Some.code.now, c.in-Some.entry.now) c.args.self.now.lands c.in-Some.ensures.steps
+    c.loop-code.invariant (ap (λ r. r.lands) c.self.view_is))
