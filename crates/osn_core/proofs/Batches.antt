@@ -1,9 +1,8 @@
 -- The edits of batches in order: what one batch more gives, and what is left without the last ones.
-use Rattle.std.proofs.Common.{◌≡◌, ℕ, suc, ◌+◌, ◌-◌, ◌<◌, ◌≤◌, List, [], ◌∷◌, ◌++◌, length}
-use Rattle.std.proofs.Common.{get_or, take, slice_get, unwrap_or, Some, refl, sym, ap}
+use Rattle.std.proofs.Common.{◌≡◌, ℕ, suc, ◌+◌, ◌-◌, ◌<◌, List, [], ◌∷◌, ◌++◌, length}
+use Rattle.std.proofs.Common.{take, slice_get, unwrap_or, Some, refl, sym, ap}
 use Rattle.std.proofs.Common.{◌∙◌, arith, append_assoc, append-nil, length-append}
 use Rattle.std.proofs.lemmas.List.{take_all, take_at}
-use Rattle.std.proofs.lemmas.Option.{slice_get_read}
 use Rattle.osn_register.specs.declared.edit.Edit.{Edit}
 use Rattle.osn_core.specs.Sequential.{joined, last_batch, without_last, NoneEmpty}
 
@@ -57,16 +56,3 @@ without_batch (c ∷ bs) k is =
     ap (without_last (length (last_batch (c ∷ bs)))) (split_last c bs)
     ∙ without_part (joined (take (length bs) (c ∷ bs))) (last_batch (c ∷ bs))
     ∙ ap (λ n. joined (take n (c ∷ bs))) at
-
-pub some_batches : (bs : List (List Edit)) (lag : ℕ) → 0 < lag → lag ≤ length (last_batch bs) →
-    0 < length bs
-some_batches [] lag some within = absurd (omega (arith, some, within))
-some_batches (b ∷ bs) lag some within = omega arith
-
-pub last_read : (bs : List (List Edit)) (n : ℕ) (b : List Edit) → n ≡ length bs → 0 < length bs →
-    b ≡ get_or bs (n - 1) b → b ≡ last_batch bs
-last_read bs n b all some is =
-    let here : length bs - 1 < length bs = omega (arith, some) in
-    let at : n - 1 ≡ length bs - 1 = omega (arith, all) in
-    sym (ap (λ o. unwrap_or o []) (slice_get_read bs (length bs) (length bs - 1) b refl here
-    (is ∙ ap (λ i. get_or bs i b) at)))

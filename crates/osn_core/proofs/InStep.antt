@@ -20,7 +20,7 @@ use Rattle.osn_core.specs.Sequential.{stage_refusal, publish_refusal, with_pendi
 use Rattle.osn_core.specs.Sequential.{without_last, AreLawful}
 use Rattle.osn_core.specs.CopiesInside.{CopiesState, AreInStep, lagging_lands}
 use Rattle.osn_core.proofs.Batches.{joined-push, last_batch-push, NoneEmpty-push, without_none}
-use Rattle.osn_core.proofs.Batches.{without_part, split_last, some_batches, last_read}
+use Rattle.osn_core.proofs.Batches.{without_part, split_last}
 use Rattle.osn_core.proofs.Lawful.{applied_all-append, applied-lawful, AreLawful-push, lawful_at}
 use Rattle.osn_core.proofs.Lawful.{applied_at}
 
@@ -182,7 +182,7 @@ next_in (c ∷ bs) pending lag e none some within at = (
   ap (λ es. joined (c ∷ bs) ++ es) none ∙ append-nil (joined (c ∷ bs)) ∙ split_last c bs,
 )
 
-pub next : (s : ObjectState) (live standby : PlainRegister) (lag edits : ℕ) (e : Edit) →
+next : (s : ObjectState) (live standby : PlainRegister) (lag edits : ℕ) (e : Edit) →
     AreInStep (copies_of s lag) live standby edits → 0 < lag →
     e ≡ get_or (last_batch s.batches) (length (last_batch s.batches) - lag) e → IsNext s lag e
 next s live standby lag edits e h some at =
@@ -193,16 +193,14 @@ next s live standby lag edits e h some at =
     split.1 some h.lag_is_of_last at in
     record { within = there.0; is = there.1; more = there.2 }
 
--- as it is read: in the last of the batches
-pub next_read : (s : ObjectState) (live standby : PlainRegister) (lag edits n : ℕ)
-    (b es : List Edit) (e : Edit) → AreInStep (copies_of s lag) live standby edits → 0 < lag →
-    n ≡ length s.batches → b ≡ get_or s.batches (n - 1) b → es ≡ b →
-    e ≡ get_or es (length es - lag) e → IsNext s lag e
-next_read s live standby lag edits n b es e h some all last of at =
-    let any = some_batches s.batches lag some h.lag_is_of_last in
-    let is : es ≡ last_batch s.batches = of ∙ last_read s.batches n b all any last in
+-- as it is read: in a slice of the batches
+pub next_read : (s : ObjectState) (live standby : PlainRegister) (lag edits : ℕ)
+    (bs : List (List Edit)) (e : Edit) → AreInStep (copies_of s lag) live standby edits → 0 < lag →
+    bs ≡ s.batches → e ≡ get_or (last_batch bs) (length (last_batch bs) - lag) e → IsNext s lag e
+next_read s live standby lag edits bs e h some all at =
     next s live standby lag edits e h some
-    (subst (λ (fs : List Edit). e ≡ get_or fs (length fs - lag) e) is at)
+    (subst (λ (cs : List (List Edit)). e ≡ get_or (last_batch cs) (length (last_batch cs) - lag) e)
+    all at)
 
 -- it is lawful there
 pub lawful_next : (s : ObjectState) (live standby : PlainRegister) (lag edits : ℕ) (e : Edit) →

@@ -1,9 +1,11 @@
-ghost use Rattle.std.specs.Prelude.{◌≡◌, ◌<◌, ◌+◌, ◌-◌, length, true, None, IfOk, OnOk, OnErr};
+ghost use Rattle.std.specs.Prelude.{◌≡◌, ◌<◌, ◌≤◌, ◌+◌, ◌-◌, length, get_or, true, None, IfOk};
+ghost use Rattle.std.specs.Prelude.{OnOk, OnErr};
 ghost use Rattle.osn_days.specs.Profile.{present};
 ghost use Rattle.osn_register.specs.Plain.{refusal};
 ghost use Rattle.osn_register.specs.Refusal.{IsTestOf};
 ghost use Rattle.osn_core.specs.Sequential.{with_pending, with_edition, stage_refusal};
-ghost use Rattle.osn_core.specs.Sequential.{publish_refusal, lands_of, draft_lands, IsSound};
+ghost use Rattle.osn_core.specs.Sequential.{publish_refusal, lands_of, draft_lands, last_batch};
+ghost use Rattle.osn_core.specs.Sequential.{IsSound};
 ghost use Rattle.osn_core.specs.CopiesInside.{first_copies, lagging_lands};
 
 use crate::batch::Batch;
@@ -141,8 +143,8 @@ impl Copies {
         ensures count { IfOk result (λ n. n ≡ length self.new.object.pending) }
         ensures err { OnErr result (self.new ≡ self.old) }
     {
-        let copied = edit.copy()?;
         self.pending.reserve(1)?;
+        let copied = edit.copy()?;
         self.standby.admit(edit)?;
         self.pending.push_reserved(copied);
         self.edits += 1;
@@ -197,8 +199,7 @@ impl Copies {
         ensures ok { OnOk result (self.new ≡ record self.old { lag = self.old.lag - 1 }) }
         ensures err { OnErr result (self.new ≡ self.old) }
     {
-        let edits = self.batches[self.batches.len() - 1].edits();
-        self.standby.admit(&edits[edits.len() - self.lag])?;
+        self.standby.admit(next_edit(&self.batches, self.lag))?;
         self.lag -= 1;
         Ok(())
     }
@@ -217,4 +218,15 @@ impl Copies {
         }
         Ok(())
     }
+}
+
+/// The edit of the last batch with which the last so many begin.
+fn next_edit(batches: &[Batch], lag: usize) -> &Edit
+    requires some { 0 < lag }
+    requires of_last { lag ≤ length (last_batch batches.now) }
+    ensures { result.now ≡ get_or (last_batch batches.now)
+        (length (last_batch batches.now) - lag) result.now }
+{
+    let edits = batches[batches.len() - 1].edits();
+    &edits[edits.len() - lag]
 }

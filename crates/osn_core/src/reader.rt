@@ -1,6 +1,6 @@
-ghost use Rattle.std.specs.Prelude.{◌≡◌, true, IfOk, OnOk, OnErr};
+ghost use Rattle.std.specs.Prelude.{◌≡◌, ◌==◌, true, IfOk, OnOk, OnErr};
 ghost use Rattle.osn_register.specs.Query.{names_land};
-ghost use Rattle.osn_core.specs.Control.{look, pin, check, leave, marks};
+ghost use Rattle.osn_core.specs.Control.{look, pin, entering, check, leave, marks};
 
 use crate::step::Out;
 use osn_register::Query;
@@ -49,10 +49,10 @@ impl ReaderState {
     {
         match self {
             ReaderState::Idle => {
-                *self = ReaderState::Noted {
+                self.put(ReaderState::Noted {
                     query: query.copy()?,
                     side: live,
-                };
+                });
                 Ok(Out::Moved)
             }
             _ => Ok(Out::NotNow),
@@ -66,11 +66,11 @@ impl ReaderState {
     {
         match std::mem::replace(self, ReaderState::Idle) {
             ReaderState::Noted { query, side } => {
-                *self = ReaderState::Marked { query, side };
+                self.put(ReaderState::Marked { query, side });
                 Out::Moved
             }
             other => {
-                *self = other;
+                self.put(other);
                 Out::NotNow
             }
         }
@@ -82,22 +82,29 @@ impl ReaderState {
         ensures after { self.new ≡ (check live edition self.old).at }
     {
         match std::mem::replace(self, ReaderState::Idle) {
-            ReaderState::Marked { query, side } if side == live => {
-                *self = ReaderState::Entered {
-                    query,
-                    side,
-                    edition,
-                };
-                Out::Entered
-            }
-            ReaderState::Marked { query, .. } => {
-                *self = ReaderState::Noted { query, side: live };
-                Out::Again
-            }
+            ReaderState::Marked { query, side } => self.enter(query, side, live, edition),
             other => {
-                *self = other;
+                self.put(other);
                 Out::NotNow
             }
+        }
+    }
+
+    /// Enters a side that it marked, if that one is live, and else notes the live side.
+    fn enter(&mut self, query: Query, side: u8, live: u8, edition: u32) -> Out
+        ensures out { result ≡ (entering (side == live) live edition query side).out }
+        ensures after { self.new ≡ (entering (side == live) live edition query side).at }
+    {
+        if side == live {
+            self.put(ReaderState::Entered {
+                query,
+                side,
+                edition,
+            });
+            Out::Entered
+        } else {
+            self.put(ReaderState::Noted { query, side: live });
+            Out::Again
         }
     }
 
@@ -108,11 +115,18 @@ impl ReaderState {
     {
         match self {
             ReaderState::Answered { .. } => {
-                *self = ReaderState::Idle;
+                self.put(ReaderState::Idle);
                 Out::Moved
             }
             _ => Out::NotNow,
         }
+    }
+
+    /// Puts it elsewhere.
+    pub fn put(&mut self, state: ReaderState)
+        ensures { self.new ≡ state }
+    {
+        *self = state;
     }
 
     /// Whether it marks a side.

@@ -67,7 +67,7 @@ impl Readers {
         requires there { reader ≤ length self.old }
         ensures { self.new ≡ set_reader self.old reader state }
     {
-        self.states[(reader - 1) as usize] = state;
+        self.states[(reader - 1) as usize].put(state);
     }
 
     /// A look of a reader, while this side is live.

@@ -1,8 +1,9 @@
-ghost use Rattle.std.specs.Prelude.{◌≡◌, ℕ, None, IfOk, IfErr, OnOk};
+ghost use Rattle.std.specs.Prelude.{◌≡◌, ℕ, [], ◌∷◌, ◌++◌, None, IfOk, IfErr, OnOk};
 ghost use Rattle.osn_register.specs.Refusal.{IsRefusalOrNoMemory};
+ghost use Rattle.osn_register.specs.declared.refusal.Refusal.TheVariants.{NoMemory};
 ghost use Rattle.osn_days.specs.Profile.{present};
 ghost use Rattle.osn_core.specs.Sequential.{opened};
-ghost use Rattle.osn_core.specs.Machine.{first_core, outs_of, readers_refusal};
+ghost use Rattle.osn_core.specs.Machine.{first_core, out_of, core_after, outs_of, readers_refusal};
 ghost use Rattle.osn_core.specs.History.{history, told, told_editor, replies_to, Begin};
 ghost use Rattle.osn_core.specs.History.{editions_to, NeverFalls};
 
@@ -39,19 +40,29 @@ pub fn replay(
         (reader : ℕ) → NeverFalls 0 (editions_to reader outs.items)) }
 {
     let mut core = Core::new(alloc, limits, readers)?;
-    let Ok(outs) = taken(alloc, &mut core, steps) else {
-        return Err(Refusal::NoMemory);
-    };
-    Ok(outs)
+    taken(alloc, &mut core, steps)
 }
 
-/// What each step gives, from a state of the core on.
-fn taken(alloc: Global, core: &mut Core, steps: &[Step]) -> Result<Vec<Out>, AllocError>
-    ensures { IfOk result (λ outs. outs.items ≡ outs_of present core.old steps.now) }
+/// What each step gives, from a state of the core on, or `NoMemory`.
+fn taken(alloc: Global, core: &mut Core, steps: &[Step]) -> Result<Vec<Out>, Refusal>
+    ensures outs { IfOk result (λ outs. outs.items ≡ outs_of present core.old steps.now) }
+    ensures refused { IfErr result (λ f. f ≡ NoMemory) }
 {
     let mut outs = Vec::new(alloc);
     for step in steps {
-        outs.push(core.step(step)?)?;
+        let Ok(()) = take(core, step, &mut outs) else {
+            return Err(Refusal::NoMemory);
+        };
     }
     Ok(outs)
+}
+
+/// Takes a step, and adds what it gives.
+fn take(core: &mut Core, step: &Step, outs: &mut Vec<Out>) -> Result<(), AllocError>
+    ensures core { OnOk result (core.new ≡ core_after present core.old step.now) }
+    ensures outs { OnOk result
+        (outs.new.items ≡ outs.old.items ++ out_of present core.old step.now ∷ []) }
+{
+    outs.push(core.step(step)?)?;
+    Ok(())
 }

@@ -4,8 +4,8 @@ use Rattle.osn_days.specs.Profile.{present}
 use Rattle.osn_core.specs.Machine.{outs_of}
 use Rattle.osn_core.proofs.run.taken.Goals as goal
 
-pub returns : goal.returns
-returns c =
+pub returns-clause-outs : goal.returns-clause-outs
+returns-clause-outs c =
     sym (append-nil c.loop-step.outs.items)
     ∙ ap (λ left. c.loop-step.outs.items ++ outs_of present c.loop-step.core left)
     (sym (drop_all c.loop-step.step-index c.args.steps.now c.loop-step-test.false))
