@@ -2,12 +2,12 @@
 use Rattle.std.proofs.Common.{◌≡◌, ℕ, zero, suc, ◌-◌, ◌<◌, ◌==◌, ◌⊎◌, inl, inr, true, false}
 use Rattle.std.proofs.Common.{if◌then◌else◌, List, [], ◌∷◌, length, slice_get, slice_set}
 use Rattle.std.proofs.Common.{Option, Some, None, Result, Ok, Err, OnOk, OnErr, refl, sym, ap}
-use Rattle.std.proofs.Common.{subst, ◌∙◌, ◌≤◌, arith}
+use Rattle.std.proofs.Common.{subst, ◌∙◌, ◌+◌, ◌≤◌, get_or, arith}
 use Rattle.std.proofs.lemmas.Bool.Decides.{nat_tests}
 use Rattle.std.proofs.lemmas.Option.{slice_get_read, slice_get_within}
 use Rattle.std.proofs.lemmas.List.{length-set, get_or-set_same}
 use Rattle.osn_core.specs.declared.reader.ReaderState.{ReaderState}
-use Rattle.osn_core.specs.Control.{reader_at, set_reader, Move, readers_after}
+use Rattle.osn_core.specs.Control.{reader_at, set_reader, Move, out_at, readers_after}
 
 pub same_or_not : (a b : ℕ) → (a ≡ b) ⊎ (a ≡ b → ⊥)
 same_or_not zero zero = inl refl
@@ -130,3 +130,40 @@ pub taken_or_not : {A E X : Type 0} (r : Result A E) (new old next : X) → OnOk
     OnErr r (new ≡ old) → (new ≡ next) ⊎ (new ≡ old)
 taken_or_not (Ok a) new old next ok err = inl ok
 taken_or_not (Err e) new old next ok err = inr err
+
+-- the reader whose place was found
+found_at : (readers : List ReaderState) (reader i : ℕ) (x : ReaderState) {states : List ReaderState}
+    → states ≡ readers → (reader ≡ i + 1) × (i < length readers) → x ≡ get_or states i x →
+    reader_at readers reader ≡ Some x
+found_at readers zero i x same at is = absurd (omega (arith, at.0))
+found_at readers (suc r) i x same at is =
+    let place : r ≡ i = omega (arith, at.0) in
+    at_place readers r
+    ∙ ap (slice_get readers) place
+    ∙ slice_get_read readers (length readers) i x refl at.1
+    (is ∙ ap (λ rs. get_or rs i x) same)
+
+put_at : (readers : List ReaderState) (reader i : ℕ) (y : ReaderState) {states : List ReaderState} →
+    states ≡ readers → (reader ≡ i + 1) × (i < length readers) →
+    slice_set states i y ≡ set_reader readers reader y
+put_at readers zero i y same at = absurd (omega (arith, at.0))
+put_at readers (suc r) i y same at =
+    let place : i ≡ r = omega (arith, at.0) in
+    ap (λ rs. slice_set rs i y) same
+    ∙ ap (λ j. slice_set readers j y) place
+    ∙ sym (set_place readers r y)
+
+-- what a step gives the reader that is there, and where it leaves all readers
+pub out_found : (move : ReaderState → Move) {readers states : List ReaderState} {reader i : ℕ}
+    {x : ReaderState} → states ≡ readers → (reader ≡ i + 1) × (i < length readers) →
+    x ≡ get_or states i x → (move x).out ≡ out_at move (reader_at readers reader)
+out_found move same at is = sym (ap (out_at move) (found_at _ _ _ _ same at is))
+
+pub after_found : (move : ReaderState → Move) {readers states : List ReaderState} {reader i : ℕ}
+    {x y : ReaderState} → states ≡ readers → (reader ≡ i + 1) × (i < length readers) →
+    x ≡ get_or states i x → y ≡ (move x).at →
+    slice_set states i y ≡ readers_after move (reader_at readers reader) readers reader
+after_found move {readers = rs} {states = ss} {reader = r} {i = i} {x = x} same at is moved =
+    ap (slice_set ss i) moved
+    ∙ put_at rs r i (move x).at same at
+    ∙ sym (ap (λ o. readers_after move o rs r) (found_at rs r i x same at is))
