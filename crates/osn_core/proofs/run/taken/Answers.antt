@@ -1,4 +1,4 @@
-use Rattle.std.proofs.Common.{◌++◌, sym, ap, ◌∙◌}
+use Rattle.std.proofs.Common.{◌++◌, sym, ap, ◌∙◌, rules}
 use Rattle.std.proofs.lemmas.List.{append-nil, drop_all}
 use Rattle.osn_days.specs.Profile.{present}
 use Rattle.osn_core.specs.Machine.{outs_of}
@@ -10,3 +10,6 @@ returns-clause-outs c =
     ∙ ap (λ left. c.loop-step.outs.items ++ outs_of present c.loop-step.core left)
     (sym (drop_all c.loop-step.step-index c.args.steps.now c.loop-step-test.false))
     ∙ c.loop-step.invariant
+
+pub returns-in_default-clause-refused : goal.returns-in_default-clause-refused
+returns-in_default-clause-refused c = search rules
