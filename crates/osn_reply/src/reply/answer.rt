@@ -5,9 +5,10 @@ ghost use Rattle.osn_register.specs.declared.answer.Answer.TheVariants.{Refused}
 ghost use Rattle.osn_reply.specs.ReplyText as said;
 ghost use Rattle.osn_words.specs.Json.{whole, value_tokens, member_tokens};
 
-use crate::reply::figures::{GregorianFigures, JulianFigures};
+use crate::reply::figures::Reckoning;
 use crate::reply::write_json::{WriteJson, write_list, write_member};
 use json::Writer;
+use osn_computus::Epact;
 use osn_core::Reply;
 use osn_days::{Day, Year};
 use osn_lands::Period;
@@ -109,13 +110,13 @@ fn write_figures(
     year: Year,
     golden: u8,
     indiction: u8,
-    gregorian: &GregorianFigures,
-    julian: &JulianFigures,
+    gregorian: &Reckoning<Epact>,
+    julian: &Reckoning<u8>,
 ) -> Result<(), AllocError>
     ensures tokens { OnOk result (out.new.tokens ≡ out.old.tokens
         ++ begin_object ∷ member_tokens (codes "answer") (said.figures_data year golden indiction
-        (⟦<GregorianFigures as WriteJson>⟧.shown gregorian.now)
-        (⟦<JulianFigures as WriteJson>⟧.shown julian.now))) }
+        (⟦<Reckoning<Epact> as WriteJson>⟧.shown gregorian.now)
+        (⟦<Reckoning<u8> as WriteJson>⟧.shown julian.now))) }
     ensures before { out.new.before ≡ out.old.before }
 {
     begin_answer(out)?;
@@ -189,12 +190,12 @@ pub(crate) fn write_reply(
             julian_easter,
             gregorian_easter,
         } => {
-            let gregorian = GregorianFigures {
+            let gregorian = Reckoning {
                 easter: *gregorian_easter,
                 epact: *gregorian_epact,
                 letters: *gregorian_letters,
             };
-            let julian = JulianFigures {
+            let julian = Reckoning {
                 easter: *julian_easter,
                 epact: *julian_epact,
                 letters: *julian_letters,

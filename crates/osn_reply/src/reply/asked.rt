@@ -1,7 +1,9 @@
 //! What a reader asked, with the reply, as a line of a transcript.
-ghost use Rattle.std.specs.Prelude.{◌≡◌, ◌++◌, OnOk};
+ghost use Rattle.std.specs.Prelude.{◌≡◌, [], ◌∷◌, ◌++◌, codes, OnOk};
+ghost use Rattle.json.specs.Token.{begin_object, end_object};
+ghost use Rattle.serde_json.specs.Data.{string};
 ghost use Rattle.osn_register.specs.declared.query.Query.TheVariants as queries;
-ghost use Rattle.osn_words.specs.Json.{value_tokens, member_tokens};
+ghost use Rattle.osn_words.specs.Json.{whole, signed, value_tokens, member_tokens};
 ghost use Rattle.osn_reply.specs.Transcript as said;
 
 use crate::reply::answer::write_reply;
@@ -11,6 +13,42 @@ use osn_core::Reply;
 use osn_register::{Query, Text};
 use osn_words::{write_number, write_signed, write_text};
 use std::alloc::{AllocError, Global};
+
+/// Begins the object of a query that names a territory.
+fn begin_with_code(out: &mut Writer, code: &Text) -> Result<(), AllocError>
+    ensures tokens { OnOk result (out.new.tokens ≡ out.old.tokens
+        ++ begin_object ∷ member_tokens (codes "code") (string code.now)) }
+    ensures before { out.new.before ≡ out.old.before }
+{
+    out.begin_object()?;
+    write_text(out, "code", code.as_str())
+}
+
+/// Ends the object of a query with what it asks for and who asks.
+fn end_with_reader(out: &mut Writer, op: &str, reader: u32) -> Result<(), AllocError>
+    ensures tokens { OnOk result (out.new.tokens ≡ out.old.tokens
+        ++ (member_tokens (codes "op") (string op.now)
+        ++ member_tokens (codes "reader") (whole reader) ++ end_object ∷ [])) }
+    ensures before { out.new.before ≡ out.old.before }
+{
+    write_text(out, "op", op)?;
+    write_number(out, "reader", reader)?;
+    out.end_object()
+}
+
+/// Ends the object of a query with what it asks for, who asks, and the year.
+fn end_with_year(out: &mut Writer, op: &str, reader: u32, year: i64) -> Result<(), AllocError>
+    ensures tokens { OnOk result (out.new.tokens ≡ out.old.tokens
+        ++ (member_tokens (codes "op") (string op.now)
+        ++ member_tokens (codes "reader") (whole reader)
+        ++ member_tokens (codes "year") (signed year) ++ end_object ∷ [])) }
+    ensures before { out.new.before ≡ out.old.before }
+{
+    write_text(out, "op", op)?;
+    write_number(out, "reader", reader)?;
+    write_signed(out, "year", year)?;
+    out.end_object()
+}
 
 fn write_read(
     out: &mut Writer,
@@ -24,14 +62,10 @@ fn write_read(
         ++ value_tokens (said.query_data reader (queries.Read code.now year month day))) }
     ensures before { out.new.before ≡ out.old.before }
 {
-    out.begin_object()?;
-    write_text(out, "code", code.as_str())?;
+    begin_with_code(out, code)?;
     write_signed(out, "day", day)?;
     write_signed(out, "month", month)?;
-    write_text(out, "op", "read")?;
-    write_number(out, "reader", reader)?;
-    write_signed(out, "year", year)?;
-    out.end_object()
+    end_with_year(out, "read", reader, year)
 }
 
 fn write_day_in(out: &mut Writer, reader: u32, code: &Text, day: i64) -> Result<(), AllocError>
@@ -39,12 +73,9 @@ fn write_day_in(out: &mut Writer, reader: u32, code: &Text, day: i64) -> Result<
         ++ value_tokens (said.query_data reader (queries.DayIn code.now day))) }
     ensures before { out.new.before ≡ out.old.before }
 {
-    out.begin_object()?;
-    write_text(out, "code", code.as_str())?;
+    begin_with_code(out, code)?;
     write_signed(out, "day", day)?;
-    write_text(out, "op", "day")?;
-    write_number(out, "reader", reader)?;
-    out.end_object()
+    end_with_reader(out, "day", reader)
 }
 
 fn write_easter(out: &mut Writer, reader: u32, code: &Text, year: i64) -> Result<(), AllocError>
@@ -52,12 +83,8 @@ fn write_easter(out: &mut Writer, reader: u32, code: &Text, year: i64) -> Result
         ++ value_tokens (said.query_data reader (queries.Easter code.now year))) }
     ensures before { out.new.before ≡ out.old.before }
 {
-    out.begin_object()?;
-    write_text(out, "code", code.as_str())?;
-    write_text(out, "op", "easter")?;
-    write_number(out, "reader", reader)?;
-    write_signed(out, "year", year)?;
-    out.end_object()
+    begin_with_code(out, code)?;
+    end_with_year(out, "easter", reader, year)
 }
 
 fn write_figures(out: &mut Writer, reader: u32, year: i64) -> Result<(), AllocError>
@@ -66,10 +93,7 @@ fn write_figures(out: &mut Writer, reader: u32, year: i64) -> Result<(), AllocEr
     ensures before { out.new.before ≡ out.old.before }
 {
     out.begin_object()?;
-    write_text(out, "op", "figures")?;
-    write_number(out, "reader", reader)?;
-    write_signed(out, "year", year)?;
-    out.end_object()
+    end_with_year(out, "figures", reader, year)
 }
 
 fn write_lands(out: &mut Writer, reader: u32) -> Result<(), AllocError>
@@ -78,9 +102,7 @@ fn write_lands(out: &mut Writer, reader: u32) -> Result<(), AllocError>
     ensures before { out.new.before ≡ out.old.before }
 {
     out.begin_object()?;
-    write_text(out, "op", "lands")?;
-    write_number(out, "reader", reader)?;
-    out.end_object()
+    end_with_reader(out, "lands", reader)
 }
 
 fn write_periods(out: &mut Writer, reader: u32, code: &Text) -> Result<(), AllocError>
@@ -88,11 +110,8 @@ fn write_periods(out: &mut Writer, reader: u32, code: &Text) -> Result<(), Alloc
         ++ value_tokens (said.query_data reader (queries.Periods code.now))) }
     ensures before { out.new.before ≡ out.old.before }
 {
-    out.begin_object()?;
-    write_text(out, "code", code.as_str())?;
-    write_text(out, "op", "periods")?;
-    write_number(out, "reader", reader)?;
-    out.end_object()
+    begin_with_code(out, code)?;
+    end_with_reader(out, "periods", reader)
 }
 
 fn write_query(out: &mut Writer, reader: u32, query: &Query) -> Result<(), AllocError>

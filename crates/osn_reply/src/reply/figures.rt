@@ -1,73 +1,69 @@
 //! The figures of a year in a reply.
-ghost use Rattle.std.specs.Prelude.{◌≡◌, ◌++◌, codes, OnOk};
+ghost use Rattle.std.specs.Prelude.{◌≡◌, [], ◌∷◌, ◌++◌, codes, OnOk};
+ghost use Rattle.json.specs.Token.{end_object};
 ghost use Rattle.serde_json.specs.Data.{string};
-ghost use Rattle.osn_words.specs.Texts.{epact_text};
+ghost use Rattle.osn_words.specs.Texts.{epact_text, letters_text};
 ghost use Rattle.osn_reply.specs.ReplyText as said;
 ghost use Rattle.osn_words.specs.Json.{whole, member_tokens};
 
-use crate::reply::write_json::WriteJson;
+use crate::reply::write_json::{WriteJson, write_member};
 use json::Writer;
 use osn_computus::{Epact, Letters};
 use osn_days::Day;
 use osn_words::{letters_text, write_number, write_text};
 use std::alloc::{AllocError, Global};
 
-/// Writes an epact of the Gregorian reckoning as the canons write it: `*`, `25'` or its number.
-#[tactic(auto, unfolding(osn_words::specs::Texts::epact_text))]
-fn write_epact(out: &mut Writer, epact: Epact) -> Result<(), AllocError>
-    ensures tokens { OnOk result (out.new.tokens
-        ≡ out.old.tokens ++ member_tokens (codes "epact") (string (epact_text epact))) }
+impl WriteJson for u8 {
+    ghost shown = { whole };
+
+    fn write_json(&self, _alloc: Global, out: &mut Writer) -> Result<(), AllocError> {
+        out.u64(u64::from(*self))
+    }
+}
+
+// An epact of the Gregorian reckoning as the canons write it: `*`, `25'` or its number.
+impl WriteJson for Epact {
+    ghost shown = { λ e. string (epact_text e) };
+
+    #[tactic(auto, unfolding(osn_words::specs::Texts::epact_text))]
+    fn write_json(&self, _alloc: Global, out: &mut Writer) -> Result<(), AllocError> {
+        let epact = *self;
+        if epact.number == 0 {
+            out.string("*")
+        } else if epact.number == 25 && epact.prime {
+            out.string("25'")
+        } else {
+            out.quoted_u64(u64::from(epact.number))
+        }
+    }
+}
+
+/// Ends an object with the letters of a year.
+fn end_with_letters(alloc: Global, out: &mut Writer, letters: Letters) -> Result<(), AllocError>
+    ensures tokens { OnOk result (out.new.tokens ≡ out.old.tokens
+        ++ (member_tokens (codes "letters") (string (letters_text letters)) ++ end_object ∷ [])) }
     ensures before { out.new.before ≡ out.old.before }
 {
-    out.key("epact")?;
-    if epact.number == 0 {
-        out.string("*")
-    } else if epact.number == 25 && epact.prime {
-        out.string("25'")
-    } else {
-        out.quoted_u64(u64::from(epact.number))
-    }
+    let text = letters_text(alloc, letters)?;
+    write_text(out, "letters", text.as_str())?;
+    out.end_object()
 }
 
-/// The figures of a year by the Julian rule.
+/// The figures of a year by one rule, with the epact of its reckoning.
 #[derive(Clone, Copy)]
-pub(crate) struct JulianFigures {
+pub(crate) struct Reckoning<E> {
     pub(crate) easter: Day,
-    pub(crate) epact: u8,
+    pub(crate) epact: E,
     pub(crate) letters: Letters,
 }
 
-impl WriteJson for JulianFigures {
-    ghost shown = { λ f. said.reckoning_data f.easter (whole f.epact) f.letters };
+impl<E: WriteJson> WriteJson for Reckoning<E> {
+    ghost shown = { λ r. said.reckoning_data r.easter (E.shown r.epact) r.letters };
 
     fn write_json(&self, alloc: Global, out: &mut Writer) -> Result<(), AllocError> {
-        let letters = letters_text(alloc, self.letters)?;
         out.begin_object()?;
         write_number(out, "easter", self.easter.number())?;
-        write_number(out, "epact", u32::from(self.epact))?;
-        write_text(out, "letters", letters.as_str())?;
-        out.end_object()
-    }
-}
-
-/// The figures of a year by the Gregorian rule.
-#[derive(Clone, Copy)]
-pub(crate) struct GregorianFigures {
-    pub(crate) easter: Day,
-    pub(crate) epact: Epact,
-    pub(crate) letters: Letters,
-}
-
-impl WriteJson for GregorianFigures {
-    ghost shown = { λ f.
-        said.reckoning_data f.easter (string (epact_text f.epact)) f.letters };
-
-    fn write_json(&self, alloc: Global, out: &mut Writer) -> Result<(), AllocError> {
-        let letters = letters_text(alloc, self.letters)?;
-        out.begin_object()?;
-        write_number(out, "easter", self.easter.number())?;
-        write_epact(out, self.epact)?;
-        write_text(out, "letters", letters.as_str())?;
-        out.end_object()
+        write_member(alloc, out, "epact", &self.epact)?;
+        end_with_letters(alloc, out, self.letters)
     }
 }

@@ -7,17 +7,12 @@ returns-clause-tokens c =
     let year : to_z w64 (of_z w64 c.args.year) ≡ c.args.year = search rules in
     let month : to_z w64 (of_z w64 c.args.month) ≡ c.args.month = search rules in
     let day : to_z w64 (of_z w64 c.args.day) ≡ c.args.day = search rules in
-    at_last c.end_object.result c.end_object.ensures.ok
+    at_last c.end_with_year.result c.end_with_year.ensures.tokens
     (λ e. rw (
       e,
-      c.in_ok-write_signed-3.ensures.tokens,
-      c.in_ok-write_number.ensures.tokens,
-      c.in_ok-write_text-2.ensures.tokens,
       c.in_ok-write_signed-2.ensures.tokens,
       c.in_ok-write_signed.ensures.tokens,
-      c.in_ok-write_text.ensures.tokens,
-      c.in_ok-begin_object.ensures.ok,
-      c.as_str.ensures.value,
+      c.in_ok-begin_with_code.ensures.tokens,
       year,
       month,
       day,

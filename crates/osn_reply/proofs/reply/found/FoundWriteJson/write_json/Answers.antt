@@ -4,19 +4,13 @@ use Rattle.osn_reply.proofs.reply.found.FoundWriteJson.write_json.Goals as goal
 
 pub returns-clause-tokens : goal.returns-clause-tokens
 returns-clause-tokens c =
-    at_last c.end_object.result c.end_object.ensures.ok
+    at_last c.end_with_weekday.result c.end_with_weekday.ensures.tokens
     (λ e. rw (
       e,
-      c.in_ok-write_text-2.ensures.tokens,
-      c.in_ok-write_label.ensures.tokens,
-      c.in_ok-write_date_of-2.ensures.tokens,
-      c.in_ok-write_number-2.ensures.tokens,
-      c.in_ok-write_date_of.ensures.tokens,
+      c.in_ok-write_dates.ensures.tokens,
       c.in_ok-write_text.ensures.tokens,
       c.in_ok-write_number.ensures.tokens,
       c.in_ok-begin_object.ensures.ok,
       c.number.ensures.value,
       c.as_str.ensures.value,
-      c.julian_day_number.ensures,
-      c.weekday_of.ensures,
     ) (simp append_assoc))

@@ -4,18 +4,12 @@ use Rattle.osn_reply.proofs.reply.period.PeriodWriteJson.write_json.Goals as goa
 
 pub returns-clause-tokens : goal.returns-clause-tokens
 returns-clause-tokens c =
-    at_last c.end_object.result c.end_object.ensures.ok
+    at_last c.end_with_style.result c.end_with_style.ensures.tokens
     (λ e. rw (
       e,
-      c.in_ok-write_text-3.ensures.tokens,
-      c.in_ok-write_text-2.ensures.tokens,
       c.in_ok-write_number-2.ensures.tokens,
       c.in_ok-write_number.ensures.tokens,
-      c.in_ok-write_text.ensures.tokens,
-      c.in_ok-begin_object.ensures.ok,
-      c.word.ensures,
+      c.in_ok-begin_with_calendar.ensures.tokens,
       c.number.ensures.value,
       c.number-2.ensures.value,
-      c.word-2.ensures,
-      c.word-3.ensures,
     ) (simp append_assoc))

@@ -1,15 +1,17 @@
 use Rattle.std.proofs.Common.{append_assoc}
 use Rattle.osn_words.proofs.WriteLemmas.{at_last}
-use Rattle.osn_reply.proofs.reply.asked.write_periods.Goals as goal
+use Rattle.osn_reply.proofs.reply.answer.write_on_day.Goals as goal
 
 pub returns-clause-tokens : goal.returns-clause-tokens
 returns-clause-tokens c =
     at_last c.end_object.result c.end_object.ensures.ok
     (λ e. rw (
       e,
+      c.in_ok-write_member-2.ensures.tokens,
+      c.in_ok-write_number-2.ensures.tokens,
+      c.in_ok-write_member.ensures.tokens,
       c.in_ok-write_number.ensures.tokens,
-      c.in_ok-write_text-2.ensures.tokens,
-      c.in_ok-write_text.ensures.tokens,
-      c.in_ok-begin_object.ensures.ok,
-      c.as_str.ensures.value,
+      c.in_ok-begin_answer.ensures.tokens,
+      c.number.ensures.value,
+      c.number-2.ensures.value,
     ) (simp append_assoc))

@@ -1,18 +1,15 @@
 use Rattle.std.proofs.Common.{◌≡◌, append_assoc, rules, to_z, of_z, w64}
 use Rattle.osn_words.proofs.WriteLemmas.{at_last}
-use Rattle.osn_reply.proofs.reply.asked.write_day_in.Goals as goal
+use Rattle.osn_reply.proofs.reply.asked.end_with_year.Goals as goal
 
 pub returns-clause-tokens : goal.returns-clause-tokens
 returns-clause-tokens c =
-    let day : to_z w64 (of_z w64 c.args.day) ≡ c.args.day = search rules in
+    let year : to_z w64 (of_z w64 c.args.year) ≡ c.args.year = search rules in
     at_last c.end_object.result c.end_object.ensures.ok
     (λ e. rw (
       e,
-      c.in_ok-write_number.ensures.tokens,
-      c.in_ok-write_text-2.ensures.tokens,
       c.in_ok-write_signed.ensures.tokens,
+      c.in_ok-write_number.ensures.tokens,
       c.in_ok-write_text.ensures.tokens,
-      c.in_ok-begin_object.ensures.ok,
-      c.as_str.ensures.value,
-      day,
+      year,
     ) (simp append_assoc))

@@ -1,13 +1,13 @@
 use Rattle.std.proofs.Common.{append_assoc}
 use Rattle.osn_words.proofs.WriteLemmas.{at_last}
-use Rattle.osn_reply.proofs.reply.asked.write_lands.Goals as goal
+use Rattle.osn_reply.proofs.reply.found.end_with_weekday.Goals as goal
 
 pub returns-clause-tokens : goal.returns-clause-tokens
 returns-clause-tokens c =
     at_last c.end_object.result c.end_object.ensures.ok
     (λ e. rw (
       e,
-      c.in_ok-write_number.ensures.tokens,
       c.in_ok-write_text.ensures.tokens,
-      c.in_ok-begin_object.ensures.ok,
+      c.in_ok-write_label.ensures.tokens,
+      c.weekday_of.ensures,
     ) (simp append_assoc))
