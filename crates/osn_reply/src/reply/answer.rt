@@ -171,13 +171,13 @@ pub(crate) fn write_reply(
     ensures before { out.new.before ≡ out.old.before }
 {
     let edition = reply.edition;
-    match &reply.answer {
+    let begun = match &reply.answer {
         Answer::Reading { found, skipped } => {
-            write_reading(alloc, out, found.as_slice(), skipped.as_slice())?;
+            write_reading(alloc, out, found.as_slice(), skipped.as_slice())
         }
-        Answer::OnDay { found, period } => write_on_day(alloc, out, found, period)?,
+        Answer::OnDay { found, period } => write_on_day(alloc, out, found, period),
         Answer::Easters { found, listed } => {
-            write_easters(alloc, out, found.as_slice(), *listed)?;
+            write_easters(alloc, out, found.as_slice(), *listed)
         }
         Answer::Figures {
             year,
@@ -200,11 +200,12 @@ pub(crate) fn write_reply(
                 epact: *julian_epact,
                 letters: *julian_letters,
             };
-            write_figures(alloc, out, *year, *golden, *indiction, &gregorian, &julian)?;
+            write_figures(alloc, out, *year, *golden, *indiction, &gregorian, &julian)
         }
-        Answer::Lands(lands) => write_lands(alloc, out, lands.as_slice())?,
-        Answer::Periods(periods) => write_periods(alloc, out, periods.as_slice())?,
+        Answer::Lands(lands) => write_lands(alloc, out, lands.as_slice()),
+        Answer::Periods(periods) => write_periods(alloc, out, periods.as_slice()),
         Answer::Refused(refusal) => return write_refused(out, reader, edition, *refusal),
-    }
+    };
+    begun?;
     end_reply(out, edition, reader)
 }

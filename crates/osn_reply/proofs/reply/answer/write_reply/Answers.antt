@@ -1,4 +1,4 @@
-use Rattle.std.proofs.Common.{refl, ap, ◌∙◌}
+use Rattle.std.proofs.Common.{◌≡◌, Result, Ok, Err, OnOk, refl, ap, sym, ◌∙◌}
 use Rattle.serde_json.specs.Data.{string}
 use Rattle.osn_words.specs.Json.{whole}
 use Rattle.osn_words.specs.Texts.{epact_text}
@@ -7,6 +7,12 @@ use Rattle.osn_words.proofs.WriteLemmas.{at_last}
 use Rattle.osn_reply.proofs.ToldLemmas.{told}
 use Rattle.osn_reply.proofs.reply.answer.write_reply.Goals as goal
 
+-- what holds of a result that is good
+given : {T E P : Type 0} (begun : Result T E) (x : T) (r : Result T E)
+    → begun ≡ Ok x → begun ≡ r → OnOk r P → P
+given begun x (Ok y) was is h = h
+given begun x (Err e) was is h = let none : Err e ≡ Ok x = sym is ∙ was in cc
+
 pub returns-clause-tokens : goal.returns-clause-tokens
 returns-clause-tokens c =
     let reply =
@@ -14,19 +20,22 @@ returns-clause-tokens c =
     c.args.reply.now.edition in
     at_last c.end_reply.result c.end_reply.ensures.tokens
     (λ e. elim c.match-reply.branch [
-      | goal.in-Reading+in_ok-write_reading-in-Reading w ↦
+      | goal.in-Reading w ↦
           rw w.in-Reading.is (reply _ _
           (ap (λ l. said.reading_data l w.as_slice-in-Reading.result.now) w.as_slice.ensures
           ∙ ap (λ l. said.reading_data w.in-Reading.found l) w.as_slice-in-Reading.ensures)
-          (ap (λ v. v.tokens) w.out-is ∙ w.in_ok-write_reading-in-Reading.ensures.tokens) e)
-      | goal.in-OnDay+in_ok-write_on_day-in-OnDay w ↦
+          (ap (λ v. v.tokens) w.out-is
+          ∙ given _ _ _ c.in_ok-begun.was w.begun-is w.write_reading-begun.ensures.tokens) e)
+      | goal.in-OnDay w ↦
           rw w.in-OnDay.is (reply _ (said.on_day_data w.in-OnDay.found w.in-OnDay.period) refl
-          (ap (λ v. v.tokens) w.out-is ∙ w.in_ok-write_on_day-in-OnDay.ensures.tokens) e)
-      | goal.in-Easters+in_ok-write_easters-in-Easters w ↦
+          (ap (λ v. v.tokens) w.out-is
+          ∙ given _ _ _ c.in_ok-begun.was w.begun-is w.write_on_day-begun.ensures.tokens) e)
+      | goal.in-Easters w ↦
           rw w.in-Easters.is (reply _ _
           (ap (λ l. said.easters_data l w.in-Easters.listed) w.as_slice-in-Easters.ensures)
-          (ap (λ v. v.tokens) w.out-is ∙ w.in_ok-write_easters-in-Easters.ensures.tokens) e)
-      | goal.in-Figures+in_ok-write_figures-in-Figures w ↦
+          (ap (λ v. v.tokens) w.out-is
+          ∙ given _ _ _ c.in_ok-begun.was w.begun-is w.write_easters-begun.ensures.tokens) e)
+      | goal.in-Figures w ↦
           let f = w.in-Figures in
           let gregorian =
           said.reckoning_data f.gregorian_easter (string (epact_text f.gregorian_epact))
@@ -34,12 +43,15 @@ returns-clause-tokens c =
           let julian =
           said.reckoning_data f.julian_easter (whole f.julian_epact) f.julian_letters in
           rw f.is (reply _ (said.figures_data f.year f.golden f.indiction gregorian julian) refl
-          (ap (λ v. v.tokens) w.out-is ∙ w.in_ok-write_figures-in-Figures.ensures.tokens) e)
-      | goal.in-Lands+in_ok-write_lands-in-Lands w ↦
+          (ap (λ v. v.tokens) w.out-is
+          ∙ given _ _ _ c.in_ok-begun.was w.begun-is w.write_figures-begun.ensures.tokens) e)
+      | goal.in-Lands w ↦
           rw w.in-Lands.is (reply _ _ (ap (λ l. said.lands_data l) w.as_slice-in-Lands.ensures)
-          (ap (λ v. v.tokens) w.out-is ∙ w.in_ok-write_lands-in-Lands.ensures.tokens) e)
-      | goal.in-Periods+in_ok-write_periods-in-Periods w ↦
+          (ap (λ v. v.tokens) w.out-is
+          ∙ given _ _ _ c.in_ok-begun.was w.begun-is w.write_lands-begun.ensures.tokens) e)
+      | goal.in-Periods w ↦
           rw w.in-Periods.is (reply _ _
           (ap (λ l. said.periods_data l) w.as_slice-in-Periods.ensures)
-          (ap (λ v. v.tokens) w.out-is ∙ w.in_ok-write_periods-in-Periods.ensures.tokens) e)
+          (ap (λ v. v.tokens) w.out-is
+          ∙ given _ _ _ c.in_ok-begun.was w.begun-is w.write_periods-begun.ensures.tokens) e)
     ])
