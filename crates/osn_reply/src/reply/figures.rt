@@ -50,7 +50,7 @@ fn end_with_letters(alloc: Global, out: &mut Writer, letters: Letters) -> Result
 }
 
 /// The figures of a year by one rule, with the epact of its reckoning.
-#[derive(Clone, Copy)]
+#[derive(Drop)]
 pub(crate) struct Reckoning<E> {
     pub(crate) easter: Day,
     pub(crate) epact: E,
