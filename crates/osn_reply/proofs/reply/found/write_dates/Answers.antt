@@ -9,5 +9,4 @@ returns-clause-tokens c =
       e,
       c.in_ok-write_number.ensures.tokens,
       c.in_ok-write_date_of.ensures.tokens,
-      c.julian_day_number.ensures,
-    ) (simp append_assoc))
+    ) (simp (append_assoc, c.julian_day_number.ensures)))

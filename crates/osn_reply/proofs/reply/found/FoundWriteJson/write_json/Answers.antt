@@ -11,6 +11,5 @@ returns-clause-tokens c =
       c.in_ok-write_text.ensures.tokens,
       c.in_ok-write_number.ensures.tokens,
       c.in_ok-begin_object.ensures.ok,
-      c.number.ensures.value,
       c.as_str.ensures.value,
-    ) (simp append_assoc))
+    ) (simp (append_assoc, c.number.ensures.value)))
