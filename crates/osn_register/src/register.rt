@@ -38,6 +38,7 @@ struct Entry {
 }
 
 impl Entry {
+    /// A territory that opens with a regime.
     fn new(alloc: Global, name: &Text, regime: Regime) -> Result<Entry, AllocError>
         ensures { IfOk result (λ e. (e.name ≡ name.now) × (e.territory ≡ opened regime)) }
     {

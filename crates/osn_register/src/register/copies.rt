@@ -26,6 +26,7 @@ impl Register {
         Ok(copied)
     }
 
+    /// Adds a copy of a territory that another register keeps under a code.
     fn insert_copy(&mut self, code: &str, entry: &Entry) -> Result<(), AllocError>
         requires absent { land_of code.now self.old.lands ≡ None }
         requires room { length self.old.lands < self.old.limits.lands }

@@ -18,6 +18,7 @@ use crate::text::Text;
 use crate::unanswered::Unanswered;
 use std::alloc::{AllocError, Global};
 
+/// A territory as it is listed.
 fn land(alloc: Global, code: &str, name: &Text) -> Result<Land, AllocError>
     ensures { IfOk result (λ l. (l.code ≡ code.now) × (l.name ≡ name.now)) }
 {
