@@ -3,7 +3,7 @@ use crate::compare::same;
 use crate::register::edit_of;
 use crate::session::joined;
 use osn_core::{Batch, Object};
-use osn_register::{Limits, Query, Refusal};
+use osn_register::{Edit, Limits, Query, Refusal};
 use osn_wire::{Outcome, Request, read_request, reply_text};
 use std::alloc::Global;
 use std::process::Abort;
@@ -18,17 +18,27 @@ fn told(alloc: Global, object: &mut Object, line: &str) -> Result<Result<u32, Re
     }
 }
 
-/// The same by the tests and then the calls that refuse nothing.
+/// A stage by the test and then the call that refuses nothing.
+fn staged(object: &mut Object, edit: &Edit) -> Result<Result<u32, Refusal>, Fail> {
+    match object.check(edit) {
+        Ok(_) => Ok(Ok(object.admit(edit)?)),
+        Err(refusal) => Ok(Err(refusal)),
+    }
+}
+
+/// A publish by the test and then the call that refuses nothing.
+fn published(object: &mut Object) -> Result<Result<u32, Refusal>, Fail> {
+    match object.check_publish() {
+        Ok(_) => Ok(Ok(object.make_edition()?)),
+        Err(refusal) => Ok(Err(refusal)),
+    }
+}
+
+/// Either, as a line asks for.
 fn admitted(alloc: Global, object: &mut Object, line: &str) -> Result<Result<u32, Refusal>, Fail> {
     match read_request(alloc, 1, line.as_bytes())? {
-        Request::Stage(edit) => match object.check(&edit) {
-            Ok(_) => Ok(Ok(object.admit(&edit)?)),
-            Err(refusal) => Ok(Err(refusal)),
-        },
-        Request::Publish => match object.check_publish() {
-            Ok(_) => Ok(Ok(object.make_edition()?)),
-            Err(refusal) => Ok(Err(refusal)),
-        },
+        Request::Stage(edit) => staged(object, &edit),
+        Request::Publish => published(object),
         Request::Ask { .. } => Err(Fail::new("a query")),
     }
 }
@@ -95,8 +105,27 @@ fn has_two_editions(rt: &impl Abort, alloc: Global, object: &Object) -> Result<(
     Ok(())
 }
 
-/// An object that answers some lines so, by the calls that can refuse, or by the tests and the
+/// That an object answers some lines so, by the calls that can refuse, or by the tests and the
 /// calls that refuse nothing.
+fn takes(
+    rt: &impl Abort,
+    alloc: Global,
+    object: &mut Object,
+    calls: &[(&str, Result<u32, Refusal>)],
+    admits: bool,
+) -> Result<(), Fail> {
+    for (line, answer) in calls {
+        let got = if admits {
+            admitted(alloc, object, line)
+        } else {
+            told(alloc, object, line)
+        };
+        same(rt, (line, got?), (line, *answer));
+    }
+    Ok(())
+}
+
+/// The object of lines that are answered so.
 fn made(
     rt: &impl Abort,
     alloc: Global,
@@ -104,14 +133,7 @@ fn made(
     admits: bool,
 ) -> Result<Object, Fail> {
     let mut object = Object::new(alloc, Limits::standard());
-    for (line, answer) in calls {
-        let got = if admits {
-            admitted(alloc, &mut object, line)?
-        } else {
-            told(alloc, &mut object, line)?
-        };
-        same(rt, (line, got), (line, *answer));
-    }
+    takes(rt, alloc, &mut object, calls, admits)?;
     Ok(object)
 }
 

@@ -32,21 +32,39 @@ fn told(alloc: Global, answer: Answer) -> Result<String, Fail> {
     Ok(reply_text(alloc, &Outcome::Replied { reader: 1, reply })?)
 }
 
+/// Adds a copy of the edit of a line.
+fn push_edit(alloc: Global, edits: &mut Vec<Edit>, line: &str) -> Result<(), Fail> {
+    let edit = edit_of(alloc, line)?.copy()?;
+    edits.push(edit)?;
+    Ok(())
+}
+
+/// Copies of the edits of lines.
+fn edits_of(alloc: Global, lines: &str) -> Result<Vec<Edit>, Fail> {
+    let mut edits = Vec::new(alloc);
+    for line in lines.lines() {
+        push_edit(alloc, &mut edits, line)?;
+    }
+    Ok(edits)
+}
+
 /// The register of edits, each on a line.
 pub fn folded(alloc: Global, lines: &str) -> Result<Register, Fail> {
-    let mut edits = Vec::new(alloc);
-    for line in joined(alloc, lines)?.lines() {
-        edits.push(edit_of(alloc, line)?.copy()?)?;
-    }
+    let edits = edits_of(alloc, joined(alloc, lines)?.as_str())?;
     Ok(Register::fold(alloc, Limits::standard(), &edits)?)
+}
+
+/// What a register answers to a copy of the query of a line.
+fn answered(alloc: Global, register: &Register, line: &str) -> Result<String, Fail> {
+    let query = query_of(alloc, line)?.copy()?;
+    told(alloc, register.answer(&query)?)
 }
 
 /// That a register answers the queries of a session so, each line with the line of its answer.
 fn answers(rt: &impl Abort, alloc: Global, register: &Register, session: &str) -> Result<(), Fail> {
     let (queries, wanted) = apart(alloc, session)?;
     for (line, wanted) in queries.lines().zip(wanted.lines()) {
-        let query = query_of(alloc, line)?.copy()?;
-        let got = told(alloc, register.answer(&query)?)?;
+        let got = answered(alloc, register, line)?;
         same(rt, (line, got.as_str().trim_end()), (line, wanted));
     }
     Ok(())
@@ -102,12 +120,24 @@ const ROME: &str =
     r#"{"op":"add_land","code":"RM","name":"Rome","calendar":"julian","style":"january",
   "rule":"julian"}"#;
 
+/// Applies the edit of a line.
+fn apply(alloc: Global, register: &mut Register, line: &str) -> Result<(), Fail> {
+    let edit = edit_of(alloc, line)?;
+    Ok(register.apply_if_lawful(&edit)?)
+}
+
 /// A copy of a register, to which an edit is applied.
 fn changed_copy(alloc: Global, register: &Register, line: &str) -> Result<Register, Fail> {
-    let edit = edit_of(alloc, line)?;
     let mut copied = register.copy()?;
-    copied.apply_if_lawful(&edit)?;
+    apply(alloc, &mut copied, line)?;
     Ok(copied)
+}
+
+/// That a copy of a register with Rome is changed, and the register is not.
+fn has_copy_apart(rt: &impl Abort, alloc: Global, register: &Register) -> Result<(), Fail> {
+    let copied = changed_copy(alloc, register, ROME)?;
+    answers(rt, alloc, &copied, WITH_ROME)?;
+    answers(rt, alloc, register, BRITAIN)
 }
 
 #[test]
@@ -119,9 +149,7 @@ fn a_copy_answers_as_its_source(rt: HostRuntime) -> Result<(), Fail> {
 #[test]
 fn a_changed_copy_is_apart_from_its_source(rt: HostRuntime) -> Result<(), Fail> {
     let register = folded(rt.alloc(), EDITS)?;
-    let copied = changed_copy(rt.alloc(), &register, ROME)?;
-    answers(&rt, rt.alloc(), &copied, WITH_ROME)?;
-    answers(&rt, rt.alloc(), &register, BRITAIN)
+    has_copy_apart(&rt, rt.alloc(), &register)
 }
 
 /// Edits in turn, and what they are refused by.
@@ -214,7 +242,26 @@ fn admitted(
     }
 }
 
-/// A register that answers some edits so, by `apply`, or by `admit`.
+/// That a register answers some edits so, by `apply`, or by `admit`.
+fn takes(
+    rt: &impl Abort,
+    alloc: Global,
+    register: &mut Register,
+    edits: &[(&str, Result<(), Refusal>)],
+    admits: bool,
+) -> Result<(), Fail> {
+    for (line, answer) in edits {
+        let got = if admits {
+            admitted(alloc, register, line)
+        } else {
+            applied(alloc, register, line)
+        };
+        same(rt, (line, got?), (line, *answer));
+    }
+    Ok(())
+}
+
+/// The register of edits that are answered so.
 fn made(
     rt: &impl Abort,
     alloc: Global,
@@ -222,14 +269,7 @@ fn made(
     admits: bool,
 ) -> Result<Register, Fail> {
     let mut register = Register::new(alloc, Limits::standard());
-    for (line, answer) in edits {
-        let got = if admits {
-            admitted(alloc, &mut register, line)?
-        } else {
-            applied(alloc, &mut register, line)?
-        };
-        same(rt, (line, got), (line, *answer));
-    }
+    takes(rt, alloc, &mut register, edits, admits)?;
     Ok(register)
 }
 

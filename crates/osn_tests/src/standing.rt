@@ -5,8 +5,8 @@ use crate::session::apart;
 use crate::streams::sink_that_fails;
 use osn_core::Object;
 use osn_register::Limits;
-use osn_wire::{Plain, ServeFault, serve_from};
-use std::alloc::Global;
+use osn_wire::{Plain, ServeFault, Sink, serve_from};
+use std::alloc::{AllocError, Global};
 use std::process::Abort;
 use std::test::Fail;
 
@@ -60,13 +60,23 @@ fn goes_on(rt: &impl Abort, alloc: Global, object: &mut Object, stream: &str) ->
     Ok(())
 }
 
+/// The same of streams in turn.
+fn all_go_on(
+    rt: &impl Abort,
+    alloc: Global,
+    object: &mut Object,
+    streams: &[&str],
+) -> Result<(), Fail> {
+    for stream in streams {
+        goes_on(rt, alloc, object, stream)?;
+    }
+    Ok(())
+}
+
 #[test]
 fn an_object_that_stands_goes_on(rt: HostRuntime) -> Result<(), Fail> {
     let mut object = Object::new(rt.alloc(), Limits::standard());
-    for stream in &STREAMS {
-        goes_on(&rt, rt.alloc(), &mut object, stream)?;
-    }
-    Ok(())
+    all_go_on(&rt, rt.alloc(), &mut object, &STREAMS)
 }
 
 /// Queries before and behind an edit and a publish.
@@ -98,6 +108,32 @@ const STOPPED: [(usize, u64, usize, usize); 9] = [
     (226, 4, 0, 1),
 ];
 
+/// How many lines were answered whole, where a write failed.
+fn lines_before<W: Sink>(
+    alloc: Global,
+    object: &mut Object,
+    input: &[u8],
+    sink: &mut W,
+) -> Option<u64> {
+    match serve_from(alloc, object, 8, &mut Plain::new(input), sink) {
+        Err(ServeFault::WriteFault { lines }) => Some(lines),
+        _ => None,
+    }
+}
+
+/// The same where writing fails behind so many bytes, and the pending edits and the editions of the
+/// object then.
+fn stopped(
+    alloc: Global,
+    input: &[u8],
+    fails_at: usize,
+) -> Result<(Option<u64>, usize, usize), AllocError> {
+    let mut sink = sink_that_fails(alloc, 1, fails_at)?;
+    let mut object = Object::new(alloc, Limits::standard());
+    let lines = lines_before(alloc, &mut object, input, &mut sink);
+    Ok((lines, object.pending().len(), object.batches().len()))
+}
+
 /// That the object stands so after writes that fail.
 fn stops(
     rt: &impl Abort,
@@ -107,18 +143,11 @@ fn stops(
 ) -> Result<(), Fail> {
     let (requests, _) = apart(alloc, session)?;
     for (fails_at, lines, pending, editions) in rows {
-        let mut object = Object::new(alloc, Limits::standard());
-        let mut source = Plain::new(requests.as_bytes());
-        let mut sink = sink_that_fails(alloc, 1, *fails_at)?;
-        let answered = match serve_from(alloc, &mut object, 8, &mut source, &mut sink) {
-            Err(ServeFault::WriteFault { lines }) => Some(lines),
-            _ => None,
-        };
-        let stands = (object.pending().len(), object.batches().len());
+        let found = stopped(alloc, requests.as_bytes(), *fails_at)?;
         same(
             rt,
-            (fails_at, answered, stands),
-            (fails_at, Some(*lines), (*pending, *editions)),
+            (fails_at, found),
+            (fails_at, (Some(*lines), *pending, *editions)),
         );
     }
     Ok(())
