@@ -42,13 +42,10 @@ fn hostile_bytes(rt: HostRuntime) -> Result<(), Fail> {
 
 /// A query for the territories of so many bytes, with or without its line feed.
 fn line_of(alloc: Global, length: usize, feeds: bool) -> Result<Vec<u8>, AllocError> {
-    let mut line = Vec::new(alloc);
-    line.extend_from_slice(br#"{"op":"lands","reader":1,"x":""#)?;
-    line.extend_from_slice(&vec![in alloc; b'a'; length.saturating_sub(32)]?)?;
-    line.extend_from_slice(b"\"}")?;
-    if feeds {
-        line.push(b'\n')?;
-    }
+    let mut line = Vec::from_slice(alloc, br#"{"op":"lands","reader":1,"x":""#)?;
+    line.resize(length.saturating_sub(2), b'a')?;
+    let end = if feeds { "\"}\n" } else { "\"}" };
+    line.extend_from_slice(end.as_bytes())?;
     Ok(line)
 }
 
@@ -74,9 +71,7 @@ fn are_long(
     for (length, want) in rows {
         let line = line_of(alloc, *length, feeds)?;
         same(rt, line.trim_ascii_end().len(), *length);
-        let (written, lines) = served(alloc, Limits::standard(), 8, &line)?;
-        let told = str::from_utf8(&written)?;
-        same(rt, (length, told, lines), (length, *want, 1));
+        are_told(rt, alloc, &line, want, 1)?;
     }
     Ok(())
 }

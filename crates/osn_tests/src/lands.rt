@@ -164,11 +164,16 @@ const READ: [Read; 5] = [
     ((2999, 12, 31), Some(1_095_362), None),
 ];
 
+/// The first of some days.
+fn first_of(days: Vec<Day>) -> Option<Day> {
+    days.first().copied()
+}
+
 /// That dates are read and skipped so.
 fn reads(rt: &impl Abort, territory: &Territory, rows: &[Read]) -> Result<(), AllocError> {
     for (ymd, day, change) in rows {
-        let read = territory.read(label(*ymd))?.first().copied();
-        let skipped = territory.skipped(label(*ymd))?.first().copied();
+        let read = first_of(territory.read(label(*ymd))?);
+        let skipped = first_of(territory.skipped(label(*ymd))?);
         same(rt, (read, skipped), (day.map(day_of), change.map(day_of)));
     }
     Ok(())

@@ -1,16 +1,16 @@
 //! The calls of the object of `osn_core`. Edits and queries are read from their lines.
 use crate::compare::same;
-use crate::register::edit_of;
+use crate::register::{edit_of, told};
 use crate::session::joined;
 use osn_core::{Batch, Object};
 use osn_register::{Edit, Limits, Query, Refusal};
-use osn_wire::{Outcome, Request, read_request, reply_text};
+use osn_wire::{Request, read_request};
 use std::alloc::Global;
 use std::process::Abort;
 use std::test::Fail;
 
 /// Stages the edit of a line, or publishes.
-fn told(alloc: Global, object: &mut Object, line: &str) -> Result<Result<u32, Refusal>, Fail> {
+fn made(alloc: Global, object: &mut Object, line: &str) -> Result<Result<u32, Refusal>, Fail> {
     match read_request(alloc, 1, line.as_bytes())? {
         Request::Stage(edit) => Ok(object.stage(&edit)),
         Request::Publish => Ok(object.publish()),
@@ -88,8 +88,7 @@ const LANDS: &str =
 
 /// The line that the first reader is told of the territories.
 fn lands_of(alloc: Global, object: &Object) -> Result<String, Fail> {
-    let reply = object.ask(&Query::Lands)?;
-    Ok(reply_text(alloc, &Outcome::Replied { reader: 1, reply })?)
+    Ok(told(alloc, object.ask(&Query::Lands)?)?)
 }
 
 /// That two editions stand, of two edits and of one, and one edit is pending.
@@ -118,35 +117,33 @@ fn takes(
         let got = if admits {
             admitted(alloc, object, line)
         } else {
-            told(alloc, object, line)
+            made(alloc, object, line)
         };
         same(rt, (line, got?), (line, *answer));
     }
     Ok(())
 }
 
-/// The object of lines that are answered so.
-fn made(
+/// That a new object takes some lines so, and has two editions then.
+fn makes_two_editions(
     rt: &impl Abort,
     alloc: Global,
     calls: &[(&str, Result<u32, Refusal>)],
     admits: bool,
-) -> Result<Object, Fail> {
+) -> Result<(), Fail> {
     let mut object = Object::new(alloc, Limits::standard());
     takes(rt, alloc, &mut object, calls, admits)?;
-    Ok(object)
+    has_two_editions(rt, alloc, &object)
 }
 
 #[test]
 fn an_object_stages_and_publishes(rt: HostRuntime) -> Result<(), Fail> {
-    let object = made(&rt, rt.alloc(), &CALLS, false)?;
-    has_two_editions(&rt, rt.alloc(), &object)
+    makes_two_editions(&rt, rt.alloc(), &CALLS, false)
 }
 
 #[test]
 fn an_object_admits_what_is_lawful(rt: HostRuntime) -> Result<(), Fail> {
-    let object = made(&rt, rt.alloc(), &CALLS, true)?;
-    has_two_editions(&rt, rt.alloc(), &object)
+    makes_two_editions(&rt, rt.alloc(), &CALLS, true)
 }
 
 #[test]

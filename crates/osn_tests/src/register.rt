@@ -5,7 +5,7 @@ use crate::session::{apart, joined};
 use osn_core::Reply;
 use osn_register::{Answer, Edit, Limits, Query, Refusal, Register, Text};
 use osn_wire::{Outcome, Request, read_request, reply_text};
-use std::alloc::Global;
+use std::alloc::{AllocError, Global};
 use std::process::Abort;
 use std::test::Fail;
 
@@ -25,18 +25,19 @@ pub fn query_of(alloc: Global, line: &str) -> Result<Query, Fail> {
     }
 }
 
-/// The line of an answer that the first reader is told of edition 0.
-fn told(alloc: Global, answer: Answer) -> Result<String, Fail> {
-    let edition = 0;
-    let reply = Reply { edition, answer };
-    Ok(reply_text(alloc, &Outcome::Replied { reader: 1, reply })?)
+/// The line of a reply that the first reader is told.
+pub fn told(alloc: Global, reply: Reply) -> Result<String, AllocError> {
+    reply_text(alloc, &Outcome::Replied { reader: 1, reply })
+}
+
+/// A copy of an edit, which itself goes.
+fn copy_of(edit: Edit) -> Result<Edit, AllocError> {
+    edit.copy()
 }
 
 /// Adds a copy of the edit of a line.
 fn push_edit(alloc: Global, edits: &mut Vec<Edit>, line: &str) -> Result<(), Fail> {
-    let edit = edit_of(alloc, line)?.copy()?;
-    edits.push(edit)?;
-    Ok(())
+    Ok(edits.push(copy_of(edit_of(alloc, line)?)?)?)
 }
 
 /// Copies of the edits of lines.
@@ -54,18 +55,35 @@ pub fn folded(alloc: Global, lines: &str) -> Result<Register, Fail> {
     Ok(Register::fold(alloc, Limits::standard(), &edits)?)
 }
 
-/// What a register answers to a copy of the query of a line.
+/// What a register answers to a copy of a query, which itself goes.
+fn answer_to_copy(register: &Register, query: Query) -> Result<Answer, AllocError> {
+    register.answer(&query.copy()?)
+}
+
+/// What a register, as edition 0, answers to the query of a line.
 fn answered(alloc: Global, register: &Register, line: &str) -> Result<String, Fail> {
-    let query = query_of(alloc, line)?.copy()?;
-    told(alloc, register.answer(&query)?)
+    let answer = answer_to_copy(register, query_of(alloc, line)?)?;
+    Ok(told(alloc, Reply { edition: 0, answer })?)
+}
+
+/// That a register answers the query of a line so.
+fn answers_line(
+    rt: &impl Abort,
+    alloc: Global,
+    register: &Register,
+    line: &str,
+    wanted: &str,
+) -> Result<(), Fail> {
+    let got = answered(alloc, register, line)?;
+    same(rt, (line, got.as_str().trim_end()), (line, wanted));
+    Ok(())
 }
 
 /// That a register answers the queries of a session so, each line with the line of its answer.
 fn answers(rt: &impl Abort, alloc: Global, register: &Register, session: &str) -> Result<(), Fail> {
     let (queries, wanted) = apart(alloc, session)?;
     for (line, wanted) in queries.lines().zip(wanted.lines()) {
-        let got = answered(alloc, register, line)?;
-        same(rt, (line, got.as_str().trim_end()), (line, wanted));
+        answers_line(rt, alloc, register, line, wanted)?;
     }
     Ok(())
 }
@@ -215,14 +233,9 @@ const APPLIED: [(&str, Result<(), Refusal>); 14] = [
 ];
 
 /// What `check` and `apply` answer, where they agree.
-fn applied(
-    alloc: Global,
-    register: &mut Register,
-    line: &str,
-) -> Result<Result<(), Refusal>, Fail> {
-    let edit = edit_of(alloc, line)?;
-    let checked = register.check(&edit);
-    let answer = register.apply(&edit);
+fn applied(register: &mut Register, edit: &Edit) -> Result<Result<(), Refusal>, Fail> {
+    let checked = register.check(edit);
+    let answer = register.apply(edit);
     if answer != checked {
         return Err(Fail::new("check and apply do not agree"));
     }
@@ -230,15 +243,25 @@ fn applied(
 }
 
 /// The same by `check` and then `admit`.
-fn admitted(
+fn admitted(register: &mut Register, edit: &Edit) -> Result<Result<(), Refusal>, Fail> {
+    match register.check(edit) {
+        Ok(()) => Ok(Ok(register.admit(edit)?)),
+        Err(refusal) => Ok(Err(refusal)),
+    }
+}
+
+/// Either, of the edit of a line.
+fn answer_to(
     alloc: Global,
     register: &mut Register,
     line: &str,
+    admits: bool,
 ) -> Result<Result<(), Refusal>, Fail> {
     let edit = edit_of(alloc, line)?;
-    match register.check(&edit) {
-        Ok(()) => Ok(Ok(register.admit(&edit)?)),
-        Err(refusal) => Ok(Err(refusal)),
+    if admits {
+        admitted(register, &edit)
+    } else {
+        applied(register, &edit)
     }
 }
 
@@ -251,12 +274,8 @@ fn takes(
     admits: bool,
 ) -> Result<(), Fail> {
     for (line, answer) in edits {
-        let got = if admits {
-            admitted(alloc, register, line)
-        } else {
-            applied(alloc, register, line)
-        };
-        same(rt, (line, got?), (line, *answer));
+        let got = answer_to(alloc, register, line, admits)?;
+        same(rt, (line, got), (line, *answer));
     }
     Ok(())
 }

@@ -11,25 +11,40 @@ pub fn joined(alloc: Global, text: &str) -> Result<String, AllocError> {
     text.replace(alloc, "\n  ", "")
 }
 
-/// A session's requests and replies apart, a line feed behind each. Every second line of a session
-/// is a reply. Empty lines, and remarks behind a number sign, are passed over.
-pub fn apart(alloc: Global, session: &str) -> Result<(String, String), AllocError> {
-    let mut requests = String::new(alloc);
-    let mut replies = String::new(alloc);
+/// Adds a line and its line feed.
+fn add_line(text: &mut String, line: &str) -> Result<(), AllocError> {
+    text.push_str(line)?;
+    text.push('\n')
+}
+
+/// Adds the lines of a session to its requests and its replies in turn.
+fn take_apart(
+    session: &str,
+    requests: &mut String,
+    replies: &mut String,
+) -> Result<(), AllocError> {
     let mut is_reply = false;
-    for line in joined(alloc, session)?.lines() {
+    for line in session.lines() {
         if line.is_empty() || line.starts_with('#') {
             continue;
         }
         if is_reply {
-            replies.push_str(line)?;
-            replies.push('\n')?;
+            add_line(replies, line)?;
         } else {
-            requests.push_str(line)?;
-            requests.push('\n')?;
+            add_line(requests, line)?;
         }
         is_reply = !is_reply;
     }
+    Ok(())
+}
+
+/// A session's requests and replies apart, a line feed behind each. Every second line of a session
+/// is a reply. Empty lines, and remarks behind a number sign, are passed over.
+pub fn apart(alloc: Global, session: &str) -> Result<(String, String), AllocError> {
+    let text = joined(alloc, session)?;
+    let mut requests = String::new(alloc);
+    let mut replies = String::new(alloc);
+    take_apart(text.as_str(), &mut requests, &mut replies)?;
     Ok((requests, replies))
 }
 
@@ -46,6 +61,17 @@ pub fn served(
     Ok((sink.into_inner(), lines))
 }
 
+/// That what was written is these replies, line by line, and that as many lines were answered.
+pub fn are_replies(rt: &impl Abort, written: &[u8], lines: u64, replies: &str) -> Result<(), Fail> {
+    let text = str::from_utf8(written)?;
+    for (place, (got, wanted)) in text.lines().zip(replies.lines()).enumerate() {
+        same(rt, (place, got), (place, wanted));
+    }
+    let counts = (replies.len(), replies.lines().count() as u64);
+    same(rt, (text.len(), lines), counts);
+    Ok(())
+}
+
 /// That a session of the service goes so, from an empty object.
 pub fn serves(
     rt: &impl Abort,
@@ -56,11 +82,5 @@ pub fn serves(
 ) -> Result<(), Fail> {
     let (requests, replies) = apart(alloc, session)?;
     let (written, lines) = served(alloc, limits, readers, requests.as_bytes())?;
-    let text = str::from_utf8(&written)?;
-    for (place, (got, wanted)) in text.lines().zip(replies.lines()).enumerate() {
-        same(rt, (place, got), (place, wanted));
-    }
-    let counts = (replies.len(), replies.lines().count() as u64);
-    same(rt, (text.len(), lines), counts);
-    Ok(())
+    are_replies(rt, &written, lines, replies.as_str())
 }

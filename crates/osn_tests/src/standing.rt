@@ -1,7 +1,7 @@
 //! The service from an object that stands already, and where the object stands after a write that
 //! failed.
 use crate::compare::same;
-use crate::session::apart;
+use crate::session::{apart, are_replies};
 use crate::streams::sink_that_fails;
 use osn_core::Object;
 use osn_register::Limits;
@@ -55,9 +55,7 @@ fn served_from(
 fn goes_on(rt: &impl Abort, alloc: Global, object: &mut Object, stream: &str) -> Result<(), Fail> {
     let (requests, replies) = apart(alloc, stream)?;
     let (written, lines) = served_from(alloc, object, requests.as_bytes())?;
-    same(rt, lines, replies.lines().count() as u64);
-    same(rt, str::from_utf8(&written)?, replies.as_str());
-    Ok(())
+    are_replies(rt, &written, lines, replies.as_str())
 }
 
 /// The same of streams in turn.

@@ -198,8 +198,8 @@ fn are_answered(
 ) -> Result<(), Fail> {
     for (input, want, lines) in rows {
         let got = tried(alloc, input.as_bytes(), plan)?;
-        let wanted = (End::Answered(*lines), *want);
-        same(rt, (got.end, str::from_utf8(&got.text)?), wanted);
+        let wanted = (End::Answered(*lines), want.as_bytes());
+        same(rt, (got.end, got.text.as_slice()), wanted);
     }
     Ok(())
 }

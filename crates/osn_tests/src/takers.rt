@@ -67,6 +67,16 @@ const ENDS: [(&[u8], u32, End, u64); 8] = [
     (b"a\nb\nc", 0, End::Stopped(Why::Read), 0),
 ];
 
+/// How the loop ends, and how many lines it says were taken.
+fn ended(alloc: Global, taker: &mut Patient, input: &[u8]) -> (End, u64) {
+    match take_lines(alloc, taker, &mut Plain::new(input)) {
+        Ok(lines) => (End::Taken, lines),
+        Err(TakeFault::NoMemory { lines }) => (End::NoMemory, lines),
+        Err(TakeFault::ReadFault { lines }) => (End::ReadFault, lines),
+        Err(TakeFault::Stopped { lines, why }) => (End::Stopped(why), lines),
+    }
+}
+
 /// That the loop ends so, and that its taker took as many lines as it says.
 fn take_up_to(rt: &impl Abort, alloc: Global, rows: &[(&[u8], u32, End, u64)]) {
     for (input, reads, wanted, count) in rows {
@@ -74,12 +84,7 @@ fn take_up_to(rt: &impl Abort, alloc: Global, rows: &[(&[u8], u32, End, u64)]) {
             taken: 0,
             reads: *reads,
         };
-        let (end, lines) = match take_lines(alloc, &mut taker, &mut Plain::new(*input)) {
-            Ok(lines) => (End::Taken, lines),
-            Err(TakeFault::NoMemory { lines }) => (End::NoMemory, lines),
-            Err(TakeFault::ReadFault { lines }) => (End::ReadFault, lines),
-            Err(TakeFault::Stopped { lines, why }) => (End::Stopped(why), lines),
-        };
+        let (end, lines) = ended(alloc, &mut taker, input);
         same(rt, (input, end), (input, *wanted));
         same(rt, (input, taker.taken, lines), (input, *count, *count));
     }
