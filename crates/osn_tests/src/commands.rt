@@ -3,7 +3,7 @@
 use crate::compare::same;
 use crate::printed::{Left, Wanted, is_left, left_by, sink};
 use crate::session::joined;
-use osn_commands::{Status, run, serve_command, tell_no_words};
+use osn_commands::{Served, Status, run, serve_command, tell_no_words};
 use osn_wire::Plain;
 use std::alloc::Global;
 use std::io;
@@ -22,14 +22,11 @@ const RM: &str = r#"{"journal":1}
 const RM_PENDING: &str = r#"{"journal":1}
 {"op":"add_land","code":"RM","name":"Rome","calendar":"julian","style":"january","rule":"julian"}"#;
 
-/// A journal or none, request lines, the number of the status, replies, what standard error is
-/// told, and the journal that is left.
+/// A journal or none, request lines, what is left of them, and the journal that is left.
 type Row = (
     Option<&'static str>,
     &'static str,
-    u8,
-    &'static str,
-    &'static str,
+    Wanted,
     Option<&'static str>,
 );
 
@@ -45,13 +42,11 @@ const ROME: &str = "{\"answer\":{\"lands\":[{\"code\":\"RM\",\"name\":\"Rome\"}]
   \"reader\":1}\n";
 
 const SERVED: [Row; 6] = [
-    (None, "", 0, "", "", Some(EMPTY_JOURNAL)),
+    (None, "", (0, "", ""), Some(EMPTY_JOURNAL)),
     (
         Some(RM),
         LANDS,
-        0,
-        ROME,
-        "",
+        (0, ROME, ""),
         Some(
             "{\"journal\":1}
 {\"calendar\":\"julian\",\"code\":\"RM\",\"name\":\"Rome\",\"op\":\"add_land\",\"rule\":\"julian\",
@@ -60,13 +55,11 @@ const SERVED: [Row; 6] = [
 ",
         ),
     ),
-    (Some(RM_PENDING), "", 0, "", "", Some(RM_SAVED)),
+    (Some(RM_PENDING), "", (0, "", ""), Some(RM_SAVED)),
     (
         Some(RM_PENDING),
         "{\"op\":\"publish\"}\n",
-        0,
-        "{\"edition\":1,\"ok\":\"published\"}\n",
-        "",
+        (0, "{\"edition\":1,\"ok\":\"published\"}\n", ""),
         Some(
             "{\"journal\":1}
 {\"calendar\":\"julian\",\"code\":\"RM\",\"name\":\"Rome\",\"op\":\"add_land\",\"rule\":\"julian\",
@@ -78,38 +71,61 @@ const SERVED: [Row; 6] = [
     (
         Some("{\"journal\":3}\n"),
         LANDS,
-        1,
-        "",
-        "oldstyle: journal line 1: 37 BadHead\n",
+        (1, "", "oldstyle: journal line 1: 37 BadHead\n"),
         None,
     ),
     (
         Some("{\"journal\":1}\n[]\n"),
         LANDS,
-        1,
-        "",
-        "oldstyle: journal line 2: 33 NotObject\n",
+        (1, "", "oldstyle: journal line 2: 33 NotObject\n"),
         None,
     ),
 ];
 
-fn are_served(rt: &impl Abort, alloc: Global, rows: &[Row]) -> Result<(), Fail> {
-    for (journal, requests, status, replies, told, saved) in rows {
-        let mut output = sink(alloc);
-        let mut errors = sink(alloc);
-        let mut input = Plain::new(requests.as_bytes());
-        let source = journal.map(|text| Plain::new(text.as_bytes()));
-        let left = serve_command(alloc, source, 8, true, &mut input, &mut output, &mut errors);
-        same(rt, left.status.code(), *status);
-        let replies = joined(alloc, replies)?;
-        same(rt, str::from_utf8(&output.into_inner())?, replies.as_str());
-        same(rt, str::from_utf8(&errors.into_inner())?, *told);
-        match (left.journal, saved) {
-            (Some(text), Some(saved)) => {
-                same(rt, text.as_str(), joined(alloc, saved)?.as_str());
-            }
-            (text, saved) => same(rt, text.is_some(), saved.is_some()),
+/// What the service leaves of request lines behind a journal, and the journal.
+fn served(alloc: Global, journal: Option<&str>, requests: &str) -> (Left, Option<String>) {
+    let (mut output, mut errors) = (sink(alloc), sink(alloc));
+    let mut input = Plain::new(requests.as_bytes());
+    let source = journal.map(|text| Plain::new(text.as_bytes()));
+    let Served { status, journal } = serve_command(
+        alloc,
+        source,
+        8,
+        true,
+        &mut input,
+        &mut output,
+        &mut errors,
+    );
+    (left_by(status, output, errors), journal)
+}
+
+/// That the journal that is left is this one.
+fn is_journal(rt: &impl Abort, alloc: Global, text: &str, wanted: &str) -> Result<(), Fail> {
+    same(rt, text, joined(alloc, wanted)?.as_str());
+    Ok(())
+}
+
+/// That this journal is left, or none.
+fn is_saved(
+    rt: &impl Abort,
+    alloc: Global,
+    journal: Option<String>,
+    wanted: Option<&str>,
+) -> Result<(), Fail> {
+    match (journal, wanted) {
+        (Some(text), Some(wanted)) => is_journal(rt, alloc, text.as_str(), wanted),
+        (journal, wanted) => {
+            same(rt, journal.is_some(), wanted.is_some());
+            Ok(())
         }
+    }
+}
+
+fn are_served(rt: &impl Abort, alloc: Global, rows: &[Row]) -> Result<(), Fail> {
+    for (journal, requests, wanted, saved) in rows {
+        let (left, journal) = served(alloc, *journal, requests);
+        is_left(rt, alloc, left, wanted)?;
+        is_saved(rt, alloc, journal, *saved)?;
     }
     Ok(())
 }

@@ -1,8 +1,9 @@
 //! Journals: what is written of an object, what is loaded from lines, and what is refused.
 use crate::compare::same;
 use crate::session::{apart, joined};
+use osn_core::Object;
 use osn_register::Limits;
-use osn_wire::{FileFault, Plain, journal_text, load_journal, serve_from};
+use osn_wire::{FileFault, Plain, ServeFault, journal_text, load_journal, serve_from};
 use std::alloc::{AllocError, Global};
 use std::io;
 use std::io::{ErrorKind, Read};
@@ -114,17 +115,24 @@ const REFUSED: [(&str, &str); 20] = [
     ),
 ];
 
+/// Why nothing is loaded.
+fn text_of(alloc: Global, fault: FileFault) -> Result<String, AllocError> {
+    match fault {
+        FileFault::NoMemory => String::from_str(alloc, "no memory"),
+        FileFault::ReadFault => String::from_str(alloc, "read fault"),
+        FileFault::BadLine { role, line, fault } => {
+            let (number, name) = (fault.number(), fault.name());
+            format!(in alloc; "{role:?} line {line}: {number} {name}")
+        }
+    }
+}
+
 /// The journal of what is loaded from some bytes, or why nothing is.
-fn reloaded<R: Read + Drop>(alloc: Global, reader: R) -> Result<String, Fail> {
+fn reloaded<R: Read + Drop>(alloc: Global, reader: R) -> Result<String, AllocError> {
     let mut source = Plain::new(reader);
     match load_journal(alloc, Limits::standard(), &mut source) {
-        Ok(object) => Ok(journal_text(alloc, &object)?),
-        Err(FileFault::NoMemory) => Ok(String::from_str(alloc, "no memory")?),
-        Err(FileFault::ReadFault) => Ok(String::from_str(alloc, "read fault")?),
-        Err(FileFault::BadLine { role, line, fault }) => {
-            let (number, name) = (fault.number(), fault.name());
-            Ok(format!(in alloc; "{role:?} line {line}: {number} {name}")?)
-        }
+        Ok(object) => journal_text(alloc, &object),
+        Err(fault) => text_of(alloc, fault),
     }
 }
 
@@ -268,16 +276,46 @@ const ANSWERS: [(&str, &str); 2] = [
     ),
 ];
 
+/// The object that a journal gives, its broken lines whole again.
+fn loaded_from(alloc: Global, journal: &str) -> Result<Object, Fail> {
+    let journal = joined(alloc, journal)?;
+    Ok(load_journal(
+        alloc,
+        Limits::standard(),
+        &mut Plain::new(journal.as_bytes()),
+    )?)
+}
+
+/// What an object answers to requests.
+fn answered(alloc: Global, object: &mut Object, requests: &str) -> Result<Vec<u8>, ServeFault> {
+    let mut sink = Plain::new(Vec::new(alloc));
+    serve_from(
+        alloc,
+        object,
+        8,
+        &mut Plain::new(requests.as_bytes()),
+        &mut sink,
+    )?;
+    Ok(sink.into_inner())
+}
+
+/// That an object answers a session so.
+fn answers(rt: &impl Abort, alloc: Global, object: &mut Object, session: &str) -> Result<(), Fail> {
+    let (requests, replies) = apart(alloc, session)?;
+    let written = answered(alloc, object, requests.as_str())?;
+    same(rt, written.as_slice(), replies.as_bytes());
+    Ok(())
+}
+
+/// That the object of a journal answers a session so.
+fn is_answered(rt: &impl Abort, alloc: Global, journal: &str, session: &str) -> Result<(), Fail> {
+    let mut object = loaded_from(alloc, journal)?;
+    answers(rt, alloc, &mut object, session)
+}
+
 fn are_answered(rt: &impl Abort, alloc: Global, rows: &[(&str, &str)]) -> Result<(), Fail> {
     for (journal, session) in rows {
-        let (requests, replies) = apart(alloc, session)?;
-        let journal = joined(alloc, journal)?;
-        let mut source = Plain::new(journal.as_bytes());
-        let mut object = load_journal(alloc, Limits::standard(), &mut source)?;
-        let mut input = Plain::new(requests.as_bytes());
-        let mut sink = Plain::new(Vec::new(alloc));
-        serve_from(alloc, &mut object, 8, &mut input, &mut sink)?;
-        same(rt, sink.into_inner().as_slice(), replies.as_bytes());
+        is_answered(rt, alloc, journal, session)?;
     }
     Ok(())
 }

@@ -12,7 +12,7 @@ use osn_live::{
 };
 use osn_register::{Limits, Query};
 use osn_wire::{Outcome, Request, read_request, reply_text};
-use std::alloc::Global;
+use std::alloc::{AllocError, Global};
 use std::process::Abort;
 use std::sync::Wait;
 use std::sync::atomic::AtomicU64;
@@ -43,12 +43,21 @@ fn told(alloc: Global, reader: &mut Reader) -> Result<String, Fail>
     Ok(reply_text(alloc, &Outcome::Replied { reader: 1, reply })?)
 }
 
+/// Stages the edit of a line.
+fn staged(alloc: Global, editor: &mut Editor, line: &str) -> Result<(), Fail>
+    ensures { editor.new.origin ≡ editor.old.origin }
+{
+    let edit = edit_of(alloc, line)?;
+    editor.stage(&edit)?;
+    Ok(())
+}
+
 /// Stages the edit of a line and publishes it.
 fn published<R: Wait>(rt: &R, alloc: Global, editor: &mut Editor, line: &str) -> Result<Note, Fail>
     ensures same { editor.new.origin ≡ editor.old.origin }
     ensures note { IfOk result (λ n. n.origin ≡ editor.old.origin) }
 {
-    editor.stage(&edit_of(alloc, line)?)?;
+    staged(alloc, editor, line)?;
     Ok(editor.publish(rt)?)
 }
 
@@ -175,10 +184,15 @@ fn readers_are_1_to_64(rt: HostRuntime) -> Result<(), Fail> {
     Ok(())
 }
 
+/// A copy of a command, which itself goes.
+fn copy_of(command: Command) -> Result<Command, AllocError> {
+    command.copy()
+}
+
 fn command_of(alloc: Global, line: &str) -> Result<Command, Fail> {
     match read_request(alloc, 1, line.as_bytes())? {
-        Request::Stage(edit) => Ok(Command::Stage(edit).copy()?),
-        Request::Publish => Ok(Command::Publish.copy()?),
+        Request::Stage(edit) => Ok(copy_of(Command::Stage(edit))?),
+        Request::Publish => Ok(copy_of(Command::Publish)?),
         Request::Ask { .. } => Err(Fail::new("a query")),
     }
 }
@@ -221,15 +235,21 @@ fn desk<R: Threads + Wait, G: Gate + Sync>(
     Ok(run_desk(rt, alloc, Limits::standard(), gate, &commands, &lists))
 }
 
+/// That a reply is the one of its edition.
+fn is_possible(rt: &impl Abort, alloc: Global, reply: Reply) -> Result<(), Fail> {
+    let wanted = if reply.edition == 0 { NONE } else { ONE };
+    let line = reply_text(alloc, &Outcome::Replied { reader: 1, reply })?;
+    same(rt, line.as_str().trim_end(), wanted);
+    Ok(())
+}
+
 /// That one reader's replies are the two possible ones, and no edition is below the one before it.
 fn are_possible(rt: &impl Abort, alloc: Global, replies: Vec<Reply>) -> Result<(), Fail> {
     let mut last = 0;
     for reply in replies {
         assert!(rt; last <= reply.edition);
         last = reply.edition;
-        let line = reply_text(alloc, &Outcome::Replied { reader: 1, reply })?;
-        let wanted = if last == 0 { NONE } else { ONE };
-        same(rt, line.as_str().trim_end(), wanted);
+        is_possible(rt, alloc, reply)?;
     }
     Ok(())
 }

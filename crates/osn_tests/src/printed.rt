@@ -33,6 +33,12 @@ pub fn left_by(status: Status, output: Memory, errors: Memory) -> Left {
     }
 }
 
+/// That some bytes are this text.
+fn is_text(rt: &impl Abort, bytes: &[u8], wanted: &str) -> Result<(), Fail> {
+    same(rt, str::from_utf8(bytes)?, wanted);
+    Ok(())
+}
+
 /// The number of a status, what is written, and what standard error is told.
 pub type Wanted = (u8, &'static str, &'static str);
 
@@ -40,9 +46,8 @@ pub fn is_left(rt: &impl Abort, alloc: Global, left: Left, wanted: &Wanted) -> R
     let (status, written, told) = wanted;
     let written = joined(alloc, written)?;
     same(rt, left.status.code(), *status);
-    same(rt, str::from_utf8(&left.written)?, written.as_str());
-    same(rt, str::from_utf8(&left.told)?, *told);
-    Ok(())
+    is_text(rt, &left.written, written.as_str())?;
+    is_text(rt, &left.told, told)
 }
 
 const RM: &str = r#"{"journal":1}
