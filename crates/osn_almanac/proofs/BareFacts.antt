@@ -153,14 +153,14 @@ ends-year a b =
       | false ↦ ends-signed a
     ]
 
-pub ends-dual : (r : Regime) (d : ℕ) → IsTrue (ends_bare (dual_text r d))
-ends-dual r d =
+pub ends-dual : (p : Profile) (r : Regime) (d : ℕ) → IsTrue (ends_bare (dual_text p r d))
+ends-dual p r d =
     let date = date_of r.calendar d in
-    let year = year_text (style_year r.style date) date.year in
+    let year = year_text (style_year p r d) date.year in
     ends-append (decimal date.day) (codes " " ++ (month_name date.month ++ (codes " " ++ year)))
     (ends-append (codes " ") (month_name date.month ++ (codes " " ++ year))
     (ends-append (month_name date.month) (codes " " ++ year)
-    (ends-append (codes " ") year (ends-year (style_year r.style date) date.year))))
+    (ends-append (codes " ") year (ends-year (style_year p r d) date.year))))
 
 pub ends-date : (date : Date) → IsTrue (ends_bare (text_of_date date))
 unfolding date_text
@@ -261,24 +261,24 @@ ends-change dual day calendar style rule =
     (ends-append (codes " style, ") (rule ++ e)
     (ends-append rule e refl)))))))))
 
-bare-change_of : (year : ℤ) (period : Period) → AreBare (change_of year period)
+bare-change_of : (p : Profile) (year : ℤ) (period : Period) → AreBare (change_of p year period)
 unfolding change_of change_line
-bare-change_of year period =
+bare-change_of p year period =
     elim (is_change_in year period) as (λ b. AreBare
-    (if b then change_line period ∷ [] else [])) [
+    (if b then change_line p period ∷ [] else [])) [
       | true ↦ (ends-change _ _ _ _ _, tt)
       | false ↦ tt
     ]
 
-bare-changes : (year : ℤ) (a : Answer) → AreBare (change_lines year a)
-bare-changes year (answers.Periods periods) =
-    AreBare-flat_map (change_of year) (bare-change_of year) periods
-bare-changes year (answers.Reading found skipped) = tt
-bare-changes year (answers.OnDay found period) = tt
-bare-changes year (answers.Easters found is_listed) = tt
-bare-changes year (answers.Figures y golden indiction jepact gepact jletters gletters je ge) = tt
-bare-changes year (answers.Lands lands) = tt
-bare-changes year (answers.Refused f) = tt
+bare-changes : (p : Profile) (year : ℤ) (a : Answer) → AreBare (change_lines p year a)
+bare-changes p year (answers.Periods periods) =
+    AreBare-flat_map (change_of p year) (bare-change_of p year) periods
+bare-changes p year (answers.Reading found skipped) = tt
+bare-changes p year (answers.OnDay found period) = tt
+bare-changes p year (answers.Easters found is_listed) = tt
+bare-changes p year (answers.Figures y golden indiction jepact gepact jletters gletters je ge) = tt
+bare-changes p year (answers.Lands lands) = tt
+bare-changes p year (answers.Refused f) = tt
 
 ends-day_line : (name : List ℕ) (d : ℕ) (date : List ℕ) → IsTrue (ends_bare date)
     → IsTrue (ends_bare (day_line name d date))
@@ -300,17 +300,17 @@ unfolding absent_line
 ends-absent name remark h =
     ends-append (name_column name) (codes " " ++ remark) (ends-append (codes " ") remark h)
 
-ends-feast_on : (feast : Feast) (period : Option Period) (r : Regime) (d : ℕ)
-    → IsTrue (ends_bare (feast_line_of feast (on_day period (found_under r d))))
-ends-feast_on feast None r d = ends-absent (feast_name feast) (codes "off the line") refl
-ends-feast_on feast (Some period) r d =
-    ends-day_line (feast_name feast) d (dual_text r d) (ends-dual r d)
+ends-feast_on : (p : Profile) (feast : Feast) (period : Option Period) (r : Regime) (d : ℕ)
+    → IsTrue (ends_bare (feast_line_of feast (on_day period (found_under p r d))))
+ends-feast_on p feast None r d = ends-absent (feast_name feast) (codes "off the line") refl
+ends-feast_on p feast (Some period) r d =
+    ends-day_line (feast_name feast) d (dual_text p r d) (ends-dual p r d)
 
 ends-feast_in : (p : Profile) (feast : Feast) (t : Option PlainTerritory) (d : ℕ)
     → IsTrue (ends_bare (feast_line_of feast (day_answer p t d)))
 ends-feast_in p feast None d = ends-absent (feast_name feast) (codes "off the line") refl
 ends-feast_in p feast (Some t) d =
-    ends-feast_on feast (period_on (periods_of p t) d) (regime_at t d) d
+    ends-feast_on p feast (period_on (periods_of p t) d) (regime_at t d) d
 
 ends-feast : (p : Profile) (lands : List PlainLand) (code : List ℕ) (easter : ℕ) (feast : Feast)
     → IsTrue (ends_bare (feast_line p lands code easter feast))
@@ -382,7 +382,7 @@ pub almanac-bare : (p : Profile) (lands : List PlainLand) (code : List ℕ) (yea
 almanac-bare p lands code year =
     let months_of = flat_map (month_lines p lands code year) months in
     let easters = easter_lines p lands code (answer p lands (queries.Easter code year)) in
-    let changes = change_lines year (answer p lands (queries.Periods code)) in
+    let changes = change_lines p year (answer p lands (queries.Periods code)) in
     let figures = figures_lines (answer p lands (queries.YearFigures year)) in
     AreBare-append (heading_lines code year (answer p lands queries.Lands))
     (figures ++ (changes ++ (easters ++ months_of)))
@@ -390,7 +390,7 @@ almanac-bare p lands code year =
     (AreBare-append figures (changes ++ (easters ++ months_of))
     (bare-figures (answer p lands (queries.YearFigures year)))
     (AreBare-append changes (easters ++ months_of)
-    (bare-changes year (answer p lands (queries.Periods code)))
+    (bare-changes p year (answer p lands (queries.Periods code)))
     (AreBare-append easters months_of
     (bare-easters p lands code (answer p lands (queries.Easter code year)))
     (AreBare-flat_map (month_lines p lands code year) (bare-month_lines p lands code year)

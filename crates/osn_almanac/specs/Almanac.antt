@@ -91,18 +91,18 @@ change_text dual day calendar style rule =
     ++ (codes " calendar, " ++ (style ++ (codes " style, " ++ (rule ++ codes " rule")))))))))
 
 -- the day as the new regime dates it, and how that regime reckons
-unfoldable pub change_line : Period → List ℕ
-change_line period =
-    change_text (dual_text period.regime period.first) period.first
+unfoldable pub change_line : Profile → Period → List ℕ
+change_line p period =
+    change_text (dual_text p period.regime period.first) period.first
     (calendar_word period.regime.calendar) (style_word period.regime.style)
     (rule_word period.regime.rule)
 
-unfoldable pub change_of : ℤ → Period → List (List ℕ)
-change_of year period = if is_change_in year period then change_line period ∷ [] else []
+unfoldable pub change_of : Profile → ℤ → Period → List (List ℕ)
+change_of p year period = if is_change_in year period then change_line p period ∷ [] else []
 
-abbrev pub change_lines : ℤ → Answer → List (List ℕ)
-change_lines year (answers.Periods periods) = flat_map (change_of year) periods
-change_lines year other = []
+abbrev pub change_lines : Profile → ℤ → Answer → List (List ℕ)
+change_lines p year (answers.Periods periods) = flat_map (change_of p year) periods
+change_lines p year other = []
 
 -- ---- Easter and the feasts counted from it
 
@@ -156,7 +156,7 @@ abbrev pub almanac_lines : Profile → List PlainLand → List ℕ → ℤ → L
 almanac_lines p lands code year =
     heading_lines code year (answer p lands Lands)
     ++ (figures_lines (answer p lands (YearFigures year))
-    ++ (change_lines year (answer p lands (Periods code))
+    ++ (change_lines p year (answer p lands (Periods code))
     ++ (easter_lines p lands code (answer p lands (Easter code year))
     ++ flat_map (month_lines p lands code year) months)))
 

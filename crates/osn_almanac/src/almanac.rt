@@ -1,5 +1,5 @@
 ghost use Rattle.std.specs.Prelude.{◌≡◌, None, IfOk, IfErr, OnOk, string_bytes};
-ghost use Rattle.osn_days.specs.Profile.{present};
+ghost use Rattle.osn_days.specs.Profile.{newest_rules};
 ghost use Rattle.osn_register.specs.Refusal.{IsRefusalOrNoMemory};
 ghost use Rattle.osn_almanac.specs.Almanac as said;
 ghost use Rattle.osn_almanac.specs.Bare.{AreBare};
@@ -18,7 +18,7 @@ const ROOM: usize = 2048;
 /// The almanac, part by part.
 fn written(alloc: Global, register: &Register, code: &str, year: i64) -> Result<String, AllocError>
     ensures { IfOk result
-        (λ s. string_bytes s ≡ said.almanac present register.now.lands code.now year) }
+        (λ s. string_bytes s ≡ said.almanac newest_rules register.now.lands code.now year) }
 {
     let mut text = String::with_capacity(alloc, ROOM)?;
     push_heading(alloc, &mut text, register, code, year)?;
@@ -44,15 +44,15 @@ pub fn almanac_text(
     year: i64,
 ) -> Result<String, Refusal>
     ensures lawful { OnOk result
-        (said.almanac_refusal present register.now.lands code.now year ≡ None) }
+        (said.almanac_refusal newest_rules register.now.lands code.now year ≡ None) }
     ensures text { IfOk result
-        (λ s. string_bytes s ≡ said.almanac present register.now.lands code.now year) }
+        (λ s. string_bytes s ≡ said.almanac newest_rules register.now.lands code.now year) }
     ensures refused { IfErr result (IsRefusalOrNoMemory
-        (said.almanac_refusal present register.now.lands code.now year)) }
+        (said.almanac_refusal newest_rules register.now.lands code.now year)) }
 
     // As a law: no line ends with a space.
     ensures bare { OnOk result
-        (AreBare (said.almanac_lines present register.now.lands code.now year)) }
+        (AreBare (said.almanac_lines newest_rules register.now.lands code.now year)) }
 {
     register.check_easter(code, year)?;
     match written(alloc, register, code, year) {

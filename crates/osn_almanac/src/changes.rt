@@ -1,6 +1,6 @@
 ghost use Rattle.std.specs.Prelude.{◌≡◌, [], ◌∷◌, ◌++◌, OnOk, string_bytes};
 ghost use Rattle.std.specs.List.{flat_map};
-ghost use Rattle.osn_days.specs.Profile.{present};
+ghost use Rattle.osn_days.specs.Profile.{newest_rules};
 ghost use Rattle.osn_register.specs.Answer.{answer};
 ghost use Rattle.osn_register.specs.declared.query.Query.TheVariants.{Periods};
 ghost use Rattle.osn_almanac.specs.Almanac as said;
@@ -43,7 +43,7 @@ fn push_change_text(
 #[tactic(auto, unfolding(crate::specs::Almanac::change_line))]
 fn push_change(alloc: Global, out: &mut String, period: &Period) -> Result<(), AllocError>
     ensures { OnOk result (string_bytes out.new
-        ≡ string_bytes out.old ++ said.lines_text (said.change_line period.now ∷ [])) }
+        ≡ string_bytes out.old ++ said.lines_text (said.change_line newest_rules period.now ∷ [])) }
 {
     let regime = period.regime;
     let dual = dual_text(alloc, regime, period.first)?;
@@ -67,7 +67,7 @@ fn push_change_of(
     period: &Period,
 ) -> Result<(), AllocError>
     ensures { OnOk result (string_bytes out.new ≡ string_bytes out.old
-        ++ said.lines_text (said.change_of year period.now)) }
+        ++ said.lines_text (said.change_of newest_rules year period.now)) }
 {
     if is_change_in(year, period) {
         push_change(alloc, out, period)?;
@@ -83,7 +83,7 @@ fn push_changes_among(
     periods: &[Period],
 ) -> Result<(), AllocError>
     ensures { OnOk result (string_bytes out.new ≡ string_bytes out.old
-        ++ said.lines_text (flat_map (said.change_of year) periods.now)) }
+        ++ said.lines_text (flat_map (said.change_of newest_rules year) periods.now)) }
 {
     for period in periods {
         push_change_of(alloc, out, year, period)?;
@@ -99,7 +99,7 @@ fn push_changes_in(
     periods: &Answer,
 ) -> Result<(), AllocError>
     ensures { OnOk result (string_bytes out.new ≡ string_bytes out.old
-        ++ said.lines_text (said.change_lines year periods.now)) }
+        ++ said.lines_text (said.change_lines newest_rules year periods.now)) }
 {
     match periods {
         Answer::Periods(periods) => push_changes_among(alloc, out, year, periods.as_slice()),
@@ -116,7 +116,8 @@ pub(crate) fn push_changes(
     year: i64,
 ) -> Result<(), AllocError>
     ensures { OnOk result (string_bytes out.new ≡ string_bytes out.old ++ said.lines_text
-        (said.change_lines year (answer present register.now.lands (Periods code.now)))) }
+        (said.change_lines newest_rules year (answer newest_rules register.now.lands
+        (Periods code.now)))) }
 {
     let code = Text::from_str(alloc, code)?;
     let periods = register.answer(&Query::Periods { code })?;

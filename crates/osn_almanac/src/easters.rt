@@ -1,6 +1,6 @@
 ghost use Rattle.std.specs.Prelude.{◌≡◌, [], ◌∷◌, ◌++◌, OnOk, map, pos, ◌+ℤ◌, string_bytes};
 ghost use Rattle.std.specs.List.{flat_map};
-ghost use Rattle.osn_days.specs.Profile.{present};
+ghost use Rattle.osn_days.specs.Profile.{newest_rules};
 ghost use Rattle.osn_register.specs.Answer.{answer};
 ghost use Rattle.osn_register.specs.declared.query.Query.TheVariants.{Easter};
 ghost use Rattle.osn_almanac.specs.Almanac as said;
@@ -61,7 +61,7 @@ fn push_feast(
     feast: Feast,
 ) -> Result<(), AllocError>
     ensures { OnOk result (string_bytes out.new ≡ string_bytes out.old ++ said.lines_text
-        (said.feast_line present register.now.lands code.now easter feast ∷ [])) }
+        (said.feast_line newest_rules register.now.lands code.now easter feast ∷ [])) }
 {
     let query = Query::DayIn {
         code: Text::from_str(alloc, code)?,
@@ -81,7 +81,7 @@ fn push_feasts(
     feasts: &[Feast],
 ) -> Result<(), AllocError>
     ensures { OnOk result (string_bytes out.new ≡ string_bytes out.old ++ said.lines_text
-        (map (said.feast_line present register.now.lands code.now easter) feasts.now)) }
+        (map (said.feast_line newest_rules register.now.lands code.now easter) feasts.now)) }
 {
     for feast in feasts {
         push_feast(alloc, out, register, code, easter, *feast)?;
@@ -99,7 +99,7 @@ fn push_feasts_of(
     easter: &Found,
 ) -> Result<(), AllocError>
     ensures { OnOk result (string_bytes out.new ≡ string_bytes out.old ++ said.lines_text
-        (said.feast_lines present register.now.lands code.now easter.now)) }
+        (said.feast_lines newest_rules register.now.lands code.now easter.now)) }
 {
     push_feasts(alloc, out, register, code, easter.day, &FEASTS)
 }
@@ -113,7 +113,7 @@ fn push_each(
     easters: &[Found],
 ) -> Result<(), AllocError>
     ensures { OnOk result (string_bytes out.new ≡ string_bytes out.old ++ said.lines_text
-        (flat_map (said.feast_lines present register.now.lands code.now) easters.now)) }
+        (flat_map (said.feast_lines newest_rules register.now.lands code.now) easters.now)) }
 {
     for easter in easters {
         push_feasts_of(alloc, out, register, code, easter)?;
@@ -130,7 +130,7 @@ fn push_easters_in(
     easters: &Answer,
 ) -> Result<(), AllocError>
     ensures { OnOk result (string_bytes out.new ≡ string_bytes out.old ++ said.lines_text
-        (said.easter_lines present register.now.lands code.now easters.now)) }
+        (said.easter_lines newest_rules register.now.lands code.now easters.now)) }
 {
     match easters {
         Answer::Easters { found, listed } => {
@@ -150,8 +150,8 @@ pub(crate) fn push_easters(
     year: i64,
 ) -> Result<(), AllocError>
     ensures { OnOk result (string_bytes out.new ≡ string_bytes out.old ++ said.lines_text
-        (said.easter_lines present register.now.lands code.now
-        (answer present register.now.lands (Easter code.now year)))) }
+        (said.easter_lines newest_rules register.now.lands code.now
+        (answer newest_rules register.now.lands (Easter code.now year)))) }
 {
     let query = Query::Easter {
         code: Text::from_str(alloc, code)?,

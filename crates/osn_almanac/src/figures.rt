@@ -1,5 +1,5 @@
 ghost use Rattle.std.specs.Prelude.{◌≡◌, [], ◌∷◌, ◌++◌, IfOk, OnOk, string_bytes};
-ghost use Rattle.osn_days.specs.Profile.{present};
+ghost use Rattle.osn_days.specs.Profile.{newest_rules};
 ghost use Rattle.osn_register.specs.Answer.{answer};
 ghost use Rattle.osn_register.specs.declared.query.Query.TheVariants.{YearFigures};
 ghost use Rattle.osn_words.specs.Texts as texts;
@@ -107,7 +107,7 @@ pub(crate) fn push_figures(
     year: i64,
 ) -> Result<(), AllocError>
     ensures { OnOk result (string_bytes out.new ≡ string_bytes out.old ++ said.lines_text
-        (said.figures_lines (answer present register.now.lands (YearFigures year)))) }
+        (said.figures_lines (answer newest_rules register.now.lands (YearFigures year)))) }
 {
     let figures = register.answer(&Query::YearFigures { year })?;
     push_figures_in(alloc, out, &figures)

@@ -1,7 +1,7 @@
 ghost use Rattle.std.specs.Prelude.{◌≡◌, [], ◌∷◌, ◌++◌, OnOk, string_bytes};
 ghost use Rattle.std.specs.Str.{bytes_eq};
 ghost use Rattle.std.specs.List.{flat_map};
-ghost use Rattle.osn_days.specs.Profile.{present};
+ghost use Rattle.osn_days.specs.Profile.{newest_rules};
 ghost use Rattle.osn_register.specs.Answer.{answer};
 ghost use Rattle.osn_register.specs.declared.query.Query.TheVariants.{Lands};
 ghost use Rattle.osn_almanac.specs.Almanac as said;
@@ -93,7 +93,7 @@ pub(crate) fn push_heading(
     year: i64,
 ) -> Result<(), AllocError>
     ensures { OnOk result (string_bytes out.new ≡ string_bytes out.old ++ said.lines_text
-        (said.heading_lines code.now year (answer present register.now.lands Lands))) }
+        (said.heading_lines code.now year (answer newest_rules register.now.lands Lands))) }
 {
     let lands = register.answer(&Query::Lands)?;
     push_heading_in(alloc, out, code, year, &lands)

@@ -1,6 +1,6 @@
 ghost use Rattle.std.specs.Prelude.{◌≡◌, [], ◌∷◌, ◌++◌, IfOk, OnOk, map, string_bytes};
 ghost use Rattle.std.specs.List.{flat_map};
-ghost use Rattle.osn_days.specs.Profile.{present};
+ghost use Rattle.osn_days.specs.Profile.{newest_rules};
 ghost use Rattle.osn_days.specs.declared.calendar.Calendar.TheVariants.{Gregorian};
 ghost use Rattle.osn_days.specs.Chain as chain;
 ghost use Rattle.osn_words.specs.Texts.{text_of_date};
@@ -79,7 +79,7 @@ fn push_month(
     month: u8,
 ) -> Result<(), AllocError>
     ensures { OnOk result (string_bytes out.new ≡ string_bytes out.old ++ said.lines_text
-        (said.month_lines present register.now.lands code.now year month)) }
+        (said.month_lines newest_rules register.now.lands code.now year month)) }
 {
     let query = Query::Read {
         code: Text::from_str(alloc, code)?,
@@ -101,7 +101,7 @@ fn push_each(
     months: &[u8],
 ) -> Result<(), AllocError>
     ensures { OnOk result (string_bytes out.new ≡ string_bytes out.old ++ said.lines_text
-        (flat_map (said.month_lines present register.now.lands code.now year) months.now)) }
+        (flat_map (said.month_lines newest_rules register.now.lands code.now year) months.now)) }
 {
     for month in months {
         push_month(alloc, out, register, code, year, *month)?;
@@ -118,7 +118,7 @@ pub(crate) fn push_months(
     year: i64,
 ) -> Result<(), AllocError>
     ensures { OnOk result (string_bytes out.new ≡ string_bytes out.old ++ said.lines_text
-        (flat_map (said.month_lines present register.now.lands code.now year) said.months)) }
+        (flat_map (said.month_lines newest_rules register.now.lands code.now year) said.months)) }
 {
     push_each(alloc, out, register, code, year, &MONTHS)
 }

@@ -3,7 +3,7 @@ use Rattle.std.proofs.Common.{◌≡◌, ℕ, ◌+◌, ◌-◌, ◌<◌, ◌≤�
 use Rattle.std.proofs.Common.{take, drop, refl, sym, ap, ◌∙◌, arith, append_assoc}
 use Rattle.std.specs.List.{slice_range}
 use Rattle.std.proofs.lemmas.List.{drop_more, drop-take, take-take, take-append-drop}
-use Rattle.osn_days.specs.Profile.{present}
+use Rattle.osn_days.specs.Profile.{newest_rules}
 use Rattle.osn_register.specs.declared.edit.Edit.{Edit}
 use Rattle.osn_register.specs.declared.limits.Limits.{Limits}
 use Rattle.osn_register.specs.Plain.{PlainLand, applied, applied_all}
@@ -18,25 +18,25 @@ left_from xs i x within is = drop_more xs i x within ∙ ap (λ y. y ∷ drop (i
 -- one edit more is applied
 pub edit_more : (limits now : Limits) (old new all : List PlainLand) (es : List Edit) (i : ℕ)
     (e : Edit) → i < length es → e ≡ get_or es i e → now ≡ limits
-    → new ≡ applied present now old e
-    → applied_all present limits old (drop i es) ≡ all
-    → applied_all present limits new (drop (i + 1) es) ≡ all
+    → new ≡ applied newest_rules now old e
+    → applied_all newest_rules limits old (drop i es) ≡ all
+    → applied_all newest_rules limits new (drop (i + 1) es) ≡ all
 edit_more limits now old new all es i e within is same one so_far =
-    ap (λ ls. applied_all present limits ls (drop (i + 1) es))
-    (one ∙ ap (λ m. applied present m old e) same)
-    ∙ (sym (ap (applied_all present limits old) (left_from es i e within is)) ∙ so_far)
+    ap (λ ls. applied_all newest_rules limits ls (drop (i + 1) es))
+    (one ∙ ap (λ m. applied newest_rules m old e) same)
+    ∙ (sym (ap (applied_all newest_rules limits old) (left_from es i e within is)) ∙ so_far)
 
 -- one batch more is applied
 pub batch_more : (limits now : Limits) (old new all : List PlainLand) (bs : List (List Edit))
     (i : ℕ) (b : List Edit) → i < length bs → b ≡ get_or bs i b → now ≡ limits
-    → new ≡ applied_all present now old b
-    → applied_all present limits old (joined (drop i bs)) ≡ all
-    → applied_all present limits new (joined (drop (i + 1) bs)) ≡ all
+    → new ≡ applied_all newest_rules now old b
+    → applied_all newest_rules limits old (joined (drop i bs)) ≡ all
+    → applied_all newest_rules limits new (joined (drop (i + 1) bs)) ≡ all
 batch_more limits now old new all bs i b within is same one so_far =
-    ap (λ ls. applied_all present limits ls (joined (drop (i + 1) bs)))
-    (one ∙ ap (λ m. applied_all present m old b) same)
-    ∙ (sym (applied_all-append present limits old b (joined (drop (i + 1) bs)))
-    ∙ (sym (ap (λ cs. applied_all present limits old (joined cs)) (left_from bs i b within is))
+    ap (λ ls. applied_all newest_rules limits ls (joined (drop (i + 1) bs)))
+    (one ∙ ap (λ m. applied_all newest_rules m old b) same)
+    ∙ (sym (applied_all-append newest_rules limits old b (joined (drop (i + 1) bs)))
+    ∙ (sym (ap (λ cs. applied_all newest_rules limits old (joined cs)) (left_from bs i b within is))
     ∙ so_far))
 
 joined-append : (bs cs : List (List Edit)) → joined (bs ++ cs) ≡ joined bs ++ joined cs
@@ -57,14 +57,14 @@ parts bs from to order =
 -- a register of the first batches, to which those between are applied, is that of more batches
 pub lands_on : (limits : Limits) (bs : List (List Edit)) (from to : ℕ)
     (old new : List PlainLand) → from ≤ to
-    → old ≡ applied_all present limits [] (joined (take from bs))
-    → new ≡ applied_all present limits old (joined (slice_range bs from to))
-    → new ≡ applied_all present limits [] (joined (take to bs))
+    → old ≡ applied_all newest_rules limits [] (joined (take from bs))
+    → new ≡ applied_all newest_rules limits old (joined (slice_range bs from to))
+    → new ≡ applied_all newest_rules limits [] (joined (take to bs))
 lands_on limits bs from to old new order was one =
     one
-    ∙ (ap (λ ls. applied_all present limits ls (joined (slice_range bs from to))) was
-    ∙ (sym (applied_all-append present limits [] (joined (take from bs))
+    ∙ (ap (λ ls. applied_all newest_rules limits ls (joined (slice_range bs from to))) was
+    ∙ (sym (applied_all-append newest_rules limits [] (joined (take from bs))
     (joined (slice_range bs from to)))
-    ∙ ap (applied_all present limits [])
+    ∙ ap (applied_all newest_rules limits [])
     (sym (joined-append (take from bs) (slice_range bs from to))
     ∙ ap joined (parts bs from to order))))

@@ -4,7 +4,7 @@ use Rattle.std.proofs.Common.{refl, sym, ap, ap₂, subst, ◌∙◌, arith}
 use Rattle.std.specs.List.{All}
 use Rattle.std.specs.Prelude.{take}
 use Rattle.std.proofs.lemmas.List.{map-set, set-set}
-use Rattle.osn_days.specs.Profile.{present}
+use Rattle.osn_days.specs.Profile.{newest_rules}
 use Rattle.osn_register.specs.declared.edit.Edit.{Edit}
 use Rattle.osn_register.specs.declared.limits.Limits.{Limits}
 use Rattle.osn_register.specs.Plain.{folded}
@@ -14,13 +14,14 @@ use Rattle.osn_audit.specs.InsideFollower.{IsAt}
 
 -- the empty register is at edition 0
 pub IsAt-first : (limits given : Limits) (batches : List (List Edit)) (f : Follower)
-    → given ≡ limits → f.edition ≡ 0 → f.register ≡ folded present given [] → IsAt limits batches f
+    → given ≡ limits → f.edition ≡ 0 → f.register ≡ folded newest_rules given [] →
+    IsAt limits batches f
 IsAt-first limits given batches f same edition register = record {
   there = omega (arith, edition);
   same = ap (λ r. r.limits) register ∙ same;
   lands =
       ap (λ r. r.lands) register
-      ∙ sym (ap (λ n. lands_of present limits (take n batches)) edition);
+      ∙ sym (ap (λ n. lands_of newest_rules limits (take n batches)) edition);
 }
 
 -- a register goes on under the batches that it was given

@@ -9,7 +9,7 @@ use Rattle.std.proofs.lemmas.Bool.{ltb-false, eqb-true}
 use Rattle.std.proofs.lemmas.List.{length-set, get_or-set_same}
 use Rattle.std.proofs.lemmas.Slice.Eq.{bytes_eq-Decides}
 use Rattle.serde_json.specs.Written.{has_float}
-use Rattle.osn_days.specs.Profile.{Profile, present}
+use Rattle.osn_days.specs.Profile.{Profile, newest_rules}
 use Rattle.osn_register.specs.declared.limits.Limits.{Limits}
 use Rattle.osn_lines.specs.Lines.{lines}
 use Rattle.osn_core.specs.History.{NeverFalls}
@@ -185,14 +185,14 @@ agrees_by p s ls n (Ok final) is h =
 
 -- what an audit's yes says, where both inputs are known
 pub agreed_on : (limits : Limits) (journal transcript : Option (List ℕ)) (s : ObjectState) (n : ℕ)
-    → IfSome journal (λ edits. load present limits (lines edits) ≡ Ok s)
+    → IfSome journal (λ edits. load newest_rules limits (lines edits) ≡ Ok s)
     → IfSome transcript (λ told.
-    counted (length (lines told)) (after_lines present s (lines told)) ≡ Ok n)
+    counted (length (lines told)) (after_lines newest_rules s (lines told)) ≡ Ok n)
     → IfSome journal (λ edits. IfSome transcript (λ told. (n ≡ length (lines told))
-    × (object : ObjectState) × (load present limits (lines edits) ≡ Ok object)
-    × Agrees present object (lines told)))
+    × (object : ObjectState) × (load newest_rules limits (lines edits) ≡ Ok object)
+    × Agrees newest_rules object (lines told)))
 agreed_on limits None transcript s n loaded agrees = tt
 agreed_on limits (Some edits) None s n loaded agrees = tt
 agreed_on limits (Some edits) (Some told) s n loaded agrees =
-    let all = agrees_by present s (lines told) n _ refl agrees in
+    let all = agrees_by newest_rules s (lines told) n _ refl agrees in
     (all.0, s, loaded, all.1)

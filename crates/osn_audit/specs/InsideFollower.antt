@@ -1,6 +1,6 @@
 -- A register that goes on from edition to edition.
 use Rattle.std.specs.Prelude.{◌≡◌, ◌≤◌, List, length, take}
-use Rattle.osn_days.specs.Profile.{present}
+use Rattle.osn_days.specs.Profile.{newest_rules}
 use Rattle.osn_register.specs.declared.edit.Edit.{Edit}
 use Rattle.osn_register.specs.declared.limits.Limits.{Limits}
 use Rattle.osn_core.specs.Sequential.{lands_of}
@@ -10,4 +10,4 @@ use Rattle.osn_audit.specs.declared.follower.Follower.{Follower}
 pub record IsAt (limits : Limits) (batches : List (List Edit)) (f : Follower) : Type 0 where
   pub there : f.edition ≤ length batches
   pub same : f.register.limits ≡ limits
-  pub lands : f.register.lands ≡ lands_of present limits (take f.edition batches)
+  pub lands : f.register.lands ≡ lands_of newest_rules limits (take f.edition batches)

@@ -1,7 +1,7 @@
 //! A transcript that is being audited, line by line.
 ghost use Rattle.std.specs.Prelude.{◌≡◌, ◌<◌, ◌≤◌, ◌-◌, Ok, IfOk, IfErr, OnOk, length, slice_set};
 ghost use Rattle.serde_json.specs.View.{view};
-ghost use Rattle.osn_days.specs.Profile.{present};
+ghost use Rattle.osn_days.specs.Profile.{newest_rules};
 ghost use Rattle.osn_request.specs.Request.{Fails};
 ghost use Rattle.osn_audit.specs.Audit as said;
 ghost use Rattle.osn_audit.specs.Inside.{entry_shown};
@@ -36,7 +36,7 @@ fn line_due(alloc: Global, followers: &mut Followers, entry: &Entry) -> Result<V
         (said.last_of followers.old.last entry.now.reader) entry.now.edition
         ≡ Ok entry.now.edition }
     ensures line { IfOk result (λ line. line.items
-        ≡ said.line_due present followers.old.object (entry_shown entry.now)) }
+        ≡ said.line_due newest_rules followers.old.object (entry_shown entry.now)) }
     ensures last { OnOk result (followers.new.last
         ≡ slice_set followers.old.last (entry.now.reader - 1) entry.now.edition) }
     ensures object { followers.new.object ≡ followers.old.object }
@@ -55,9 +55,9 @@ fn line_due(alloc: Global, followers: &mut Followers, entry: &Entry) -> Result<V
 fn take_entry(alloc: Global, followers: &mut Followers, entry: &Entry) -> Result<(), RequestError>
     requires counted { 0 < entry.now.reader }
     requires known { entry.now.reader ≤ MOST_READERS }
-    ensures ok { OnOk result (said.after_entry present followers.old.object followers.old.last
+    ensures ok { OnOk result (said.after_entry newest_rules followers.old.object followers.old.last
         (entry_shown entry.now) ≡ Ok followers.new.last) }
-    ensures err { IfErr result (λ e. Fails e (said.after_entry present followers.old.object
+    ensures err { IfErr result (λ e. Fails e (said.after_entry newest_rules followers.old.object
         followers.old.last (entry_shown entry.now))) }
     ensures object { OnOk result (followers.new.object ≡ followers.old.object) }
 {
@@ -71,9 +71,9 @@ fn take_entry(alloc: Global, followers: &mut Followers, entry: &Entry) -> Result
 
 /// Holds a line against the journal.
 fn take_line(alloc: Global, followers: &mut Followers, line: &[u8]) -> Result<(), RequestError>
-    ensures ok { OnOk result (said.after_line present followers.old.object followers.old.last
+    ensures ok { OnOk result (said.after_line newest_rules followers.old.object followers.old.last
         line.now ≡ Ok followers.new.last) }
-    ensures err { IfErr result (λ e. Fails e (said.after_line present followers.old.object
+    ensures err { IfErr result (λ e. Fails e (said.after_line newest_rules followers.old.object
         followers.old.last line.now)) }
     ensures object { OnOk result (followers.new.object ≡ followers.old.object) }
 {

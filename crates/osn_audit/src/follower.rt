@@ -1,6 +1,6 @@
 //! A register that goes on from edition to edition.
 ghost use Rattle.std.specs.Prelude.{◌≡◌, ◌≤◌, [], IfOk, OnOk, length};
-ghost use Rattle.osn_days.specs.Profile.{present};
+ghost use Rattle.osn_days.specs.Profile.{newest_rules};
 ghost use Rattle.osn_register.specs.declared.limits.Limits.{Limits};
 ghost use Rattle.osn_register.specs.Plain.{applied_all, folded};
 ghost use Rattle.osn_core.specs.Sequential.{joined};
@@ -13,7 +13,7 @@ use std::alloc::{AllocError, Global};
 /// Applies edits in turn, and passes over those that are refused.
 fn apply_edits(register: &mut Register, edits: &[Edit]) -> Result<(), AllocError>
     ensures { OnOk result (register.new ≡ record register.old {
-      lands = applied_all present register.old.limits register.old.lands edits.now;
+      lands = applied_all newest_rules register.old.limits register.old.lands edits.now;
     }) }
 {
     for edit in edits {
@@ -25,7 +25,7 @@ fn apply_edits(register: &mut Register, edits: &[Edit]) -> Result<(), AllocError
 /// Applies the edits of batches in turn.
 fn apply_batches(register: &mut Register, batches: &[Batch]) -> Result<(), AllocError>
     ensures { OnOk result (register.new ≡ record register.old {
-      lands = applied_all present register.old.limits register.old.lands (joined batches.now);
+      lands = applied_all newest_rules register.old.limits register.old.lands (joined batches.now);
     }) }
 {
     for batch in batches {
@@ -45,7 +45,7 @@ impl Follower {
     /// At edition 0, which is empty.
     pub(crate) fn new(alloc: Global, limits: Limits) -> Follower
         ensures edition { result.edition ≡ 0 }
-        ensures register { result.register ≡ folded present limits [] }
+        ensures register { result.register ≡ folded newest_rules limits [] }
     {
         Follower {
             edition: 0,

@@ -3,7 +3,7 @@
 //! once for each reader at most.
 ghost use Rattle.std.specs.Prelude.{◌≡◌, ◌<◌, ◌≤◌, ◌-◌, Ok, Err, IfOk, OnOk, MatchResult, length};
 ghost use Rattle.std.specs.Prelude.{take, slice_set};
-ghost use Rattle.osn_days.specs.Profile.{present};
+ghost use Rattle.osn_days.specs.Profile.{newest_rules};
 ghost use Rattle.osn_core.specs.Sequential.{reply_at};
 ghost use Rattle.osn_audit.specs.Audit.{known_edition, last_of, no_replies};
 
@@ -84,7 +84,7 @@ impl Followers {
         requires known { reader ≤ MOST_READERS }
         requires edition { known_edition (length self.old.object.batches)
             (last_of self.old.last reader) edition ≡ Ok edition }
-        ensures reply { IfOk result (λ r. r ≡ reply_at present self.old.object.limits
+        ensures reply { IfOk result (λ r. r ≡ reply_at newest_rules self.old.object.limits
             (take edition self.old.object.batches) query.now) }
         ensures last { OnOk result
             (self.new.last ≡ slice_set self.old.last (reader - 1) edition) }

@@ -1,7 +1,7 @@
 //! Holds a transcript against a journal.
 ghost use Rattle.std.specs.Prelude.{◌≡◌, ◌⊎◌, ⊤, Ok, Err, length, IfOk, IfErr, IfSome, OnOk};
 ghost use Rattle.std.specs.Io.KnownBytes.{IsAtEnd};
-ghost use Rattle.osn_days.specs.Profile.{present};
+ghost use Rattle.osn_days.specs.Profile.{newest_rules};
 ghost use Rattle.osn_core.specs.Sequential.{ObjectState};
 ghost use Rattle.osn_lines.specs.Faults.{IsReadFault};
 ghost use Rattle.osn_lines.specs.Lines.{lines};
@@ -30,11 +30,11 @@ fn audit_lines<S: Source>(
     transcript: &mut S,
 ) -> Result<u64, FileFault>
     ensures count { IfOk result (λ n. IfSome (S.remaining transcript.old) (λ input.
-        said.counted (length (lines input)) (said.after_lines present object (lines input))
+        said.counted (length (lines input)) (said.after_lines newest_rules object (lines input))
         ≡ Ok n)) }
     ensures fault { IfErr result (λ fault. IfSome (S.remaining transcript.old) (λ input.
         MatchFileFault fault ⊤ ⊤ (λ role line why.
-        said.counted (length (lines input)) (said.after_lines present object (lines input))
+        said.counted (length (lines input)) (said.after_lines newest_rules object (lines input))
         ≡ Err (role, line, why)))) }
     ensures role { IfErr result (λ fault. MatchFileFault fault ⊤ ⊤ (λ role _ _.
         role ≡ Transcript)) }
@@ -94,10 +94,10 @@ pub fn audit<R: Source, S: Source>(
     // The number, or the fault, is that of the lines of all that is read.
     ensures count { IfOk result (λ n. IfSome (R.remaining journal.old) (λ edits.
         IfSome (S.remaining transcript.old) (λ told.
-        said.audit present limits (lines edits) (lines told) ≡ Ok n))) }
+        said.audit newest_rules limits (lines edits) (lines told) ≡ Ok n))) }
     ensures fault { IfErr result (λ fault. IfSome (R.remaining journal.old) (λ edits.
         IfSome (S.remaining transcript.old) (λ told. MatchFileFault fault ⊤ ⊤ (λ role line why.
-        said.audit present limits (lines edits) (lines told) ≡ Err (role, line, why))))) }
+        said.audit newest_rules limits (lines edits) (lines told) ≡ Err (role, line, why))))) }
     ensures end { OnOk result
         (IsAtEnd (R.remaining journal.new) × IsAtEnd (S.remaining transcript.new)) }
 
@@ -105,13 +105,13 @@ pub fn audit<R: Source, S: Source>(
     // the transcript, it is the first that is refused of the journal, or the journal is loaded.
     ensures role { IfErr result (λ fault. MatchFileFault fault ⊤ ⊤ (λ role _ _. IsEither role)) }
     ensures journal { IfErr result (λ fault. IfSome (R.remaining journal.old) (λ edits.
-        MatchFileFault fault ⊤ ⊤ (JournalSays (load present limits (lines edits))))) }
+        MatchFileFault fault ⊤ ⊤ (JournalSays (load newest_rules limits (lines edits))))) }
 
     // As a law: each line's reply is what the journal gives, and no reader's editions fall.
     ensures agrees { IfOk result (λ n. IfSome (R.remaining journal.old) (λ edits.
         IfSome (S.remaining transcript.old) (λ told. (n ≡ length (lines told))
-        × (object : ObjectState) × (load present limits (lines edits) ≡ Ok object)
-        × Agrees present object (lines told)))) }
+        × (object : ObjectState) × (load newest_rules limits (lines edits) ≡ Ok object)
+        × Agrees newest_rules object (lines told)))) }
 
     // Where the journal is refused, nothing of the transcript is read.
     ensures unread { IfErr result (λ fault. MatchFileFault fault ⊤ ⊤ (λ role _ _.

@@ -5,7 +5,7 @@ use Rattle.clap.specs.Words.{HasKind, fault_of, kind_of}
 use Rattle.clap.specs.declared.error.Error.{Error}
 use Rattle.clap.specs.declared.error.kind.ErrorKind.{ErrorKind}
 use Rattle.clap.specs.declared.error.kind.ErrorKind.TheVariants.{OutOfMemory}
-use Rattle.osn_days.specs.Profile.{present}
+use Rattle.osn_days.specs.Profile.{newest_rules}
 use Rattle.osn_register.specs.Limits.{standard_limits}
 use Rattle.osn_commands.specs.Printing.{Prints}
 use Rattle.osn_commands.specs.Run.{Input, Output, IsSavedBy, Finishes, RunsService, Ran, IsHelp}
@@ -63,7 +63,7 @@ pub service_ran : (begins saves kept : Bool) (readers : ℕ) (bytes : Option (Li
     (old new : Option (List ℕ)) (unwritten : Bool) (journal : Option (Option (List ℕ)))
     (left : Option (List ℕ)) (served ending : Option CommandFault)
     → is_some journal ≡ begins → kept ≡ saves
-    → IfSome bytes (λ input. Serves present standard_limits readers journal kept
+    → IfSome bytes (λ input. Serves newest_rules standard_limits readers journal kept
     old new unwritten input unread left served)
     → IsSavedBy served ending
     → RunsService begins saves readers (record { bytes = bytes; unread = unread })
@@ -74,7 +74,7 @@ service_ran begins saves kept readers bytes unread old new w journal left served
       is,
       left,
       served,
-      subst (λ s. IfSome bytes (λ input. Serves present standard_limits readers journal s
+      subst (λ s. IfSome bytes (λ input. Serves newest_rules standard_limits readers journal s
           old new w input unread left served)) same h,
       saved,
     )

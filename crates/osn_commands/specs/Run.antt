@@ -6,7 +6,7 @@ use Rattle.clap.specs.Words.{fault_of, IsAmong}
 use Rattle.clap.specs.declared.error.kind.ErrorKind.{ErrorKind}
 use Rattle.clap.specs.declared.error.kind.ErrorKind.TheVariants.{OutOfMemory, DisplayHelp}
 use Rattle.clap.specs.declared.error.kind.ErrorKind.TheVariants.{DisplayVersion}
-use Rattle.osn_days.specs.Profile.{present}
+use Rattle.osn_days.specs.Profile.{newest_rules}
 use Rattle.osn_register.specs.Limits.{standard_limits}
 use Rattle.osn_commands.specs.Almanac.{IsAlmanac, HasNoAlmanac}
 use Rattle.osn_commands.specs.Audited.{IsAudited, IsNotAudited}
@@ -60,7 +60,7 @@ abbrev pub RunsService : Bool → Bool → ℕ → Input → Output → Option C
 RunsService begins saves readers i o ending =
     (journal : Option (Option (List ℕ))) × (is_some journal ≡ begins)
     × (left : Option (List ℕ)) × (served : Option CommandFault)
-    × IfSome i.bytes (λ bytes. Serves present standard_limits readers journal saves
+    × IfSome i.bytes (λ bytes. Serves newest_rules standard_limits readers journal saves
     o.old o.new o.unwritten bytes i.unread left served)
     × IsSavedBy served ending
 
@@ -70,23 +70,23 @@ Runs (serving journal save readers) i o ending =
     RunsService (is_some journal) (is_some save) readers i o ending
 Runs (replaying readers schedule) i o ending =
     (file : Option (List ℕ)) × (failed : Bool)
-    × Prints (IsReplay present standard_limits readers file)
-    (HasNoReplay present readers file failed)
+    × Prints (IsReplay newest_rules standard_limits readers file)
+    (HasNoReplay newest_rules readers file failed)
     o.old o.new o.unwritten ending
 Runs (working script questions) i o ending =
     (file : Option (List ℕ)) × (failed : Bool) × (other : Option (List ℕ)) × (failed_too : Bool)
-    × Prints (IsTranscript present standard_limits file other)
-    (HasNoTranscript present standard_limits file failed other failed_too)
+    × Prints (IsTranscript newest_rules standard_limits file other)
+    (HasNoTranscript newest_rules standard_limits file failed other failed_too)
     o.old o.new o.unwritten ending
 Runs (printing journal code year) i o ending =
     (file : Option (List ℕ)) × (failed : Bool)
-    × Prints (IsAlmanac present standard_limits file code (pos year))
-    (HasNoAlmanac present standard_limits file failed code (pos year))
+    × Prints (IsAlmanac newest_rules standard_limits file code (pos year))
+    (HasNoAlmanac newest_rules standard_limits file failed code (pos year))
     o.old o.new o.unwritten ending
 Runs (auditing journal transcript) i o ending =
     (file : Option (List ℕ)) × (failed : Bool) × (other : Option (List ℕ)) × (failed_too : Bool)
-    × Prints (IsAudited present standard_limits file other)
-    (IsNotAudited present standard_limits file failed other failed_too)
+    × Prints (IsAudited newest_rules standard_limits file other)
+    (IsNotAudited newest_rules standard_limits file failed other failed_too)
     o.old o.new o.unwritten ending
 
 -- what is asked for was run and ended so, and standard error was told why where that was early

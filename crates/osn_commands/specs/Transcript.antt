@@ -35,17 +35,16 @@ transcript_from reader (qs ∷ lists) (rs ∷ all) =
     reader_lines reader qs.items rs.items ++ transcript_from (reader + 1) lists all
 
 -- what the two files make: the commands of the editor, and a list of questions for each reader
-abbrev pub MakeDesk : Profile → Option (List ℕ) → Option (List ℕ) → List Command
-    → List (Vec Query Global) → Type 0
-MakeDesk p editor readers commands lists =
-    Makes (script p) editor commands × Makes questions readers (map (λ qs. qs.items) lists)
+abbrev pub MakeDesk : Option (List ℕ) → Option (List ℕ) → List Command → List (Vec Query Global)
+    → Type 0
+MakeDesk editor readers commands lists =
+    Makes script editor commands × Makes questions readers (map (λ qs. qs.items) lists)
 
 -- why the two files make no desk, of which the first is read before the second
-abbrev pub MakeNoDesk : Profile → Option (List ℕ) → Bool → Option (List ℕ) → Bool → CommandFault
-    → Type 0
-MakeNoDesk p editor failed readers failed_too fault =
-    IsFileFault Script (script p) editor (IsReadFault failed editor) fault
-    ⊎ ((commands : List Command) × Makes (script p) editor commands
+abbrev pub MakeNoDesk : Option (List ℕ) → Bool → Option (List ℕ) → Bool → CommandFault → Type 0
+MakeNoDesk editor failed readers failed_too fault =
+    IsFileFault Script script editor (IsReadFault failed editor) fault
+    ⊎ ((commands : List Command) × Makes script editor commands
     × IsFileFault Questions questions readers (IsReadFault failed_too readers) fault)
 
 -- the text has the lines of replies that a desk gives
@@ -69,14 +68,14 @@ IsTurnedAway lists published NoMemory = ⊤
 abbrev pub IsTranscript : Profile → Limits → Option (List ℕ) → Option (List ℕ) → List ℕ → Type 0
 IsTranscript p limits editor readers text =
     (commands : List Command) × (lists : List (Vec Query Global))
-    × MakeDesk p editor readers commands lists
+    × MakeDesk editor readers commands lists
     × IsTranscriptOf p limits commands lists text
 
 -- why there is no text of these two files
 abbrev pub HasNoTranscript : Profile → Limits → Option (List ℕ) → Bool → Option (List ℕ) → Bool
     → CommandFault → Type 0
 HasNoTranscript p limits editor failed readers failed_too fault =
-    MakeNoDesk p editor failed readers failed_too fault
+    MakeNoDesk editor failed readers failed_too fault
     ⊎ ((commands : List Command) × (lists : List (Vec Query Global))
-    × MakeDesk p editor readers commands lists
+    × MakeDesk editor readers commands lists
     × IsTurnedAway (length lists) (length (editions_of p limits commands)) fault)

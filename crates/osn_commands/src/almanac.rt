@@ -1,6 +1,6 @@
 //! The command `almanac`.
 ghost use Rattle.std.specs.Prelude.{◌≡◌, Option, None, pos, IfOk, IfErr, string_bytes};
-ghost use Rattle.osn_days.specs.Profile.{present};
+ghost use Rattle.osn_days.specs.Profile.{newest_rules};
 ghost use Rattle.osn_register.specs.Limits.{standard_limits};
 ghost use Rattle.osn_almanac.specs.Almanac.{almanac_refusal};
 ghost use Rattle.osn_commands.specs.Almanac.{published, IsAlmanacOf};
@@ -22,10 +22,10 @@ use std::alloc::Global;
 
 /// The almanac of what an object published.
 fn almanac_of(alloc: Global, object: &Object, code: &str, year: u32) -> Result<String, CommandFault>
-    ensures ok { IfOk result (λ text. IsAlmanacOf present (published present object.now)
+    ensures ok { IfOk result (λ text. IsAlmanacOf newest_rules (published newest_rules object.now)
         code.now (pos year) (string_bytes text)) }
-    ensures err { IfErr result (IsRefusedBy (almanac_refusal present
-        (published present object.now) code.now (pos year))) }
+    ensures err { IfErr result (IsRefusedBy (almanac_refusal newest_rules
+        (published newest_rules object.now) code.now (pos year))) }
 {
     match almanac_text(alloc, object.register(), code, i64::from(year)) {
         Ok(text) => Ok(text),
@@ -41,9 +41,9 @@ fn journal_almanac<J: Source>(
     code: &str,
     year: u32,
 ) -> Result<String, CommandFault>
-    ensures ok { IfOk result (λ text. IsAlmanac present standard_limits
+    ensures ok { IfOk result (λ text. IsAlmanac newest_rules standard_limits
         (J.remaining journal.old) code.now (pos year) (string_bytes text)) }
-    ensures err { IfErr result (HasNoAlmanac present standard_limits
+    ensures err { IfErr result (HasNoAlmanac newest_rules standard_limits
         (J.remaining journal.old) (J.has_failed journal.new) code.now (pos year)) }
 {
     let object = journal_object(alloc, journal)?;
@@ -65,9 +65,9 @@ pub fn almanac_command<J: Source, W: Sink, E: Sink>(
     ensures { (ending : Option CommandFault)
         × EndsBy (E.contents errors.old) (E.contents errors.new) (E.has_failed errors.new)
         ending result
-        × Prints (IsAlmanac present standard_limits (J.remaining journal.old)
+        × Prints (IsAlmanac newest_rules standard_limits (J.remaining journal.old)
         code.now (pos year))
-        (HasNoAlmanac present standard_limits (J.remaining journal.old)
+        (HasNoAlmanac newest_rules standard_limits (J.remaining journal.old)
         (J.has_failed journal.new) code.now (pos year))
         (W.contents output.old) (W.contents output.new) (W.has_failed output.new) ending }
 {

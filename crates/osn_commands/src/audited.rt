@@ -1,6 +1,6 @@
 //! The command `audit`.
 ghost use Rattle.std.specs.Prelude.{◌≡◌, Option, IfOk, IfErr, string_bytes};
-ghost use Rattle.osn_days.specs.Profile.{present};
+ghost use Rattle.osn_days.specs.Profile.{newest_rules};
 ghost use Rattle.osn_register.specs.Limits.{standard_limits};
 ghost use Rattle.osn_commands.specs.Audited.{audit_line, Agree, IsAudited, IsNotAudited};
 ghost use Rattle.osn_commands.specs.Printing.{Prints};
@@ -28,9 +28,9 @@ fn agreed<J: Source, K: Source>(
     journal: &mut J,
     transcript: &mut K,
 ) -> Result<u64, CommandFault>
-    ensures ok { IfOk result (Agree present standard_limits
+    ensures ok { IfOk result (Agree newest_rules standard_limits
         (J.remaining journal.old) (K.remaining transcript.old)) }
-    ensures err { IfErr result (IsNotAudited present standard_limits
+    ensures err { IfErr result (IsNotAudited newest_rules standard_limits
         (J.remaining journal.old) (J.has_failed journal.new)
         (K.remaining transcript.old) (K.has_failed transcript.new)) }
 {
@@ -43,9 +43,9 @@ fn audit_text<J: Source, K: Source>(
     journal: &mut J,
     transcript: &mut K,
 ) -> Result<String, CommandFault>
-    ensures ok { IfOk result (λ text. IsAudited present standard_limits
+    ensures ok { IfOk result (λ text. IsAudited newest_rules standard_limits
         (J.remaining journal.old) (K.remaining transcript.old) (string_bytes text)) }
-    ensures err { IfErr result (IsNotAudited present standard_limits
+    ensures err { IfErr result (IsNotAudited newest_rules standard_limits
         (J.remaining journal.old) (J.has_failed journal.new)
         (K.remaining transcript.old) (K.has_failed transcript.new)) }
 {
@@ -69,9 +69,9 @@ pub fn audit_command<J: Source, K: Source, W: Sink, E: Sink>(
     ensures { (ending : Option CommandFault)
         × EndsBy (E.contents errors.old) (E.contents errors.new) (E.has_failed errors.new)
         ending result
-        × Prints (IsAudited present standard_limits
+        × Prints (IsAudited newest_rules standard_limits
         (J.remaining journal.old) (K.remaining transcript.old))
-        (IsNotAudited present standard_limits
+        (IsNotAudited newest_rules standard_limits
         (J.remaining journal.old) (J.has_failed journal.new)
         (K.remaining transcript.old) (K.has_failed transcript.new))
         (W.contents output.old) (W.contents output.new) (W.has_failed output.new) ending }

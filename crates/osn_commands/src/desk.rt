@@ -1,6 +1,6 @@
 //! The command `desk`.
 ghost use Rattle.std.specs.Prelude.{◌≡◌, Option, length, IfOk, IfErr, string_bytes};
-ghost use Rattle.osn_days.specs.Profile.{present};
+ghost use Rattle.osn_days.specs.Profile.{newest_rules};
 ghost use Rattle.osn_register.specs.Limits.{standard_limits};
 ghost use Rattle.osn_core.specs.Script.{editions_of};
 ghost use Rattle.osn_commands.specs.Printing.{Prints};
@@ -28,9 +28,9 @@ fn desk_files<J: Source, K: Source>(
     script: &mut J,
     questions: &mut K,
 ) -> Result<(Vec<Command>, Vec<Vec<Query>>), CommandFault>
-    ensures ok { IfOk result (λ made. MakeDesk present
+    ensures ok { IfOk result (λ made. MakeDesk
         (J.remaining script.old) (K.remaining questions.old) made.0.items made.1.items) }
-    ensures err { IfErr result (MakeNoDesk present
+    ensures err { IfErr result (MakeNoDesk
         (J.remaining script.old) (J.has_failed script.new)
         (K.remaining questions.old) (K.has_failed questions.new)) }
 {
@@ -47,9 +47,9 @@ fn desk_lines<R: Threads + Wait>(
     lists: &[Vec<Query>],
 ) -> Result<String, CommandFault>
     ensures ok { IfOk result (λ text.
-        IsTranscriptOf present standard_limits commands.now lists.now (string_bytes text)) }
+        IsTranscriptOf newest_rules standard_limits commands.now lists.now (string_bytes text)) }
     ensures err { IfErr result (IsTurnedAway (length lists.now)
-        (length (editions_of present standard_limits commands.now))) }
+        (length (editions_of newest_rules standard_limits commands.now))) }
 {
     let told = run_desk(rt, alloc, Limits::standard(), &OpenGate, commands, lists)?;
     Ok(transcript(alloc, lists, &told)?)
@@ -62,9 +62,9 @@ fn desk_transcript<R: Threads + Wait, J: Source, K: Source>(
     script: &mut J,
     questions: &mut K,
 ) -> Result<String, CommandFault>
-    ensures ok { IfOk result (λ text. IsTranscript present standard_limits
+    ensures ok { IfOk result (λ text. IsTranscript newest_rules standard_limits
         (J.remaining script.old) (K.remaining questions.old) (string_bytes text)) }
-    ensures err { IfErr result (HasNoTranscript present standard_limits
+    ensures err { IfErr result (HasNoTranscript newest_rules standard_limits
         (J.remaining script.old) (J.has_failed script.new)
         (K.remaining questions.old) (K.has_failed questions.new)) }
 {
@@ -90,9 +90,9 @@ pub fn desk_command<R: Threads + Wait + AllocGlobal, J: Source, K: Source, W: Si
     ensures { (ending : Option CommandFault)
         × EndsBy (E.contents errors.old) (E.contents errors.new) (E.has_failed errors.new)
         ending result
-        × Prints (IsTranscript present standard_limits
+        × Prints (IsTranscript newest_rules standard_limits
         (J.remaining script.old) (K.remaining questions.old))
-        (HasNoTranscript present standard_limits
+        (HasNoTranscript newest_rules standard_limits
         (J.remaining script.old) (J.has_failed script.new)
         (K.remaining questions.old) (K.has_failed questions.new))
         (W.contents output.old) (W.contents output.new) (W.has_failed output.new) ending }

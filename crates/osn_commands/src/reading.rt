@@ -1,6 +1,6 @@
 //! Files that a command reads whole.
 ghost use Rattle.std.specs.Prelude.{IfOk, IfErr, map};
-ghost use Rattle.osn_days.specs.Profile.{present};
+ghost use Rattle.osn_days.specs.Profile.{newest_rules};
 ghost use Rattle.osn_register.specs.Limits.{standard_limits};
 ghost use Rattle.osn_files.specs.Journal.{load};
 ghost use Rattle.osn_files.specs.Questions.{questions};
@@ -24,8 +24,8 @@ pub(crate) fn journal_object<J: Source>(
     journal: &mut J,
 ) -> Result<Object, CommandFault>
     ensures ok { IfOk result
-        (Makes (load present standard_limits) (J.remaining journal.old)) }
-    ensures err { IfErr result (IsFileFault Journal (load present standard_limits)
+        (Makes (load newest_rules standard_limits) (J.remaining journal.old)) }
+    ensures err { IfErr result (IsFileFault Journal (load newest_rules standard_limits)
         (J.remaining journal.old)
         (IsReadFault (J.has_failed journal.new) (J.remaining journal.old))) }
 {
@@ -39,8 +39,8 @@ pub(crate) fn schedule_steps<J: Source>(
     file: &mut J,
 ) -> Result<Vec<Step>, CommandFault>
     ensures ok { IfOk result (λ steps.
-        Makes (schedule present readers) (J.remaining file.old) steps.items) }
-    ensures err { IfErr result (IsFileFault Schedule (schedule present readers)
+        Makes (schedule newest_rules readers) (J.remaining file.old) steps.items) }
+    ensures err { IfErr result (IsFileFault Schedule (schedule newest_rules readers)
         (J.remaining file.old)
         (IsReadFault (J.has_failed file.new) (J.remaining file.old))) }
 {
@@ -53,8 +53,8 @@ pub(crate) fn script_commands<J: Source>(
     file: &mut J,
 ) -> Result<Vec<Command>, CommandFault>
     ensures ok { IfOk result (λ commands.
-        Makes (script present) (J.remaining file.old) commands.items) }
-    ensures err { IfErr result (IsFileFault Script (script present)
+        Makes script (J.remaining file.old) commands.items) }
+    ensures err { IfErr result (IsFileFault Script script
         (J.remaining file.old)
         (IsReadFault (J.has_failed file.new) (J.remaining file.old))) }
 {

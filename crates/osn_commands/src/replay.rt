@@ -1,7 +1,7 @@
 //! The command `replay`.
 ghost use Rattle.std.specs.Prelude.{◌≡◌, Option, None, IfOk, IfErr, string_bytes};
 ghost use Rattle.std.specs.List.{flat_map};
-ghost use Rattle.osn_days.specs.Profile.{present};
+ghost use Rattle.osn_days.specs.Profile.{newest_rules};
 ghost use Rattle.osn_register.specs.Limits.{standard_limits};
 ghost use Rattle.osn_core.specs.Machine.{readers_refusal};
 ghost use Rattle.osn_reply.specs.OutText.{out_line};
@@ -35,7 +35,7 @@ fn out_lines(alloc: Global, outs: &[Out]) -> Result<String, AllocError>
 /// The lines of what steps give from the first state on.
 fn replay_of(alloc: Global, readers: u32, steps: &[Step]) -> Result<String, CommandFault>
     ensures ok { IfOk result (λ text.
-        IsReplayOf present standard_limits readers steps.now (string_bytes text)) }
+        IsReplayOf newest_rules standard_limits readers steps.now (string_bytes text)) }
     ensures err { IfErr result (IsRefusedBy (readers_refusal readers)) }
 {
     match replay(alloc, Limits::standard(), readers, steps) {
@@ -51,9 +51,9 @@ fn schedule_replay<J: Source>(
     readers: u32,
     schedule: &mut J,
 ) -> Result<String, CommandFault>
-    ensures ok { IfOk result (λ text. IsReplay present standard_limits readers
+    ensures ok { IfOk result (λ text. IsReplay newest_rules standard_limits readers
         (J.remaining schedule.old) (string_bytes text)) }
-    ensures err { IfErr result (HasNoReplay present readers
+    ensures err { IfErr result (HasNoReplay newest_rules readers
         (J.remaining schedule.old) (J.has_failed schedule.new)) }
 {
     let steps = schedule_steps(alloc, readers, schedule)?;
@@ -76,8 +76,8 @@ pub fn replay_command<J: Source, W: Sink, E: Sink>(
     ensures { (ending : Option CommandFault)
         × EndsBy (E.contents errors.old) (E.contents errors.new) (E.has_failed errors.new)
         ending result
-        × Prints (IsReplay present standard_limits readers (J.remaining schedule.old))
-        (HasNoReplay present readers (J.remaining schedule.old) (J.has_failed schedule.new))
+        × Prints (IsReplay newest_rules standard_limits readers (J.remaining schedule.old))
+        (HasNoReplay newest_rules readers (J.remaining schedule.old) (J.has_failed schedule.new))
         (W.contents output.old) (W.contents output.new) (W.has_failed output.new) ending }
 {
     let made = schedule_replay(alloc, readers, schedule);

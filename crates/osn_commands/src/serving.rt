@@ -1,7 +1,7 @@
 //! The command `serve`.
 ghost use Rattle.std.specs.Prelude.{◌≡◌, ◌⊎◌, ℕ, List, Option, Some, None, IfOk, IfErr, IfSome};
 ghost use Rattle.std.specs.Prelude.{MatchResult, option_map, string_bytes};
-ghost use Rattle.osn_days.specs.Profile.{present};
+ghost use Rattle.osn_days.specs.Profile.{newest_rules};
 ghost use Rattle.osn_register.specs.Limits.{standard_limits};
 ghost use Rattle.osn_commands.specs.Journal.{Begins, HasNoObject};
 ghost use Rattle.osn_commands.specs.Serving.{AnswersAll, AnswersUntil, Serves};
@@ -29,9 +29,9 @@ pub struct Served {
 /// The object of the journal, where there is one, or else an empty one.
 fn begun<J: Source + Drop>(alloc: Global, journal: Option<J>) -> Result<Object, CommandFault>
     ensures ok { IfOk result
-        (Begins present standard_limits (option_map J.remaining journal)) }
+        (Begins newest_rules standard_limits (option_map J.remaining journal)) }
     ensures err { IfErr result
-        (HasNoObject present standard_limits (option_map J.remaining journal)) }
+        (HasNoObject newest_rules standard_limits (option_map J.remaining journal)) }
 {
     match journal {
         Some(mut source) => journal_object(alloc, &mut source),
@@ -49,10 +49,10 @@ fn answer<R: Source, W: Sink>(
     output: &mut W,
 ) -> Result<Option<String>, CommandFault>
     ensures ok { IfOk result (λ journal. IfSome (R.remaining input.old) (λ bytes.
-        AnswersAll present readers object.old saves (W.contents output.old)
+        AnswersAll newest_rules readers object.old saves (W.contents output.old)
         (W.contents output.new) bytes (option_map string_bytes journal))) }
     ensures err { IfErr result (λ fault. IfSome (R.remaining input.old) (λ bytes.
-        AnswersUntil present readers object.old (W.contents output.old)
+        AnswersUntil newest_rules readers object.old (W.contents output.old)
         (W.contents output.new) (W.has_failed output.new) bytes (R.has_failed input.new)
         fault)) }
 {
@@ -72,11 +72,11 @@ fn serve_lines<J: Source + Drop, R: Source, W: Sink>(
     output: &mut W,
 ) -> Result<Option<String>, CommandFault>
     ensures ok { IfOk result (λ text. IfSome (R.remaining input.old) (λ bytes.
-        Serves present standard_limits readers (option_map J.remaining journal) saves
+        Serves newest_rules standard_limits readers (option_map J.remaining journal) saves
         (W.contents output.old) (W.contents output.new) (W.has_failed output.new) bytes
         (R.has_failed input.new) (option_map string_bytes text) None)) }
     ensures err { IfErr result (λ fault. IfSome (R.remaining input.old) (λ bytes.
-        Serves present standard_limits readers (option_map J.remaining journal) saves
+        Serves newest_rules standard_limits readers (option_map J.remaining journal) saves
         (W.contents output.old) (W.contents output.new) (W.has_failed output.new) bytes
         (R.has_failed input.new) None (Some fault))) }
 {
@@ -104,7 +104,7 @@ pub fn serve_command<J: Source + Drop, R: Source, W: Sink, E: Sink>(
         ending result.status
         × ((ending ≡ None) ⊎ (result.journal ≡ None))
         × IfSome (R.remaining input.old) (λ bytes.
-        Serves present standard_limits readers (option_map J.remaining journal) saves
+        Serves newest_rules standard_limits readers (option_map J.remaining journal) saves
         (W.contents output.old) (W.contents output.new) (W.has_failed output.new) bytes
         (R.has_failed input.new) (option_map string_bytes result.journal) ending) }
 {

@@ -9,7 +9,7 @@ use Rattle.std.specs.Option.{option_to_list}
 use Rattle.osn_days.specs.declared.date.Date.{Date}
 use Rattle.osn_days.specs.declared.calendar.Calendar.{Calendar}
 use Rattle.osn_days.specs.declared.calendar.Calendar.TheVariants.{Julian, Gregorian, Swedish}
-use Rattle.osn_days.specs.Profile.{present}
+use Rattle.osn_days.specs.Profile.{newest_rules}
 use Rattle.osn_days.specs.Line.{weekday, IsDay, IsYear}
 use Rattle.osn_days.specs.Chain.{is_leap, month_length, chain, date_of, days_with_date}
 use Rattle.osn_days.proofs.ChainFacts.{chain_apart}
@@ -81,7 +81,7 @@ sunday_moved c n y m d p sunday plain = (
 -- letters that far from 1 March are those of all Sundays
 pub are_sunday_letters : (c : Calendar) → c ≢ Swedish → (y : ℕ) (letters : Letters)
     → IsMoved c y (2 + leap_days c y) letters.january → IsMoved c y 2 letters.march
-    → AreSundayLetters present c y letters
+    → AreSundayLetters newest_rules c y letters
 are_sunday_letters c months y letters january march d on year sunday plain =
     let s = placed c months (d - 1) in
     let p = s.3 in
@@ -119,10 +119,10 @@ sunday_decides c y low high d =
 
 -- a Sunday of some months shows their letter
 pub letter_found : (c : Calendar) (y low high : ℕ) (l : Letter)
-    → Found present (is_sunday_of c y low high)
-    → ((d : ℕ) → IsDay present d → (date_of c d).year ≡ pos y → weekday d ≡ 0
+    → Found newest_rules (is_sunday_of c y low high)
+    → ((d : ℕ) → IsDay newest_rules d → (date_of c d).year ≡ pos y → weekday d ≡ 0
     → low ≤ (date_of c d).month → (date_of c d).month ≤ high → letter_of c d ≡ l)
-    → letter_of_sundays present c y low high ≡ Some l
+    → letter_of_sundays newest_rules c y low high ≡ Some l
 unfolding letter_of_sundays
 letter_found c y low high l found each =
     let parts = (sunday_decides c y low high found.day).0 found.passes in
@@ -131,8 +131,8 @@ letter_found c y low high l found each =
 not_leap_month : (e : Date) → e.month ≢ 2 → is_leap_day e ≡ false
 not_leap_month e other = grind (arith, nat_tests)
 
-pub january_found : (c : Calendar) → c ≢ Swedish → (y : ℕ) → IsYear present y
-    → Found present (is_sunday_of c y 1 1)
+pub january_found : (c : Calendar) → c ≢ Swedish → (y : ℕ) → IsYear newest_rules y
+    → Found newest_rules (is_sunday_of c y 1 1)
 january_found c months y year =
     let first = january_8 c months (y - 1) (omega (arith, year.1)) in
     let n = first.0 in
@@ -143,7 +143,7 @@ january_found c months y year =
     let place : d - 1 ≡ n + k = omega arith in
     let here : date_of c d ≡ date (pos y) 1 (8 + k) =
     rw place (at ∙ ap (λ (x : ℕ). date (pos x) 1 (8 + k)) more) in
-    found_on_line present (is_sunday_of c y 1 1) d (omega arith, omega (arith, first.2))
+    found_on_line newest_rules (is_sunday_of c y 1 1) d (omega arith, omega (arith, first.2))
     ((sunday_decides c y 1 1 d).1 (
       omega arith,
       (
@@ -156,8 +156,8 @@ january_found c months y year =
       ),
     ))
 
-pub march_found : (c : Calendar) → c ≢ Swedish → (y : ℕ) → IsYear present y
-    → Found present (is_sunday_of c y 3 12)
+pub march_found : (c : Calendar) → c ≢ Swedish → (y : ℕ) → IsYear newest_rules y
+    → Found newest_rules (is_sunday_of c y 3 12)
 march_found c months y year =
     let n = march_1 c y in
     let bound = march_1-bound c y year.0 year.1 in
@@ -169,7 +169,7 @@ march_found c months y year =
     let d = n + k + 1 in
     let place : d - 1 ≡ n + k = omega arith in
     let here : date_of c d ≡ date (pos y) 3 (1 + k) = rw place at in
-    found_on_line present (is_sunday_of c y 3 12) d (omega arith, omega (arith, bound.1))
+    found_on_line newest_rules (is_sunday_of c y 3 12) d (omega arith, omega (arith, bound.1))
     ((sunday_decides c y 3 12 d).1 (
       omega arith,
       (
@@ -188,15 +188,15 @@ has_letters_is Gregorian months = refl
 has_letters_is Swedish months = absurd (months refl)
 
 -- so the walk through the year gives them
-pub letters_are : (c : Calendar) → c ≢ Swedish → (y : ℕ) (letters : Letters) → IsYear present y
-    → AreSundayLetters present c y letters → letters_of present c y ≡ Some letters
+pub letters_are : (c : Calendar) → c ≢ Swedish → (y : ℕ) (letters : Letters) → IsYear newest_rules y
+    → AreSundayLetters newest_rules c y letters → letters_of newest_rules c y ≡ Some letters
 unfolding letters_of
 letters_are c months y letters year each =
-    let january : letter_of_sundays present c y 1 1 ≡ Some letters.january =
+    let january : letter_of_sundays newest_rules c y 1 1 ≡ Some letters.january =
     letter_found c y 1 1 letters.january (january_found c months y year)
     (λ d on here sunday low high. each d on here sunday (not_leap_month (date_of c d) (omega arith))
     ∙ rw (lt_test (date_of c d).month 3 (omega arith)) refl) in
-    let march : letter_of_sundays present c y 3 12 ≡ Some letters.march =
+    let march : letter_of_sundays newest_rules c y 3 12 ≡ Some letters.march =
     letter_found c y 3 12 letters.march (march_found c months y year)
     (λ d on here sunday low high. each d on here sunday (not_leap_month (date_of c d) (omega arith))
     ∙ rw (ge_test (date_of c d).month 3 low) refl) in
@@ -209,11 +209,11 @@ chain_injective c m n e =
 -- 1 February of a year on the line
 pub record February (c : Calendar) (y : ℕ) : Type 0 where
   pub day : ℕ
-  pub on : IsDay present day
+  pub on : IsDay newest_rules day
   pub is : date_of c day ≡ date (pos y) 2 1
   pub before_march : day + 27 + leap_days c y ≡ march_1 c y
 
-pub february : (c : Calendar) → c ≢ Swedish → (y : ℕ) → IsYear present y → February c y
+pub february : (c : Calendar) → c ≢ Swedish → (y : ℕ) → IsYear newest_rules y → February c y
 february c months y year =
     let first = january_8 c months (y - 1) (omega (arith, year.1)) in
     let n = first.0 + 24 in
@@ -235,23 +235,25 @@ february c months y year =
     }
 
 -- so a search for it finds it
-pub february_found : (c : Calendar) (months : c ≢ Swedish) (y : ℕ) (year : IsYear present y)
-    (day : Option ℕ) → option_to_list day ≡ days_with_date present c (date (pos y) 2 1)
+pub february_found : (c : Calendar) (months : c ≢ Swedish) (y : ℕ) (year : IsYear newest_rules y)
+    (day : Option ℕ) → option_to_list day ≡ days_with_date newest_rules c (date (pos y) 2 1)
     → day ≡ Some (february c months y year).day
 february_found c months y year day e =
     let f = february c months y year in
-    one_of day f.day _ e (sym (one_day present c (date (pos y) 2 1) f.day f.on f.is))
+    one_of day f.day _ e (sym (one_day newest_rules c (date (pos y) 2 1) f.day f.on f.is))
 
-pub february_1_is : (c : Calendar) → c ≢ Swedish → (y : ℕ) → IsYear present y
-    → (day : Option ℕ) (d : ℕ) → option_to_list day ≡ days_with_date present c (date (pos y) 2 1)
+pub february_1_is : (c : Calendar) → c ≢ Swedish → (y : ℕ) → IsYear newest_rules y
+    → (day : Option ℕ) (d : ℕ) → option_to_list day
+    ≡ days_with_date newest_rules c (date (pos y) 2 1)
     → day ≡ Some d → d + 27 + leap_days c y ≡ march_1 c y
 february_1_is c months y year day d e is =
     let f = february c months y year in
     let same = some_same d f.day day is (february_found c months y year day e) in
     omega (arith, same, f.before_march)
 
-pub march_1_is : (c : Calendar) → c ≢ Swedish → (y : ℕ) → IsYear present y
-    → (day : Option ℕ) (d : ℕ) → option_to_list day ≡ days_with_date present c (date (pos y) 3 1)
+pub march_1_is : (c : Calendar) → c ≢ Swedish → (y : ℕ) → IsYear newest_rules y
+    → (day : Option ℕ) (d : ℕ) → option_to_list day
+    ≡ days_with_date newest_rules c (date (pos y) 3 1)
     → day ≡ Some d → d ≡ march_1 c y + 1
 march_1_is c months y year day d e is =
     omega (arith, some_same d _ day is (spring_found c months y 0 year (omega arith) day e))
@@ -260,7 +262,7 @@ march_1_is c months y year day d e is =
 pub letters_from : (c : Calendar) → c ≢ Swedish → (y f m : ℕ) (letters : Letters)
     → f + 27 + leap_days c y ≡ march_1 c y → m ≡ march_1 c y + 1
     → (letter_number letters.january + f) % 7 ≡ 3 → (letter_number letters.march + m) % 7 ≡ 3
-    → AreSundayLetters present c y letters
+    → AreSundayLetters newest_rules c y letters
 letters_from c months y f m letters february march p q =
     are_sunday_letters c months y letters
     (omega (arith, february, p, leap_days-bound c y)) (omega (arith, march, q))

@@ -9,7 +9,7 @@ use Rattle.std.specs.Option.{option_to_list}
 use Rattle.osn_days.specs.declared.date.Date.{Date}
 use Rattle.osn_days.specs.declared.calendar.Calendar.{Calendar}
 use Rattle.osn_days.specs.declared.calendar.Calendar.TheVariants.{Swedish}
-use Rattle.osn_days.specs.Profile.{present}
+use Rattle.osn_days.specs.Profile.{newest_rules}
 use Rattle.osn_days.specs.Line.{IsDay, IsYear, weekday}
 use Rattle.osn_days.specs.Chain.{chain, date_of, same_date, days_with_date}
 use Rattle.osn_days.proofs.ChainFacts.{julian_by_months, gregorian_by_months, date_apart, days_one}
@@ -58,8 +58,8 @@ spring c months y n low high =
     ]
 
 -- those of the years that have figures are on the line
-pub spring_on_line : (c : Calendar) (y n : ℕ) → IsYear present y → n < 61
-    → IsDay present (march_1 c y + n + 1)
+pub spring_on_line : (c : Calendar) (y n : ℕ) → IsYear newest_rules y → n < 61
+    → IsDay newest_rules (march_1 c y + n + 1)
 spring_on_line c y n year high =
     let bound = march_1-bound c y year.0 year.1 in (omega arith, omega arith)
 
@@ -82,20 +82,20 @@ spring_same c months y n low high =
     ∙ same_date_self (date_in y (after_march_1 n))
 
 -- the day with a date of March or April
-pub day_with_spring : (c : Calendar) → c ≢ Swedish → (y n : ℕ) → IsYear present y → n < 61
-    → day_with present c (date_in y (after_march_1 n)) ≡ Some (march_1 c y + n + 1)
+pub day_with_spring : (c : Calendar) → c ≢ Swedish → (y n : ℕ) → IsYear newest_rules y → n < 61
+    → day_with newest_rules c (date_in y (after_march_1 n)) ≡ Some (march_1 c y + n + 1)
 unfolding day_with
 day_with_spring c months y n year high =
     let is = spring_same c months y n year.0 high in
-    find_on_line present (λ d. same_date (date_of c d) (date_in y (after_march_1 n)))
+    find_on_line newest_rules (λ d. same_date (date_of c d) (date_in y (after_march_1 n)))
     (march_1 c y + n + 1) (spring_on_line c y n year high) is
     (λ e low before. date_apart c _ (march_1 c y + n + 1) e (omega arith) low is (inl before))
 
 -- as the search through all days has it
-pub days_with_spring : (c : Calendar) → c ≢ Swedish → (y n : ℕ) → IsYear present y → n < 61
-    → days_with_date present c (date_in y (after_march_1 n)) ≡ (march_1 c y + n + 1) ∷ []
+pub days_with_spring : (c : Calendar) → c ≢ Swedish → (y n : ℕ) → IsYear newest_rules y → n < 61
+    → days_with_date newest_rules c (date_in y (after_march_1 n)) ≡ (march_1 c y + n + 1) ∷ []
 days_with_spring c months y n year high =
-    days_one present c _ (march_1 c y + n + 1) (spring_on_line c y n year high)
+    days_one newest_rules c _ (march_1 c y + n + 1) (spring_on_line c y n year high)
     (spring_same c months y n year.0 high)
 
 -- the rule's table has the moon of the year that many days after 21 March
@@ -110,8 +110,8 @@ moon_of Gregorian y =
     let table = gregorian_row y in (gregorian_days (gregorian_epact y), table.1, table.0)
 
 -- so the moon is on the line, that many days after 21 March
-pub moon_is : (rule : Rule) (y n : ℕ) → IsYear present y → n < 29 → HasMoonAt rule y n
-    → paschal_moon present rule y ≡ Some (march_1 (calendar_of rule) y + 21 + n)
+pub moon_is : (rule : Rule) (y n : ℕ) → IsYear newest_rules y → n < 29 → HasMoonAt rule y n
+    → paschal_moon newest_rules rule y ≡ Some (march_1 (calendar_of rule) y + 21 + n)
 unfolding paschal_moon
 moon_is Julian y n year low table =
     let c = calendar_of Julian in
@@ -127,13 +127,13 @@ pub some_same : (a b : ℕ) (o : Option ℕ) → o ≡ Some a → o ≡ Some b �
 some_same a b o p q = cc
 
 -- and it is no later than 18 April, well before the end of the line
-pub moon_bounds : (rule : Rule) (y moon : ℕ) → IsYear present y
-    → paschal_moon present rule y ≡ Some moon
+pub moon_bounds : (rule : Rule) (y moon : ℕ) → IsYear newest_rules y
+    → paschal_moon newest_rules rule y ≡ Some moon
     → (march_1 (calendar_of rule) y + 21 ≤ moon) × (moon < march_1 (calendar_of rule) y + 50) ×
     (moon + 7 ≤ 1095362)
 moon_bounds rule y moon year is =
     let found = moon_of rule y in
-    let same = some_same moon _ (paschal_moon present rule y) is
+    let same = some_same moon _ (paschal_moon newest_rules rule y) is
     (moon_is rule y found.0 year found.1 found.2) in
     let bound = march_1-bound (calendar_of rule) y year.0 year.1 in
     (omega (arith, found.1), omega (arith, found.1), omega (arith, found.1))
@@ -152,8 +152,8 @@ in_season y n low high =
     ]
 
 -- a day one to seven days after it is from 22 March to 25 April
-pub season : (rule : Rule) (y moon d : ℕ) → IsYear present y
-    → paschal_moon present rule y ≡ Some moon → moon < d → d ≤ moon + 7
+pub season : (rule : Rule) (y moon d : ℕ) → IsYear newest_rules y
+    → paschal_moon newest_rules rule y ≡ Some moon → moon < d → d ≤ moon + 7
     → IsEasterDate y (date_of (calendar_of rule) d)
 season rule y moon d year is after within =
     let bounds = moon_bounds rule y moon year is in
@@ -165,10 +165,10 @@ season rule y moon d year is after within =
     rw place (rw (spring_date c (of_months rule) y n year.0 (omega arith)) (in_season y n low high))
 
 -- the first Sunday after a day
-pub sunday_is : (m : ℕ) → m + 7 ≤ 1095362 → first_sunday_after present m ≡ Some (m + 7 - m % 7)
+pub sunday_is : (m : ℕ) → m + 7 ≤ 1095362 → first_sunday_after newest_rules m ≡ Some (m + 7 - m % 7)
 unfolding first_sunday_after
 sunday_is m h =
-    find_on_line present (λ d. nat_lt m d && (weekday d == 0)) (m + 7 - m % 7)
+    find_on_line newest_rules (λ d. nat_lt m d && (weekday d == 0)) (m + 7 - m % 7)
     (omega arith, omega arith)
     ((Decides-and _ _ (Decides-ltb m (m + 7 - m % 7)) (Decides-eqb (weekday (m + 7 - m % 7)) 0)).1
     (omega arith, omega arith))
@@ -184,8 +184,9 @@ one_of (Some d) n days e is = let same : d ∷ [] ≡ n ∷ [] = e
     ∙ is in let here : d ≡ n = cc in ap Some here
 
 -- so a search for a day of March or April finds it
-pub spring_found : (c : Calendar) → c ≢ Swedish → (y n : ℕ) → IsYear present y → n < 61
-    → (day : Option ℕ) → option_to_list day ≡ days_with_date present c (date_in y (after_march_1 n))
+pub spring_found : (c : Calendar) → c ≢ Swedish → (y n : ℕ) → IsYear newest_rules y → n < 61
+    → (day : Option ℕ) → option_to_list day
+    ≡ days_with_date newest_rules c (date_in y (after_march_1 n))
     → day ≡ Some (march_1 c y + n + 1)
 spring_found c months y n year high day e =
     one_of day _ _ e (days_with_spring c months y n year high)

@@ -1,6 +1,6 @@
 //! Easter by both rules.
 ghost use Rattle.std.specs.Prelude.{◌≡◌, ◌+◌, Some, IsSomeAnd};
-ghost use Rattle.osn_days.specs.Profile.{present};
+ghost use Rattle.osn_days.specs.Profile.{newest_rules};
 ghost use Rattle.osn_days.specs.Line.{IsDay, weekday};
 ghost use Rattle.osn_days.specs.Chain.{date_of};
 ghost use Rattle.osn_computus.specs.Easter as feast;
@@ -12,8 +12,8 @@ use osn_days::{Day, Year};
 
 /// The first Sunday strictly after a day.
 fn sunday_after(moon: Day) -> Day
-    requires { IsDay present (moon + 7) }
-    ensures value { feast.first_sunday_after present moon ≡ Some result }
+    requires { IsDay newest_rules (moon + 7) }
+    ensures value { feast.first_sunday_after newest_rules moon ≡ Some result }
     ensures sunday { weekday result ≡ 0 }
     ensures within { IsInWeekAfter moon result }
 {
@@ -26,11 +26,11 @@ fn sunday_after(moon: Day) -> Day
 /// the Gregorian rule in the same dates of the Gregorian. Years before 1583 are counted by the
 /// same rules.
 pub fn easter(rule: Rule, year: Year) -> Day
-    ensures value { easter_of present rule year ≡ Some result }
+    ensures value { easter_of newest_rules rule year ≡ Some result }
     // in the subject's own words
     ensures sunday { weekday result ≡ 0 }
     ensures season { IsEasterDate year (date_of (feast.calendar_of rule) result) }
-    ensures moon { IsSomeAnd (feast.paschal_moon present rule year)
+    ensures moon { IsSomeAnd (feast.paschal_moon newest_rules rule year)
         (λ moon. IsInWeekAfter moon result) }
 {
     sunday_after(paschal_moon(rule, year))

@@ -1,6 +1,6 @@
 //! The Sunday letters.
 ghost use Rattle.std.specs.Prelude.{◌≡◌, ◌≢◌, ◌↔◌, ◌+◌, ◌%◌, pos, false, Some, IsNone, IfSome};
-ghost use Rattle.osn_days.specs.Profile.{present};
+ghost use Rattle.osn_days.specs.Profile.{newest_rules};
 ghost use Rattle.osn_days.specs.Chain as chain;
 ghost use Rattle.osn_days.specs.declared.calendar.Calendar.TheVariants.{Swedish};
 ghost use Rattle.osn_computus.specs.declared.letter.Letter.TheVariants.{D};
@@ -33,8 +33,8 @@ fn sunday_letter(day: Day) -> Letter
 /// The Sunday letters in a calendar that has them. Both days are on the line in every year.
 fn letters_of_year(calendar: Calendar, year: Year) -> Letters
     requires { calendar ≢ Swedish }
-    ensures value { letters_of present calendar year ≡ Some result }
-    ensures sundays { AreSundayLetters present calendar year result }
+    ensures value { letters_of newest_rules calendar year ≡ Some result }
+    ensures sundays { AreSundayLetters newest_rules calendar year result }
     ensures common_year { chain.is_leap calendar (pos year) ≡ false
         → result.january ≡ result.march }
 {
@@ -48,10 +48,10 @@ fn letters_of_year(calendar: Calendar, year: Year) -> Letters
 
 /// The Sunday letters of the year, or `None` for a calendar that has none: the Swedish.
 pub fn sunday_letters(calendar: Calendar, year: Year) -> Option<Letters>
-    ensures value { result ≡ letters_of present calendar year }
+    ensures value { result ≡ letters_of newest_rules calendar year }
     ensures none { IsNone result ↔ (calendar ≡ Swedish) }
     // in the subject's own words
-    ensures sundays { IfSome result (AreSundayLetters present calendar year) }
+    ensures sundays { IfSome result (AreSundayLetters newest_rules calendar year) }
     ensures common_year { IfSome result (λ letters. chain.is_leap calendar (pos year) ≡ false
         → letters.january ≡ letters.march) }
 {

@@ -1,6 +1,6 @@
 //! The paschal moon by both rules.
 ghost use Rattle.std.specs.Prelude.{◌≡◌, ◌+◌, ◌<◌, Some};
-ghost use Rattle.osn_days.specs.Profile.{present};
+ghost use Rattle.osn_days.specs.Profile.{newest_rules};
 ghost use Rattle.osn_days.specs.Line.{IsYear};
 ghost use Rattle.osn_computus.specs.Figures as figure;
 ghost use Rattle.osn_computus.specs.Moon.{after_march_1, julian_full_moon, gregorian_new_moon};
@@ -40,8 +40,8 @@ fn gregorian_moon_days(year: Year) -> u32
 /// The paschal full moon or the fourteenth day of the paschal moon. Every year of the range has its
 /// 21 March on the line.
 pub fn paschal_moon(rule: Rule, year: Year) -> Day
-    ensures value { feast.paschal_moon present rule year ≡ Some result }
-    ensures in_range { IsYear present year }
+    ensures value { feast.paschal_moon newest_rules rule year ≡ Some result }
+    ensures in_range { IsYear newest_rules year }
 {
     let days = match rule {
         Rule::Julian => julian_moon_days(year),

@@ -7,7 +7,7 @@ use Rattle.std.proofs.lemmas.Bool.{false≢true}
 use Rattle.std.proofs.lemmas.Bool.Decides.{nat_tests}
 use Rattle.std.proofs.lemmas.List.{get_or-append-add}
 use Rattle.std.proofs.lemmas.List.Sums.{sum_by-append}
-use Rattle.osn_days.specs.Profile.{present}
+use Rattle.osn_days.specs.Profile.{newest_rules}
 use Rattle.osn_register.specs.declared.limits.Limits.{Limits}
 use Rattle.osn_register.specs.declared.edit.Edit.{Edit}
 use Rattle.osn_register.specs.declared.refusal.Refusal.{Refusal}
@@ -45,38 +45,40 @@ copies_of s lag = record { object = s; lag = lag }
 
 -- a standby that lacks nothing has all edits
 pub has_all : (s : ObjectState) (lag : ℕ) → lag ≡ 0 →
-    lagging_lands present (copies_of s lag) ≡ draft_lands present s
-has_all s lag none = ap (applied_all present s.limits [])
+    lagging_lands newest_rules (copies_of s lag) ≡ draft_lands newest_rules s
+has_all s lag none = ap (applied_all newest_rules s.limits [])
     (without_none (joined s.batches ++ s.pending) lag none)
 
 -- an edit that may be staged is lawful in a standby that lacks nothing
 pub lawful_staged : (s : ObjectState) (live standby : PlainRegister) (lag edits : ℕ) (e : Edit) →
-    AreInStep (copies_of s lag) live standby edits → lag ≡ 0 → stage_refusal present s e ≡ None →
-    refusal present standby.limits standby.lands e ≡ None
+    AreInStep (copies_of s lag) live standby edits → lag ≡ 0 → stage_refusal newest_rules s e
+    ≡ None →
+    refusal newest_rules standby.limits standby.lands e ≡ None
 lawful_staged s live standby lag edits e h none lawful =
-    let allowed = or_else-none (refusal present s.limits (draft_lands present s) e)
+    let allowed = or_else-none (refusal newest_rules s.limits (draft_lands newest_rules s) e)
     (cond (nat_lt (edits_in s) s.limits.edits) None (Some JournalFull)) lawful in
-    ap (λ (r : PlainRegister). refusal present r.limits r.lands e) h.standby_is
-    ∙ ap (λ ls. refusal present s.limits ls e) (has_all s lag none)
+    ap (λ (r : PlainRegister). refusal newest_rules r.limits r.lands e) h.standby_is
+    ∙ ap (λ ls. refusal newest_rules s.limits ls e) (has_all s lag none)
     ∙ allowed.0
 
 -- an edit is staged in a standby that lacks nothing
 pub one_staged : (s : ObjectState) (live standby after : PlainRegister) (lag edits : ℕ) (e : Edit) →
-    AreInStep (copies_of s lag) live standby edits → lag ≡ 0 → stage_refusal present s e ≡ None →
+    AreInStep (copies_of s lag) live standby edits → lag ≡ 0 → stage_refusal newest_rules s e
+    ≡ None →
     after ≡ record standby { lands = effect standby.lands e } →
     AreInStep (copies_of (with_pending s e) lag) live after (edits + 1)
 one_staged s live standby after lag edits e h none lawful is =
-    let allowed = or_else-none (refusal present s.limits (draft_lands present s) e)
+    let allowed = or_else-none (refusal newest_rules s.limits (draft_lands newest_rules s) e)
     (cond (nat_lt (edits_in s) s.limits.edits) None (Some JournalFull)) lawful in
     let room : nat_lt (edits_in s) s.limits.edits ≡ true = test_passed _ _ allowed.1 in
     let regroup : joined s.batches ++ (s.pending ++ e ∷ []) ≡ (joined s.batches ++ s.pending) ++ e ∷
     [] = sym (append_assoc (joined s.batches) s.pending (e ∷ [])) in
-    let lands : effect (lagging_lands present (copies_of s lag)) e
-    ≡ lagging_lands present (copies_of (with_pending s e) lag) =
+    let lands : effect (lagging_lands newest_rules (copies_of s lag)) e
+    ≡ lagging_lands newest_rules (copies_of (with_pending s e) lag) =
     ap (λ ls. effect ls e) (has_all s lag none)
-    ∙ sym (applied-lawful present s.limits (draft_lands present s) e allowed.0)
-    ∙ sym (applied_all-append present s.limits [] (joined s.batches ++ s.pending) (e ∷ []))
-    ∙ ap (applied_all present s.limits []) (sym regroup)
+    ∙ sym (applied-lawful newest_rules s.limits (draft_lands newest_rules s) e allowed.0)
+    ∙ sym (applied_all-append newest_rules s.limits [] (joined s.batches ++ s.pending) (e ∷ []))
+    ∙ ap (applied_all newest_rules s.limits []) (sym regroup)
     ∙ sym (has_all (with_pending s e) lag none) in
     record {
       live_is = h.live_is;
@@ -88,8 +90,9 @@ one_staged s live standby after lag edits e h none lawful is =
       caught_up = inr none;
       counted = omega (arith, h.counted, length-append s.pending (e ∷ []));
       sound = record {
-        lawful = subst (AreLawful present s.limits []) (sym regroup)
-            (AreLawful-push present s.limits [] (joined s.batches ++ s.pending) e h.sound.lawful
+        lawful = subst (AreLawful newest_rules s.limits []) (sym regroup)
+            (AreLawful-push newest_rules s.limits []
+            (joined s.batches ++ s.pending) e h.sound.lawful
             allowed.0);
         none_empty = h.sound.none_empty;
         edits = let fits : edits_in s < s.limits.edits = grind (arith, nat_tests) in omega
@@ -119,11 +122,12 @@ one_published s live standby lag edits h lawful =
     record {
       live_is =
           h.standby_is
-          ∙ ap (register_of s.limits) (has_all s lag none ∙ ap (applied_all present s.limits [])
+          ∙ ap (register_of s.limits) (has_all s lag none
+          ∙ ap (applied_all newest_rules s.limits [])
           (sym edits_are));
       standby_is =
           h.live_is
-          ∙ ap (λ es. register_of s.limits (applied_all present s.limits [] es))
+          ∙ ap (λ es. register_of s.limits (applied_all newest_rules s.limits [] es))
           (sym (without_part (joined s.batches) s.pending)
           ∙ ap (without_last (length s.pending)) (sym all_are));
       lag_is_of_last = omega (arith, ap length last);
@@ -135,7 +139,7 @@ one_published s live standby lag edits h lawful =
             (s.pending ∷ []),
       );
       sound = record {
-        lawful = subst (AreLawful present s.limits []) (sym all_are) h.sound.lawful;
+        lawful = subst (AreLawful newest_rules s.limits []) (sym all_are) h.sound.lawful;
         none_empty = NoneEmpty-push s.batches s.pending h.sound.none_empty some;
         edits = omega (
           arith,
@@ -205,11 +209,11 @@ next_read s live standby lag edits bs e h some all at =
 -- it is lawful there
 pub lawful_next : (s : ObjectState) (live standby : PlainRegister) (lag edits : ℕ) (e : Edit) →
     AreInStep (copies_of s lag) live standby edits → IsNext s lag e →
-    refusal present standby.limits standby.lands e ≡ None
+    refusal newest_rules standby.limits standby.lands e ≡ None
 lawful_next s live standby lag edits e h at =
     let all = joined s.batches ++ s.pending in
-    ap (λ (r : PlainRegister). refusal present r.limits r.lands e) h.standby_is
-    ∙ lawful_at present s.limits [] all (length all - lag) e at.within at.is h.sound.lawful
+    ap (λ (r : PlainRegister). refusal newest_rules r.limits r.lands e) h.standby_is
+    ∙ lawful_at newest_rules s.limits [] all (length all - lag) e at.within at.is h.sound.lawful
 
 -- the standby has taken it
 pub one_absorbed : (s : ObjectState) (live standby after : PlainRegister) (lag edits : ℕ) (e : Edit)
@@ -224,8 +228,9 @@ one_absorbed s live standby after lag edits e h at is =
           is
           ∙ ap (λ (r : PlainRegister). register_of r.limits (effect r.lands e)) h.standby_is
           ∙ ap (register_of s.limits)
-          (applied_at present s.limits [] all (length all - lag) e at.within at.is h.sound.lawful
-          ∙ ap (λ n. applied_all present s.limits [] (take n all)) at.more);
+          (applied_at newest_rules s.limits [] all
+          (length all - lag) e at.within at.is h.sound.lawful
+          ∙ ap (λ n. applied_all newest_rules s.limits [] (take n all)) at.more);
       lag_is_of_last = omega (arith, h.lag_is_of_last);
       caught_up = elim h.caught_up [
         | inl nothing ↦ inl nothing

@@ -6,7 +6,7 @@ use Rattle.std.proofs.Common.{append-nil}
 use Rattle.std.proofs.lemmas.Bool.{false≢true}
 use Rattle.std.proofs.lemmas.Bool.Decides.{nat_tests}
 use Rattle.std.proofs.lemmas.List.{take_all}
-use Rattle.osn_days.specs.Profile.{present}
+use Rattle.osn_days.specs.Profile.{newest_rules}
 use Rattle.osn_register.specs.Plain.{PlainLand, applied_all}
 use Rattle.osn_register.specs.declared.query.Query.{Query}
 use Rattle.osn_core.specs.declared.phase.Phase.{Phase}
@@ -147,62 +147,63 @@ ready_placed live n (Some (Answered s k)) h = ready_in live n s k h
 
 -- what the standby shows, by the phase
 lagging_is : (s : ObjectState) (lag : ℕ) → s.pending ≡ [] →
-    lagging_lands present (record { object = s; lag = lag })
-    ≡ applied_all present s.limits [] (without_last lag (joined s.batches))
-lagging_is s lag none = ap (λ es. applied_all present s.limits [] (without_last lag es))
+    lagging_lands newest_rules (record { object = s; lag = lag })
+    ≡ applied_all newest_rules s.limits [] (without_last lag (joined s.batches))
+lagging_is s lag none = ap (λ es. applied_all newest_rules s.limits [] (without_last lag es))
     (ap (λ es. joined s.batches ++ es) none ∙ append-nil (joined s.batches))
 
 standby_shown : (s : ObjectState) (lag : ℕ) (phase : Phase) → IsLag s lag phase →
-    lagging_lands present (record { object = s; lag = lag }) ≡ standby_lands present s lag phase
-standby_shown s lag Ready h = ap (applied_all present s.limits [])
+    lagging_lands newest_rules (record { object = s; lag = lag })
+    ≡ standby_lands newest_rules s lag phase
+standby_shown s lag Ready h = ap (applied_all newest_rules s.limits [])
     (without_none (joined s.batches ++ s.pending) lag h)
 standby_shown s lag Draining h = lagging_is s lag h.0
 standby_shown s lag Claimed h = lagging_is s lag h
 
 pub standby_side : (c : CoreState) (side : ℕ) → IsCore c → (side == c.control.side) ≡ false →
-    lagging_lands present (record { object = c.object; lag = c.control.lag })
-    ≡ side_lands present c side
+    lagging_lands newest_rules (record { object = c.object; lag = c.control.lag })
+    ≡ side_lands newest_rules c side
 standby_side c side h other =
     standby_shown c.object c.control.lag c.control.phase h.lag
-    ∙ sym (ap (λ b. if b then lands_of present c.object.limits c.object.batches
-    else standby_lands present c.object c.control.lag c.control.phase) other)
+    ∙ sym (ap (λ b. if b then lands_of newest_rules c.object.limits c.object.batches
+    else standby_lands newest_rules c.object c.control.lag c.control.phase) other)
 
 pub live_side : (c : CoreState) (side : ℕ) → (side == c.control.side) ≡ true →
-    lands_of present c.object.limits c.object.batches ≡ side_lands present c side
+    lands_of newest_rules c.object.limits c.object.batches ≡ side_lands newest_rules c side
 live_side c side same =
-    sym (ap (λ b. if b then lands_of present c.object.limits c.object.batches
-    else standby_lands present c.object c.control.lag c.control.phase) same)
+    sym (ap (λ b. if b then lands_of newest_rules c.object.limits c.object.batches
+    else standby_lands newest_rules c.object c.control.lag c.control.phase) same)
 
 -- while the standby is draining it lacks the last batch
 draining_is : (s : ObjectState) (lag : ℕ) (phase : Phase) (k : ℕ) → IsLag s lag phase →
     phase ≡ Draining → k + 1 ≡ length s.batches →
-    standby_lands present s lag phase ≡ edition_lands present s k
+    standby_lands newest_rules s lag phase ≡ edition_lands newest_rules s k
 draining_is s lag Ready k h is all = cc
 draining_is s lag Draining k h is all =
-    ap (applied_all present s.limits [])
+    ap (applied_all newest_rules s.limits [])
     (ap (λ n. without_last n (joined s.batches)) h.1 ∙ without_batch s.batches k all)
 draining_is s lag Claimed k h is all = cc
 
 -- whoever is in a side sees in it the editions that it entered with
 seen_in : (c : CoreState) (side s k : ℕ) → IsCore c →
     IsIn c.control.side c.control.phase (length c.object.batches) s k → s ≡ side →
-    side_lands present c side ≡ edition_lands present c.object k
+    side_lands newest_rules c side ≡ edition_lands newest_rules c.object k
 seen_in c side s k h there same = elim there [
   | inl (live, all) ↦
       sym (live_side c side (test_same side c.control.side (sym same ∙ live)))
-      ∙ ap (lands_of present c.object.limits)
+      ∙ ap (lands_of newest_rules c.object.limits)
       (sym (take_all k c.object.batches (omega (arith, all))))
   | inr (standby, draining, all) ↦
-      ap (λ b. if b then lands_of present c.object.limits c.object.batches
-      else standby_lands present c.object c.control.lag c.control.phase)
+      ap (λ b. if b then lands_of newest_rules c.object.limits c.object.batches
+      else standby_lands newest_rules c.object c.control.lag c.control.phase)
       (test_other side c.control.side (λ e. omega (arith, h.side, e, same, standby)))
       ∙ draining_is c.object c.control.lag c.control.phase k h.lag draining all
 ]
 
 seen_at : (c : CoreState) (side : ℕ) (lands : List PlainLand) (at : Option ReaderState) →
-    IsCore c → lands ≡ side_lands present c side →
+    IsCore c → lands ≡ side_lands newest_rules c side →
     IsPlaced c.control.side c.control.phase (length c.object.batches) at →
-    IsSeenBy present c.object side lands at
+    IsSeenBy newest_rules c.object side lands at
 seen_at c side lands None h is there = tt
 seen_at c side lands (Some Idle) h is there = tt
 seen_at c side lands (Some (Noted q s)) h is there = tt
@@ -213,7 +214,7 @@ seen_at c side lands (Some (Answered s k)) h is there =
     λ same. is ∙ seen_in c side s k h there same
 
 pub seen_by : (c : CoreState) (side : ℕ) (lands : List PlainLand) (reader : ℕ) → IsCore c →
-    lands ≡ side_lands present c side →
-    IsSeenBy present c.object side lands (reader_at c.control.readers reader)
+    lands ≡ side_lands newest_rules c side →
+    IsSeenBy newest_rules c.object side lands (reader_at c.control.readers reader)
 seen_by c side lands reader h is =
     seen_at c side lands (reader_at c.control.readers reader) h is (h.readers reader)

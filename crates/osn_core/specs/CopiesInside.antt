@@ -1,7 +1,7 @@
 -- How two registers keep the sequential object's state: the live one, and a standby that may still
 -- lack the end of the last batch.
 use Rattle.std.specs.Prelude.{◌≡◌, ℕ, ◌≤◌, ◌⊎◌, List, [], ◌++◌, length}
-use Rattle.osn_days.specs.Profile.{Profile, present}
+use Rattle.osn_days.specs.Profile.{Profile, newest_rules}
 use Rattle.osn_register.specs.declared.limits.Limits.{Limits}
 use Rattle.osn_register.specs.Plain.{PlainLand, PlainRegister, applied_all}
 use Rattle.osn_core.specs.declared.copies.Copies.TheInside.{Inside}
@@ -31,13 +31,17 @@ copies_in c = record {
 -- lacks none where any are pending
 pub record AreInStep (c : CopiesState) (live standby : PlainRegister) (edits : ℕ) : Type 0 where
   pub live_is : live ≡
-      record { limits = c.object.limits; lands = lands_of present c.object.limits c.object.batches }
+      record {
+        limits = c.object.limits;
+        lands = lands_of newest_rules c.object.limits
+            c.object.batches;
+      }
   pub standby_is :
-      standby ≡ record { limits = c.object.limits; lands = lagging_lands present c }
+      standby ≡ record { limits = c.object.limits; lands = lagging_lands newest_rules c }
   pub lag_is_of_last : c.lag ≤ length (last_batch c.object.batches)
   pub caught_up : (c.object.pending ≡ []) ⊎ (c.lag ≡ 0)
   pub counted : edits ≡ edits_in c.object
-  pub sound : IsSound present c.object
+  pub sound : IsSound newest_rules c.object
 
 abbrev pub AreKept : Inside → Type 0
 AreKept c = AreInStep (copies_in c) c.live c.standby c.edits

@@ -1,6 +1,6 @@
 ghost use Rattle.std.specs.Prelude.{◌≡◌, ◌<◌, ◌≤◌, ◌+◌, ◌-◌, length, get_or, true, None, IfOk};
 ghost use Rattle.std.specs.Prelude.{OnOk, OnErr};
-ghost use Rattle.osn_days.specs.Profile.{present};
+ghost use Rattle.osn_days.specs.Profile.{newest_rules};
 ghost use Rattle.osn_register.specs.Plain.{refusal};
 ghost use Rattle.osn_register.specs.Refusal.{IsTestOf};
 ghost use Rattle.osn_core.specs.Sequential.{with_pending, with_edition, stage_refusal};
@@ -60,7 +60,7 @@ impl Copies {
     /// The register of the batches.
     pub fn live(&self) -> &Register
         ensures lands { result.now.lands
-            ≡ lands_of present self.now.object.limits self.now.object.batches }
+            ≡ lands_of newest_rules self.now.object.limits self.now.object.batches }
         ensures limits { result.now.limits ≡ self.now.object.limits }
     {
         &self.live
@@ -68,7 +68,7 @@ impl Copies {
 
     /// The register of all edits but those that it lacks.
     pub fn standby(&self) -> &Register
-        ensures lands { result.now.lands ≡ lagging_lands present self.now }
+        ensures lands { result.now.lands ≡ lagging_lands newest_rules self.now }
         ensures limits { result.now.limits ≡ self.now.object.limits }
     {
         &self.standby
@@ -84,7 +84,7 @@ impl Copies {
     /// The batches, each an edition.
     pub fn batches(&self) -> &[Batch]
         ensures value { result.now ≡ self.now.object.batches }
-        ensures sound { IsSound present self.now.object }
+        ensures sound { IsSound newest_rules self.now.object }
     {
         self.batches.as_slice()
     }
@@ -107,7 +107,7 @@ impl Copies {
 
     /// How many edits would be pending if this one were staged now, or the first refusal.
     pub fn check(&self, edit: &Edit) -> Result<u32, Refusal>
-        ensures test { IsTestOf (stage_refusal present self.now.object edit.now) result }
+        ensures test { IsTestOf (stage_refusal newest_rules self.now.object edit.now) result }
         ensures count { IfOk result (λ n. n ≡ length self.now.object.pending + 1) }
     {
         self.latest().check(edit)?;
@@ -119,7 +119,7 @@ impl Copies {
 
     /// The register of all edits: the standby may lack some where nothing is pending.
     fn latest(&self) -> &Register
-        ensures lands { result.now.lands ≡ draft_lands present self.now.object }
+        ensures lands { result.now.lands ≡ draft_lands newest_rules self.now.object }
         ensures limits { result.now.limits ≡ self.now.object.limits }
     {
         if self.pending.is_empty() {
@@ -137,7 +137,7 @@ impl Copies {
     /// Only where no memory is found. Nothing has changed then.
     pub fn admit(&mut self, edit: &Edit) -> Result<u32, AllocError>
         requires lag { self.old.lag ≡ 0 }
-        requires lawful { stage_refusal present self.old.object edit.now ≡ None }
+        requires lawful { stage_refusal newest_rules self.old.object edit.now ≡ None }
         ensures ok { OnOk result
             (self.new ≡ record { object = with_pending self.old.object edit.now; lag = 0 }) }
         ensures count { IfOk result (λ n. n ≡ length self.new.object.pending) }

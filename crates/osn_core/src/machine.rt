@@ -1,6 +1,6 @@
 ghost use Rattle.std.specs.Prelude.{◌≡◌, ◌<◌, ℕ, true, None, IfOk, IfErr, OnOk, OnErr};
 ghost use Rattle.osn_register.specs.Refusal.{IsRefusalOrNoMemory};
-ghost use Rattle.osn_days.specs.Profile.{present};
+ghost use Rattle.osn_days.specs.Profile.{newest_rules};
 ghost use Rattle.osn_core.specs.Control.{reader_at};
 ghost use Rattle.osn_core.specs.Copies.{side_lands, IsSeenBy};
 ghost use Rattle.osn_core.specs.Machine.{first_core, out_of, core_after, step_takes_memory};
@@ -71,9 +71,9 @@ impl Core {
     /// The copy of a side, 0 or 1.
     pub fn side(&self, side: u8) -> &Register
         requires { side < 2 }
-        ensures lands { result.now.lands ≡ side_lands present self.now side }
+        ensures lands { result.now.lands ≡ side_lands newest_rules self.now side }
         ensures limits { result.now.limits ≡ self.now.object.limits }
-        ensures readers { (reader : ℕ) → IsSeenBy present self.now.object side result.now.lands
+        ensures readers { (reader : ℕ) → IsSeenBy newest_rules self.now.object side result.now.lands
             (reader_at self.now.control.readers reader) }
     {
         if side == self.side {
@@ -90,11 +90,11 @@ impl Core {
     /// Only where no memory is found, of which pins, checks, leaves and claims, a step that is not
     /// enabled, a refusal, and a query of the figures of a year take none.
     pub fn step(&mut self, step: &Step) -> Result<Out, AllocError>
-        ensures out { IfOk result (λ o. o ≡ out_of present self.old step.now) }
-        ensures ok { OnOk result (self.new ≡ core_after present self.old step.now) }
+        ensures out { IfOk result (λ o. o ≡ out_of newest_rules self.old step.now) }
+        ensures ok { OnOk result (self.new ≡ core_after newest_rules self.old step.now) }
         ensures err { OnErr result (self.new ≡ self.old) }
         ensures memory { OnErr result
-            (step_takes_memory step.now (out_of present self.old step.now) ≡ true) }
+            (step_takes_memory step.now (out_of newest_rules self.old step.now) ≡ true) }
     {
         match step {
             Step::Look { reader, query } => self.look(*reader, query),
@@ -110,37 +110,39 @@ impl Core {
     }
 
     fn look(&mut self, reader: u32, query: &Query) -> Result<Out, AllocError>
-        ensures out { IfOk result (λ o. o ≡ out_of present self.old (Step.Look reader query.now)) }
+        ensures out { IfOk result (λ o. o
+            ≡ out_of newest_rules self.old (Step.Look reader query.now)) }
         ensures ok { OnOk result
-            (self.new ≡ core_after present self.old (Step.Look reader query.now)) }
+            (self.new ≡ core_after newest_rules self.old (Step.Look reader query.now)) }
         ensures err { OnErr result (self.new ≡ self.old) }
         ensures memory { OnErr result (step_takes_memory (Step.Look reader query.now)
-            (out_of present self.old (Step.Look reader query.now)) ≡ true) }
+            (out_of newest_rules self.old (Step.Look reader query.now)) ≡ true) }
     {
         self.readers.look(reader, query, self.side)
     }
 
     fn pin(&mut self, reader: u32) -> Out
-        ensures out { result ≡ out_of present self.old (Step.Pin reader) }
-        ensures after { self.new ≡ core_after present self.old (Step.Pin reader) }
+        ensures out { result ≡ out_of newest_rules self.old (Step.Pin reader) }
+        ensures after { self.new ≡ core_after newest_rules self.old (Step.Pin reader) }
     {
         self.readers.pin(reader)
     }
 
     fn check(&mut self, reader: u32) -> Out
-        ensures out { result ≡ out_of present self.old (Step.Check reader) }
-        ensures after { self.new ≡ core_after present self.old (Step.Check reader) }
+        ensures out { result ≡ out_of newest_rules self.old (Step.Check reader) }
+        ensures after { self.new ≡ core_after newest_rules self.old (Step.Check reader) }
     {
         self.readers.check(reader, self.side, self.copies.edition())
     }
 
     #[tactic(auto, using(crate::proofs::Standing::put_same))]
     fn answer(&mut self, reader: u32) -> Result<Out, AllocError>
-        ensures out { IfOk result (λ o. o ≡ out_of present self.old (Step.Answer reader)) }
-        ensures ok { OnOk result (self.new ≡ core_after present self.old (Step.Answer reader)) }
+        ensures out { IfOk result (λ o. o ≡ out_of newest_rules self.old (Step.Answer reader)) }
+        ensures ok { OnOk result (self.new
+            ≡ core_after newest_rules self.old (Step.Answer reader)) }
         ensures err { OnErr result (self.new ≡ self.old) }
         ensures memory { OnErr result (step_takes_memory (Step.Answer reader)
-            (out_of present self.old (Step.Answer reader)) ≡ true) }
+            (out_of newest_rules self.old (Step.Answer reader)) ≡ true) }
     {
         let Some(
             ReaderState::Entered {
@@ -161,18 +163,19 @@ impl Core {
     }
 
     fn leave(&mut self, reader: u32) -> Out
-        ensures out { result ≡ out_of present self.old (Step.Leave reader) }
-        ensures after { self.new ≡ core_after present self.old (Step.Leave reader) }
+        ensures out { result ≡ out_of newest_rules self.old (Step.Leave reader) }
+        ensures after { self.new ≡ core_after newest_rules self.old (Step.Leave reader) }
     {
         self.readers.leave(reader)
     }
 
     fn stage(&mut self, edit: &Edit) -> Result<Out, AllocError>
-        ensures out { IfOk result (λ o. o ≡ out_of present self.old (Step.Stage edit.now)) }
-        ensures ok { OnOk result (self.new ≡ core_after present self.old (Step.Stage edit.now)) }
+        ensures out { IfOk result (λ o. o ≡ out_of newest_rules self.old (Step.Stage edit.now)) }
+        ensures ok { OnOk result (self.new
+            ≡ core_after newest_rules self.old (Step.Stage edit.now)) }
         ensures err { OnErr result (self.new ≡ self.old) }
         ensures memory { OnErr result (step_takes_memory (Step.Stage edit.now)
-            (out_of present self.old (Step.Stage edit.now)) ≡ true) }
+            (out_of newest_rules self.old (Step.Stage edit.now)) ≡ true) }
     {
         let Phase::Ready = self.phase else {
             return Ok(Out::NotNow);
@@ -187,11 +190,11 @@ impl Core {
     }
 
     fn publish(&mut self) -> Result<Out, AllocError>
-        ensures out { IfOk result (λ o. o ≡ out_of present self.old Step.Publish) }
-        ensures ok { OnOk result (self.new ≡ core_after present self.old Step.Publish) }
+        ensures out { IfOk result (λ o. o ≡ out_of newest_rules self.old Step.Publish) }
+        ensures ok { OnOk result (self.new ≡ core_after newest_rules self.old Step.Publish) }
         ensures err { OnErr result (self.new ≡ self.old) }
         ensures memory { OnErr result (step_takes_memory Step.Publish
-            (out_of present self.old Step.Publish) ≡ true) }
+            (out_of newest_rules self.old Step.Publish) ≡ true) }
     {
         let Phase::Ready = self.phase else {
             return Ok(Out::NotNow);
@@ -208,8 +211,8 @@ impl Core {
     }
 
     fn claim(&mut self) -> Out
-        ensures out { result ≡ out_of present self.old Step.Claim }
-        ensures after { self.new ≡ core_after present self.old Step.Claim }
+        ensures out { result ≡ out_of newest_rules self.old Step.Claim }
+        ensures after { self.new ≡ core_after newest_rules self.old Step.Claim }
     {
         let Phase::Draining = self.phase else {
             return Out::NotNow;
@@ -222,11 +225,11 @@ impl Core {
     }
 
     fn absorb(&mut self) -> Result<Out, AllocError>
-        ensures out { IfOk result (λ o. o ≡ out_of present self.old Step.Absorb) }
-        ensures ok { OnOk result (self.new ≡ core_after present self.old Step.Absorb) }
+        ensures out { IfOk result (λ o. o ≡ out_of newest_rules self.old Step.Absorb) }
+        ensures ok { OnOk result (self.new ≡ core_after newest_rules self.old Step.Absorb) }
         ensures err { OnErr result (self.new ≡ self.old) }
         ensures memory { OnErr result (step_takes_memory Step.Absorb
-            (out_of present self.old Step.Absorb) ≡ true) }
+            (out_of newest_rules self.old Step.Absorb) ≡ true) }
     {
         let Phase::Claimed = self.phase else {
             return Ok(Out::NotNow);

@@ -1,5 +1,5 @@
 ghost use Rattle.std.specs.Prelude.{◌≡◌, ◌+◌, true, length, None, IfOk, IfErr, OnOk, OnErr};
-ghost use Rattle.osn_days.specs.Profile.{present};
+ghost use Rattle.osn_days.specs.Profile.{newest_rules};
 ghost use Rattle.osn_register.specs.Refusal.{IsTestOf, IsRefusalOrNoMemory};
 ghost use Rattle.osn_register.specs.Answer.{refusal_in, query_refusal, takes_memory};
 ghost use Rattle.osn_core.specs.Sequential.{opened, with_pending, with_edition, stage_refusal};
@@ -41,7 +41,7 @@ impl Object {
 
     /// The published register.
     pub fn register(&self) -> &Register
-        ensures lands { result.now.lands ≡ lands_of present self.now.limits self.now.batches }
+        ensures lands { result.now.lands ≡ lands_of newest_rules self.now.limits self.now.batches }
         ensures limits { result.now.limits ≡ self.now.limits }
     {
         self.copies.live()
@@ -50,7 +50,7 @@ impl Object {
     /// The batches, each an edition.
     pub fn batches(&self) -> &[Batch]
         ensures value { result.now ≡ self.now.batches }
-        ensures sound { IsSound present self.now }
+        ensures sound { IsSound newest_rules self.now }
     {
         self.copies.batches()
     }
@@ -70,12 +70,13 @@ impl Object {
     /// list of territories take none.
     pub fn ask(&self, query: &Query) -> Result<Reply, AllocError>
         ensures value { IfOk result
-            (λ r. r ≡ reply_at present self.now.limits self.now.batches query.now) }
+            (λ r. r ≡ reply_at newest_rules self.now.limits self.now.batches query.now) }
         // as a law: nothing but the definition's refusals refuses a query
         ensures refused { IfOk result (λ r. refusal_in r.answer
-            ≡ query_refusal present (lands_of present self.now.limits self.now.batches) query.now) }
+            ≡ query_refusal newest_rules
+            (lands_of newest_rules self.now.limits self.now.batches) query.now) }
         ensures memory { OnErr result (takes_memory
-            (reply_at present self.now.limits self.now.batches query.now).answer ≡ true) }
+            (reply_at newest_rules self.now.limits self.now.batches query.now).answer ≡ true) }
     {
         Ok(Reply {
             edition: self.copies.edition(),
@@ -91,7 +92,7 @@ impl Object {
     ///
     /// The first refusal that applies.
     pub fn check(&self, edit: &Edit) -> Result<u32, Refusal>
-        ensures test { IsTestOf (stage_refusal present self.now edit.now) result }
+        ensures test { IsTestOf (stage_refusal newest_rules self.now edit.now) result }
         ensures count { IfOk result (λ n. n ≡ length self.now.pending + 1) }
     {
         self.copies.check(edit)
@@ -104,11 +105,11 @@ impl Object {
     /// The first refusal that applies, and else `NoMemory` where none is found. Nothing has changed
     /// then.
     pub fn stage(&mut self, edit: &Edit) -> Result<u32, Refusal>
-        ensures lawful { OnOk result (stage_refusal present self.old edit.now ≡ None) }
+        ensures lawful { OnOk result (stage_refusal newest_rules self.old edit.now ≡ None) }
         ensures ok { OnOk result (self.new ≡ with_pending self.old edit.now) }
         ensures count { IfOk result (λ n. n ≡ length self.new.pending) }
         ensures refused { IfErr result
-            (IsRefusalOrNoMemory (stage_refusal present self.old edit.now)) }
+            (IsRefusalOrNoMemory (stage_refusal newest_rules self.old edit.now)) }
         ensures err { OnErr result (self.new ≡ self.old) }
     {
         self.check(edit)?;
@@ -124,7 +125,7 @@ impl Object {
     ///
     /// Only where no memory is found. Nothing has changed then.
     pub fn admit(&mut self, edit: &Edit) -> Result<u32, AllocError>
-        requires { stage_refusal present self.old edit.now ≡ None }
+        requires { stage_refusal newest_rules self.old edit.now ≡ None }
         ensures ok { OnOk result (self.new ≡ with_pending self.old edit.now) }
         ensures count { IfOk result (λ n. n ≡ length self.new.pending) }
         ensures err { OnErr result (self.new ≡ self.old) }

@@ -1,7 +1,7 @@
 ghost use Rattle.std.specs.Prelude.{◌≡◌, ℕ, [], ◌∷◌, ◌++◌, None, IfOk, IfErr, OnOk};
 ghost use Rattle.osn_register.specs.Refusal.{IsRefusalOrNoMemory};
 ghost use Rattle.osn_register.specs.declared.refusal.Refusal.TheVariants.{NoMemory};
-ghost use Rattle.osn_days.specs.Profile.{present};
+ghost use Rattle.osn_days.specs.Profile.{newest_rules};
 ghost use Rattle.osn_core.specs.Sequential.{opened};
 ghost use Rattle.osn_core.specs.Machine.{first_core, out_of, core_after, outs_of, readers_refusal};
 ghost use Rattle.osn_core.specs.History.{history, told, told_editor, replies_to, Begin};
@@ -31,11 +31,11 @@ pub fn replay(
     ensures lawful { OnOk result (readers_refusal readers ≡ None) }
     ensures refused { IfErr result (IsRefusalOrNoMemory (readers_refusal readers)) }
     ensures outs { IfOk result
-        (λ outs. outs.items ≡ outs_of present (first_core limits readers) steps.now) }
+        (λ outs. outs.items ≡ outs_of newest_rules (first_core limits readers) steps.now) }
     ensures editor { IfOk result (λ outs. told_editor outs.items
-        ≡ told_editor (told present (opened limits) (history steps.now outs.items))) }
+        ≡ told_editor (told newest_rules (opened limits) (history steps.now outs.items))) }
     ensures readers { IfOk result (λ outs. (reader : ℕ) → Begin (replies_to reader outs.items)
-        (replies_to reader (told present (opened limits) (history steps.now outs.items)))) }
+        (replies_to reader (told newest_rules (opened limits) (history steps.now outs.items)))) }
     ensures forward { IfOk result (λ outs.
         (reader : ℕ) → NeverFalls 0 (editions_to reader outs.items)) }
 {
@@ -45,7 +45,7 @@ pub fn replay(
 
 /// What each step gives, from a state of the core on, or `NoMemory`.
 fn taken(alloc: Global, core: &mut Core, steps: &[Step]) -> Result<Vec<Out>, Refusal>
-    ensures outs { IfOk result (λ outs. outs.items ≡ outs_of present core.old steps.now) }
+    ensures outs { IfOk result (λ outs. outs.items ≡ outs_of newest_rules core.old steps.now) }
     ensures refused { IfErr result (λ f. f ≡ NoMemory) }
 {
     let mut outs = Vec::new(alloc);
@@ -59,9 +59,9 @@ fn taken(alloc: Global, core: &mut Core, steps: &[Step]) -> Result<Vec<Out>, Ref
 
 /// Takes a step, and adds what it gives.
 fn take(core: &mut Core, step: &Step, outs: &mut Vec<Out>) -> Result<(), AllocError>
-    ensures core { OnOk result (core.new ≡ core_after present core.old step.now) }
+    ensures core { OnOk result (core.new ≡ core_after newest_rules core.old step.now) }
     ensures outs { OnOk result
-        (outs.new.items ≡ outs.old.items ++ out_of present core.old step.now ∷ []) }
+        (outs.new.items ≡ outs.old.items ++ out_of newest_rules core.old step.now ∷ []) }
 {
     outs.push(core.step(step)?)?;
     Ok(())

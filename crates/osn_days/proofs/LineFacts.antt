@@ -6,7 +6,7 @@ use Rattle.std.proofs.lemmas.Bool.{cases_order}
 use Rattle.osn_days.specs.declared.date.Date.{Date}
 use Rattle.osn_days.specs.declared.calendar.Calendar.{Calendar}
 use Rattle.osn_days.specs.declared.calendar.Calendar.TheVariants.{Julian, Gregorian, Swedish}
-use Rattle.osn_days.specs.Profile.{Profile, present}
+use Rattle.osn_days.specs.Profile.{Profile, newest_rules}
 use Rattle.osn_days.specs.Line.{line, IsDay, IsYearNumber}
 use Rattle.osn_days.specs.Chain.{date_of, same_date, days_with_date}
 use Rattle.osn_days.proofs.FilterFacts.{filter_is}
@@ -27,12 +27,12 @@ pub record IsLineDate (d : Date) : Type 0 where
   pub day_low : 1 ≤ d.day
   pub day_high : d.day ≤ 31
 
-last_julian_year : (n : ℕ) → IsDay present n → (date_of Julian n).year ≤ℤ pos 2999
+last_julian_year : (n : ℕ) → IsDay newest_rules n → (date_of Julian n).year ≤ℤ pos 2999
 last_julian_year n on =
     julian_last_year (date_of Julian n) (chain_real Julian (n - 1) julian_by_months)
     (omega (arith, on, julian_place (date_of Julian n) n on.0 refl))
 
-last_year : (c : Calendar) (n : ℕ) → IsDay present n → (date_of c n).year ≤ℤ pos 2999
+last_year : (c : Calendar) (n : ℕ) → IsDay newest_rules n → (date_of c n).year ≤ℤ pos 2999
 last_year Julian n on = last_julian_year n on
 last_year Gregorian n on =
     gregorian_last_year (date_of Gregorian n) (chain_real Gregorian (n - 1) gregorian_by_months)
@@ -44,7 +44,7 @@ last_year Swedish n on =
     (λ _. search arith)
     (λ _. last_julian_year n on)
 
-pub date_of_line : (c : Calendar) (n : ℕ) → IsDay present n → IsLineDate (date_of c n)
+pub date_of_line : (c : Calendar) (n : ℕ) → IsDay newest_rules n → IsLineDate (date_of c n)
 date_of_line c n on =
     let s = chain_small c (n - 1) in
     record {
@@ -56,8 +56,8 @@ date_of_line c n on =
       day_high = s.day_high;
     }
 
-pub year_of_line : (c : Calendar) (n : ℕ) → IsDay present n
-    → IsYearNumber present (date_of c n).year
+pub year_of_line : (c : Calendar) (n : ℕ) → IsDay newest_rules n
+    → IsYearNumber newest_rules (date_of c n).year
 year_of_line c n on = let found = date_of_line c n on in (found.year_low, found.year_high)
 
 -- two days of one date are one day

@@ -1,6 +1,6 @@
 ghost use Rattle.std.specs.Prelude.{◌≡◌};
 ghost use Rattle.std.specs.Option.{option_to_list};
-ghost use Rattle.osn_days.specs.Profile.{present};
+ghost use Rattle.osn_days.specs.Profile.{newest_rules};
 ghost use Rattle.osn_days.specs.Line.{IsYearNumber};
 ghost use Rattle.osn_days.specs.Chain as chain;
 
@@ -22,7 +22,7 @@ pub enum Calendar {
 /// the Julian by chapter 3. Its year is from 1 to 2999.
 pub fn date_of(calendar: Calendar, day: Day) -> Date
     ensures value { result ≡ chain.date_of calendar day }
-    ensures year { IsYearNumber present result.year }
+    ensures year { IsYearNumber newest_rules result.year }
 {
     match calendar {
         Calendar::Julian => julian::date_of(day),
@@ -33,7 +33,7 @@ pub fn date_of(calendar: Calendar, day: Day) -> Date
 
 /// The one day that has the date, or `None` where no day of the line has it.
 pub fn day_of(calendar: Calendar, date: Date) -> Option<Day>
-    ensures { option_to_list result ≡ chain.days_with_date present calendar date }
+    ensures { option_to_list result ≡ chain.days_with_date newest_rules calendar date }
 {
     match calendar {
         Calendar::Julian => julian::day_of(date),

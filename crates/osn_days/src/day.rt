@@ -1,5 +1,5 @@
 ghost use Rattle.std.specs.Prelude.{◌≡◌, ◌↔◌, ◌≤◌, ℕ, pos, ◌+ℤ◌, IsSome, IfSome};
-ghost use Rattle.osn_days.specs.Profile.{present};
+ghost use Rattle.osn_days.specs.Profile.{newest_rules};
 ghost use Rattle.osn_days.specs.Line.{IsDay, IsOnLine, weekday, julian_day};
 ghost use Rattle.osn_days.specs.Weekday.{weekday_number};
 
@@ -21,14 +21,14 @@ pub struct Day {
 
 impl Model for Day {
     ghost use Rattle.std.specs.Prelude.{ℕ};
-    ghost use Rattle.osn_days.specs.Profile.{present};
+    ghost use Rattle.osn_days.specs.Profile.{newest_rules};
     ghost use Rattle.osn_days.specs.Line.{IsDay};
 
     ghost Value = { ℕ };
 
     ghost view = { λ d. d.number };
 
-    ghost invariant = { λ d. IsDay present d.number };
+    ghost invariant = { λ d. IsDay newest_rules d.number };
 
     ghost inverse = { λ n. record { number = n } };
 }
@@ -42,7 +42,7 @@ impl Day {
 
     /// The day of that number, or `None` off the line.
     pub fn new(number: i64) -> Option<Day>
-        ensures on_line { IsSome result ↔ IsOnLine present number }
+        ensures on_line { IsSome result ↔ IsOnLine newest_rules number }
         ensures value { IfSome result (λ d. pos d ≡ number) }
     {
         if number < 1 || number > i64::from(HIGH) {
@@ -53,7 +53,7 @@ impl Day {
 
     /// The day of that number, for callers who know that it is on the line: `new` is the test.
     pub fn on_line(number: i64) -> Day
-        requires { IsOnLine present number }
+        requires { IsOnLine newest_rules number }
         ensures { pos result ≡ number }
     {
         Day {
@@ -64,7 +64,7 @@ impl Day {
     /// The number, from 1.
     pub fn number(self) -> u32
         ensures value { result ≡ self }
-        ensures on_line { IsDay present result }
+        ensures on_line { IsDay newest_rules result }
     {
         self.number
     }
@@ -95,7 +95,7 @@ impl Day {
     /// The day that many days later, or earlier for a negative number, or `None` where that is off
     /// the line.
     pub fn plus(self, days: i32) -> Option<Day>
-        ensures on_line { IsSome result ↔ IsOnLine present (pos self +ℤ days) }
+        ensures on_line { IsSome result ↔ IsOnLine newest_rules (pos self +ℤ days) }
         ensures value { IfSome result (λ d. pos d ≡ pos self +ℤ days) }
     {
         Day::new(i64::from(self.number) + i64::from(days))
@@ -105,7 +105,7 @@ impl Day {
 /// The law of the constants: they are the ends of the line. Nothing calls it.
 fn ends() -> (Day, Day)
     ensures first { result.0 ≡ 1 }
-    ensures last { result.1 ≡ present.high }
+    ensures last { result.1 ≡ newest_rules.high }
 {
     (Day::FIRST, Day::LAST)
 }

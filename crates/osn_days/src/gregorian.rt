@@ -1,7 +1,7 @@
 //! The Gregorian calendar, which is `jiff`'s, with the count of the days between two of its dates.
 ghost use Rattle.std.specs.Prelude.{◌≡◌, ◌↔◌, pos, IsSome, IfSome};
 ghost use Rattle.std.specs.Option.{option_to_list};
-ghost use Rattle.osn_days.specs.Profile.{present};
+ghost use Rattle.osn_days.specs.Profile.{newest_rules};
 ghost use Rattle.osn_days.specs.Line.{IsYearNumber};
 ghost use Rattle.osn_days.specs.Chain as chain;
 ghost use Rattle.jiff_core.specs.Calendar.{IsDate};
@@ -19,7 +19,7 @@ const DAYS_BEFORE: u32 = 3_652_424;
 /// The date of a day.
 pub fn date_of(day: Day) -> Date
     ensures value { result ≡ chain.date_of Gregorian day }
-    ensures year { IsYearNumber present result.year }
+    ensures year { IsYearNumber newest_rules result.year }
 {
     let date = jiff_core::civil::Date::from_days_since_min(day.number() + DAYS_BEFORE);
     Date {
@@ -42,7 +42,7 @@ fn civil_date(date: Date) -> Option<civil::Date>
 
 /// The one day that has the date, or `None` where no day of the line has it.
 pub fn day_of(date: Date) -> Option<Day>
-    ensures { option_to_list result ≡ chain.days_with_date present Gregorian date }
+    ensures { option_to_list result ≡ chain.days_with_date newest_rules Gregorian date }
 {
     let days = civil_date(date)?.to_plain().days_since_min();
     Day::new(i64::from(days) - i64::from(DAYS_BEFORE))

@@ -4,7 +4,7 @@
 //! of the months before one are 153 fifths of a day for each, and 2 fifths, without the fraction.
 ghost use Rattle.std.specs.Prelude.{◌≡◌, pos};
 ghost use Rattle.std.specs.Option.{option_to_list};
-ghost use Rattle.osn_days.specs.Profile.{present};
+ghost use Rattle.osn_days.specs.Profile.{newest_rules};
 ghost use Rattle.osn_days.specs.Line.{IsYearNumber};
 ghost use Rattle.osn_days.specs.Chain as chain;
 ghost use Rattle.osn_days.specs.declared.calendar.Calendar.TheVariants.{Julian};
@@ -25,7 +25,7 @@ const DAYS_BEFORE: u32 = 308;
 /// The date of a day.
 pub fn date_of(day: Day) -> Date
     ensures value { result ≡ chain.date_of Julian day }
-    ensures year { IsYearNumber present result.year }
+    ensures year { IsYearNumber newest_rules result.year }
 {
     // Four times the days since 1 March of year 0, and 3 more, so that of four years from March on
     // the last is the longest.
@@ -51,7 +51,7 @@ pub fn date_of(day: Day) -> Date
 
 /// The one day that has the date, or `None` where no day of the line has it.
 pub fn day_of(date: Date) -> Option<Day>
-    ensures { option_to_list result ≡ chain.days_with_date present Julian date }
+    ensures { option_to_list result ≡ chain.days_with_date newest_rules Julian date }
 {
     let year = Year::new(i64::from(date.year))?;
     if date.month < 1 || date.month > 12 {

@@ -3,7 +3,7 @@
 //! the two agree again.
 ghost use Rattle.std.specs.Prelude.{◌≡◌};
 ghost use Rattle.std.specs.Option.{option_to_list};
-ghost use Rattle.osn_days.specs.Profile.{present};
+ghost use Rattle.osn_days.specs.Profile.{newest_rules};
 ghost use Rattle.osn_days.specs.Line.{IsYearNumber};
 ghost use Rattle.osn_days.specs.Chain as chain;
 ghost use Rattle.osn_days.specs.declared.calendar.Calendar.TheVariants.{Swedish};
@@ -21,7 +21,7 @@ const FEBRUARY_30_1712: u32 = 625_000;
 /// The date of a day.
 pub fn date_of(day: Day) -> Date
     ensures value { result ≡ chain.date_of Swedish day }
-    ensures year { IsYearNumber present result.year }
+    ensures year { IsYearNumber newest_rules result.year }
 {
     let number = day.number();
     if number == FEBRUARY_30_1712 {
@@ -39,7 +39,7 @@ pub fn date_of(day: Day) -> Date
 
 /// The one day that has the date, or `None` where no day of the line has it.
 pub fn day_of(date: Date) -> Option<Day>
-    ensures { option_to_list result ≡ chain.days_with_date present Swedish date }
+    ensures { option_to_list result ≡ chain.days_with_date newest_rules Swedish date }
 {
     if date.year == 1712 && date.month == 2 && date.day == 30 {
         return Some(Day::on_line(i64::from(FEBRUARY_30_1712)));

@@ -1,5 +1,5 @@
 ghost use Rattle.std.specs.Prelude.{◌≡◌, ◌↔◌, pos, ◌≤ℤ◌, IsSome, IfSome};
-ghost use Rattle.osn_days.specs.Profile.{present};
+ghost use Rattle.osn_days.specs.Profile.{newest_rules};
 ghost use Rattle.osn_days.specs.Line.{IsYear, IsYearNumber};
 
 use std::marker::Model;
@@ -12,14 +12,14 @@ pub struct Year {
 
 impl Model for Year {
     ghost use Rattle.std.specs.Prelude.{ℕ};
-    ghost use Rattle.osn_days.specs.Profile.{present};
+    ghost use Rattle.osn_days.specs.Profile.{newest_rules};
     ghost use Rattle.osn_days.specs.Line.{IsYear};
 
     ghost Value = { ℕ };
 
     ghost view = { λ y. y.number };
 
-    ghost invariant = { λ y. IsYear present y.number };
+    ghost invariant = { λ y. IsYear newest_rules y.number };
 
     ghost inverse = { λ n. record { number = n } };
 }
@@ -33,7 +33,7 @@ impl Year {
 
     /// The year of that number, or `None` outside the range.
     pub fn new(number: i64) -> Option<Year>
-        ensures in_range { IsSome result ↔ IsYearNumber present number }
+        ensures in_range { IsSome result ↔ IsYearNumber newest_rules number }
         ensures value { IfSome result (λ y. pos y ≡ number) }
     {
         if number < 1 || number > i64::from(Year::LAST.number) {
@@ -44,7 +44,7 @@ impl Year {
 
     /// The year of that number, for callers who know that it is in the range: `new` is the test.
     pub fn in_range(number: i64) -> Year
-        requires { IsYearNumber present number }
+        requires { IsYearNumber newest_rules number }
         ensures { pos result ≡ number }
     {
         Year {
@@ -55,7 +55,7 @@ impl Year {
     /// The number, from 1.
     pub fn number(self) -> u32
         ensures value { result ≡ self }
-        ensures in_range { IsYear present result }
+        ensures in_range { IsYear newest_rules result }
     {
         self.number
     }
@@ -64,7 +64,7 @@ impl Year {
 /// The law of the constants: they are the ends of the range. Nothing calls it.
 fn ends() -> (Year, Year)
     ensures first { result.0 ≡ 1 }
-    ensures last { result.1 ≡ present.last_year }
+    ensures last { result.1 ≡ newest_rules.last_year }
 {
     (Year::FIRST, Year::LAST)
 }

@@ -8,7 +8,7 @@ use Rattle.std.proofs.lemmas.Bool.{and_parts, false≢true}
 use Rattle.serde_json.specs.Data.{Data, object, Members}
 use Rattle.serde_json.specs.Read.{of_json}
 use Rattle.serde_json.specs.Written.{compact_text, outline}
-use Rattle.osn_days.specs.Profile.{present}
+use Rattle.osn_days.specs.Profile.{newest_rules}
 use Rattle.osn_lands.specs.Territory.{PlainTerritory}
 use Rattle.osn_lines.specs.Lines.{lines}
 use Rattle.osn_register.specs.declared.refusal.Refusal.{Refusal}
@@ -40,7 +40,7 @@ IsLine-fit ms n h room back = record {
 -- a value on a line of its own, which says this command
 pub record Says (d : Data) (c : Command) : Type 0 where
   pub line : IsLine d
-  pub command : command_in present d ≡ Ok c
+  pub command : command_in newest_rules d ≡ Ok c
 
 -- the test at hand does not apply, and neither do those behind it
 pub next_test : (b : Bool) (f : Refusal) (r : Option Refusal) → cond b (Some f) r ≡ None
@@ -52,7 +52,7 @@ pub un_not : (b : Bool) → not b ≡ false → b ≡ true
 un_not true h = refl
 un_not false h = absurd (cc)
 
-both_none : (a b : Option Refusal) → or_else a b ≡ None → (a ≡ None) × (b ≡ None)
+pub both_none : (a b : Option Refusal) → or_else a b ≡ None → (a ≡ None) × (b ≡ None)
 both_none None b h = (refl, h)
 both_none (Some f) b h = absurd (false≢true (sym (ap is_some h)))
 

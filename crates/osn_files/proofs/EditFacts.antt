@@ -12,17 +12,17 @@ use Rattle.json.proofs.Printed.Utf8.{IsUtf8-are_ascii, are_ascii}
 use Rattle.serde_json.specs.Data.{Data, string}
 use Rattle.osn_days.specs.declared.calendar.Calendar.{Calendar}
 use Rattle.osn_days.specs.declared.calendar.Calendar.TheVariants as calendars
-use Rattle.osn_days.specs.Profile.{present}
+use Rattle.osn_days.specs.Profile.{newest_rules}
 use Rattle.osn_computus.specs.declared.rule.Rule.{Rule}
 use Rattle.osn_computus.specs.declared.rule.Rule.TheVariants as rules
 use Rattle.osn_lands.specs.declared.regime.Regime.{Regime}
 use Rattle.osn_lands.specs.declared.style.Style.{Style}
 use Rattle.osn_lands.specs.declared.style.Style.TheVariants as styles
 use Rattle.osn_register.specs.Code.{is_code, is_name, is_code_byte, is_capital}
-use Rattle.osn_words.specs.Words.{calendar_word, style_word, rule_word}
-use Rattle.osn_words.specs.Words.{calendar_named, style_named, rule_named}
 use Rattle.osn_request.specs.declared.member.Member.TheVariants as members
 use Rattle.osn_request.specs.Field.{text_at, regime_of}
+use Rattle.osn_words.specs.Words.{calendar_word, style_word, rule_word}
+use Rattle.osn_words.specs.Words.{calendar_named, style_named, rule_named}
 use Rattle.osn_files.proofs.TextFacts.{Fits, Fits-string}
 
 Fits-wider : (d : Data) (m n : ℕ) → Fits d m → m ≤ n → Fits d n
@@ -49,11 +49,13 @@ calendar_named-word calendars.Julian = refl
 calendar_named-word calendars.Gregorian = refl
 calendar_named-word calendars.Swedish = refl
 
-style_named-word : (s : Style) → style_named present (style_word s) ≡ Some s
+style_named-word : (s : Style) → style_named newest_rules (style_word s) ≡ Some s
 style_named-word styles.January = refl
 style_named-word styles.Annunciation = refl
 style_named-word styles.Nativity = refl
 style_named-word styles.September = refl
+style_named-word styles.Pisan = refl
+style_named-word styles.Easter = refl
 
 rule_named-word : (r : Rule) → rule_named (rule_word r) ≡ Some r
 rule_named-word rules.Julian = refl
@@ -63,7 +65,7 @@ rule_named-word rules.Gregorian = refl
 pub regime_of-words : (d : Data) (r : Regime)
     → text_at members.Calendar d ≡ Ok (calendar_word r.calendar)
     → text_at members.Style d ≡ Ok (style_word r.style)
-    → text_at members.Rule d ≡ Ok (rule_word r.rule) → regime_of present d ≡ Ok r
+    → text_at members.Rule d ≡ Ok (rule_word r.rule) → regime_of newest_rules d ≡ Ok r
 unfolding regime_of
 regime_of-words d r calendar style rule = rw (
   calendar,
@@ -88,6 +90,8 @@ Fits-style styles.January = Fits-word (codes "january") refl (omega arith)
 Fits-style styles.Annunciation = Fits-word (codes "annunciation") refl (omega arith)
 Fits-style styles.Nativity = Fits-word (codes "nativity") refl (omega arith)
 Fits-style styles.September = Fits-word (codes "september") refl (omega arith)
+Fits-style styles.Pisan = Fits-word (codes "pisan") refl (omega arith)
+Fits-style styles.Easter = Fits-word (codes "easter") refl (omega arith)
 
 pub Fits-rule : (r : Rule) → Fits (string (rule_word r)) 90
 Fits-rule rules.Julian = Fits-word (codes "julian") refl (omega arith)

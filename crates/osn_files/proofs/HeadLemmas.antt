@@ -4,13 +4,13 @@ use Rattle.std.proofs.Common.{IfSome, refl, sym, ap, ◌∙◌}
 use Rattle.std.specs.Prelude.{⊤}
 use Rattle.osn_lines.specs.Lines.{lines}
 use Rattle.osn_request.specs.declared.wire_fault.WireFault.TheVariants.{BadHead}
+use Rattle.osn_words.specs.declared.version.Version.{Version}
 use Rattle.osn_files.specs.declared.fault.FileFault.{FileFault}
 use Rattle.osn_files.specs.declared.fault.FileFault.TheVariants.{NoMemory, ReadFault, BadLine}
 use Rattle.osn_files.specs.declared.fault.LineFault.{LineFault}
 use Rattle.osn_files.specs.declared.fault.LineFault.TheVariants.{Wire}
 use Rattle.osn_files.specs.declared.fault.Role.{Role}
 use Rattle.osn_files.specs.declared.headed.Headed.{Headed}
-use Rattle.osn_files.specs.declared.version.Version.{Version}
 use Rattle.osn_files.specs.Faults.{MatchFileFault}
 use Rattle.osn_files.specs.HeadedInside.{headed, with_head, with_behind, headed_after}
 use Rattle.osn_files.specs.Turns.{go_on, in_turn, behind, behind_head}

@@ -9,7 +9,7 @@ use Rattle.std.proofs.lemmas.Bool.{lt-ltb, ne_eqb}
 use Rattle.std.proofs.lemmas.List.Sums.{sum_by-append}
 use Rattle.serde_json.specs.Data.{Data}
 use Rattle.serde_json.specs.Written.{compact_text}
-use Rattle.osn_days.specs.Profile.{present}
+use Rattle.osn_days.specs.Profile.{Profile, newest_rules}
 use Rattle.osn_lines.specs.Lines.{lines}
 use Rattle.osn_register.specs.declared.edit.Edit.{Edit}
 use Rattle.osn_register.specs.declared.limits.Limits.{Limits}
@@ -24,6 +24,7 @@ use Rattle.osn_core.specs.Sequential.{ObjectState, opened, joined, edits_in, Are
 use Rattle.osn_core.specs.Sequential.{IsSound, stage_refusal, publish_refusal, draft_lands}
 use Rattle.osn_core.proofs.Batches.{joined-push}
 use Rattle.osn_request.specs.Field.{◌>>=◌}
+use Rattle.osn_words.specs.Version.{newest_version}
 use Rattle.osn_files.specs.declared.fault.LineFault.{LineFault}
 use Rattle.osn_files.specs.Commands.{command_in}
 use Rattle.osn_files.specs.Journal.{after_read, after_command, after_line, load}
@@ -31,55 +32,55 @@ use Rattle.osn_files.specs.Turns.{go_on, in_turn, behind}
 use Rattle.osn_files.specs.Journal as journal
 use Rattle.osn_files.specs.JournalText.{line_text, edit_data, publish_data, edits_text, batch_text}
 use Rattle.osn_files.specs.JournalText.{batches_text, journal_text}
-use Rattle.osn_files.specs.Version.{newest}
 use Rattle.osn_files.proofs.CommandFacts.{Says}
 use Rattle.osn_files.proofs.SaysFacts.{Says-publish, Says-lawful, IsLine-head, version_of-head}
 
 abbrev step : ObjectState → List ℕ → Result ObjectState LineFault
-step = after_line present newest
+step = after_line newest_rules newest_version
 
 abbrev pub at : Limits → List (List Edit) → List Edit → ObjectState
 at limits done pend = record { limits = limits; batches = done; pending = pend }
 
 abbrev lands_at : Limits → List Edit → List PlainLand
-lands_at limits es = applied_all present limits [] es
+lands_at limits es = applied_all newest_rules limits [] es
 
 applied_all-append : (limits : Limits) (lands : List PlainLand) (es fs : List Edit)
-    → applied_all present limits lands (es ++ fs)
-    ≡ applied_all present limits (applied_all present limits lands es) fs
+    → applied_all newest_rules limits lands (es ++ fs)
+    ≡ applied_all newest_rules limits (applied_all newest_rules limits lands es) fs
 applied_all-append limits lands [] fs = refl
 applied_all-append limits lands (e ∷ es) fs =
-    applied_all-append limits (applied present limits lands e) es fs
+    applied_all-append limits (applied newest_rules limits lands e) es fs
 
 applied-lawful : (limits : Limits) (lands : List PlainLand) (e : Edit)
-    → refusal present limits lands e ≡ None → applied present limits lands e ≡ effect lands e
+    → refusal newest_rules limits lands e ≡ None
+    → applied newest_rules limits lands e ≡ effect lands e
 applied-lawful limits lands e none = ap (λ r. unless_refused r (effect lands e) lands) none
 
 -- the first of edits that are lawful in turn are so
-pub lawful_front : (limits : Limits) (lands : List PlainLand) (es fs : List Edit)
-    → AreLawful present limits lands (es ++ fs) → AreLawful present limits lands es
-lawful_front limits lands [] fs h = tt
-lawful_front limits lands (e ∷ es) fs h = (h.0, lawful_front limits (effect lands e) es fs h.1)
+pub lawful_front : (p : Profile) (limits : Limits) (lands : List PlainLand) (es fs : List Edit)
+    → AreLawful p limits lands (es ++ fs) → AreLawful p limits lands es
+lawful_front p limits lands [] fs h = tt
+lawful_front p limits lands (e ∷ es) fs h = (h.0, lawful_front p limits (effect lands e) es fs h.1)
 
 -- and so are the others behind them
 pub lawful_rest : (limits : Limits) (lands : List PlainLand) (es fs : List Edit)
-    → AreLawful present limits lands (es ++ fs)
-    → AreLawful present limits (applied_all present limits lands es) fs
+    → AreLawful newest_rules limits lands (es ++ fs)
+    → AreLawful newest_rules limits (applied_all newest_rules limits lands es) fs
 lawful_rest limits lands [] fs h = h
 lawful_rest limits lands (e ∷ es) fs h =
-    lawful_rest limits (applied present limits lands e) es fs
-    (subst (λ ls. AreLawful present limits ls (es ++ fs)) (sym (applied-lawful limits lands e h.0))
-    h.1)
+    lawful_rest limits (applied newest_rules limits lands e) es fs
+    (subst (λ ls. AreLawful newest_rules limits ls (es ++ fs))
+    (sym (applied-lawful limits lands e h.0)) h.1)
 
 -- one line is run
 step_says : (s : ObjectState) (d : Data) (c : Command) → Says d c
-    → step s (compact_text d) ≡ after_command present s c
+    → step s (compact_text d) ≡ after_command newest_rules s c
 step_says s d c h =
-    ap (λ r. after_read present s (r >>= command_in present)) h.line.object
-    ∙ ap (after_read present s) h.command
+    ap (λ r. after_read newest_rules s (r >>= command_in newest_rules)) h.line.object
+    ∙ ap (after_read newest_rules s) h.command
 
 run_line : (s u t : ObjectState) (d : Data) (c : Command) (more : List ℕ) → Says d c
-    → after_command present s c ≡ Ok u → ((m : ℕ) → in_turn step m u (lines more) ≡ Ok t)
+    → after_command newest_rules s c ≡ Ok u → ((m : ℕ) → in_turn step m u (lines more) ≡ Ok t)
     → (n : ℕ) → in_turn step n s (lines (line_text d ++ more)) ≡ Ok t
 run_line s u t d c more h one rest n =
     ap (in_turn step n s) (h.line.first more)
@@ -87,8 +88,9 @@ run_line s u t d c more h one rest n =
     ∙ rest (n + 1))
 
 stage_passes : (s : ObjectState) (e : Edit)
-    → refusal present s.limits (draft_lands present s) e ≡ None → edits_in s < s.limits.edits
-    → stage_refusal present s e ≡ None
+    → refusal newest_rules s.limits (draft_lands newest_rules s) e ≡ None
+    → edits_in s < s.limits.edits
+    → stage_refusal newest_rules s e ≡ None
 stage_passes s e lawful room =
     ap (λ r. or_else r (cond (nat_lt (edits_in s) s.limits.edits) None (Some JournalFull))) lawful
     ∙ ap (λ b. cond b None (Some JournalFull)) (lt-ltb (edits_in s) s.limits.edits room)
@@ -103,7 +105,7 @@ publish_passes s some room =
 
 -- lawful edits that there is room for are all staged
 run_edits : (limits : Limits) (done : List (List Edit)) (pend es : List Edit) (more : List ℕ)
-    (t : ObjectState) → AreLawful present limits (lands_at limits (joined done ++ pend)) es
+    (t : ObjectState) → AreLawful newest_rules limits (lands_at limits (joined done ++ pend)) es
     → edits_in (at limits done pend) + length es ≤ limits.edits
     → ((m : ℕ) → in_turn step m (at limits done (pend ++ es)) (lines more) ≡ Ok t)
     → (n : ℕ) → in_turn step n (at limits done pend) (lines (edits_text es ++ more)) ≡ Ok t
@@ -123,7 +125,7 @@ run_edits limits done pend (e ∷ es) more t lawful room rest n =
     (Says-lawful limits (lands_at limits (joined done ++ pend)) e lawful.0)
     (ap (λ r. journal.unless_refused r (at limits done (pend ++ e ∷ []))) passes)
     (run_edits limits done (pend ++ e ∷ []) es more t
-    (subst (λ ls. AreLawful present limits ls es) (sym grown) lawful.1)
+    (subst (λ ls. AreLawful newest_rules limits ls es) (sym grown) lawful.1)
     (omega (arith, room, length-append pend (e ∷ [])))
     (λ m. ap (λ p. in_turn step m (at limits done p) (lines more)) (append_assoc pend (e ∷ []) es)
     ∙ rest m))
@@ -131,7 +133,8 @@ run_edits limits done pend (e ∷ es) more t lawful room rest n =
 
 -- batches of them that there is room for are all published
 run_batches : (limits : Limits) (done bs : List (List Edit)) (pend : List Edit) (more : List ℕ)
-    (t : ObjectState) → AreLawful present limits (lands_at limits (joined done)) (joined bs ++ pend)
+    (t : ObjectState)
+    → AreLawful newest_rules limits (lands_at limits (joined done)) (joined bs ++ pend)
     → NoneEmpty bs
     → sum_by (λ b. length b) done + sum_by (λ b. length b) bs ≤ limits.edits
     → length done + length bs ≤ limits.editions
@@ -145,18 +148,20 @@ run_batches limits done (b ∷ bs) pend more t lawful some edits editions rest n
     let regroup : (batch_text b ++ batches_text bs) ++ more ≡ edits_text b ++ behind =
     append_assoc (edits_text b ++ line_text publish_data) (batches_text bs) more
     ∙ append_assoc (edits_text b) (line_text publish_data) (batches_text bs ++ more) in
-    let all : AreLawful present limits (lands_at limits (joined done)) (b ++ (joined bs ++ pend)) =
-    subst (AreLawful present limits (lands_at limits (joined done)))
+    let all :
+    AreLawful newest_rules limits (lands_at limits (joined done)) (b ++ (joined bs ++ pend)) =
+    subst (AreLawful newest_rules limits (lands_at limits (joined done)))
     (append_assoc b (joined bs) pend) lawful in
-    let first : AreLawful present limits (lands_at limits (joined done ++ [])) b =
-    subst (λ es. AreLawful present limits (lands_at limits es) b) (sym (append-nil (joined done)))
-    (lawful_front limits (lands_at limits (joined done)) b (joined bs ++ pend) all) in
+    let first : AreLawful newest_rules limits (lands_at limits (joined done ++ [])) b =
+    subst (λ es. AreLawful newest_rules limits (lands_at limits es) b)
+    (sym (append-nil (joined done)))
+    (lawful_front newest_rules limits (lands_at limits (joined done)) b (joined bs ++ pend) all) in
     let grown : lands_at limits (joined (done ++ b ∷ []))
-    ≡ applied_all present limits (lands_at limits (joined done)) b =
+    ≡ applied_all newest_rules limits (lands_at limits (joined done)) b =
     ap (lands_at limits) (joined-push done b) ∙ applied_all-append limits [] (joined done) b in
     let others :
-    AreLawful present limits (lands_at limits (joined (done ++ b ∷ []))) (joined bs ++ pend) =
-    subst (λ ls. AreLawful present limits ls (joined bs ++ pend)) (sym grown)
+    AreLawful newest_rules limits (lands_at limits (joined (done ++ b ∷ []))) (joined bs ++ pend) =
+    subst (λ ls. AreLawful newest_rules limits ls (joined bs ++ pend)) (sym grown)
     (lawful_rest limits (lands_at limits (joined done)) b (joined bs ++ pend) all) in
     let total : sum_by (λ (c : List Edit). length c) (b ∷ bs)
     ≡ (0 + length b) + sum_by (λ (c : List Edit). length c) bs =
@@ -175,18 +180,18 @@ run_batches limits done (b ∷ bs) pend more t lawful some edits editions rest n
     n
 
 -- the law
-pub load-journal_text : (s : ObjectState) → IsSound present s
-    → load present s.limits (lines (journal_text s)) ≡ Ok s
+pub load-journal_text : (s : ObjectState) → IsSound newest_rules s
+    → load newest_rules s.limits (lines (journal_text s)) ≡ Ok s
 load-journal_text s h =
     let rest = batches_text s.batches ++ edits_text s.pending in
-    ap (load present s.limits) (IsLine-head.first rest)
-    ∙ (ap (behind (after_line present) (opened s.limits) (lines rest)) version_of-head
+    ap (load newest_rules s.limits) (IsLine-head.first rest)
+    ∙ (ap (behind (after_line newest_rules) (opened s.limits) (lines rest)) version_of-head
     ∙ run_batches s.limits [] s.batches s.pending (edits_text s.pending) s h.lawful h.none_empty
     (omega (arith, h.edits)) (omega (arith, h.editions))
     (λ m. ap (λ text. in_turn step m (at s.limits s.batches []) (lines text))
     (sym (append-nil (edits_text s.pending)))
     ∙ run_edits s.limits s.batches [] s.pending [] s
-    (subst (λ es. AreLawful present s.limits (lands_at s.limits es) s.pending)
+    (subst (λ es. AreLawful newest_rules s.limits (lands_at s.limits es) s.pending)
     (sym (append-nil (joined s.batches)))
     (lawful_rest s.limits [] (joined s.batches) s.pending h.lawful))
     (omega (arith, h.edits))

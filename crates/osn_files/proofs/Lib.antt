@@ -11,3 +11,6 @@ mod CommandFacts
 mod SaysFacts
 mod LawFacts
 mod Utf8Facts
+mod OldFacts
+mod NewerFacts
+mod KeptFacts

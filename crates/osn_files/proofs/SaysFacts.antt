@@ -7,7 +7,7 @@ use Rattle.serde_json.specs.Data.{string, number, unsigned}
 use Rattle.serde_json.specs.Data.{no_members}
 use Rattle.serde_json.specs.Written.{compact_text}
 use Rattle.serde_json.proofs.Numbers.{number_of-decimal}
-use Rattle.osn_days.specs.Profile.{present}
+use Rattle.osn_days.specs.Profile.{newest_rules}
 use Rattle.osn_lands.specs.declared.regime.Regime.{Regime}
 use Rattle.osn_register.specs.declared.edit.Edit.{Edit}
 use Rattle.osn_register.specs.declared.edit.Edit.TheVariants.{AddLand, AddChange, AlterChange}
@@ -19,8 +19,9 @@ use Rattle.osn_register.specs.Plain.{PlainLand, refusal}
 use Rattle.osn_core.specs.declared.command.Command.TheVariants.{Stage, Publish}
 use Rattle.osn_request.specs.EditRequest.{add_land_of, add_change_of, alter_change_of}
 use Rattle.osn_request.specs.EditRequest.{drop_change_of, add_exception_of, drop_exception_of}
+use Rattle.osn_words.specs.Version.{newest_version}
 use Rattle.osn_files.specs.JournalText.{edit_data, publish_data}
-use Rattle.osn_files.specs.Version.{head_data, newest, version_of}
+use Rattle.osn_files.specs.Version.{head_data, version_of}
 use Rattle.osn_files.proofs.TextFacts.{Fits-number, Fit-none, Fit-member}
 use Rattle.osn_files.proofs.EditFacts.{regime_of-words, Fits-word, Fits-calendar, Fits-style}
 use Rattle.osn_files.proofs.EditFacts.{Fits-rule, Fits-code, Fits-name}
@@ -135,7 +136,7 @@ Says-drop_exception code y c early =
 
 -- the line of a lawful edit says the edit
 pub Says-lawful : (limits : Limits) (lands : List PlainLand) (e : Edit)
-    → refusal present limits lands e ≡ None → Says (edit_data e) (Stage e)
+    → refusal newest_rules limits lands e ≡ None → Says (edit_data e) (Stage e)
 Says-lawful limits lands (AddLand code name r) h =
     let code_good = next_test (not (is_code code)) _ _ h in
     let name_good = next_test (not (is_name name)) _ _ code_good.1 in
@@ -174,11 +175,11 @@ Says-lawful limits lands (DropException code year) h =
     (Says-drop_exception code in_year.number it.code_is (omega (arith, in_year.low)))
 
 -- the head is a line, and says the version that is written
-pub IsLine-head : IsLine (head_data newest)
+pub IsLine-head : IsLine (head_data newest_version)
 IsLine-head =
-    let h = Fit-member (codes "journal") (number (unsigned 1)) no_members 8 1 refl
-    (Fits-number 1 (omega arith)) Fit-none in
-    IsLine-fit _ _ h (omega arith) (rw (number_of-decimal 1 (omega arith)) refl)
+    let h = Fit-member (codes "journal") (number (unsigned 2)) no_members 8 1 refl
+    (Fits-number 2 (omega arith)) Fit-none in
+    IsLine-fit _ _ h (omega arith) (rw (number_of-decimal 2 (omega arith)) refl)
 
-pub version_of-head : version_of (compact_text (head_data newest)) ≡ Ok newest
+pub version_of-head : version_of (compact_text (head_data newest_version)) ≡ Ok newest_version
 version_of-head = rw IsLine-head.object refl

@@ -9,14 +9,15 @@ use Rattle.osn_core.specs.declared.command.Command.{Command}
 use Rattle.osn_core.specs.declared.step.Step.{Step}
 use Rattle.osn_core.specs.Sequential.{ObjectState}
 use Rattle.osn_register.specs.declared.query.Query.{Query}
-use Rattle.osn_files.specs.declared.version.Version.{Version}
+use Rattle.osn_words.specs.declared.version.Version.{Version}
+use Rattle.osn_words.specs.Version.{rules_of}
 use Rattle.osn_files.specs.Commands.{command_in, command_of}
 use Rattle.osn_files.specs.Journal.{after_read, after_line}
 use Rattle.osn_files.specs.Questions.{question_in}
 use Rattle.osn_files.specs.QuestionsInside.{list_read, list_line}
 use Rattle.osn_files.specs.Schedule as schedule
 use Rattle.osn_files.specs.Script.{with_read, with_line}
-use Rattle.osn_files.specs.Version.{rules_of, version_in, version_of}
+use Rattle.osn_files.specs.Version.{version_in, version_of}
 
 -- the version of a head
 pub version_of-front : (line : List ℕ) → version_of (front_of line) ≡ version_of line
@@ -32,13 +33,13 @@ command_of-front p line = ap (λ r. r >>= command_in p) (object_of_front line)
 pub after_line-front : (p : Profile) (version : Version) (s : ObjectState) (line : List ℕ)
     → after_line p version s (front_of line) ≡ after_line p version s line
 after_line-front p version s line =
-    ap (after_read p s) (command_of-front (rules_of p version) line)
+    ap (after_read p s) (command_of-front (rules_of version) line)
 
 -- the commands with that of a line
-pub with_line-front : (p : Profile) (version : Version) (commands : List Command) (line : List ℕ)
-    → with_line p version commands (front_of line) ≡ with_line p version commands line
-with_line-front p version commands line =
-    ap (with_read commands) (command_of-front (rules_of p version) line)
+pub with_line-front : (version : Version) (commands : List Command) (line : List ℕ)
+    → with_line version commands (front_of line) ≡ with_line version commands line
+with_line-front version commands line =
+    ap (with_read commands) (command_of-front (rules_of version) line)
 
 -- the lists of queries with that of a line
 pub lists-front : (lists : List (List Query)) (line : List ℕ)

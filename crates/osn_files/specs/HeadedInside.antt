@@ -3,10 +3,10 @@ use Rattle.std.specs.Prelude.{ℕ, List, Option, Some, None, Result, Ok, Err}
 use Rattle.std.proofs.Common.{◌≡◌, ap}
 use Rattle.osn_lines.specs.Lines.{front_of}
 use Rattle.osn_request.specs.declared.wire_fault.WireFault.{WireFault}
+use Rattle.osn_words.specs.declared.version.Version.{Version}
 use Rattle.osn_files.specs.declared.fault.LineFault.{LineFault}
 use Rattle.osn_files.specs.declared.fault.LineFault.TheVariants.{Wire}
 use Rattle.osn_files.specs.declared.headed.Headed.{Headed}
-use Rattle.osn_files.specs.declared.version.Version.{Version}
 use Rattle.osn_files.specs.Fronts.{version_of-front}
 use Rattle.osn_files.specs.Version.{version_of}
 

@@ -13,7 +13,8 @@ use Rattle.osn_register.specs.declared.edit.Edit.TheVariants.{DropException}
 use Rattle.osn_core.specs.Sequential.{ObjectState}
 use Rattle.osn_words.specs.Json.{signed}
 use Rattle.osn_words.specs.Words.{calendar_word, style_word, rule_word}
-use Rattle.osn_files.specs.Version.{head_data, newest}
+use Rattle.osn_words.specs.Version.{newest_version}
+use Rattle.osn_files.specs.Version.{head_data}
 
 -- what an edit of this op asks for that changes the regime of a territory from a day on
 abbrev pub change_data : List ℕ → List ℕ → ℤ → Regime → Data
@@ -77,4 +78,4 @@ batches_text = flat_map batch_text
 -- the whole journal
 abbrev pub journal_text : ObjectState → List ℕ
 journal_text s =
-    line_text (head_data newest) ++ (batches_text s.batches ++ edits_text s.pending)
+    line_text (head_data newest_version) ++ (batches_text s.batches ++ edits_text s.pending)

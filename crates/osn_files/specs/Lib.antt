@@ -12,4 +12,5 @@ pub mod ReadingInside
 pub mod QuestionsInside
 pub mod Fronts
 pub mod HeadedInside
+pub mod Kept
 pub mod ScheduleInside

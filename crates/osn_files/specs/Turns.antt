@@ -2,9 +2,9 @@
 use Rattle.std.specs.Prelude.{ℕ, ◌+◌, List, [], ◌∷◌, Result, Ok, Err}
 use Rattle.osn_request.specs.declared.wire_fault.WireFault.{WireFault}
 use Rattle.osn_request.specs.declared.wire_fault.WireFault.TheVariants.{BadHead}
+use Rattle.osn_words.specs.declared.version.Version.{Version}
 use Rattle.osn_files.specs.declared.fault.LineFault.{LineFault}
 use Rattle.osn_files.specs.declared.fault.LineFault.TheVariants.{Wire}
-use Rattle.osn_files.specs.declared.version.Version.{Version}
 use Rattle.osn_files.specs.Version.{version_of}
 
 -- what comes next, unless the line of this number has a fault

@@ -2,8 +2,8 @@
 ghost use Rattle.std.specs.Prelude.{◌≡◌, ⊤, ℕ, List, Result, Ok, Err, IfOk, IfErr, IfSome, OnOk};
 ghost use Rattle.std.specs.Io.KnownBytes.{IsAtEnd};
 ghost use Rattle.osn_lines.specs.Lines.{lines, front_of};
+ghost use Rattle.osn_words.specs.declared.version.Version.{Version};
 ghost use Rattle.osn_files.specs.declared.fault.LineFault.{LineFault};
-ghost use Rattle.osn_files.specs.declared.version.Version.{Version};
 ghost use Rattle.osn_files.specs.Faults.{MatchFileFault, FailsAsTold};
 ghost use Rattle.osn_files.specs.Stops.{Stops};
 ghost use Rattle.osn_files.specs.Turns.{behind_head};
@@ -11,9 +11,10 @@ ghost use Rattle.osn_files.specs.Turns.{behind_head};
 use crate::fault::{FileFault, LineFault, Role};
 use crate::reading::{MadeOfLines, read_lines};
 use crate::stop::LineStop;
-use crate::version::{Version, version_of};
+use crate::version::version_of;
 use osn_lines::Source;
 use osn_request::WireFault;
+use osn_words::Version;
 use std::alloc::Global;
 
 /// What lines behind a head make, one after another.

@@ -1,7 +1,7 @@
 //! Reads a question file.
 ghost use Rattle.std.specs.Prelude.{◌≡◌, ⊤, Ok, Err, IfOk, IfErr, IfSome, OnOk, map};
 ghost use Rattle.std.specs.Io.KnownBytes.{IsAtEnd};
-ghost use Rattle.osn_days.specs.Profile.{present};
+ghost use Rattle.osn_days.specs.Profile.{newest_rules};
 ghost use Rattle.osn_lines.specs.Lines.{lines};
 ghost use Rattle.osn_files.specs.Faults.{MatchFileFault, FailsAsTold};
 ghost use Rattle.osn_files.specs.Questions as said;

@@ -1,7 +1,7 @@
 //! Reads a schedule.
 ghost use Rattle.std.specs.Prelude.{◌≡◌, ⊤, Ok, Err, IfOk, IfErr, IfSome, OnOk};
 ghost use Rattle.std.specs.Io.KnownBytes.{IsAtEnd};
-ghost use Rattle.osn_days.specs.Profile.{present};
+ghost use Rattle.osn_days.specs.Profile.{newest_rules};
 ghost use Rattle.osn_lines.specs.Lines.{lines};
 ghost use Rattle.osn_files.specs.Faults.{MatchFileFault, FailsAsTold};
 ghost use Rattle.osn_files.specs.Schedule as said;
@@ -27,10 +27,11 @@ pub fn read_schedule<R: Source>(
 ) -> Result<Vec<Step>, FileFault>
     // The steps, or the fault, are those of the lines of all that is read.
     ensures steps { IfOk result (λ steps. IfSome (R.remaining source.old) (λ input.
-        said.schedule present readers (lines input) ≡ Ok steps.items)) }
+        said.schedule newest_rules readers (lines input) ≡ Ok steps.items)) }
     ensures fault { IfErr result (λ fault. IfSome (R.remaining source.old) (λ input.
         MatchFileFault fault ⊤ ⊤ (λ role line why.
-        (role ≡ Schedule) × (said.schedule present readers (lines input) ≡ Err (line, why))))) }
+        (role ≡ Schedule)
+        × (said.schedule newest_rules readers (lines input) ≡ Err (line, why))))) }
     ensures role { IfErr result (λ fault. MatchFileFault fault ⊤ ⊤ (λ role _ _. role ≡ Schedule)) }
     ensures end { OnOk result (IsAtEnd (R.remaining source.new)) }
 

@@ -1,7 +1,6 @@
 //! Reads a script.
 ghost use Rattle.std.specs.Prelude.{◌≡◌, ⊤, Ok, Err, IfOk, IfErr, IfSome, OnOk};
 ghost use Rattle.std.specs.Io.KnownBytes.{IsAtEnd};
-ghost use Rattle.osn_days.specs.Profile.{present};
 ghost use Rattle.osn_lines.specs.Lines.{lines};
 ghost use Rattle.osn_files.specs.Faults.{MatchFileFault, FailsAsTold};
 ghost use Rattle.osn_files.specs.Script as said;
@@ -11,9 +10,9 @@ use crate::command_line::command_of;
 use crate::fault::{FileFault, Role};
 use crate::headed::{MadeBehindHead, read_headed};
 use crate::stop::LineStop;
-use crate::version::Version;
 use osn_core::Command;
 use osn_lines::Source;
+use osn_words::Version;
 use std::alloc::Global;
 use std::marker::Model;
 
@@ -33,11 +32,10 @@ impl Model for Commands {
 }
 
 impl MadeBehindHead for Commands {
-    ghost use Rattle.osn_days.specs.Profile.{present};
     ghost use Rattle.osn_files.specs.Fronts.{with_line-front};
     ghost use Rattle.osn_files.specs.Script.{with_line};
 
-    ghost step = { with_line present };
+    ghost step = { with_line };
 
     fn take_behind(
         &mut self,
@@ -45,20 +43,18 @@ impl MadeBehindHead for Commands {
         version: Version,
         line: &[u8],
     ) -> Result<(), LineStop> {
-        let command = match version {
-            Version::First => command_of(alloc, line)?,
-        };
+        let command = command_of(alloc, version, line)?;
         match self.commands.push(command) {
             Ok(()) => Ok(()),
             Err(_) => Err(LineStop::NoMemory),
         }
     }
 
-    ghost by_front = { with_line-front present };
+    ghost by_front = { with_line-front };
 }
 
-/// The commands of a script, which has the form of a journal. They are read and not run, so a line
-/// is refused for its form alone.
+/// The commands of a script, which has the form of a journal. They are read, by the words of the
+/// head's version, and not run, so a line is refused for its form alone.
 ///
 /// # Errors
 ///
@@ -66,10 +62,10 @@ impl MadeBehindHead for Commands {
 pub fn read_script<R: Source>(alloc: Global, source: &mut R) -> Result<Vec<Command>, FileFault>
     // The commands, or the fault, are those of the lines of all that is read.
     ensures commands { IfOk result (λ commands. IfSome (R.remaining source.old) (λ input.
-        said.script present (lines input) ≡ Ok commands.items)) }
+        said.script (lines input) ≡ Ok commands.items)) }
     ensures fault { IfErr result (λ fault. IfSome (R.remaining source.old) (λ input.
         MatchFileFault fault ⊤ ⊤ (λ role line why.
-        (role ≡ Script) × (said.script present (lines input) ≡ Err (line, why))))) }
+        (role ≡ Script) × (said.script (lines input) ≡ Err (line, why))))) }
     ensures role { IfErr result (λ fault. MatchFileFault fault ⊤ ⊤ (λ role _ _. role ≡ Script)) }
     ensures end { OnOk result (IsAtEnd (R.remaining source.new)) }
 

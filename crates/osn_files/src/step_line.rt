@@ -1,7 +1,7 @@
 //! The step of a line of a schedule.
 ghost use Rattle.std.specs.Prelude.{◌≡◌};
 ghost use Rattle.serde_json.specs.View.{view};
-ghost use Rattle.osn_days.specs.Profile.{present};
+ghost use Rattle.osn_days.specs.Profile.{newest_rules};
 ghost use Rattle.osn_request.specs.Request.{Gives};
 ghost use Rattle.osn_files.specs.Schedule as said;
 
@@ -10,6 +10,7 @@ use osn_request::{
     Member, Op, RequestError, WireFault, edit_of, object_of, op_of, query_of, reader_in, text_at,
     whole_at,
 };
+use osn_words::Version;
 use serde_json::Value;
 use std::alloc::Global;
 
@@ -72,17 +73,17 @@ fn look_of(alloc: Global, readers: u32, value: &Value) -> Result<Step, RequestEr
 }
 
 fn stage_of(alloc: Global, value: &Value) -> Result<Step, RequestError>
-    ensures { Gives result (said.stage_of present (view value.now)) }
+    ensures { Gives result (said.stage_of newest_rules (view value.now)) }
 {
     match op_of(value)? {
-        Op::Edit(op) => Ok(Step::Stage(edit_of(alloc, op, value)?)),
+        Op::Edit(op) => Ok(Step::Stage(edit_of(alloc, Version::newest(), op, value)?)),
         Op::Publish | Op::Query(_) => Err(RequestError::Fault(WireFault::UnknownOp)),
     }
 }
 
 /// The step of a line's object that is of this kind.
 fn step_by(alloc: Global, readers: u32, kind: StepKind, value: &Value) -> Result<Step, RequestError>
-    ensures { Gives result (said.step_by present readers (view value.now) kind) }
+    ensures { Gives result (said.step_by newest_rules readers (view value.now) kind) }
 {
     match kind {
         StepKind::Look => look_of(alloc, readers, value),
@@ -107,7 +108,7 @@ fn step_by(alloc: Global, readers: u32, kind: StepKind, value: &Value) -> Result
 
 /// The step of a line's object, or its first fault.
 fn step_in(alloc: Global, readers: u32, value: &Value) -> Result<Step, RequestError>
-    ensures { Gives result (said.step_in present readers (view value.now)) }
+    ensures { Gives result (said.step_in newest_rules readers (view value.now)) }
 {
     step_by(alloc, readers, kind_of(value)?, value)
 }
@@ -117,7 +118,7 @@ fn step_in(alloc: Global, readers: u32, value: &Value) -> Result<Step, RequestEr
 /// # Errors
 /// The first fault of the line, or want of memory.
 pub(crate) fn step_of(alloc: Global, readers: u32, line: &[u8]) -> Result<Step, RequestError>
-    ensures { Gives result (said.step_of present readers line.now) }
+    ensures { Gives result (said.step_of newest_rules readers line.now) }
 {
     let value = object_of(alloc, line)?;
     step_in(alloc, readers, &value)

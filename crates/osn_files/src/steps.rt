@@ -56,11 +56,11 @@ impl Steps {
 
 impl MadeOfLines for Steps {
     ghost use Rattle.std.proofs.Common.{ap};
-    ghost use Rattle.osn_days.specs.Profile.{present};
+    ghost use Rattle.osn_days.specs.Profile.{newest_rules};
     ghost use Rattle.osn_files.specs.Fronts.{steps-front};
     ghost use Rattle.osn_files.specs.ScheduleInside.{for_readers, begun_after};
 
-    ghost step = { begun_after present };
+    ghost step = { begun_after newest_rules };
 
     fn take_line(&mut self, alloc: Global, line: &[u8]) -> Result<(), LineStop> {
         let step = step_of(alloc, self.readers, line)?;
@@ -69,5 +69,5 @@ impl MadeOfLines for Steps {
     }
 
     ghost by_front = { λ begun line.
-        ap (for_readers begun.0) (steps-front present begun.0 begun.1 line) };
+        ap (for_readers begun.0) (steps-front newest_rules begun.0 begun.1 line) };
 }

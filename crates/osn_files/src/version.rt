@@ -5,43 +5,9 @@ ghost use Rattle.osn_request.specs.Request.{Gives};
 ghost use Rattle.osn_files.specs.Version as said;
 
 use osn_request::{Member, RequestError, WireFault, object_of};
+use osn_words::Version;
 use serde_json::Value;
 use std::alloc::Global;
-
-/// A version of the form of journals and scripts.
-#[derive(Clone, Copy)]
-pub(crate) enum Version {
-    /// The first version.
-    First,
-}
-
-impl Version {
-    /// The version that is written.
-    pub(crate) fn newest() -> Version
-        ensures { result ≡ said.newest }
-    {
-        Version::First
-    }
-
-    /// The number in the head.
-    pub(crate) fn number(self) -> u32
-        ensures { result ≡ said.version_number self }
-    {
-        match self {
-            Version::First => 1,
-        }
-    }
-
-    /// The version of a number, if any has it.
-    fn numbered(number: i64) -> Option<Version>
-        ensures { result ≡ said.version_numbered number }
-    {
-        match number {
-            1 => Some(Version::First),
-            _ => None,
-        }
-    }
-}
 
 /// The version that the object of a head says, if it says one.
 fn version_in(value: &Value) -> Option<Version>

@@ -1,22 +1,22 @@
 //! Writes a journal.
 ghost use Rattle.std.specs.Prelude.{◌≡◌, ◌++◌, Ok, IfOk, OnOk, string_bytes, codes};
 ghost use Rattle.serde_json.specs.Data.{Data};
-ghost use Rattle.osn_days.specs.Profile.{present};
+ghost use Rattle.osn_days.specs.Profile.{newest_rules};
 ghost use Rattle.osn_lines.specs.Lines.{lines};
 ghost use Rattle.osn_core.specs.Sequential.{IsSound};
 ghost use Rattle.osn_register.specs.declared.edit.Edit.TheVariants as edits;
 ghost use Rattle.osn_words.specs.Json.{value_tokens, member_tokens};
+ghost use Rattle.osn_words.specs.Version.{newest_version};
 ghost use Rattle.osn_files.specs.Journal.{load};
 ghost use Rattle.osn_files.specs.JournalText as said;
-ghost use Rattle.osn_files.specs.Version.{head_data, newest};
+ghost use Rattle.osn_files.specs.Version.{head_data};
 
-use crate::version::Version;
 use json::Writer;
 use osn_core::{Batch, Object};
 use osn_lands::Regime;
 use osn_register::{Edit, Text};
 use osn_request::Member;
-use osn_words::{Word, write_number, write_signed, write_text};
+use osn_words::{Version, Word, write_number, write_signed, write_text};
 use std::alloc::{AllocError, Global};
 
 /// The room that a journal gets at first.
@@ -153,7 +153,7 @@ fn end_line(out: Writer) -> Result<Vec<u8>, AllocError>
 /// The head of a journal.
 fn head_line(alloc: Global, room: usize) -> Result<Vec<u8>, AllocError>
     ensures { IfOk result (λ bytes.
-        bytes.items ≡ said.line_text (head_data newest)) }
+        bytes.items ≡ said.line_text (head_data newest_version)) }
 {
     let mut out = Writer::new(Vec::with_capacity(alloc, room)?);
     write_head(&mut out, Version::newest())?;
@@ -205,7 +205,7 @@ fn with_batches(bytes: Vec<u8>, batches: &[Batch]) -> Result<Vec<u8>, AllocError
 /// The bytes of the journal of an object.
 fn journal_bytes(alloc: Global, object: &Object) -> Result<Vec<u8>, AllocError>
     ensures text { IfOk result (λ bytes. bytes.items ≡ said.journal_text object.now) }
-    ensures sound { IsSound present object.now }
+    ensures sound { IsSound newest_rules object.now }
 {
     let batches = object.batches();
     let head = head_line(alloc, ROOM)?;
@@ -213,15 +213,16 @@ fn journal_bytes(alloc: Global, object: &Object) -> Result<Vec<u8>, AllocError>
     with_edits(published, object.pending())
 }
 
-/// The journal of an object: a head, the edits of each batch with a publish behind them, and then
-/// the pending edits. What is loaded from it under the object's limits is that object again.
+/// The journal of an object: a head of the newest version, the edits of each batch with a publish
+/// behind them, and then the pending edits. What is loaded from it under the object's limits is
+/// that object again.
 ///
 /// # Errors
 ///
 /// Only where no memory is found.
 pub fn journal_text(alloc: Global, object: &Object) -> Result<String, AllocError>
     ensures text { IfOk result (λ text. string_bytes text ≡ said.journal_text object.now) }
-    ensures law { load present object.now.limits (lines (said.journal_text object.now))
+    ensures law { load newest_rules object.now.limits (lines (said.journal_text object.now))
         ≡ Ok object.now }
 {
     let bytes = journal_bytes(alloc, object)?;

@@ -1,7 +1,7 @@
 -- The Easters by both rules, each where its rule is in force, are those of the territory.
 use Rattle.std.proofs.Common.{◌≡◌, ℕ, zero, suc, nat_lt, ◌+◌, ◌<◌, ◌≤◌, inl, inr, Bool, true, false}
 use Rattle.std.proofs.Common.{◌==◌, ◌&&◌, ◌||◌, nat_le, [], ◌∷◌, ◌++◌, filter, Option, Some, None}
-use Rattle.std.proofs.Common.{if◌then◌else◌, refl, sym, ap, ◌∙◌, arith, eqb-true}
+use Rattle.std.proofs.Common.{if◌then◌else◌, refl, sym, ap, ◌∙◌, arith, eqb-true, IfSome}
 use Rattle.std.proofs.Math.Bool.{or-false}
 use Rattle.std.proofs.lemmas.Bool.{and_parts, and_from, cases_order, leb-true, leb-false, both_ways}
 use Rattle.std.proofs.lemmas.Bool.Decides.{Decides-eqb}
@@ -55,6 +55,16 @@ sunday_on_line p (Some m) e found =
 on_line : (p : Profile) (rule : Rule) (y e : ℕ) → easter_of p rule y ≡ Some e → IsDay p e
 unfolding easter_of
 on_line p rule y e found = sunday_on_line p (paschal_moon p rule y) e found
+
+easter_low : (p : Profile) (rule : Rule) (y : ℕ) (easter : Option ℕ) → easter_of p rule y ≡ easter →
+    IfSome easter (λ e. 1 ≤ e)
+easter_low p rule y None is = tt
+easter_low p rule y (Some e) is = (on_line p rule y e is).0
+
+-- Easter is from the first day on, where it is
+pub easter_on_line : (p : Profile) (rule : Rule) (y : ℕ) →
+    IfSome (easter_of p rule y) (λ e. 1 ≤ e)
+easter_on_line p rule y = easter_low p rule y (easter_of p rule y) refl
 
 is_that_day : (p : Profile) (rule : Rule) (y e d : ℕ) → easter_of p rule y ≡ Some e →
     is_easter p rule y d ≡ (e == d)

@@ -31,14 +31,16 @@ IsAhead p label q =
 ahead_from : (p : Profile) (t : PlainTerritory) (label : Label) (q : Period) (d : ℕ) →
     is_empty (reading p t label) ≡ true →
     ((e : ℕ) → q.first ≤ e → e ≤ q.last → regime_at t e ≡ q.regime) → 1 ≤ d → d ≤ p.high →
-    has_label label q.regime d ≡ true → q.first ≤ d → IsAhead p label q
+    has_label p label q.regime d ≡ true → q.first ≤ d → IsAhead p label q
 unfolding days_with_label reading line
 ahead_from p t label q d none inside low high has from =
     elim (cases_lt q.last d) [
-      | inl behind ↦ inr (any_from (λ e. nat_le (q.last + 1) e) (λ e. has_label label q.regime e) 1
+      | inl behind ↦ inr (any_from (λ e. nat_le (q.last + 1) e)
+          (λ e. has_label p label q.regime e) 1
           p.high d low (omega arith) has (le-leb (q.last + 1) d (omega arith)))
-      | inr within ↦ absurd (no_days_not (λ e. has_label label (regime_at t e) e) p.high d none low
-          high (ap (λ r. has_label label r d) (inside d from within) ∙ has))
+      | inr within ↦ absurd (no_days_not (λ e. has_label p label
+          (regime_at t e) e) p.high d none low
+          high (ap (λ r. has_label p label r d) (inside d from within) ∙ has))
     ]
 
 ahead_at_start : (p : Profile) (t : PlainTerritory) (label : Label) (q : Period) →
@@ -51,7 +53,7 @@ ahead_at_start p t label q none inside first =
     elim (cases_Bool (is_empty days)) [
       | inl none_at_all ↦ inl none_at_all
       | inr some ↦
-          let d = any_in (λ e. true) (λ e. has_label label q.regime e) 1 p.high
+          let d = any_in (λ e. true) (λ e. has_label p label q.regime e) 1 p.high
           (some_days_any days some) in
           ahead_from p t label q d.0 none inside d.1.low (omega (arith, d.1.high)) d.1.passes
           (omega (arith, d.1.low))
@@ -66,11 +68,11 @@ ahead_past : (p : Profile) (t : PlainTerritory) (label : Label) (q : Period) →
 unfolding days_with_label line
 ahead_past p t label q none inside not_before some =
     let days = days_with_label p q.regime label in
-    let d = any_in (λ e. true) (λ e. has_label label q.regime e) 1 p.high
+    let d = any_in (λ e. true) (λ e. has_label p label q.regime e) 1 p.high
     (some_days_any days some) in
     elim (cases_lt d.0 q.first) [
       | inl before ↦ absurd (both_ways (list_any (λ e. nat_lt e q.first) days) not_before
-          (any_from (λ e. nat_lt e q.first) (λ e. has_label label q.regime e) 1 p.high d.0 d.1.low
+          (any_from (λ e. nat_lt e q.first) (λ e. has_label p label q.regime e) 1 p.high d.0 d.1.low
           d.1.high d.1.passes (lt-ltb d.0 q.first before)))
       | inr from ↦ ahead_from p t label q d.0 none inside d.1.low (omega (arith, d.1.high))
           d.1.passes from
@@ -82,7 +84,8 @@ no_days_at_end : (p : Profile) (label : Label) (q : Period) → q.last + 1 ≡ p
 unfolding days_with_label line
 no_days_at_end p label q end (inl none_at_all) = none_at_all
 no_days_at_end p label q end (inr behind) =
-    let d = any_in (λ e. nat_le (q.last + 1) e) (λ e. has_label label q.regime e) 1 p.high behind in
+    let d = any_in (λ e. nat_le (q.last + 1) e)
+    (λ e. has_label p label q.regime e) 1 p.high behind in
     absurd (omega (arith, d.1.high, leb-true (q.last + 1) d.0 d.1.tested))
 
 -- the first and the last of four conditions hold, and not all of them

@@ -3,17 +3,21 @@
 use Rattle.std.specs.List.{range_with_len}
 use Rattle.std.proofs.Common.{◌≡◌, ℕ, filter, ◌-◌, ◌<◌, ◌≤◌, ◌⊎◌, inl, inr, List, [], ◌++◌, Bool}
 use Rattle.std.proofs.Common.{true, false, ◌&&◌, ◌||◌, if◌then◌else◌, length, refl, sym, ap, ◌∙◌}
-use Rattle.std.proofs.Common.{arith, ℤ, pos, ◌+ℤ◌, ◌-ℤ◌, ◌<ℤ◌}
+use Rattle.std.proofs.Common.{arith, ℤ, pos, ◌+ℤ◌, ◌-ℤ◌, ◌<ℤ◌, ◌≤ℤ◌, ◌+◌, unsigned_abs, subst, ◌∷◌}
+use Rattle.std.proofs.Common.{Option, Some}
+use Rattle.std.proofs.Common.{None, IfSome}
 use Rattle.std.proofs.lemmas.Bool.{and_parts, and_from, or_cases, cases_order}
 use Rattle.std.proofs.lemmas.Bool.Decides.{Decides-and, Decides-eqb, Decides-int_eq}
 use Rattle.std.proofs.lemmas.Bool.Decides.{same_from_decides}
-use Rattle.std.proofs.lemmas.List.Elements.{filter_agree}
+use Rattle.std.proofs.lemmas.List.{length-append}
 use Rattle.std.proofs.lemmas.Int.{ints}
 use Rattle.std.specs.Bool.{Decides}
 use Rattle.std.specs.Ordering.{int_eq}
 use Rattle.osn_days.specs.declared.date.Date.{Date}
 use Rattle.osn_days.specs.declared.calendar.Calendar.{Calendar}
-use Rattle.osn_days.specs.Profile.{Profile, present}
+use Rattle.osn_computus.specs.declared.rule.Rule.TheVariants as rules
+use Rattle.osn_computus.specs.Easter.{easter_of}
+use Rattle.osn_days.specs.Profile.{Profile, newest_rules}
 use Rattle.osn_days.specs.Line.{line, IsYearNumber}
 use Rattle.osn_days.specs.Chain.{date_of, same_date, days_with_date}
 use Rattle.osn_days.proofs.ChainFacts.{date_is, not_true, same_date_is, same_date_self, chain_rises}
@@ -22,14 +26,18 @@ use Rattle.osn_days.proofs.FilterFacts.{filter_none}
 use Rattle.osn_days.proofs.LineFacts.{date_of_line}
 use Rattle.osn_lands.specs.declared.style.Style.{Style}
 use Rattle.osn_lands.specs.declared.style.Style.TheVariants.{January, Annunciation, Nativity}
-use Rattle.osn_lands.specs.declared.style.Style.TheVariants.{September}
+use Rattle.osn_lands.specs.declared.style.Style.TheVariants.{September, Pisan, Easter}
 use Rattle.osn_lands.specs.declared.regime.Regime.{Regime}
 use Rattle.osn_lands.specs.declared.label.Label.{Label}
 use Rattle.osn_lands.specs.Style.{is_before_25_march, is_from_25_december, is_from_september}
-use Rattle.osn_lands.specs.Style.{style_year}
+use Rattle.osn_lands.specs.Style.{is_before, is_before_easter, year_by, style_year, is_from_easter}
 use Rattle.osn_lands.specs.Label.{local, same_label, days_with_label}
-use Rattle.osn_lands.specs.Inside.{has_label, days_in_year, date_in}
-use Rattle.osn_lands.proofs.OrderFacts.{filter_or, filter_single}
+use Rattle.osn_lands.specs.Territory.{is_empty}
+use Rattle.osn_lands.specs.Inside.{has_label, days_in_year, date_in, is_dated_before, year_in}
+use Rattle.osn_lands.proofs.EarlierFacts.{earlier_day}
+use Rattle.osn_lands.proofs.EasterFacts.{easter_on_line}
+use Rattle.osn_lands.proofs.MemberFacts.{any_in, some_days_any}
+use Rattle.osn_lands.proofs.OrderFacts.{filter_or, filter_single, filter_same}
 
 -- the parts of two labels
 abbrev pub AreParts : Label → Label → Type 0
@@ -52,11 +60,41 @@ one_more : (b : Bool) (year : ℤ) → IsNear (if b then year +ℤ pos 1 else ye
 one_more true year = inl (omega (arith, ints))
 one_more false year = inr (inl refl)
 
-style_is_near : (s : Style) (d : Date) → IsNear (style_year s d) d.year
-style_is_near January d = inr (inl refl)
-style_is_near Annunciation d = one_less (is_before_25_march d.month d.day) d.year
-style_is_near Nativity d = one_more (is_from_25_december d.month d.day) d.year
-style_is_near September d = one_more (is_from_september d.month) d.year
+one_more_unless : (b : Bool) (year : ℤ) → IsNear (if b then year else year +ℤ pos 1) year
+one_more_unless true year = inr (inl refl)
+one_more_unless false year = inl (omega (arith, ints))
+
+style_is_near : (s : Style) (d : Date) (before : Bool) → IsNear (year_by s d before) d.year
+style_is_near January d before = inr (inl refl)
+style_is_near Annunciation d before = one_less (is_before_25_march d.month d.day) d.year
+style_is_near Nativity d before = one_more (is_from_25_december d.month d.day) d.year
+style_is_near September d before = one_more (is_from_september d.month) d.year
+style_is_near Pisan d before = one_more_unless (is_before_25_march d.month d.day) d.year
+style_is_near Easter d before = one_less before d.year
+
+pub style_year_range : (s : Style) (d : Date) (before : Bool) (n : ℕ) → pos 1 ≤ℤ d.year →
+    d.year ≤ℤ pos n → (pos 0 ≤ℤ year_by s d before) × (year_by s d before ≤ℤ pos (n + 1))
+style_year_range s d before n low high =
+    elim (style_is_near s d before) [
+      | inl more ↦ (omega (arith, ints, more, low), omega (arith, ints, more, high))
+      | inr (inl same) ↦ (omega (arith, ints, same, low), omega (arith, ints, same, high))
+      | inr (inr less) ↦ (omega (arith, ints, less, low), omega (arith, ints, less, high))
+    ]
+
+-- of the date of a day the style's year goes by that date alone
+
+days_as_dates : (p : Profile) (c : Calendar) (d : ℕ) (easter : Option ℕ) → 1 ≤ d →
+    IfSome easter (λ e. 1 ≤ e) → is_before d easter ≡ is_dated_before c (date_of c d) easter
+days_as_dates p c d None low some = refl
+days_as_dates p c d (Some e) low some = earlier_day c d e low some
+
+pub year_of_day : (p : Profile) (r : Regime) (d : ℕ) → 1 ≤ d →
+    style_year p r d ≡ year_in p r (date_of r.calendar d)
+year_of_day p r d low =
+    let date = date_of r.calendar d in
+    ap (year_by r.style date) (days_as_dates p r.calendar d
+    (easter_of p rules.Julian (unsigned_abs date.year)) low
+    (easter_on_line p rules.Julian (unsigned_abs date.year)))
 
 -- whether a style takes one off the year or adds one, it counts one of three years as the label's
 
@@ -72,14 +110,28 @@ one_more_counts : (s : Bool) (y : ℤ) → ((if s then y -ℤ pos 1 +ℤ pos 1 e
 one_more_counts true y = inl (omega (arith, ints))
 one_more_counts false y = inr (inl refl)
 
-pub some_year_counts : (s : Style) (l : Label) →
-    (style_year s (date_in (l.year -ℤ pos 1) l) ≡ l.year)
-    ⊎ ((style_year s (date_in l.year l) ≡ l.year)
-    ⊎ (style_year s (date_in (l.year +ℤ pos 1) l) ≡ l.year))
-some_year_counts January l = inr (inl refl)
-some_year_counts Annunciation l = one_less_counts (is_before_25_march l.month l.day) l.year
-some_year_counts Nativity l = one_more_counts (is_from_25_december l.month l.day) l.year
-some_year_counts September l = one_more_counts (is_from_september l.month) l.year
+more_unless_counts : (s : Bool) (y : ℤ) → ((if s then y -ℤ pos 1 else y -ℤ pos 1 +ℤ pos 1) ≡ y)
+    ⊎ (((if s then y else y +ℤ pos 1) ≡ y)
+    ⊎ ((if s then y +ℤ pos 1 else y +ℤ pos 1 +ℤ pos 1) ≡ y))
+more_unless_counts true y = inr (inl refl)
+more_unless_counts false y = inl (omega (arith, ints))
+
+some_year_by : (s : Style) (l : Label) (a b c : Bool) → is_from_easter s ≡ false →
+    (year_by s (date_in (l.year -ℤ pos 1) l) a ≡ l.year)
+    ⊎ ((year_by s (date_in l.year l) b ≡ l.year)
+    ⊎ (year_by s (date_in (l.year +ℤ pos 1) l) c ≡ l.year))
+some_year_by January l a b c fixed = inr (inl refl)
+some_year_by Annunciation l a b c fixed = one_less_counts (is_before_25_march l.month l.day) l.year
+some_year_by Nativity l a b c fixed = one_more_counts (is_from_25_december l.month l.day) l.year
+some_year_by September l a b c fixed = one_more_counts (is_from_september l.month) l.year
+some_year_by Pisan l a b c fixed = more_unless_counts (is_before_25_march l.month l.day) l.year
+some_year_by Easter l a b c fixed = let none : true ≡ false = fixed in absurd cc
+
+pub some_year_counts : (p : Profile) (r : Regime) (l : Label) → is_from_easter r.style ≡ false →
+    (year_in p r (date_in (l.year -ℤ pos 1) l) ≡ l.year)
+    ⊎ ((year_in p r (date_in l.year l) ≡ l.year)
+    ⊎ (year_in p r (date_in (l.year +ℤ pos 1) l) ≡ l.year))
+some_year_counts p r l fixed = some_year_by r.style l _ _ _ fixed
 
 -- a later year is a later day
 pub later_year : (c : Calendar) (d e : ℕ) → 1 ≤ d → 1 ≤ e →
@@ -134,42 +186,42 @@ one_of_three false false false false one = refl
 int_eq_of : (a b : ℤ) → a ≡ b → int_eq a b ≡ true
 int_eq_of a b same = (Decides-int_eq a b).1 same
 
-pub in_three_years : (r : Regime) (l : Label) (d : ℕ) → has_label l r d ≡ true →
+pub in_three_years : (p : Profile) (r : Regime) (l : Label) (d : ℕ) → has_label p l r d ≡ true →
     (int_eq (date_of r.calendar d).year (l.year -ℤ pos 1) ≡ true)
     ⊎ ((int_eq (date_of r.calendar d).year l.year ≡ true)
     ⊎ (int_eq (date_of r.calendar d).year (l.year +ℤ pos 1) ≡ true))
-in_three_years r l d has =
+in_three_years p r l d has =
     let date = date_of r.calendar d in
-    let counted : style_year r.style date ≡ l.year = ((same_label_decides (local r d) l).0 has).0 in
-    elim (style_is_near r.style date) [
+    let counted : style_year p r d ≡ l.year = ((same_label_decides (local p r d) l).0 has).0 in
+    elim (style_is_near r.style date (is_before_easter p date.year d)) [
       | inl before ↦ inl (int_eq_of _ _ (before ∙ ap (λ y. y -ℤ pos 1) counted))
       | inr (inl same) ↦ inr (inl (int_eq_of _ _ (same ∙ counted)))
       | inr (inr after) ↦ inr (inr (int_eq_of _ _ (after ∙ ap (λ y. y +ℤ pos 1) counted)))
     ]
 
 -- the test of a day of one year
-abbrev pub in_year : Regime → Label → ℤ → ℕ → Bool
-in_year r l y d = int_eq (date_of r.calendar d).year y && has_label l r d
+abbrev pub in_year : Profile → Regime → Label → ℤ → ℕ → Bool
+in_year p r l y d = int_eq (date_of r.calendar d).year y && has_label p l r d
 
-in_year_year : (r : Regime) (l : Label) (y : ℤ) (d : ℕ) → in_year r l y d ≡ true →
+in_year_year : (p : Profile) (r : Regime) (l : Label) (y : ℤ) (d : ℕ) → in_year p r l y d ≡ true →
     (date_of r.calendar d).year ≡ y
-in_year_year r l y d is = (Decides-int_eq (date_of r.calendar d).year y).0
-    (and_parts (int_eq (date_of r.calendar d).year y) (has_label l r d) is).0
+in_year_year p r l y d is = (Decides-int_eq (date_of r.calendar d).year y).0
+    (and_parts (int_eq (date_of r.calendar d).year y) (has_label p l r d) is).0
 
-year_before : (r : Regime) (l : Label) (y z : ℤ) (d e : ℕ) → y <ℤ z → 1 ≤ d → 1 ≤ e →
-    in_year r l y d ≡ true → in_year r l z e ≡ true → d < e
-year_before r l y z d e less low_d low_e here there =
-    let year_d = in_year_year r l y d here in
-    let year_e = in_year_year r l z e there in
+year_before : (p : Profile) (r : Regime) (l : Label) (y z : ℤ) (d e : ℕ) → y <ℤ z → 1 ≤ d → 1 ≤ e →
+    in_year p r l y d ≡ true → in_year p r l z e ≡ true → d < e
+year_before p r l y z d e less low_d low_e here there =
+    let year_d = in_year_year p r l y d here in
+    let year_e = in_year_year p r l z e there in
     later_year r.calendar d e low_d low_e (omega (arith, ints, less, year_d, year_e))
 
-either_year : (r : Regime) (l : Label) (y z : ℤ) (e : ℕ) →
-    (in_year r l y e || in_year r l z e) ≡ true → ((date_of r.calendar e).year ≡ y)
+either_year : (p : Profile) (r : Regime) (l : Label) (y z : ℤ) (e : ℕ) →
+    (in_year p r l y e || in_year p r l z e) ≡ true → ((date_of r.calendar e).year ≡ y)
     ⊎ ((date_of r.calendar e).year ≡ z)
-either_year r l y z e is =
-    elim (or_cases (in_year r l y e) (in_year r l z e) is) [
-      | inl first ↦ inl (in_year_year r l y e first)
-      | inr second ↦ inr (in_year_year r l z e second)
+either_year p r l y z e is =
+    elim (or_cases (in_year p r l y e) (in_year p r l z e) is) [
+      | inl first ↦ inl (in_year_year p r l y e first)
+      | inr second ↦ inr (in_year_year p r l z e second)
     ]
 
 -- the days with a label, year by year
@@ -177,26 +229,26 @@ pub three_years : (p : Profile) (r : Regime) (l : Label) → days_in_year p r l 
     ++ (days_in_year p r l l.year ++ days_in_year p r l (l.year +ℤ pos 1)) ≡ days_with_label p r l
 unfolding days_in_year days_with_label line
 three_years p r l =
-    let before = in_year r l (l.year -ℤ pos 1) in
-    let same = in_year r l l.year in
-    let after = in_year r l (l.year +ℤ pos 1) in
+    let before = in_year p r l (l.year -ℤ pos 1) in
+    let same = in_year p r l l.year in
+    let after = in_year p r l (l.year +ℤ pos 1) in
     let later : ℕ → Bool = λ d. same d || after d in
     sym
-    (filter_or before later (has_label l r) 1 p.high
+    (filter_or before later (has_label p l r) 1 p.high
     (λ d low high. one_of_three (int_eq (date_of r.calendar d).year (l.year -ℤ pos 1))
     (int_eq (date_of r.calendar d).year l.year)
-    (int_eq (date_of r.calendar d).year (l.year +ℤ pos 1)) (has_label l r d)
-    (in_three_years r l d))
+    (int_eq (date_of r.calendar d).year (l.year +ℤ pos 1)) (has_label p l r d)
+    (in_three_years p r l d))
     (λ d e low_d high_d low_e high_e here there.
-    let year_d = in_year_year r l (l.year -ℤ pos 1) d here in
-    elim (either_year r l l.year (l.year +ℤ pos 1) e there) [
+    let year_d = in_year_year p r l (l.year -ℤ pos 1) d here in
+    elim (either_year p r l l.year (l.year +ℤ pos 1) e there) [
       | inl year_e ↦ later_year r.calendar d e low_d low_e (omega (arith, ints, year_d, year_e))
       | inr year_e ↦ later_year r.calendar d e low_d low_e (omega (arith, ints, year_d, year_e))
     ])
     ∙ ap (λ ds. filter before (range_with_len 1 p.high) ++ ds)
     (filter_or same after later 1 p.high (λ d low high. refl)
     (λ d e low_d high_d low_e high_e here there.
-    year_before r l l.year (l.year +ℤ pos 1) d e (omega (arith, ints)) low_d low_e here there)))
+    year_before p r l l.year (l.year +ℤ pos 1) d e (omega (arith, ints)) low_d low_e here there)))
 
 pub three_years_found : (p : Profile) (r : Regime) (l : Label) (before same after : List ℕ)
     (x y z : ℤ) → before ≡ days_in_year p r l x → same ≡ days_in_year p r l y →
@@ -212,45 +264,48 @@ three_years_found p r l before same after x y z first second third is_x is_y is_
 
 -- no date of the line is in a year off it
 pub no_day_off_the_years : (r : Regime) (l : Label) (y z : ℤ) → z ≡ y →
-    (IsYearNumber present z → false ≡ true) → [] ≡ days_in_year present r l y
+    (IsYearNumber newest_rules z → false ≡ true) → [] ≡ days_in_year newest_rules r l y
 unfolding days_in_year line
 no_day_off_the_years r l y z same off =
-    sym (filter_none (in_year r l y) 1 present.high (λ d low high. not_true (in_year r l y d) (λ is.
+    sym (filter_none (in_year newest_rules r l y) 1 newest_rules.high (λ d low high. not_true
+    (in_year newest_rules r l y d) (λ is.
     let found = date_of_line r.calendar d (low, omega arith) in
-    let year = in_year_year r l y d is in
+    let year = in_year_year newest_rules r l y d is in
     let at_z : (date_of r.calendar d).year ≡ z = year ∙ sym same in
     let none : false ≡ true = off (rw at_z at found.year_low, rw at_z at found.year_high) in
     absurd cc)))
 
-pub in_year_date : (r : Regime) (l : Label) (y : ℤ) (d : ℕ) → in_year r l y d ≡ true →
-    (date_of r.calendar d ≡ date_in y l) × (style_year r.style (date_of r.calendar d) ≡ l.year)
-in_year_date r l y d is =
-    let both = and_parts (int_eq (date_of r.calendar d).year y) (has_label l r d) is in
-    let parts = (same_label_decides (local r d) l).0 both.1 in (
-      date_is (date_of r.calendar d) (date_in y l) (in_year_year r l y d is) parts.1.0 parts.1.1,
-      parts.0,
+pub in_year_date : (p : Profile) (r : Regime) (l : Label) (y : ℤ) (d : ℕ) → 1 ≤ d →
+    in_year p r l y d ≡ true →
+    (date_of r.calendar d ≡ date_in y l) × (year_in p r (date_of r.calendar d) ≡ l.year)
+in_year_date p r l y d low is =
+    let both = and_parts (int_eq (date_of r.calendar d).year y) (has_label p l r d) is in
+    let parts = (same_label_decides (local p r d) l).0 both.1 in (
+      date_is (date_of r.calendar d) (date_in y l) (in_year_year p r l y d is) parts.1.0 parts.1.1,
+      sym (year_of_day p r d low) ∙ parts.0,
     )
 
 -- where the style counts that date in another year, no day of the year has the label
 pub no_day_of_other_year : (p : Profile) (r : Regime) (l : Label) (y z : ℤ) → z ≡ y →
-    (style_year r.style (date_in z l) ≡ l.year → ⊥) → [] ≡ days_in_year p r l y
+    (year_in p r (date_in z l) ≡ l.year → ⊥) → [] ≡ days_in_year p r l y
 unfolding days_in_year line
 no_day_of_other_year p r l y z same other =
-    sym (filter_none (in_year r l y) 1 p.high (λ d low high. not_true (in_year r l y d) (λ is.
-    let found = in_year_date r l y d is in
-    other (ap (λ x. style_year r.style (date_in x l)) same ∙ ap (style_year r.style) (sym found.0)
+    sym (filter_none (in_year p r l y) 1 p.high (λ d low high. not_true (in_year p r l y d) (λ is.
+    let found = in_year_date p r l y d low is in
+    other (ap (λ x. year_in p r (date_in x l)) same ∙ ap (year_in p r) (sym found.0)
     ∙ found.1))))
 
-in_year_is : (r : Regime) (l : Label) (y : ℤ) (d : ℕ) → style_year r.style (date_in y l) ≡ l.year →
-    in_year r l y d ≡ same_date (date_of r.calendar d) (date_in y l)
-in_year_is r l y d counted =
+in_year_is : (p : Profile) (r : Regime) (l : Label) (y : ℤ) (d : ℕ) → 1 ≤ d →
+    year_in p r (date_in y l) ≡ l.year →
+    in_year p r l y d ≡ same_date (date_of r.calendar d) (date_in y l)
+in_year_is p r l y d low counted =
     let date = date_of r.calendar d in
     same_from_decides {P = date ≡ date_in y l} _ _ (
-      (λ is. (in_year_date r l y d is).0),
-      (λ same. and_from (int_eq date.year y) (has_label l r d)
+      (λ is. (in_year_date p r l y d low is).0),
+      (λ same. and_from (int_eq date.year y) (has_label p l r d)
           (int_eq_of _ _ (ap (λ (e : Date). e.year) same))
-          ((same_label_decides (local r d) l).1 (
-            ap (style_year r.style) same ∙ counted,
+          ((same_label_decides (local p r d) l).1 (
+            year_of_day p r d low ∙ ap (year_in p r) same ∙ counted,
             (ap (λ (e : Date). e.month) same, ap (λ (e : Date). e.day) same),
           ))),
     ) (
@@ -261,61 +316,96 @@ in_year_is r l y d counted =
 
 -- where it counts it in the label's, those are the days with the date
 days_of_that_year : (p : Profile) (r : Regime) (l : Label) (y : ℤ) →
-    style_year r.style (date_in y l) ≡ l.year →
+    year_in p r (date_in y l) ≡ l.year →
     days_with_date p r.calendar (date_in y l) ≡ days_in_year p r l y
-unfolding days_in_year days_with_date
+unfolding days_in_year days_with_date line
 days_of_that_year p r l y counted =
-    sym (filter_agree _ _ (λ d. in_year_is r l y d counted) (line p))
+    sym (filter_same _ _ 1 p.high (λ d low high. in_year_is p r l y d low counted))
 
 pub days_of_year : (p : Profile) (r : Regime) (l : Label) (y z : ℤ) → z ≡ y →
-    style_year r.style (date_in z l) ≡ l.year →
+    year_in p r (date_in z l) ≡ l.year →
     days_with_date p r.calendar (date_in z l) ≡ days_in_year p r l y
 days_of_year p r l y z same counted = days_of_that_year p r l z counted
     ∙ ap (days_in_year p r l) same
 
--- of a date's month and day, the style's year tells the year: so it is for styles whose year begins
--- on a fixed date
+-- no style both adds one to the year of a date and takes one off that of another
 
-less_by_test : (s t : Bool) (a b : ℤ) → s ≡ t →
-    (if s then a -ℤ pos 1 else a) ≡ (if t then b -ℤ pos 1 else b) → a ≡ b
-less_by_test true true a b same e = omega (arith, ints)
-less_by_test false false a b same e = e
-less_by_test true false a b same e = absurd cc
-less_by_test false true a b same e = absurd cc
+never_more : (b : Bool) (y : ℤ) → (if b then y -ℤ pos 1 else y) ≡ y +ℤ pos 1 → ⊥
+never_more true y e = omega (arith, ints, e)
+never_more false y e = omega (arith, ints, e)
 
-more_by_test : (s t : Bool) (a b : ℤ) → s ≡ t →
-    (if s then a +ℤ pos 1 else a) ≡ (if t then b +ℤ pos 1 else b) → a ≡ b
-more_by_test true true a b same e = omega (arith, ints)
-more_by_test false false a b same e = e
-more_by_test true false a b same e = absurd cc
-more_by_test false true a b same e = absurd cc
+never_less : (b : Bool) (y : ℤ) → (if b then y +ℤ pos 1 else y) ≡ y -ℤ pos 1 → ⊥
+never_less true y e = omega (arith, ints, e)
+never_less false y e = omega (arith, ints, e)
 
-year_by_month_and_day : (s : Style) (a b : Date) → a.month ≡ b.month → a.day ≡ b.day →
-    style_year s a ≡ style_year s b → a.year ≡ b.year
-year_by_month_and_day January a b month day e = e
-year_by_month_and_day Annunciation a b month day e =
-    less_by_test _ _ a.year b.year (ap (λ m. is_before_25_march m a.day) month
-    ∙ ap (is_before_25_march b.month) day) e
-year_by_month_and_day Nativity a b month day e =
-    more_by_test _ _ a.year b.year (ap (λ m. is_from_25_december m a.day) month
-    ∙ ap (is_from_25_december b.month) day) e
-year_by_month_and_day September a b month day e =
-    more_by_test _ _ a.year b.year (ap is_from_september month) e
+never_less_unless : (b : Bool) (y : ℤ) → (if b then y else y +ℤ pos 1) ≡ y -ℤ pos 1 → ⊥
+never_less_unless true y e = omega (arith, ints, e)
+never_less_unless false y e = omega (arith, ints, e)
 
-no_two_days : (r : Regime) (l : Label) (d e : ℕ) → 1 ≤ d → d < e → has_label l r d ≡ true →
-    has_label l r e ≡ true → ⊥
-no_two_days r l d e low less here there =
-    let of_d = (same_label_decides (local r d) l).0 here in
-    let of_e = (same_label_decides (local r e) l).0 there in
-    let month = of_d.1.0 ∙ sym of_e.1.0 in
-    let day = of_d.1.1 ∙ sym of_e.1.1 in
-    let year = year_by_month_and_day r.style (date_of r.calendar d) (date_of r.calendar e) month day
-    (of_d.0 ∙ sym of_e.0) in
+never_both : (s : Style) (d e : Date) (b c : Bool) → year_by s d b ≡ d.year +ℤ pos 1 →
+    year_by s e c ≡ e.year -ℤ pos 1 → ⊥
+never_both January d e b c more less = omega (arith, ints, more)
+never_both Annunciation d e b c more less =
+    never_more (is_before_25_march d.month d.day) d.year more
+never_both Nativity d e b c more less =
+    never_less (is_from_25_december e.month e.day) e.year less
+never_both September d e b c more less = never_less (is_from_september e.month) e.year less
+never_both Pisan d e b c more less =
+    never_less_unless (is_before_25_march e.month e.day) e.year less
+never_both Easter d e b c more less = never_more b d.year more
+
+-- so a label has no day in one of the years beside its own
+
+counted_in : (p : Profile) (r : Regime) (l : Label) (y : ℤ) (d : ℕ) → in_year p r l y d ≡ true →
+    ((date_of r.calendar d).year ≡ y) × (style_year p r d ≡ l.year)
+counted_in p r l y d is =
+    let both = and_parts (int_eq (date_of r.calendar d).year y) (has_label p l r d) is in
+    (in_year_year p r l y d is, ((same_label_decides (local p r d) l).0 both.1).0)
+
+not_on_both_sides : (p : Profile) (r : Regime) (l : Label) (d e : ℕ) →
+    in_year p r l (l.year -ℤ pos 1) d ≡ true → in_year p r l (l.year +ℤ pos 1) e ≡ true → ⊥
+not_on_both_sides p r l d e before after =
+    let of_d = counted_in p r l (l.year -ℤ pos 1) d before in
+    let of_e = counted_in p r l (l.year +ℤ pos 1) e after in
+    let date_d = date_of r.calendar d in
+    let date_e = date_of r.calendar e in
+    never_both r.style date_d date_e (is_before_easter p date_d.year d)
+    (is_before_easter p date_e.year e)
+    (of_d.1 ∙ omega (arith, ints, of_d.0)) (of_e.1 ∙ omega (arith, ints, of_e.0))
+
+one_day_in_year : (p : Profile) (r : Regime) (l : Label) (y : ℤ) →
+    length (days_in_year p r l y) ≤ 1
+unfolding days_in_year line
+one_day_in_year p r l y = filter_single (in_year p r l y) 1 p.high (λ d e low less high here there.
     chain_apart r.calendar (d - 1) (e - 1) (inl (omega arith))
-    (date_is (date_of r.calendar d) (date_of r.calendar e) year month day)
+    ((in_year_date p r l y d low here).0
+    ∙ sym (in_year_date p r l y e (omega (arith, low, less)) there).0))
 
--- so a label has one day at most under one regime
-pub one_day_of_label : (p : Profile) (r : Regime) (l : Label) → length (days_with_label p r l) ≤ 1
-unfolding days_with_label line
-one_day_of_label p r l = filter_single (has_label l r) 1 p.high (λ d e low less high.
-    no_two_days r l d e low less)
+-- of three lists of one day at most, the first and the last of which are not both there
+at_most_two : (a b c : List ℕ) → length a ≤ 1 → length b ≤ 1 → length c ≤ 1 →
+    (is_empty a ≡ false → is_empty c ≡ false → ⊥) → length (a ++ (b ++ c)) ≤ 2
+at_most_two [] b c one_a one_b one_c apart = omega (arith, length-append b c, one_b, one_c)
+at_most_two (x ∷ a) b [] one_a one_b one_c apart =
+    omega (arith, length-append (x ∷ a) (b ++ []), length-append b [], one_a, one_b)
+at_most_two (x ∷ a) b (z ∷ c) one_a one_b one_c apart = absurd (apart refl refl)
+
+some_in_year : (p : Profile) (r : Regime) (l : Label) (y : ℤ) →
+    is_empty (days_in_year p r l y) ≡ false → (d : ℕ) × (in_year p r l y d ≡ true)
+unfolding days_in_year line
+some_in_year p r l y some =
+    let d = any_in (λ e. true) (in_year p r l y) 1 p.high
+    (some_days_any (days_in_year p r l y) some) in
+    (d.0, d.1.passes)
+
+-- so a label has two days at most under one regime
+pub two_days_of_label : (p : Profile) (r : Regime) (l : Label) → length (days_with_label p r l) ≤ 2
+two_days_of_label p r l =
+    let before = days_in_year p r l (l.year -ℤ pos 1) in
+    let same = days_in_year p r l l.year in
+    let after = days_in_year p r l (l.year +ℤ pos 1) in
+    subst (λ days. length days ≤ 2) (three_years p r l)
+    (at_most_two before same after (one_day_in_year p r l (l.year -ℤ pos 1))
+    (one_day_in_year p r l l.year) (one_day_in_year p r l (l.year +ℤ pos 1)) (λ first last.
+    let d = some_in_year p r l (l.year -ℤ pos 1) first in
+    let e = some_in_year p r l (l.year +ℤ pos 1) last in
+    not_on_both_sides p r l d.0 e.0 d.1 e.1))

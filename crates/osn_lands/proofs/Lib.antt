@@ -1,4 +1,5 @@
 pub mod OrderFacts
+pub mod EarlierFacts
 pub mod LabelFacts
 pub mod YearDigits
 pub mod PeriodFacts

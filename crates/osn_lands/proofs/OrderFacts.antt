@@ -121,3 +121,13 @@ filter_single f a (suc n) apart =
     (λ here. filter_none f (a + 1) n (λ d low high.
     not_true (f d) (λ there. apart a d (omega arith) (omega arith) (omega arith) here there)))
     (filter_single f (a + 1) n (λ d e low less high. apart d e (omega arith) less (omega arith)))
+
+-- a filter goes by what its test says within the range
+pub filter_same : (p q : ℕ → Bool) (a n : ℕ) → ((d : ℕ) → a ≤ d → d < a + n → p d ≡ q d) →
+    filter p (range_with_len a n) ≡ filter q (range_with_len a n)
+filter_same p q a zero same = refl
+filter_same p q a (suc n) same =
+    ap (λ b. if b then a ∷ filter p (range_with_len (a + 1) n)
+    else filter p (range_with_len (a + 1) n)) (same a (omega arith) (omega arith))
+    ∙ ap (λ l. if q a then a ∷ l else l)
+    (filter_same p q (a + 1) n (λ d low high. same d (omega arith) (omega arith)))

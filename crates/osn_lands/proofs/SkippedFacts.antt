@@ -95,15 +95,15 @@ is_named_skipped : (p : Profile) (t : PlainTerritory) (label : Label) (old new :
     is_skipped_at p t label old new ≡ is_named_at p label old new
 unfolding days_with_label reading line
 is_named_skipped p t label old new next some_old some_new in_old in_new =
-    let olds = filter (has_label label old.regime) (range_with_len 1 p.high) in
-    let news = filter (has_label label new.regime) (range_with_len 1 p.high) in
+    let olds = filter (has_label p label old.regime) (range_with_len 1 p.high) in
+    let news = filter (has_label p label new.regime) (range_with_len 1 p.high) in
     ap (λ read. (list_any (λ d. nat_le new.first d) olds || is_empty olds)
     && ((list_any (λ d. nat_lt d new.first) news || is_empty news)
     && (not (is_empty olds && is_empty news) && not read)))
-    (read_there (has_label label old.regime) (has_label label new.regime) (λ d.
-    has_label label (regime_at t d) d) p.high old new next some_old some_new
-    (λ d low high. ap (λ r. has_label label r d) (in_old d low high))
-    (λ d low high. ap (λ r. has_label label r d) (in_new d low high)))
+    (read_there (has_label p label old.regime) (has_label p label new.regime) (λ d.
+    has_label p label (regime_at t d) d) p.high old new next some_old some_new
+    (λ d low high. ap (λ r. has_label p label r d) (in_old d low high))
+    (λ d low high. ap (λ r. has_label p label r d) (in_new d low high)))
 
 abbrev pub named_after : Profile → Label → Period → List Period → List ℕ
 named_after p label old [] = []

@@ -5,13 +5,13 @@ use Rattle.std.proofs.Common.{[], ◌∷◌, Option, Some, None, refl, sym, ap, 
 use Rattle.std.proofs.Common.{arith, ℤ, pos, ◌+ℤ◌, ◌-ℤ◌, filter}
 use Rattle.std.proofs.lemmas.Bool.{and_parts, and_from}
 use Rattle.std.proofs.lemmas.Int.{ints}
-use Rattle.std.specs.Prelude.{is_none, IsSome, IsSomeAnd}
+use Rattle.std.specs.Prelude.{is_none, IsSome, IsSomeAnd, IfSome}
 use Rattle.std.specs.List.{list_any, range_with_len}
 use Rattle.std.specs.Option.{option_to_list}
 use Rattle.osn_days.specs.declared.date.Date.{Date}
 use Rattle.osn_days.specs.declared.calendar.Calendar.{Calendar}
 use Rattle.osn_days.specs.declared.calendar.Calendar.TheVariants.{Julian, Gregorian, Swedish}
-use Rattle.osn_days.specs.Profile.{Profile, present}
+use Rattle.osn_days.specs.Profile.{Profile, newest_rules}
 use Rattle.osn_days.specs.Line.{line, IsDay, IsYearNumber}
 use Rattle.osn_days.specs.Chain.{date_of, days_with_date}
 use Rattle.osn_days.proofs.ChainFacts.{not_true}
@@ -22,20 +22,21 @@ use Rattle.osn_lands.specs.declared.regime.Regime.{Regime}
 use Rattle.osn_lands.specs.declared.label.Label.{Label}
 use Rattle.osn_lands.specs.declared.label_table.YearDays.{YearDays}
 use Rattle.osn_lands.specs.declared.label_table.LabelTable.{LabelTable}
-use Rattle.osn_lands.specs.Style.{style_year}
+use Rattle.osn_lands.specs.Style.{is_from_easter}
 use Rattle.osn_lands.specs.Label.{local, days_with_label}
 use Rattle.osn_lands.specs.Territory.{is_empty}
-use Rattle.osn_lands.specs.Inside.{has_label, days_in_year, date_in, years_of, are_none}
+use Rattle.osn_lands.specs.Inside.{has_label, days_in_year, date_in, years_of, are_none_in, year_in}
 use Rattle.osn_lands.specs.Inside.{AreInYears, AreAllWithin, IsTable, AreBetween, IsEven}
 use Rattle.osn_lands.proofs.LabelFacts.{in_year, in_year_date, in_three_years, later_year}
 use Rattle.osn_lands.proofs.LabelFacts.{same_label_decides, three_years_found, some_year_counts}
+use Rattle.osn_lands.proofs.LabelFacts.{year_of_day}
 use Rattle.osn_lands.proofs.MemberFacts.{any_from, no_days_not}
 
 -- no date is in a year off the line
 pub no_date_off_the_years : (c : Calendar) (l : Label) (y z : ℤ) → z ≡ y →
-    (IsYearNumber present z → false ≡ true) → [] ≡ days_with_date present c (date_in y l)
+    (IsYearNumber newest_rules z → false ≡ true) → [] ≡ days_with_date newest_rules c (date_in y l)
 no_date_off_the_years c l y z same off =
-    no_day present c (date_in y l) (λ n on is.
+    no_day newest_rules c (date_in y l) (λ n on is.
     let there = year_of_line c n on in
     let at_z : (date_of c n).year ≡ z = ap (λ (d : Date). d.year) is ∙ sym same in
     let none : false ≡ true = off (rw at_z at there.0, rw at_z at there.1) in
@@ -43,10 +44,10 @@ no_date_off_the_years c l y z same off =
 
 -- a date with a day is in a year of the line
 pub year_of_dated : (c : Calendar) (l : Label) (y z : ℤ) (d : ℕ) (found : Option ℕ) →
-    found ≡ Some d → option_to_list found ≡ days_with_date present c (date_in y l) → z ≡ y →
-    IsYearNumber present z
+    found ≡ Some d → option_to_list found ≡ days_with_date newest_rules c (date_in y l) → z ≡ y →
+    IsYearNumber newest_rules z
 year_of_dated c l y z d found is days same =
-    let dated = day_with_date present c (date_in y l) d (ap option_to_list (sym is) ∙ days) in
+    let dated = day_with_date newest_rules c (date_in y l) d (ap option_to_list (sym is) ∙ days) in
     let there = year_of_line c d dated.0 in
     let at_z : (date_of c d).year ≡ z = ap (λ (e : Date). e.year) dated.1 ∙ sym same in
     (rw at_z at there.0, rw at_z at there.1)
@@ -58,9 +59,9 @@ pub none_counted : (p : Profile) (r : Regime) (l : Label) (y : ℤ) (found : Opt
 unfolding days_in_year line
 none_counted p r l y found is days =
     let none : [] ≡ days_with_date p r.calendar (date_in y l) = ap option_to_list (sym is) ∙ days in
-    sym (filter_none (in_year r l y) 1 p.high (λ d low high. not_true (in_year r l y d) (λ has.
+    sym (filter_none (in_year p r l y) 1 p.high (λ d low high. not_true (in_year p r l y d) (λ has.
     no_day_with_date p r.calendar (date_in y l) d none (low, omega (arith, high))
-    (in_year_date r l y d has).0)))
+    (in_year_date p r l y d low has).0)))
 
 -- the three days of a calendar, between two others
 pub record IsFull (p : Profile) (c : Calendar) (l : Label) (first last : ℕ) : Type 0 where
@@ -106,7 +107,7 @@ year_is c l y d is = ap (λ (e : Date). e.year) is
 
 -- a day with the label is from the first to the last
 between_full : (p : Profile) (r : Regime) (l : Label) (first last d : ℕ) →
-    IsFull p r.calendar l first last → IsDay p d → has_label l r d ≡ true →
+    IsFull p r.calendar l first last → IsDay p d → has_label p l r d ≡ true →
     (first ≤ d) × (d ≤ last)
 between_full p r l first last d three on has =
     let c = r.calendar in
@@ -118,21 +119,22 @@ between_full p r l first last d three on has =
     let year_e = year_is c l z three.e date_e.1 in
     let low = three.low in
     let high = three.high in
-    elim (in_three_years r l d has) [
+    elim (in_three_years p r l d has) [
       | inl before ↦
-          let dated = (in_year_date r l x d (and_from _ _ before has)).0 in
+          let dated = (in_year_date p r l x d on.0 (and_from _ _ before has)).0 in
           let here : d ≡ three.a = date_of_injective c d three.a on.0 date_a.0.0
           (dated ∙ sym date_a.1) in
           let year_d = year_is c l x d dated in
           let less = later_year c d three.e on.0 date_e.0.0 (omega (arith, ints, year_d, year_e)) in
           (omega (arith, here, low), omega (arith, less, high))
       | inr (inl same) ↦
-          let year_d = year_is c l l.year d (in_year_date r l l.year d (and_from _ _ same has)).0 in
+          let year_d = year_is c l l.year d (in_year_date p r l l.year d on.0
+          (and_from _ _ same has)).0 in
           let more = later_year c three.a d date_a.0.0 on.0 (omega (arith, ints, year_d, year_a)) in
           let less = later_year c d three.e on.0 date_e.0.0 (omega (arith, ints, year_d, year_e)) in
           (omega (arith, more, low), omega (arith, less, high))
       | inr (inr after) ↦
-          let dated = (in_year_date r l z d (and_from _ _ after has)).0 in
+          let dated = (in_year_date p r l z d on.0 (and_from _ _ after has)).0 in
           let here : d ≡ three.e = date_of_injective c d three.e on.0 date_e.0.0
           (dated ∙ sym date_e.1) in
           let year_d = year_is c l z d dated in
@@ -147,55 +149,71 @@ not_empty q (d ∷ ds) some = refl
 -- a day with the date of a year that is counted as the label's has the label
 some_day : (p : Profile) (r : Regime) (l : Label) (y : ℤ) (d : ℕ) →
     d ∷ [] ≡ days_with_date p r.calendar (date_in y l) →
-    style_year r.style (date_in y l) ≡ l.year → is_empty (days_with_label p r l) ≡ false
+    year_in p r (date_in y l) ≡ l.year → is_empty (days_with_label p r l) ≡ false
 unfolding days_with_label line
 some_day p r l y d day counts =
     let dated = day_with_date p r.calendar (date_in y l) d day in
-    let has : has_label l r d ≡ true = (same_label_decides (local r d) l).1 (
-      ap (style_year r.style) dated.1 ∙ counts,
+    let has : has_label p l r d ≡ true = (same_label_decides (local p r d) l).1 (
+      year_of_day p r d dated.0.0 ∙ ap (year_in p r) dated.1 ∙ counts,
       (ap (λ (e : Date). e.month) dated.1, ap (λ (e : Date). e.day) dated.1),
     ) in
-    not_empty (λ e. true) (filter (has_label l r) (range_with_len 1 p.high))
-    (any_from (λ e. true) (has_label l r) 1 p.high d dated.0.0 (omega (arith, dated.0.1)) has refl)
+    not_empty (λ e. true) (filter (has_label p l r) (range_with_len 1 p.high))
+    (any_from (λ e. true) (has_label p l r) 1 p.high d dated.0.0 (omega
+    (arith, dated.0.1)) has refl)
 
--- where a calendar has all three days, each regime has the label
+-- where a calendar has all three days, each regime of it has the label whose year begins on a fixed
+-- date
 some_full : (p : Profile) (r : Regime) (l : Label) (first last : ℕ) →
-    IsFull p r.calendar l first last → is_empty (days_with_label p r l) ≡ false
-some_full p r l first last three =
-    elim (some_year_counts r.style l) [
+    is_from_easter r.style ≡ false → IsFull p r.calendar l first last →
+    is_empty (days_with_label p r l) ≡ false
+some_full p r l first last fixed three =
+    elim (some_year_counts p r l fixed) [
       | inl before ↦ some_day p r l (l.year -ℤ pos 1) three.a three.before before
       | inr (inl same) ↦ some_day p r l l.year three.b three.same same
       | inr (inr after) ↦ some_day p r l (l.year +ℤ pos 1) three.e three.after after
     ]
 
--- where each calendar has all three days
+-- the same of days that the table has
+full_in : (p : Profile) (c : Calendar) (l : Label) (first last : ℕ) (o : Option YearDays) →
+    IfSome o (AreInYears p c l) → IfSome o (AreAllWithin first last) → IsSome o →
+    IsFull p c l first last
+full_in p c l first last None days within some = let none : false ≡ true = some in absurd cc
+full_in p c l first last (Some f) days within some = full p c l first last f days within
+
+-- where each calendar of the table has all three days
 pub between_ends : (p : Profile) (l : Label) (t : LabelTable) (first last : ℕ) → IsTable p l t →
-    ((c : Calendar) → AreAllWithin first last (years_of t c)) → AreBetween p l first last
-between_ends p l t first last table within r d on has =
+    ((c : Calendar) → IfSome (years_of t c) (AreAllWithin first last)) →
+    AreBetween p l (Some t) first last
+between_ends p l t first last table within r d known on has =
     between_full p r l first last d
-    (full p r.calendar l first last (years_of t r.calendar) (table r.calendar) (within r.calendar))
+    (full_in p r.calendar l first last (years_of t r.calendar) (table r.calendar)
+    (within r.calendar) known)
     on has
 
 pub even_ends : (p : Profile) (l : Label) (t : LabelTable) (first last : ℕ) → IsTable p l t →
-    ((c : Calendar) → AreAllWithin first last (years_of t c)) → IsEven p l first last
-even_ends p l t first last table within = inl (λ r. some_full p r l first last
-    (full p r.calendar l first last (years_of t r.calendar) (table r.calendar) (within r.calendar)))
+    ((c : Calendar) → IfSome (years_of t c) (AreAllWithin first last)) →
+    IsEven p l (Some t) first last
+even_ends p l t first last table within = inl (λ r known fixed. some_full p r l first last fixed
+    (full_in p r.calendar l first last (years_of t r.calendar) (table r.calendar)
+    (within r.calendar) known))
 
 is_none_none : (x : Option ℕ) → is_none x ≡ true → x ≡ None
 is_none_none None is = refl
 is_none_none (Some d) is = let none : false ≡ true = is in absurd cc
 
-none_in : (t : LabelTable) (c : Calendar) → (are_none t.julian
-    && (are_none t.gregorian && are_none t.swedish)) ≡ true → are_none (years_of t c) ≡ true
-none_in t Julian all = (and_parts (are_none t.julian) _ all).0
-none_in t Gregorian all = (and_parts (are_none t.gregorian) (are_none t.swedish)
-    (and_parts (are_none t.julian) _ all).1).0
-none_in t Swedish all = (and_parts (are_none t.gregorian) (are_none t.swedish)
-    (and_parts (are_none t.julian) _ all).1).1
+none_in : (t : LabelTable) (c : Calendar) → (are_none_in t.julian
+    && (are_none_in t.gregorian && are_none_in t.swedish)) ≡ true →
+    are_none_in (years_of t c) ≡ true
+none_in t Julian all = (and_parts (are_none_in t.julian) _ all).0
+none_in t Gregorian all = (and_parts (are_none_in t.gregorian) (are_none_in t.swedish)
+    (and_parts (are_none_in t.julian) _ all).1).0
+none_in t Swedish all = (and_parts (are_none_in t.gregorian) (are_none_in t.swedish)
+    (and_parts (are_none_in t.julian) _ all).1).1
 
-no_days : (p : Profile) (r : Regime) (l : Label) (f : YearDays) → AreInYears p r.calendar l f →
-    are_none f ≡ true → [] ≡ days_with_label p r l
-no_days p r l f days none =
+no_days : (p : Profile) (r : Regime) (l : Label) (o : Option YearDays) → IsSome o →
+    IfSome o (AreInYears p r.calendar l) → are_none_in o ≡ true → [] ≡ days_with_label p r l
+no_days p r l None some days none = let nothing : false ≡ true = some in absurd cc
+no_days p r l (Some f) some days none =
     let first = and_parts (is_none f.before) (is_none f.same && is_none f.after) none in
     let rest = and_parts (is_none f.same) (is_none f.after) first.1 in
     three_years_found p r l [] [] [] (l.year -ℤ pos 1) l.year (l.year +ℤ pos 1)
@@ -204,18 +222,18 @@ no_days p r l f days none =
     (none_counted p r l (l.year +ℤ pos 1) f.after (is_none_none f.after rest.1) days.2)
     refl refl refl
 
--- where no calendar has a day
+-- where no calendar of the table has a day
 
 pub even_none : (p : Profile) (l : Label) (t : LabelTable) (first last : ℕ) → IsTable p l t →
-    (are_none t.julian && (are_none t.gregorian && are_none t.swedish)) ≡ true →
-    IsEven p l first last
-even_none p l t first last table none = inr (inl (λ r. ap is_empty (sym (no_days p r l
-    (years_of t r.calendar) (table r.calendar) (none_in t r.calendar none)))))
+    (are_none_in t.julian && (are_none_in t.gregorian && are_none_in t.swedish)) ≡ true →
+    IsEven p l (Some t) first last
+even_none p l t first last table none = inr (inl (λ r known. ap is_empty (sym (no_days p r l
+    (years_of t r.calendar) known (table r.calendar) (none_in t r.calendar none)))))
 
 pub between_none : (p : Profile) (l : Label) (t : LabelTable) (first last : ℕ) → IsTable p l t →
-    (are_none t.julian && (are_none t.gregorian && are_none t.swedish)) ≡ true →
-    AreBetween p l first last
+    (are_none_in t.julian && (are_none_in t.gregorian && are_none_in t.swedish)) ≡ true →
+    AreBetween p l (Some t) first last
 unfolding days_with_label line
-between_none p l t first last table none r d on has =
-    absurd (no_days_not (has_label l r) p.high d (ap is_empty (sym (no_days p r l
-    (years_of t r.calendar) (table r.calendar) (none_in t r.calendar none)))) on.0 on.1 has)
+between_none p l t first last table none r d known on has =
+    absurd (no_days_not (has_label p l r) p.high d (ap is_empty (sym (no_days p r l
+    (years_of t r.calendar) known (table r.calendar) (none_in t r.calendar none)))) on.0 on.1 has)

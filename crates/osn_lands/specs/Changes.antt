@@ -7,20 +7,27 @@ use Rattle.osn_lands.specs.declared.regime.Regime.{Regime}
 use Rattle.osn_lands.specs.declared.fault.LandFault.{LandFault}
 use Rattle.osn_lands.specs.declared.fault.LandFault.TheVariants.{ChangeExists, NoSuchChange}
 use Rattle.osn_lands.specs.declared.fault.LandFault.TheVariants.{OpeningPeriod}
+use Rattle.osn_lands.specs.declared.fault.LandFault.TheVariants.{StyleNeedsJulian}
+use Rattle.osn_lands.specs.Style.{lacks_julian}
 use Rattle.osn_lands.specs.Territory.{PlainTerritory}
 
 -- a period starts on the day
 abbrev pub starts_on : PlainTerritory → ℕ → Bool
 starts_on t d = list_any (λ s. s.0 == d) t.starts
 
--- why a change is not added on a day, if it is not
-abbrev pub add_fault : PlainTerritory → ℕ → Option LandFault
-add_fault t d =
-    if d == 1 then Some OpeningPeriod else (if starts_on t d then Some ChangeExists else None)
+-- why no period has a regime, if none has
+abbrev pub regime_fault : Regime → Option LandFault
+regime_fault r = if lacks_julian r then Some StyleNeedsJulian else None
+
+-- why a change to a regime is not added on a day, if it is not
+abbrev pub add_fault : PlainTerritory → ℕ → Regime → Option LandFault
+add_fault t d r =
+    if d == 1 then Some OpeningPeriod
+    else (if starts_on t d then Some ChangeExists else regime_fault r)
 
 -- why the regime that starts on a day is not altered
-abbrev pub alter_fault : PlainTerritory → ℕ → Option LandFault
-alter_fault t d = if starts_on t d then None else Some NoSuchChange
+abbrev pub alter_fault : PlainTerritory → ℕ → Regime → Option LandFault
+alter_fault t d r = if starts_on t d then regime_fault r else Some NoSuchChange
 
 -- why the change on a day is not dropped
 abbrev pub drop_fault : PlainTerritory → ℕ → Option LandFault

@@ -3,7 +3,7 @@ use Rattle.std.specs.Prelude.{ℕ, ℤ, int_lt, ◌==◌, if◌then◌else◌, L
 use Rattle.std.specs.Fmt.{decimal, signed_decimal}
 use Rattle.osn_days.specs.declared.date.Date.{Date}
 use Rattle.osn_days.specs.Chain.{date_of}
-use Rattle.osn_lands.specs.declared.style.Style.{Style}
+use Rattle.osn_days.specs.Profile.{Profile}
 use Rattle.osn_lands.specs.declared.regime.Regime.{Regime}
 use Rattle.osn_lands.specs.Style.{style_year}
 
@@ -42,13 +42,13 @@ year_text style_year year =
     ++ (codes "/" ++ later_digits (signed_decimal style_year) (signed_decimal year))
     else signed_decimal style_year
 
--- the text of a date under a style, without leading zeros
-abbrev pub date_text : Style → Date → List ℕ
-date_text style date =
+-- the text of a date that is in this year by the style, without leading zeros
+abbrev pub date_text : ℤ → Date → List ℕ
+date_text style_year date =
     decimal date.day
     ++ (codes " "
-    ++ (month_name date.month ++ (codes " " ++ year_text (style_year style date) date.year)))
+    ++ (month_name date.month ++ (codes " " ++ year_text style_year date.year)))
 
 -- the text of a day under a regime
-abbrev pub dual_text : Regime → ℕ → List ℕ
-dual_text regime d = date_text regime.style (date_of regime.calendar d)
+abbrev pub dual_text : Profile → Regime → ℕ → List ℕ
+dual_text p regime d = date_text (style_year p regime d) (date_of regime.calendar d)

@@ -1,15 +1,18 @@
 -- How a territory keeps its starts and its exceptions, and what is found period by period.
 use Rattle.std.specs.Prelude.{ℕ, ◌+◌, ◌-◌, ◌≤◌, ◌==◌, ◌&&◌, ◌||◌, nat_le, nat_lt, ℤ, Bool, true}
 use Rattle.std.specs.Prelude.{false, not, if◌then◌else◌, Option, Some, None, List, [], ◌∷◌, ◌++◌}
-use Rattle.std.specs.Prelude.{filter, map, ◌≡◌, ◌⊎◌, ◌*◌, ◌+ℤ◌, ◌-ℤ◌, pos, is_none}
-use Rattle.std.specs.Prelude.{IsSome, IsSomeAnd}
+use Rattle.std.specs.Prelude.{filter, map, ◌≡◌, ◌⊎◌, ◌*◌, ◌+ℤ◌, ◌-ℤ◌, pos, is_none, int_lt}
+use Rattle.std.specs.Prelude.{unsigned_abs, length}
+use Rattle.std.specs.Prelude.{IsSome, IsSomeAnd, IfSome}
 use Rattle.std.specs.List.{range_with_len, list_any}
 use Rattle.std.specs.Option.{option_to_list}
 use Rattle.std.specs.Ordering.{int_eq}
 use Rattle.osn_computus.specs.declared.rule.Rule.{Rule}
 use Rattle.osn_computus.specs.declared.rule.Rule.TheVariants.{Julian, Gregorian}
-use Rattle.osn_days.specs.Profile.{Profile, present}
+use Rattle.osn_computus.specs.Easter.{easter_of}
+use Rattle.osn_days.specs.Profile.{Profile, newest_rules}
 use Rattle.osn_days.specs.declared.calendar.Calendar.{Calendar}
+use Rattle.osn_days.specs.declared.calendar.Calendar.TheVariants as calendars
 use Rattle.osn_days.specs.declared.date.Date.{Date}
 use Rattle.osn_days.specs.Line.{line, IsDay}
 use Rattle.osn_days.specs.Chain.{date_of, days_with_date}
@@ -21,8 +24,9 @@ use Rattle.osn_lands.specs.declared.label_table.LabelTable.{LabelTable}
 use Rattle.osn_lands.specs.declared.label_search.LabelSearch.{LabelSearch}
 use Rattle.osn_lands.specs.declared.period.Period.{Period}
 use Rattle.osn_lands.specs.declared.territory.Territory.TheInside.{Inside}
+use Rattle.osn_lands.specs.Style.{year_by, is_from_easter}
 use Rattle.osn_lands.specs.Label.{local, same_label, days_with_label}
-use Rattle.osn_lands.specs.Territory.{PlainTerritory, CoversLine, is_empty, regime_at}
+use Rattle.osn_lands.specs.Territory.{PlainTerritory, CoversLine, is_empty, regime_at, periods_of}
 use Rattle.osn_lands.specs.Easters.{is_easter}
 
 abbrev pub start_of : Period → ℕ × Regime
@@ -45,29 +49,48 @@ territory_in t = record { starts = map start_of t.periods.items; exceptions = t.
 
 -- from day 1 to the end of the line, each day in one period, in order
 abbrev pub IsWhole : Inside → Type 0
-IsWhole t = CoversLine present t.periods.items
+IsWhole t = CoversLine newest_rules t.periods.items
 
 -- the period is of days of the line, and has one
 abbrev pub IsWithinLine : Period → Type 0
-IsWithinLine p = (1 ≤ p.first) × (p.first ≤ p.last) × (p.last ≤ present.high)
+IsWithinLine p = (1 ≤ p.first) × (p.first ≤ p.last) × (p.last ≤ newest_rules.high)
 
 -- the day is one of the period's
 abbrev pub is_held : Period → ℕ → Bool
 is_held p d = nat_le p.first d && nat_le d p.last
 
+-- the date is before the other one
+abbrev pub is_earlier : Date → Date → Bool
+is_earlier a b =
+    int_lt a.year b.year || (int_eq a.year b.year
+    && (nat_lt a.month b.month || ((a.month == b.month) && nat_lt a.day b.day)))
+
+abbrev pub is_dated_before : Calendar → Date → Option ℕ → Bool
+is_dated_before c date None = false
+is_dated_before c date (Some easter) = is_earlier date (date_of c easter)
+
+-- the date is before that which the Easter day of its year by the Julian rule has in the calendar
+abbrev pub is_dated_before_easter : Profile → Calendar → Date → Bool
+is_dated_before_easter p c date =
+    is_dated_before c date (easter_of p Julian (unsigned_abs date.year))
+
+-- the style's year of a date under a regime, whether a day has the date or not
+abbrev pub year_in : Profile → Regime → Date → ℤ
+year_in p r date = year_by r.style date (is_dated_before_easter p r.calendar date)
+
 -- the day has the label under the regime
-abbrev pub has_label : Label → Regime → ℕ → Bool
-has_label label r d = same_label (local r d) label
+abbrev pub has_label : Profile → Label → Regime → ℕ → Bool
+has_label p label r d = same_label (local p r d) label
 
 -- the days of a period that have the label under its regime
-abbrev pub days_read : Label → Period → List ℕ
-days_read label p =
-    filter (has_label label p.regime) (range_with_len p.first (p.last + 1 - p.first))
+abbrev pub days_read : Profile → Label → Period → List ℕ
+days_read p label q =
+    filter (has_label p label q.regime) (range_with_len q.first (q.last + 1 - q.first))
 
 -- the days that have the label, of those whose date is in the year counted from 1 January
 unfoldable pub days_in_year : Profile → Regime → Label → ℤ → List ℕ
 days_in_year p r label y =
-    filter (λ d. int_eq (date_of r.calendar d).year y && has_label label r d) (line p)
+    filter (λ d. int_eq (date_of r.calendar d).year y && has_label p label r d) (line p)
 
 -- the date of the label's month and day in a year counted from 1 January
 abbrev pub date_in : ℤ → Label → Date
@@ -85,31 +108,48 @@ AreInYears p c l f =
 abbrev pub are_none : YearDays → Bool
 are_none f = is_none f.before && (is_none f.same && is_none f.after)
 
+abbrev pub are_none_in : Option YearDays → Bool
+are_none_in None = true
+are_none_in (Some f) = are_none f
+
 -- there are three, from the first day to the last
 abbrev pub AreAllWithin : ℕ → ℕ → YearDays → Type 0
 AreAllWithin first last f =
     IsSomeAnd f.before (λ d. first ≤ d) × IsSome f.same × IsSomeAnd f.after (λ d. d ≤ last)
 
--- the days of one calendar
-abbrev pub years_of : LabelTable → Calendar → YearDays
-years_of t Calendar.Julian = t.julian
-years_of t Calendar.Gregorian = t.gregorian
-years_of t Calendar.Swedish = t.swedish
+-- the days of one calendar, where the table has it
+abbrev pub years_of : LabelTable → Calendar → Option YearDays
+years_of t calendars.Julian = t.julian
+years_of t calendars.Gregorian = t.gregorian
+years_of t calendars.Swedish = t.swedish
 
--- the table has those days of each calendar
+-- the table has those days of each calendar that it has
 abbrev pub IsTable : Profile → Label → LabelTable → Type 0
-IsTable p l t = (c : Calendar) → AreInYears p c l (years_of t c)
+IsTable p l t = (c : Calendar) → IfSome (years_of t c) (AreInYears p c l)
 
--- every day that some regime dates with the label is from the first to the last
-abbrev pub AreBetween : Profile → Label → ℕ → ℕ → Type 0
-AreBetween p l first last =
-    (r : Regime) (d : ℕ) → IsDay p d → has_label l r d ≡ true → (first ≤ d) × (d ≤ last)
+-- the days of the regime can be told: there is no table, or one that has the regime's calendar
+abbrev pub IsKnown : Option LabelTable → Regime → Type 0
+IsKnown None r = Unit {0}
+IsKnown (Some t) r = IsSome (years_of t r.calendar)
 
--- every regime has the label on a day, or none has, or the first and the last are the line's
-abbrev pub IsEven : Profile → Label → ℕ → ℕ → Type 0
-IsEven p l first last =
-    ((r : Regime) → is_empty (days_with_label p r l) ≡ false)
-    ⊎ (((r : Regime) → is_empty (days_with_label p r l) ≡ true)
+-- the same of the regimes of all periods
+abbrev pub AreKnown : Option LabelTable → List Period → Type 0
+AreKnown table [] = Unit {0}
+AreKnown table (q ∷ qs) = IsKnown table q.regime × AreKnown table qs
+
+-- every day that some known regime dates with the label is from the first to the last
+abbrev pub AreBetween : Profile → Label → Option LabelTable → ℕ → ℕ → Type 0
+AreBetween p l table first last =
+    (r : Regime) (d : ℕ) → IsKnown table r → IsDay p d → has_label p l r d ≡ true →
+    (first ≤ d) × (d ≤ last)
+
+-- every known regime whose year begins on a fixed date has the label on a day, or no known regime
+-- has, or the first and the last are the line's
+abbrev pub IsEven : Profile → Label → Option LabelTable → ℕ → ℕ → Type 0
+IsEven p l table first last =
+    ((r : Regime) → IsKnown table r → is_from_easter r.style ≡ false →
+    is_empty (days_with_label p r l) ≡ false)
+    ⊎ (((r : Regime) → IsKnown table r → is_empty (days_with_label p r l) ≡ true)
     ⊎ ((first ≡ 1) × (last ≡ p.high)))
 
 -- where there is a table, it is that of the label
@@ -120,17 +160,52 @@ IsTableIn p l (Some t) = IsTable p l t
 -- what a search knows of its label
 abbrev pub IsSearch : Profile → LabelSearch → Type 0
 IsSearch p s =
-    IsTableIn p s.label s.table × AreBetween p s.label s.first s.last
-    × IsEven p s.label s.first s.last
+    IsTableIn p s.label s.table × AreBetween p s.label s.table s.first s.last
+    × IsEven p s.label s.table s.first s.last
 
--- how many dates are tested for one regime, and for as many periods, at most
+-- without a table there is one period at most
+abbrev pub IsForFew : Option LabelTable → ℕ → Type 0
+IsForFew None periods = periods ≤ 1
+IsForFew (Some t) periods = Unit {0}
+
+-- what a search in a territory knows: all of its regimes, by a table unless there is one period
+abbrev pub IsSearchIn : PlainTerritory → LabelSearch → Type 0
+IsSearchIn t s =
+    IsSearch newest_rules s × AreKnown s.table (periods_of newest_rules t)
+    × IsForFew s.table (length (periods_of newest_rules t))
+
+-- how many dates are tested for one regime, and for the first of so many periods, at most: those of
+-- a table were tested to begin with
 abbrev pub most_for_one : Option LabelTable → ℕ
 most_for_one None = 3
 most_for_one (Some t) = 0
 
-abbrev pub most_tested : Option LabelTable → ℕ → ℕ
-most_tested None n = 3 * n
-most_tested (Some t) n = 9
+abbrev pub most_tested : Option LabelTable → ℕ → ℕ → ℕ
+most_tested None periods first = 3 * first
+most_tested (Some t) periods first = 3 * periods
+
+abbrev pub is_calendar : Calendar → Calendar → Bool
+is_calendar calendars.Julian calendars.Julian = true
+is_calendar calendars.Julian calendars.Gregorian = false
+is_calendar calendars.Julian calendars.Swedish = false
+is_calendar calendars.Gregorian calendars.Julian = false
+is_calendar calendars.Gregorian calendars.Gregorian = true
+is_calendar calendars.Gregorian calendars.Swedish = false
+is_calendar calendars.Swedish calendars.Julian = false
+is_calendar calendars.Swedish calendars.Gregorian = false
+is_calendar calendars.Swedish calendars.Swedish = true
+
+-- the period goes by the calendar, and some period does
+abbrev pub goes_by : Calendar → Period → Bool
+goes_by c q = is_calendar q.regime.calendar c
+
+abbrev pub is_used : Calendar → List Period → Bool
+is_used c qs = list_any (goes_by c) qs
+
+-- three dates, where they are tested
+abbrev pub three_if : Bool → ℕ
+three_if true = 3
+three_if false = 0
 
 -- the days that were found for a label, in order
 abbrev pub days_found : LabelDays → List ℕ

@@ -65,7 +65,7 @@ IsWithinBinaryDigits count n = 2 ^ count ≤ 2 * n
 
 -- the days that the territory dates with the label, in order
 unfoldable pub reading : Profile → PlainTerritory → Label → List ℕ
-reading p t label = filter (λ d. same_label (local (regime_at t d) d) label) (line p)
+reading p t label = filter (λ d. same_label (local p (regime_at t d) d) label) (line p)
 
 abbrev pub is_empty : List ℕ → Bool
 is_empty [] = true

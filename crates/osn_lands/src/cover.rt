@@ -2,7 +2,7 @@
 //! joined.
 ghost use Rattle.std.specs.Prelude.{◌≡◌, ◌+◌, ◌<◌, ◌≤◌, true, false, length, map, OnOk, OnErr};
 ghost use Rattle.std.specs.List.{HoldsAt};
-ghost use Rattle.osn_days.specs.Profile.{present};
+ghost use Rattle.osn_days.specs.Profile.{newest_rules};
 ghost use Rattle.osn_lands.specs.Territory.{CoversLine, Holds, IsWithinBinaryDigits};
 ghost use Rattle.osn_lands.specs.Changes as changes;
 ghost use Rattle.osn_lands.specs.Inside.{start_of, has_start, with_regime, without_start};
@@ -15,7 +15,7 @@ use std::alloc::AllocError;
 /// The place of the period that holds the day, and how many start days were tested: the places that
 /// are left are halved by each test.
 pub(crate) fn find_period(periods: &[Period], day: Day) -> (usize, u32)
-    requires { CoversLine present periods.now }
+    requires { CoversLine newest_rules periods.now }
     ensures within { result.0 < length periods.now }
     ensures holds { HoldsAt (Holds day) periods.now result.0 }
     ensures tested { IsWithinBinaryDigits result.1 (length periods.now) }
@@ -38,7 +38,7 @@ pub(crate) fn find_period(periods: &[Period], day: Day) -> (usize, u32)
 
 /// The place of the period that holds the day.
 fn place_of(periods: &[Period], day: Day) -> usize
-    requires { CoversLine present periods.now }
+    requires { CoversLine newest_rules periods.now }
     ensures within { result < length periods.now }
     ensures holds { HoldsAt (Holds day) periods.now result }
 {
@@ -47,7 +47,7 @@ fn place_of(periods: &[Period], day: Day) -> usize
 
 /// The place of the period that starts on the day. It is not the first where the day is not day 1.
 fn place_of_start(periods: &[Period], day: Day) -> usize
-    requires covers { CoversLine present periods.now }
+    requires covers { CoversLine newest_rules periods.now }
     requires start { has_start day periods.now ≡ true }
     ensures within { result < length periods.now }
     ensures starts { HoldsAt (λ p. p.first ≡ day) periods.now result }
@@ -58,7 +58,7 @@ fn place_of_start(periods: &[Period], day: Day) -> usize
 
 /// The place of the period within which the day can begin another one.
 fn place_to_split(periods: &[Period], day: Day) -> usize
-    requires covers { CoversLine present periods.now }
+    requires covers { CoversLine newest_rules periods.now }
     requires apart { has_start day periods.now ≡ false }
     ensures within { result < length periods.now }
     ensures holds { HoldsAt (λ p. (p.first < day) × (day ≤ p.last)) periods.now result }
@@ -76,7 +76,7 @@ fn day_before(day: Day) -> Day
 
 /// Whether a period starts on the day.
 pub(crate) fn is_start(periods: &[Period], day: Day) -> bool
-    requires { CoversLine present periods.now }
+    requires { CoversLine newest_rules periods.now }
     ensures { result ≡ has_start day periods.now }
 {
     periods[place_of(periods, day)].first == day
@@ -85,9 +85,9 @@ pub(crate) fn is_start(periods: &[Period], day: Day) -> bool
 /// Ends the period that holds the day on the day before, and begins another one there that lasts as
 /// long.
 pub(crate) fn split(periods: &mut Vec<Period>, day: Day, regime: Regime) -> Result<(), AllocError>
-    requires covers { CoversLine present periods.old.items }
+    requires covers { CoversLine newest_rules periods.old.items }
     requires apart { has_start day periods.old.items ≡ false }
-    ensures covers { CoversLine present periods.new.items }
+    ensures covers { CoversLine newest_rules periods.new.items }
     ensures ok { OnOk result (map start_of periods.new.items
         ≡ changes.with_start day regime (map start_of periods.old.items)) }
     ensures unchanged { OnErr result (periods.new.items ≡ periods.old.items) }
@@ -107,9 +107,9 @@ pub(crate) fn split(periods: &mut Vec<Period>, day: Day, regime: Regime) -> Resu
 
 /// Puts another regime into force from the start on the day.
 pub(crate) fn alter(periods: &mut Vec<Period>, day: Day, regime: Regime)
-    requires covers { CoversLine present periods.old.items }
+    requires covers { CoversLine newest_rules periods.old.items }
     requires start { has_start day periods.old.items ≡ true }
-    ensures covers { CoversLine present periods.new.items }
+    ensures covers { CoversLine newest_rules periods.new.items }
     ensures starts { map start_of periods.new.items
         ≡ with_regime day regime (map start_of periods.old.items) }
 {
@@ -120,10 +120,10 @@ pub(crate) fn alter(periods: &mut Vec<Period>, day: Day, regime: Regime)
 
 /// Removes the period that starts on the day, through which the one before it goes on.
 pub(crate) fn join(periods: &mut Vec<Period>, day: Day)
-    requires covers { CoversLine present periods.old.items }
+    requires covers { CoversLine newest_rules periods.old.items }
     requires start { has_start day periods.old.items ≡ true }
     requires later { 1 < day }
-    ensures covers { CoversLine present periods.new.items }
+    ensures covers { CoversLine newest_rules periods.new.items }
     ensures starts { map start_of periods.new.items
         ≡ without_start day (map start_of periods.old.items) }
 {

@@ -1,10 +1,11 @@
 ghost use Rattle.std.specs.Prelude.{◌≡◌, ◌<◌, ◌≤◌, IfOk, string_bytes};
 ghost use Rattle.std.specs.Fmt.{decimal};
+ghost use Rattle.osn_days.specs.Profile.{newest_rules};
 ghost use Rattle.osn_lands.specs.Dual as dual;
 
 use crate::regime::Regime;
-use crate::style::year_of;
-use osn_days::{Day, date_of};
+use crate::style_year::date_and_year;
+use osn_days::Day;
 use std::alloc::{AllocError, Global};
 
 /// The English name of a month from 1 to 12. Any other number is taken for 12.
@@ -50,11 +51,10 @@ fn later_part(earlier: u32, later: u32) -> u32
 ///
 /// `AllocError` where there is no memory for the text.
 pub fn dual_text(alloc: Global, regime: Regime, day: Day) -> Result<String, AllocError>
-    ensures { IfOk result (λ s. string_bytes s ≡ dual.dual_text regime day) }
+    ensures { IfOk result (λ s. string_bytes s ≡ dual.dual_text newest_rules regime day) }
 {
-    let date = date_of(regime.calendar, day);
+    let (date, year) = date_and_year(regime, day);
     let name = month_name(date.month);
-    let year = year_of(regime.style, date);
     if year < date.year {
         let part = later_part(year as u32, date.year as u32);
         format!(in alloc; "{} {} {}/{}", date.day, name, year, part)

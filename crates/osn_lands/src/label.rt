@@ -1,12 +1,11 @@
-ghost use Rattle.std.specs.Prelude.{◌≡◌};
-ghost use Rattle.std.specs.Option.{option_to_list};
-ghost use Rattle.osn_days.specs.Profile.{present};
-ghost use Rattle.osn_lands.specs.Label.{local, days_with_label};
+ghost use Rattle.std.specs.Prelude.{◌≡◌, ◌≤◌, length};
+ghost use Rattle.osn_days.specs.Profile.{newest_rules};
+ghost use Rattle.osn_lands.specs.Label.{local, days_with_label, first_two};
 
 use crate::label_days::days_of_label;
 use crate::regime::Regime;
-use crate::style::year_of;
-use osn_days::{Day, date_of};
+use crate::style_year::date_and_year;
+use osn_days::Day;
 
 /// A date as a territory writes it: the style's year, the month and the day of the month. The
 /// numbers may be any; the label of a day of the line has a year from 0 to 3000.
@@ -19,19 +18,22 @@ pub struct Label {
 
 /// The label of a day under a regime.
 pub fn label_of(regime: Regime, day: Day) -> Label
-    ensures { result ≡ local regime day }
+    ensures { result ≡ local newest_rules regime day }
 {
-    let date = date_of(regime.calendar, day);
+    let (date, year) = date_and_year(regime, day);
     Label {
-        year: year_of(regime.style, date),
+        year,
         month: date.month,
         day: date.day,
     }
 }
 
-/// The one day that has the label under the regime, or `None` where no day of the line has it.
-pub fn day_of_label(regime: Regime, label: Label) -> Option<Day>
-    ensures { option_to_list result ≡ days_with_label present regime label }
+/// The days that have the label under the regime: the least one, then the other one. Each is `None`
+/// exactly where there is no such day, so the second is there only where the first is. A year from
+/// Easter to Easter alone may have a date twice; no label has three days.
+pub fn day_of_label(regime: Regime, label: Label) -> [Option<Day>; 2]
+    ensures days { result ≡ first_two (days_with_label newest_rules regime label) }
+    ensures no_third { length (days_with_label newest_rules regime label) ≤ 2 }
 {
-    days_of_label(regime, label).only()
+    days_of_label(regime, label).pair()
 }

@@ -3,15 +3,15 @@ ghost use Rattle.std.specs.Prelude.{◌≡◌, ◌+◌, ◌<◌, ◌≤◌, ◌+
 ghost use Rattle.std.specs.Prelude.{OnOk, filter, length};
 ghost use Rattle.std.specs.List.{list_any};
 ghost use Rattle.std.specs.Option.{option_to_list};
-ghost use Rattle.osn_days.specs.Profile.{present};
-ghost use Rattle.osn_lands.specs.Label.{days_with_label};
+ghost use Rattle.osn_days.specs.Profile.{newest_rules};
+ghost use Rattle.osn_lands.specs.Label.{days_with_label, first_two};
 ghost use Rattle.osn_lands.specs.Territory.{is_empty};
 ghost use Rattle.osn_lands.specs.Inside.{days_found, days_in_year, is_held};
 
 use crate::label::Label;
 use crate::period::Period;
 use crate::regime::Regime;
-use crate::style::year_of;
+use crate::style_year::year_of;
 use osn_days::{Date, Day, Year, day_of};
 use std::alloc::AllocError;
 
@@ -34,7 +34,7 @@ pub(crate) struct LabelDays {
 /// before it is converted: most candidates need no conversion.
 fn day_in_year(regime: Regime, label: Label, year: i64, tested: &mut u32) -> Option<Day>
     requires { tested.old < 3 }
-    ensures value { option_to_list result ≡ days_in_year present regime label year }
+    ensures value { option_to_list result ≡ days_in_year newest_rules regime label year }
     ensures tested { tested.new ≤ tested.old + 1 }
 {
     let year = Year::new(year)?;
@@ -44,7 +44,7 @@ fn day_in_year(regime: Regime, label: Label, year: i64, tested: &mut u32) -> Opt
         day: label.day,
     };
     *tested += 1;
-    if year_of(regime.style, date) != label.year {
+    if year_of(regime, date) != label.year {
         return None;
     }
     day_of(regime.calendar, date)
@@ -52,7 +52,7 @@ fn day_in_year(regime: Regime, label: Label, year: i64, tested: &mut u32) -> Opt
 
 /// The days that have the label under the regime.
 pub(crate) fn days_of_label(regime: Regime, label: Label) -> LabelDays
-    ensures value { days_found result ≡ days_with_label present regime label }
+    ensures value { days_found result ≡ days_with_label newest_rules regime label }
     ensures tested { result.tested ≤ 3 }
 {
     let year = label.year as i64;
@@ -150,11 +150,15 @@ impl LabelDays {
         push_if_in(self.after, period, days)
     }
 
-    /// The one of them, where there are not two.
-    pub fn only(&self) -> Option<Day>
-        requires { length (days_found self.now) ≤ 1 }
-        ensures { option_to_list result ≡ days_found self.now }
+    /// The first of them and the other one, where there are not three.
+    pub fn pair(&self) -> [Option<Day>; 2]
+        requires { length (days_found self.now) ≤ 2 }
+        ensures { result ≡ first_two (days_found self.now) }
     {
-        self.before.or(self.same).or(self.after)
+        match (self.before, self.same, self.after) {
+            (Some(before), same, after) => [Some(before), same.or(after)],
+            (None, Some(same), after) => [Some(same), after],
+            (None, None, after) => [after, None],
+        }
     }
 }

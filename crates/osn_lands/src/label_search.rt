@@ -1,9 +1,10 @@
 //! The search for a label in a territory: the days with the label under each regime, and between
 //! which days they lie.
-ghost use Rattle.std.specs.Prelude.{◌≡◌, ◌*◌, ◌≤◌, ◌&&◌, nat_le, nat_lt};
-ghost use Rattle.osn_days.specs.Profile.{present};
+ghost use Rattle.std.specs.Prelude.{◌≡◌, ◌≤◌, ◌&&◌, nat_le, nat_lt, length};
+ghost use Rattle.osn_days.specs.Profile.{newest_rules};
 ghost use Rattle.osn_lands.specs.Label.{days_with_label};
 ghost use Rattle.osn_lands.specs.Inside.{days_found, most_for_one, most_tested, IsSearch};
+ghost use Rattle.osn_lands.specs.Inside.{IsKnown, AreKnown, IsForFew};
 
 use crate::label::Label;
 use crate::label_days::{LabelDays, days_of_label};
@@ -12,11 +13,12 @@ use crate::period::Period;
 use crate::regime::Regime;
 use osn_days::Day;
 
-/// From so many periods on the days of all regimes are found at once, by the nine dates that as
-/// many periods may test.
-const PERIODS_FOR_A_TABLE: usize = 3;
+/// From so many periods on the days of all regimes are found at once, by three dates for each
+/// calendar, so that none is tested again where two periods meet.
+const PERIODS_FOR_A_TABLE: usize = 2;
 
-/// What a search goes by. Every day that has the label under some regime is from `first` to `last`.
+/// What a search in a territory goes by. Every day that has the label under some regime of the
+/// territory is from `first` to `last`.
 #[derive(Clone, Copy)]
 pub(crate) struct LabelSearch {
     pub label: Label,
@@ -28,15 +30,16 @@ pub(crate) struct LabelSearch {
 }
 
 impl LabelSearch {
-    /// The search for a label in a territory of so many periods.
-    pub fn new(label: Label, periods: usize) -> LabelSearch
-        ensures value { IsSearch present result }
+    /// The search for a label in a territory of these periods.
+    pub fn new(label: Label, periods: &[Period]) -> LabelSearch
+        ensures value { IsSearch newest_rules result }
         ensures label { result.label ≡ label }
-        ensures tested { result.tested ≤ most_tested result.table 0 }
-        ensures few { most_tested result.table periods ≤ 3 * periods }
+        ensures known { AreKnown result.table periods.now }
+        ensures tested { result.tested ≤ most_tested result.table (length periods.now) 0 }
+        ensures few { IsForFew result.table (length periods.now) }
     {
         let mut tested = 0;
-        if periods < PERIODS_FOR_A_TABLE {
+        if periods.len() < PERIODS_FOR_A_TABLE {
             return LabelSearch {
                 label,
                 table: None,
@@ -45,7 +48,7 @@ impl LabelSearch {
                 tested,
             };
         }
-        let table = LabelTable::new(label, &mut tested);
+        let table = LabelTable::new(label, periods, &mut tested);
         let (first, last) = table.reach(label);
         LabelSearch {
             label,
@@ -56,10 +59,12 @@ impl LabelSearch {
         }
     }
 
-    /// The days that have the label under a regime, and how many dates were tested to find them.
+    /// The days that have the label under a regime of the territory, and how many dates were tested
+    /// to find them.
     pub fn days(&self, regime: Regime) -> LabelDays
-        requires { IsSearch present self.now }
-        ensures value { days_found result ≡ days_with_label present regime self.now.label }
+        requires search { IsSearch newest_rules self.now }
+        requires known { IsKnown self.now.table regime }
+        ensures value { days_found result ≡ days_with_label newest_rules regime self.now.label }
         ensures tested { result.tested ≤ most_for_one self.now.table }
     {
         match &self.table {

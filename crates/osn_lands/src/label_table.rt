@@ -1,19 +1,20 @@
-//! The days of a label by calendar, for all regimes at once: a label is one of three dates in each
-//! of the three calendars, whatever the style.
-ghost use Rattle.std.specs.Prelude.{◌≡◌, ◌+◌, ◌≤◌, ◌&&◌, IfSome};
+//! The days of a label by calendar, for all regimes of a territory at once: a label is one of three
+//! dates in each calendar, whatever the style.
+ghost use Rattle.std.specs.Prelude.{◌≡◌, ◌+◌, ◌*◌, ◌≤◌, ◌&&◌, IfSome, Some, is_some, length};
 ghost use Rattle.std.specs.Option.{option_to_list};
-ghost use Rattle.osn_days.specs.Profile.{present};
+ghost use Rattle.osn_days.specs.Profile.{newest_rules};
 ghost use Rattle.osn_days.specs.Chain.{days_with_date};
 ghost use Rattle.osn_lands.specs.Label.{days_with_label};
 ghost use Rattle.osn_lands.specs.Inside.{date_in, days_in_year, days_found, years_of};
-ghost use Rattle.osn_lands.specs.Inside.{are_none, AreAllWithin, AreInYears, IsTable};
-ghost use Rattle.osn_lands.specs.Inside.{AreBetween, IsEven};
+ghost use Rattle.osn_lands.specs.Inside.{are_none, are_none_in, AreAllWithin, AreInYears, IsTable};
+ghost use Rattle.osn_lands.specs.Inside.{IsKnown, AreKnown, AreBetween, IsEven, is_used, three_if};
 ghost use Rattle.osn_days.specs.declared.calendar.Calendar.{Calendar};
 
 use crate::label::Label;
 use crate::label_days::LabelDays;
+use crate::period::Period;
 use crate::regime::Regime;
-use crate::style::year_of;
+use crate::style_year::year_of;
 use osn_days::{Calendar, Date, Day, Year, day_of};
 
 /// The days of one calendar with the label's month and day, in three years counted from 1 January.
@@ -27,19 +28,20 @@ pub(crate) struct YearDays {
     pub after: Option<Day>,
 }
 
-/// The days of each calendar.
+/// The days of each calendar that some period of a territory goes by.
 #[derive(Clone, Copy)]
 pub(crate) struct LabelTable {
-    pub julian: YearDays,
-    pub gregorian: YearDays,
-    pub swedish: YearDays,
+    pub julian: Option<YearDays>,
+    pub gregorian: Option<YearDays>,
+    pub swedish: Option<YearDays>,
 }
 
 /// The day of a calendar with the label's month and day in a year. The date is tested, and counted
 /// as one of the nine of a table.
 fn dated_day(calendar: Calendar, label: Label, year: i64, tested: &mut u32) -> Option<Day>
     requires { tested.old ≤ 8 }
-    ensures value { option_to_list result ≡ days_with_date present calendar (date_in year label) }
+    ensures value { option_to_list result
+        ≡ days_with_date newest_rules calendar (date_in year label) }
     ensures tested { tested.new ≤ tested.old + 1 }
 {
     let year = Year::new(year)?;
@@ -55,7 +57,7 @@ fn dated_day(calendar: Calendar, label: Label, year: i64, tested: &mut u32) -> O
 /// The days of a calendar.
 fn year_days(calendar: Calendar, label: Label, tested: &mut u32) -> YearDays
     requires { tested.old ≤ 6 }
-    ensures value { AreInYears present calendar label result }
+    ensures value { AreInYears newest_rules calendar label result }
     ensures tested { tested.new ≤ tested.old + 3 }
 {
     let year = label.year as i64;
@@ -69,10 +71,37 @@ fn year_days(calendar: Calendar, label: Label, tested: &mut u32) -> YearDays
     }
 }
 
+/// Whether some period goes by the calendar.
+fn is_used(calendar: Calendar, periods: &[Period]) -> bool
+    ensures { result ≡ is_used calendar periods.now }
+{
+    periods.iter().any(|period| period.goes_by(calendar))
+}
+
+/// The days of a calendar, where some period goes by it.
+fn used_days(
+    calendar: Calendar,
+    label: Label,
+    periods: &[Period],
+    tested: &mut u32,
+) -> Option<YearDays>
+    requires { tested.old ≤ 6 }
+    ensures value { IfSome result (AreInYears newest_rules calendar label) }
+    ensures used { is_some result ≡ is_used calendar periods.now }
+    ensures tested { tested.new ≤ tested.old + three_if (is_used calendar periods.now) }
+{
+    if is_used(calendar, periods) {
+        Some(year_days(calendar, label, tested))
+    } else {
+        None
+    }
+}
+
 /// The day that was found in a year, where the regime's style counts its date as the label's.
 fn counted(found: Option<Day>, regime: Regime, label: Label, year: i64) -> Option<Day>
-    requires { option_to_list found ≡ days_with_date present regime.calendar (date_in year label) }
-    ensures { option_to_list result ≡ days_in_year present regime label year }
+    requires { option_to_list found
+        ≡ days_with_date newest_rules regime.calendar (date_in year label) }
+    ensures { option_to_list result ≡ days_in_year newest_rules regime label year }
 {
     let Some(day) = found else {
         return None;
@@ -82,7 +111,7 @@ fn counted(found: Option<Day>, regime: Regime, label: Label, year: i64) -> Optio
         month: label.month,
         day: label.day,
     };
-    if year_of(regime.style, date) == label.year {
+    if year_of(regime, date) == label.year {
         Some(day)
     } else {
         None
@@ -108,6 +137,27 @@ impl YearDays {
     }
 }
 
+/// The first and the last of days, if there are three. Where no period goes by the calendar, no day
+/// counts: the first is behind all days then, and the last before them.
+fn ends_of(days: Option<YearDays>) -> Option<(Day, Day)>
+    ensures { IfSome result (λ e. IfSome days (AreAllWithin e.0 e.1)) }
+{
+    match days {
+        Some(days) => days.ends(),
+        None => Some((Day::LAST, Day::FIRST)),
+    }
+}
+
+/// Whether there is none of them.
+fn are_none(days: Option<YearDays>) -> bool
+    ensures { result ≡ are_none_in days }
+{
+    match days {
+        Some(days) => days.is_empty(),
+        None => true,
+    }
+}
+
 /// The earlier of two first days, and the later of two last ones.
 fn wider(one: (Day, Day), other: (Day, Day)) -> (Day, Day)
     ensures first { (result.0 ≤ one.0) × (result.0 ≤ other.0) }
@@ -117,21 +167,23 @@ fn wider(one: (Day, Day), other: (Day, Day)) -> (Day, Day)
 }
 
 impl LabelTable {
-    /// The table of a label. Three dates are tested for each calendar.
-    pub fn new(label: Label, tested: &mut u32) -> LabelTable
+    /// The table of a label for the periods of a territory. Three dates are tested for each
+    /// calendar that some period goes by.
+    pub fn new(label: Label, periods: &[Period], tested: &mut u32) -> LabelTable
         requires { tested.old ≡ 0 }
-        ensures value { IsTable present label result }
-        ensures tested { tested.new ≤ 9 }
+        ensures value { IsTable newest_rules label result }
+        ensures known { AreKnown (Some result) periods.now }
+        ensures tested { tested.new ≤ 3 * length periods.now }
     {
         LabelTable {
-            julian: year_days(Calendar::Julian, label, tested),
-            gregorian: year_days(Calendar::Gregorian, label, tested),
-            swedish: year_days(Calendar::Swedish, label, tested),
+            julian: used_days(Calendar::Julian, label, periods, tested),
+            gregorian: used_days(Calendar::Gregorian, label, periods, tested),
+            swedish: used_days(Calendar::Swedish, label, periods, tested),
         }
     }
 
-    /// The days of one calendar.
-    fn in_calendar(&self, calendar: Calendar) -> YearDays
+    /// The days of one calendar, where the table has it.
+    fn in_calendar(&self, calendar: Calendar) -> Option<YearDays>
         ensures { result ≡ years_of self.now calendar }
     {
         match calendar {
@@ -141,13 +193,15 @@ impl LabelTable {
         }
     }
 
-    /// The days that have the label under a regime. No date is tested for them.
+    /// The days that have the label under a regime whose calendar the table has. No date is tested
+    /// for them.
     pub fn days(&self, regime: Regime, label: Label) -> LabelDays
-        requires { IsTable present label self.now }
-        ensures value { days_found result ≡ days_with_label present regime label }
+        requires table { IsTable newest_rules label self.now }
+        requires known { IsKnown (Some self.now) regime }
+        ensures value { days_found result ≡ days_with_label newest_rules regime label }
         ensures tested { result.tested ≡ 0 }
     {
-        let days = self.in_calendar(regime.calendar);
+        let days = self.in_calendar(regime.calendar).unwrap();
         let year = label.year as i64;
         LabelDays {
             before: counted(days.before, regime, label, year - 1),
@@ -157,30 +211,32 @@ impl LabelTable {
         }
     }
 
-    /// The first and the last of the days, where each calendar has three.
+    /// The first and the last of the days, where each calendar that the table has has three.
     fn ends(&self) -> Option<(Day, Day)>
-        ensures { IfSome result (λ e. (c : Calendar) → AreAllWithin e.0 e.1 (years_of self.now c)) }
+        ensures { IfSome result (λ e. (c : Calendar) →
+            IfSome (years_of self.now c) (AreAllWithin e.0 e.1)) }
     {
-        let julian = self.julian.ends()?;
-        let gregorian = self.gregorian.ends()?;
-        let swedish = self.swedish.ends()?;
+        let julian = ends_of(self.julian)?;
+        let gregorian = ends_of(self.gregorian)?;
+        let swedish = ends_of(self.swedish)?;
         Some(wider(julian, wider(gregorian, swedish)))
     }
 
     /// Whether no calendar has a day.
     fn is_empty(&self) -> bool
-        ensures { result ≡ (are_none self.now.julian
-            && (are_none self.now.gregorian && are_none self.now.swedish)) }
+        ensures { result ≡ (are_none_in self.now.julian
+            && (are_none_in self.now.gregorian && are_none_in self.now.swedish)) }
     {
-        self.julian.is_empty() && self.gregorian.is_empty() && self.swedish.is_empty()
+        are_none(self.julian) && are_none(self.gregorian) && are_none(self.swedish)
     }
 
-    /// Two days from one of which to the other all days lie that have the label under some regime.
-    /// They are the ends of the line unless every regime has the label, or none.
+    /// Two days from one of which to the other all days lie that have the label under some regime
+    /// whose calendar the table has. They are the ends of the line unless every such regime whose
+    /// year begins on a fixed date has the label, or none has it.
     pub fn reach(&self, label: Label) -> (Day, Day)
-        requires { IsTable present label self.now }
-        ensures between { AreBetween present label result.0 result.1 }
-        ensures even { IsEven present label result.0 result.1 }
+        requires { IsTable newest_rules label self.now }
+        ensures between { AreBetween newest_rules label (Some self.now) result.0 result.1 }
+        ensures even { IsEven newest_rules label (Some self.now) result.0 result.1 }
     {
         if self.is_empty() {
             return (Day::FIRST, Day::FIRST);

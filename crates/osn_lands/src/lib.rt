@@ -16,6 +16,7 @@ mod period;
 mod reading;
 mod regime;
 mod style;
+mod style_year;
 mod territory;
 
 pub use dual::{dual_text, month_name};

@@ -1,8 +1,8 @@
 ghost use Rattle.std.specs.Prelude.{◌≡◌};
-ghost use Rattle.osn_lands.specs.Inside.{is_held};
+ghost use Rattle.osn_lands.specs.Inside.{is_held, goes_by};
 
 use crate::regime::Regime;
-use osn_days::Day;
+use osn_days::{Calendar, Day};
 
 /// The days from `first` to `last`, both included, through which a regime is in force.
 #[derive(Clone, Copy, Debug, PartialEq, Eq, Hash)]
@@ -18,5 +18,17 @@ impl Period {
         ensures { result ≡ is_held self.now day }
     {
         self.first <= day && day <= self.last
+    }
+
+    /// Whether the period goes by the calendar.
+    pub(crate) fn goes_by(&self, calendar: Calendar) -> bool
+        ensures { result ≡ goes_by calendar self.now }
+    {
+        match (self.regime.calendar, calendar) {
+            (Calendar::Julian, Calendar::Julian)
+            | (Calendar::Gregorian, Calendar::Gregorian)
+            | (Calendar::Swedish, Calendar::Swedish) => true,
+            _ => false,
+        }
     }
 }

@@ -1,9 +1,10 @@
 //! What a period reads, and what is skipped between two.
-ghost use Rattle.std.specs.Prelude.{◌≡◌, ◌++◌, ◌≤◌, ◌<◌, IfOk, OnOk};
-ghost use Rattle.osn_days.specs.Profile.{present};
+ghost use Rattle.std.specs.Prelude.{◌≡◌, ◌++◌, ◌≤◌, ◌<◌, ◌&&◌, not, IfOk, OnOk, IsSome};
+ghost use Rattle.osn_days.specs.Profile.{newest_rules};
 ghost use Rattle.osn_lands.specs.Label.{days_with_label};
+ghost use Rattle.osn_lands.specs.Style.{is_from_easter};
 ghost use Rattle.osn_lands.specs.Inside.{IsWithinLine, IsSearch, days_found, days_read, is_named};
-ghost use Rattle.osn_lands.specs.Inside.{most_for_one};
+ghost use Rattle.osn_lands.specs.Inside.{most_for_one, IsKnown};
 
 use crate::label_days::LabelDays;
 use crate::label_search::LabelSearch;
@@ -19,9 +20,10 @@ pub(crate) fn read_period(
     days: &mut Vec<Day>,
 ) -> Result<u32, AllocError>
     requires line { IsWithinLine period.now }
-    requires search { IsSearch present search.now }
+    requires search { IsSearch newest_rules search.now }
+    requires known { IsKnown search.now.table period.now.regime }
     ensures value { OnOk result (days.new.items
-        ≡ days.old.items ++ days_read search.now.label period.now) }
+        ≡ days.old.items ++ days_read newest_rules search.now.label period.now) }
     ensures tested { IfOk result (λ n. n ≤ most_for_one search.now.table) }
 {
     if !search.reaches_into(period) {
@@ -51,15 +53,27 @@ pub(crate) fn is_skipped_between(
         && !(old_days.has_in(old) || new_days.has_in(new))
 }
 
-/// Whether the label is skipped at the change from one period to the next.
-pub(crate) fn is_skipped_at(search: &LabelSearch, old: &Period, new: &Period) -> bool
-    requires search { IsSearch present search.now }
-    requires line { (1 < new.now.first) × (new.now.first ≤ present.high) }
-    ensures { result ≡ is_named old.now new.now
-        (days_with_label present old.now.regime search.now.label)
-        (days_with_label present new.now.regime search.now.label) }
+/// Whether the years of both periods begin on a date that is the same each year.
+fn has_fixed_beginnings(old: &Period, new: &Period) -> bool
+    ensures { result ≡ (not (is_from_easter old.now.regime.style)
+        && not (is_from_easter new.now.regime.style)) }
 {
-    if !search.reaches_over(new.first) {
+    !old.regime.style.is_from_easter() && !new.regime.style.is_from_easter()
+}
+
+/// Whether the label is skipped at the change from one period to the next. The search has a table,
+/// so no date is tested for it.
+pub(crate) fn is_skipped_at(search: &LabelSearch, old: &Period, new: &Period) -> bool
+    requires search { IsSearch newest_rules search.now }
+    requires old { IsKnown search.now.table old.now.regime }
+    requires new { IsKnown search.now.table new.now.regime }
+    requires table { IsSome search.now.table }
+    requires line { (1 < new.now.first) × (new.now.first ≤ newest_rules.high) }
+    ensures { result ≡ is_named old.now new.now
+        (days_with_label newest_rules old.now.regime search.now.label)
+        (days_with_label newest_rules new.now.regime search.now.label) }
+{
+    if !search.reaches_over(new.first) && has_fixed_beginnings(old, new) {
         return false;
     }
     let old_days = search.days(old.regime);

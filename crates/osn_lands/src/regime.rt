@@ -1,3 +1,6 @@
+ghost use Rattle.std.specs.Prelude.{◌≡◌};
+ghost use Rattle.osn_lands.specs.Style as plain;
+
 use crate::style::Style;
 use osn_computus::Rule;
 use osn_days::Calendar;
@@ -8,4 +11,15 @@ pub struct Regime {
     pub calendar: Calendar,
     pub style: Style,
     pub rule: Rule,
+}
+
+impl Regime {
+    /// Whether the style goes with the Julian calendar and the Julian rule alone, as a year from
+    /// Easter to Easter does, and the regime has another one: no territory takes it then.
+    pub fn lacks_julian(self) -> bool
+        ensures { result ≡ plain.lacks_julian self }
+    {
+        self.style.is_from_easter()
+            && (self.calendar != Calendar::Julian || self.rule != Rule::Julian)
+    }
 }

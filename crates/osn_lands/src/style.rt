@@ -1,9 +1,5 @@
 ghost use Rattle.std.specs.Prelude.{◌≡◌};
-ghost use Rattle.osn_days.specs.Profile.{present};
-ghost use Rattle.osn_days.specs.Line.{IsYearNumber};
 ghost use Rattle.osn_lands.specs.Style as plain;
-
-use osn_days::Date;
 
 /// Where a year begins. The names are this project's, and claim no place's practice.
 #[derive(Clone, Copy, Debug, PartialEq, Eq, Hash)]
@@ -16,39 +12,25 @@ pub enum Style {
     Nativity,
     /// On 1 September before the 1 January that begins the year of that number.
     September,
+    /// On 25 March before the 1 January that begins the year of that number.
+    Pisan,
+    /// On the Easter day of the Julian rule after the 1 January that begins the year of that
+    /// number. So a year may have a date of spring twice, or not at all.
+    Easter,
 }
 
-/// Whether a day of a year is before the 25 March that begins the year of the Annunciation.
-fn is_before_25_march(month: u8, day: u8) -> bool
-    ensures { result ≡ plain.is_before_25_march month day }
-{
-    month < 3 || month == 3 && day < 25
-}
-
-/// Whether a day of a year is in the year of the Nativity that its 25 December begins.
-fn is_from_25_december(month: u8, day: u8) -> bool
-    ensures { result ≡ plain.is_from_25_december month day }
-{
-    month == 12 && day >= 25
-}
-
-/// Whether a month is in the year of the style that its 1 September begins.
-fn is_from_september(month: u8) -> bool
-    ensures { result ≡ plain.is_from_september month }
-{
-    month >= 9
-}
-
-/// The year of a date as the style counts it.
-pub(crate) fn year_of(style: Style, date: Date) -> i32
-    requires { IsYearNumber present date.year }
-    ensures { result ≡ plain.style_year style date }
-{
-    let Date { year, month, day } = date;
-    match style {
-        Style::January => year,
-        Style::Annunciation => year - is_before_25_march(month, day) as i32,
-        Style::Nativity => year + is_from_25_december(month, day) as i32,
-        Style::September => year + is_from_september(month) as i32,
+impl Style {
+    /// Whether the year goes from Easter to Easter, and begins on another date each year.
+    pub(crate) fn is_from_easter(self) -> bool
+        ensures { result ≡ plain.is_from_easter self }
+    {
+        match self {
+            Style::Easter => true,
+            Style::January
+            | Style::Annunciation
+            | Style::Nativity
+            | Style::September
+            | Style::Pisan => false,
+        }
     }
 }

@@ -2,7 +2,7 @@ ghost use Rattle.std.specs.Prelude.{◌≡◌, ◌≤◌, ◌<◌, ◌*◌, Some
 ghost use Rattle.std.specs.Prelude.{length};
 ghost use Rattle.std.specs.List.{HoldsAt};
 ghost use Rattle.std.specs.Option.{option_to_list};
-ghost use Rattle.osn_days.specs.Profile.{present};
+ghost use Rattle.osn_days.specs.Profile.{newest_rules};
 ghost use Rattle.osn_lands.specs.Territory as plain;
 ghost use Rattle.osn_lands.specs.Changes as changes;
 ghost use Rattle.osn_lands.specs.Easters as feast;
@@ -49,8 +49,25 @@ impl Territory {
     ///
     /// # Errors
     ///
+    /// `StyleNeedsJulian` for a regime that no territory takes, then `NoMemory`.
+    pub fn new(alloc: Global, regime: Regime) -> Result<Territory, LandFault>
+        ensures lawful { OnOk result (changes.regime_fault regime ≡ None) }
+        ensures ok { IfOk result (λ t. t ≡ plain.opened regime) }
+        ensures refused { IfErr result (IsFaultOrNoMemory (changes.regime_fault regime)) }
+    {
+        if regime.lacks_julian() {
+            return Err(LandFault::StyleNeedsJulian);
+        }
+        Ok(Territory::open(alloc, regime)?)
+    }
+
+    /// A territory with one regime on every day of the line, which a territory takes.
+    ///
+    /// # Errors
+    ///
     /// `AllocError` where there is no memory for the first period.
-    pub fn new(alloc: Global, regime: Regime) -> Result<Territory, AllocError>
+    pub fn open(alloc: Global, regime: Regime) -> Result<Territory, AllocError>
+        requires { changes.regime_fault regime ≡ None }
         ensures { IfOk result (λ t. t ≡ plain.opened regime) }
     {
         let mut periods = Vec::new(alloc);
@@ -71,11 +88,11 @@ impl Territory {
     /// # Errors
     ///
     /// `OpeningPeriod` for day 1, then `ChangeExists` where a period starts on the day, then
-    /// `NoMemory`.
+    /// `StyleNeedsJulian` for a regime that no territory takes, then `NoMemory`.
     pub fn add_change(&mut self, day: Day, regime: Regime) -> Result<(), LandFault>
-        ensures lawful { OnOk result (changes.add_fault self.old day ≡ None) }
+        ensures lawful { OnOk result (changes.add_fault self.old day regime ≡ None) }
         ensures ok { OnOk result (self.new ≡ changes.with_change self.old day regime) }
-        ensures refused { IfErr result (IsFaultOrNoMemory (changes.add_fault self.old day)) }
+        ensures refused { IfErr result (IsFaultOrNoMemory (changes.add_fault self.old day regime)) }
         ensures unchanged { OnErr result (self.new ≡ self.old) }
     {
         if day == Day::FIRST {
@@ -84,17 +101,20 @@ impl Territory {
         if self.starts_on(day) {
             return Err(LandFault::ChangeExists);
         }
+        if regime.lacks_julian() {
+            return Err(LandFault::StyleNeedsJulian);
+        }
         self.insert_change(day, regime)?;
         Ok(())
     }
 
-    /// Changes the regime from a day on which no period starts.
+    /// Changes the regime from a day on which no period starts, to one that a territory takes.
     ///
     /// # Errors
     ///
     /// `AllocError` where there is no memory for one period more; the call may be tried again.
     pub fn insert_change(&mut self, day: Day, regime: Regime) -> Result<(), AllocError>
-        requires { changes.add_fault self.old day ≡ None }
+        requires { changes.add_fault self.old day regime ≡ None }
         ensures ok { OnOk result (self.new ≡ changes.with_change self.old day regime) }
         ensures unchanged { OnErr result (self.new ≡ self.old) }
     {
@@ -105,22 +125,26 @@ impl Territory {
     ///
     /// # Errors
     ///
-    /// `NoSuchChange` where no period starts on the day.
+    /// `NoSuchChange` where no period starts on the day, then `StyleNeedsJulian` for a regime that
+    /// no territory takes.
     pub fn alter_change(&mut self, day: Day, regime: Regime) -> Result<(), LandFault>
-        ensures value { IsTestOf (changes.alter_fault self.old day) result }
+        ensures value { IsTestOf (changes.alter_fault self.old day regime) result }
         ensures ok { OnOk result (self.new ≡ changes.with_altered self.old day regime) }
         ensures unchanged { OnErr result (self.new ≡ self.old) }
     {
         if !self.starts_on(day) {
             return Err(LandFault::NoSuchChange);
         }
+        if regime.lacks_julian() {
+            return Err(LandFault::StyleNeedsJulian);
+        }
         self.set_regime(day, regime);
         Ok(())
     }
 
-    /// Alters the regime of the period that starts on a day.
+    /// Alters the regime of the period that starts on a day, to one that a territory takes.
     pub fn set_regime(&mut self, day: Day, regime: Regime)
-        requires { changes.alter_fault self.old day ≡ None }
+        requires { changes.alter_fault self.old day regime ≡ None }
         ensures { self.new ≡ changes.with_altered self.old day regime }
     {
         alter(&mut self.periods, day, regime);
@@ -230,10 +254,11 @@ impl Territory {
     /// The place in `periods()`, from 0, of the period that holds a day, and how many start days
     /// were tested to find it: at most as many as the number of periods has binary digits.
     pub fn period_at(&self, day: Day) -> (usize, u32)
-        ensures within { result.0 < length (plain.periods_of present self.now) }
-        ensures holds { HoldsAt (plain.Holds day) (plain.periods_of present self.now) result.0 }
+        ensures within { result.0 < length (plain.periods_of newest_rules self.now) }
+        ensures holds { HoldsAt (plain.Holds day)
+            (plain.periods_of newest_rules self.now) result.0 }
         ensures tested { plain.IsWithinBinaryDigits result.1
-            (length (plain.periods_of present self.now)) }
+            (length (plain.periods_of newest_rules self.now)) }
     {
         find_period(&self.periods, day)
     }
@@ -248,8 +273,8 @@ impl Territory {
 
     /// The periods, in order.
     pub fn periods(&self) -> &[Period]
-        ensures value { result.now ≡ plain.periods_of present self.now }
-        ensures whole { plain.CoversLine present result.now }
+        ensures value { result.now ≡ plain.periods_of newest_rules self.now }
+        ensures whole { plain.CoversLine newest_rules result.now }
     {
         self.periods.as_slice()
     }
@@ -271,7 +296,7 @@ impl Territory {
 
     /// Easter of a year by a rule, where that rule is in force on the day.
     fn easter_in_force(&self, rule: Rule, year: Year) -> Option<Day>
-        ensures { option_to_list result ≡ easters_in_force present self.now rule year }
+        ensures { option_to_list result ≡ easters_in_force newest_rules self.now rule year }
     {
         let day = easter(rule, year);
         if self.regime_at(day).rule == rule {
@@ -289,7 +314,7 @@ impl Territory {
     ///
     /// `AllocError` where there is no memory for the list.
     pub fn easters(&self, year: Year) -> Result<Vec<Day>, AllocError>
-        ensures { IfOk result (λ days. days.items ≡ feast.easters present self.now year) }
+        ensures { IfOk result (λ days. days.items ≡ feast.easters newest_rules self.now year) }
     {
         let mut days = Vec::new(self.alloc);
         if let Some(day) = self.exception(year) {

@@ -1,12 +1,18 @@
--- The draft once it is published.
+-- The draft once an edit is staged, and once it is published.
 use Rattle.std.proofs.Common.{◌≡◌, List, [], ◌∷◌, ◌++◌, length, sym, ap}
-use Rattle.std.proofs.Common.{◌∙◌, arith, append_assoc, append-nil}
+use Rattle.std.proofs.Common.{◌∙◌, arith, append_assoc, append-nil, length-append, refl, Option}
+use Rattle.std.proofs.Common.{Some}
+use Rattle.std.proofs.Common.{None, is_some, ◌+◌}
+use Rattle.std.proofs.lemmas.Bool.{false≢true}
 use Rattle.std.proofs.lemmas.List.Sums.{sum_by-append}
 use Rattle.osn_days.specs.Profile.{Profile}
 use Rattle.osn_register.specs.declared.edit.Edit.{Edit}
-use Rattle.osn_register.specs.Plain.{applied_all}
+use Rattle.osn_register.specs.declared.refusal.Refusal.{Refusal}
+use Rattle.osn_register.specs.Plain.{applied_all, effect, refusal}
+use Rattle.osn_register.specs.Refusal.{or_else}
 use Rattle.osn_core.specs.Sequential.{ObjectState, joined, lands_of, draft_lands, edits_in}
-use Rattle.osn_core.specs.Sequential.{with_edition}
+use Rattle.osn_core.specs.Sequential.{with_edition, with_pending, stage_refusal}
+use Rattle.osn_core.proofs.Lawful.{applied_all-append, applied-lawful}
 
 joined-push : (bs : List (List Edit)) (b : List Edit) → joined (bs ++ b ∷ []) ≡ joined bs ++ b
 joined-push [] b = append-nil b
@@ -27,3 +33,23 @@ draft_published p s = draft_shown p s
 pub edits_published : (s : ObjectState) → edits_in s ≡ edits_in (with_edition s)
 edits_published s =
     omega (arith, sum_by-append (λ (b : List Edit). length b) s.batches (s.pending ∷ []))
+
+first_none : (first second : Option Refusal) → or_else first second ≡ None → first ≡ None
+first_none None second none = refl
+first_none (Some f) second none = absurd (false≢true (sym (ap is_some none)))
+
+-- an edit that may be staged is lawful in the draft
+pub lawful_in_draft : (p : Profile) (s : ObjectState) (e : Edit) → stage_refusal p s e ≡ None →
+    refusal p s.limits (draft_lands p s) e ≡ None
+lawful_in_draft p s e none = first_none (refusal p s.limits (draft_lands p s) e) _ none
+
+-- and the draft with it is that of the object with it
+pub draft_with : (p : Profile) (s : ObjectState) (e : Edit) → stage_refusal p s e ≡ None →
+    effect (draft_lands p s) e ≡ draft_lands p (with_pending s e)
+draft_with p s e none =
+    sym (applied-lawful p s.limits (draft_lands p s) e (lawful_in_draft p s e none))
+    ∙ sym (applied_all-append p s.limits [] (joined s.batches ++ s.pending) (e ∷ []))
+    ∙ ap (applied_all p s.limits []) (append_assoc (joined s.batches) s.pending (e ∷ []))
+
+pub edits_with : (s : ObjectState) (e : Edit) → edits_in (with_pending s e) ≡ edits_in s + 1
+edits_with s e = omega (arith, length-append s.pending (e ∷ []))

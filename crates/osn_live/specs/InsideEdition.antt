@@ -1,7 +1,7 @@
 -- How an edition keeps what it stands for.
 use Rattle.std.specs.Prelude.{◌≡◌}
 use Rattle.std.specs.Arc.{arc_value}
-use Rattle.osn_days.specs.Profile.{present}
+use Rattle.osn_days.specs.Profile.{newest_rules}
 use Rattle.osn_core.specs.Sequential.{lands_of}
 use Rattle.osn_live.specs.declared.edition.Edition.TheInside.{Inside}
 use Rattle.osn_live.specs.Running.{EditionState, edition_of}
@@ -12,4 +12,4 @@ edition_in e = edition_of e.limits e.certificate
 -- the register is that of the batches
 abbrev pub IsKept : Inside → Type 0
 IsKept e = arc_value e.register ≡
-    record { limits = e.limits; lands = lands_of present e.limits e.certificate.batches }
+    record { limits = e.limits; lands = lands_of newest_rules e.limits e.certificate.batches }

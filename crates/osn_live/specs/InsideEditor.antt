@@ -1,7 +1,7 @@
 -- How the editor keeps what it stands for.
 use Rattle.std.specs.Prelude.{◌≡◌, Some}
 use Rattle.left_right.specs.Sides.{view}
-use Rattle.osn_days.specs.Profile.{present}
+use Rattle.osn_days.specs.Profile.{newest_rules}
 use Rattle.osn_core.specs.Sequential.{ObjectState, draft_lands, edits_in}
 use Rattle.osn_live.specs.declared.editor.Editor.TheInside.{Inside}
 use Rattle.osn_live.specs.Running.{EditorState, edition_of, origin_of}
@@ -23,5 +23,5 @@ pub record IsEditing (e : Inside) : Type 0 where
   pub known : view e.copies.desk.place ≡ Some (origin_of (edition_of e.limits e.certificate))
   pub book : e.certificate.book ≡ e.history
   pub draft : e.draft ≡
-      record { limits = e.limits; lands = draft_lands present (object_in e) }
+      record { limits = e.limits; lands = draft_lands newest_rules (object_in e) }
   pub counted : e.edits ≡ edits_in (object_in e)

@@ -2,7 +2,7 @@
 use Rattle.std.specs.Prelude.{◌≡◌, true, Option, Some, None, Result, IfOk, OnErr}
 use Rattle.std.specs.declared.alloc.AllocError.{AllocError}
 use Rattle.left_right.specs.Sides.{view}
-use Rattle.osn_days.specs.Profile.{present}
+use Rattle.osn_days.specs.Profile.{newest_rules}
 use Rattle.osn_register.specs.declared.query.Query.{Query}
 use Rattle.osn_register.specs.Answer.{takes_memory}
 use Rattle.osn_core.specs.declared.step.Reply.{Reply}
@@ -27,6 +27,6 @@ abbrev pub IsAnswerAt : Origin → Query → Option (CertificateState × Result 
     Type 0
 IsAnswerAt o query None = Unit {0}
 IsAnswerAt o query (Some look) =
-    let reply = reply_at present o.limits look.0.batches query in
+    let reply = reply_at newest_rules o.limits look.0.batches query in
     (look.0.book ≡ o.book) × IfOk look.1 (λ r. r ≡ reply)
     × OnErr look.1 (takes_memory reply.answer ≡ true)

@@ -1,6 +1,6 @@
 -- What one reader at work gives back.
 use Rattle.std.specs.Prelude.{◌≡◌, List, IfOk, IfErr}
-use Rattle.osn_days.specs.Profile.{present}
+use Rattle.osn_days.specs.Profile.{newest_rules}
 use Rattle.osn_register.specs.declared.query.Query.{Query}
 use Rattle.osn_live.specs.declared.faults.DeskFault.{DeskFault}
 use Rattle.osn_live.specs.declared.faults.DeskFault.TheVariants as Desk
@@ -19,5 +19,5 @@ IsPlain Desk.GateClosed = Unit {0}
 pub record IsWork (reader : ReaderState) (questions : List Query) (w : Worked) : Type 0 where
   pub origin : w.reader.origin ≡ reader.origin
   pub replies : IfOk w.replies
-      (λ rs. AreReplies present reader.origin.limits w.reader.seen 0 questions rs.items)
+      (λ rs. AreReplies newest_rules reader.origin.limits w.reader.seen 0 questions rs.items)
   pub fault : IfErr w.replies IsPlain

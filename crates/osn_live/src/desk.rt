@@ -1,7 +1,7 @@
 //! Readers and one editor at work at once, each in a thread of its own.
 ghost use Rattle.std.specs.Prelude.{◌≡◌, ◌≤◌, length, vec_len, IfOk, IfErr, OnOk, Err};
 ghost use Rattle.std.specs.List.{All};
-ghost use Rattle.osn_days.specs.Profile.{present};
+ghost use Rattle.osn_days.specs.Profile.{newest_rules};
 ghost use Rattle.osn_core.specs.Script.{script_after, editions_of};
 ghost use Rattle.osn_live.specs.declared.rule.Origin.{Origin};
 ghost use Rattle.osn_live.specs.Desk.{AreReplies, AreAll};
@@ -66,7 +66,7 @@ fn edit_all<R: Wait, G: Gate>(
 ) -> Result<(), DeskFault>
     ensures origin { editor.new.origin ≡ editor.old.origin }
     ensures ok { OnOk result
-        (editor.new.object ≡ script_after present editor.old.object commands.now) }
+        (editor.new.object ≡ script_after newest_rules editor.old.object commands.now) }
     ensures fault { IfErr result IsPlain }
 {
     let mut index = 0usize;
@@ -91,11 +91,11 @@ fn settle(
     questions: &[Query],
 ) -> Result<Vec<Reply>, DeskFault>
     requires origin { worked.reader.origin ≡ note.origin }
-    requires replies { IfOk worked.replies (λ rs. AreReplies present note.origin.limits
+    requires replies { IfOk worked.replies (λ rs. AreReplies newest_rules note.origin.limits
         worked.reader.seen 0 questions.now rs.items) }
     requires fault { IfErr worked.replies IsPlain }
     ensures replies { IfOk result (λ rs.
-        AreReplies present note.origin.limits note.batches 0 questions.now rs.items) }
+        AreReplies newest_rules note.origin.limits note.batches 0 questions.now rs.items) }
     ensures fault { IfErr result (IsFaultAt (length note.batches)) }
 {
     let Worked { reader, replies } = worked;
@@ -122,7 +122,7 @@ fn collect<R: Threads>(
 ) -> Result<Vec<Vec<Reply>>, DeskFault>
     requires few { length lists.now ≤ 64 }
     requires started { AreStarted editor.now.origin handles.items lists.now }
-    ensures replies { IfOk result (λ all. AreAll present editor.now.origin.limits
+    ensures replies { IfOk result (λ all. AreAll newest_rules editor.now.origin.limits
         editor.now.object.batches lists.now all.items) }
     ensures fault { IfErr result (IsFaultAt (length editor.now.object.batches)) }
 {
@@ -153,10 +153,10 @@ fn at_desk<'s, E, R: Threads + Wait, G: Gate + Sync>(
     requires few { length lists.now ≤ 64 }
     requires count { vec_len readers ≡ length lists.now }
     requires new { All (λ r. IsNew editor.old r) readers.items }
-    ensures replies { IfOk result (λ all. AreAll present editor.old.origin.limits
-        (script_after present editor.old.object commands.now).batches lists.now all.items) }
+    ensures replies { IfOk result (λ all. AreAll newest_rules editor.old.origin.limits
+        (script_after newest_rules editor.old.object commands.now).batches lists.now all.items) }
     ensures fault { IfErr result (IsFaultAt
-        (length (script_after present editor.old.object commands.now).batches)) }
+        (length (script_after newest_rules editor.old.object commands.now).batches)) }
 {
     let handles = start_all(scope, alloc, gate, readers, lists)?;
     edit_all(rt, gate, editor, commands)?;
@@ -185,9 +185,10 @@ pub fn run_desk<R: Threads + Wait, G: Gate + Sync>(
 ) -> Result<Vec<Vec<Reply>>, DeskFault>
     ensures bad_count { IsBadCount (length lists.now) → result ≡ Err DeskFault.BadCount }
     ensures replies { IfOk result (λ all.
-        AreAll present limits (editions_of present limits commands.now) lists.now all.items) }
+        AreAll newest_rules limits
+        (editions_of newest_rules limits commands.now) lists.now all.items) }
     ensures fault { IfErr result
-        (IsDeskFault (length lists.now) (length (editions_of present limits commands.now))) }
+        (IsDeskFault (length lists.now) (length (editions_of newest_rules limits commands.now))) }
 {
     let Ok(count) = u32::try_from(lists.len()) else {
         return Err(DeskFault::BadCount);
@@ -206,11 +207,11 @@ pub fn run_desk<R: Threads + Wait, G: Gate + Sync>(
             requires few { length lists.now ≤ 64 }
             requires count { vec_len readers ≡ length lists.now }
             requires new { All (λ r. IsNew held.now r) readers.items }
-            ensures replies { IfOk result (λ all. AreAll present held.entry.now.origin.limits
-                (script_after present held.entry.now.object commands.entry.now).batches
+            ensures replies { IfOk result (λ all. AreAll newest_rules held.entry.now.origin.limits
+                (script_after newest_rules held.entry.now.object commands.entry.now).batches
                 lists.entry.now all.items) }
             ensures fault { IfErr result (IsFaultAt (length
-                (script_after present held.entry.now.object commands.entry.now).batches)) }
+                (script_after newest_rules held.entry.now.object commands.entry.now).batches)) }
         { at_desk(rt, scope, alloc, gate, held, readers, commands, lists) },
     );
     editor.close(rt);

@@ -1,7 +1,7 @@
 //! What is published: a register, with the certificate of the batches that it is made of.
 ghost use Rattle.std.specs.Prelude.{◌≡◌, true, IfOk, OnErr};
 ghost use Rattle.std.specs.Arc.{arc_value};
-ghost use Rattle.osn_days.specs.Profile.{present};
+ghost use Rattle.osn_days.specs.Profile.{newest_rules};
 ghost use Rattle.osn_register.specs.Answer.{takes_memory};
 ghost use Rattle.osn_core.specs.Sequential.{lands_of, reply_at};
 
@@ -55,7 +55,7 @@ impl Absorb<Edition> for Edition {
 impl Edition {
     pub fn new(limits: Limits, register: Arc<Register>, certificate: Certificate) -> Edition
         requires { arc_value register ≡
-            record { limits = limits; lands = lands_of present limits certificate.batches } }
+            record { limits = limits; lands = lands_of newest_rules limits certificate.batches } }
         ensures { result ≡ record { limits = limits; certificate = certificate } }
     {
         Edition {
@@ -85,9 +85,9 @@ impl Edition {
     /// What a query is told of this edition.
     pub fn ask(&self, query: &Query) -> Result<Reply, AllocError>
         ensures value { IfOk result (λ r.
-            r ≡ reply_at present self.now.limits self.now.certificate.batches query.now) }
+            r ≡ reply_at newest_rules self.now.limits self.now.certificate.batches query.now) }
         ensures memory { OnErr result (takes_memory
-            (reply_at present self.now.limits self.now.certificate.batches query.now).answer
+            (reply_at newest_rules self.now.limits self.now.certificate.batches query.now).answer
             ≡ true) }
     {
         Ok(Reply {

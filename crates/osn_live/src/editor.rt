@@ -1,7 +1,7 @@
 ghost use Rattle.std.specs.Prelude.{◌≡◌, ◌+◌, ◌<◌, [], length, drop, IfOk, IfErr, OnOk, OnErr};
 ghost use Rattle.std.specs.Prelude.{MatchResult, Some, None};
 ghost use Rattle.left_right.specs.Sides.{view};
-ghost use Rattle.osn_days.specs.Profile.{present};
+ghost use Rattle.osn_days.specs.Profile.{newest_rules};
 ghost use Rattle.osn_register.specs.Refusal.{IsTestOf, IsRefusalOrNoMemory};
 ghost use Rattle.osn_core.specs.Sequential.{opened, with_pending, with_edition, stage_refusal};
 ghost use Rattle.osn_core.specs.Sequential.{publish_refusal, draft_lands, stage_after};
@@ -161,12 +161,12 @@ impl Editor {
     /// The first refusal that applies, and else `NoMemory` where none is found. Nothing has changed
     /// then.
     pub fn stage(&mut self, edit: &Edit) -> Result<u32, Refusal>
-        ensures lawful { OnOk result (stage_refusal present self.old.object edit.now ≡ None) }
+        ensures lawful { OnOk result (stage_refusal newest_rules self.old.object edit.now ≡ None) }
         ensures ok { OnOk result
             (self.new ≡ record self.old { object = with_pending self.old.object edit.now }) }
         ensures count { IfOk result (λ n. n ≡ length self.new.object.pending) }
         ensures refused { IfErr result
-            (IsRefusalOrNoMemory (stage_refusal present self.old.object edit.now)) }
+            (IsRefusalOrNoMemory (stage_refusal newest_rules self.old.object edit.now)) }
         ensures err { OnErr result (self.new ≡ self.old) }
     {
         self.check(edit)?;
@@ -178,7 +178,7 @@ impl Editor {
 
     /// Whether an edit may be staged now.
     fn check(&self, edit: &Edit) -> Result<(), Refusal>
-        ensures { IsTestOf (stage_refusal present self.now.object edit.now) result }
+        ensures { IsTestOf (stage_refusal newest_rules self.now.object edit.now) result }
     {
         self.latest().check(edit)?;
         if self.edits >= self.limits.edits {
@@ -189,14 +189,14 @@ impl Editor {
 
     /// The register of all published and pending edits.
     fn latest(&self) -> &Register
-        ensures lands { result.now.lands ≡ draft_lands present self.now.object }
+        ensures lands { result.now.lands ≡ draft_lands newest_rules self.now.object }
         ensures limits { result.now.limits ≡ self.now.object.limits }
     {
         &self.draft
     }
 
     fn admit(&mut self, edit: &Edit) -> Result<u32, AllocError>
-        requires { stage_refusal present self.old.object edit.now ≡ None }
+        requires { stage_refusal newest_rules self.old.object edit.now ≡ None }
         ensures ok { OnOk result
             (self.new ≡ record self.old { object = with_pending self.old.object edit.now }) }
         ensures count { IfOk result (λ n. n ≡ length self.new.object.pending) }
@@ -290,7 +290,7 @@ impl Editor {
     /// Only where no memory is found. Nothing has changed then.
     pub(crate) fn carry_out<R: Wait>(&mut self, rt: &R, command: &Command) -> Result<(), AllocError>
         ensures ok { OnOk result (self.new
-            ≡ record self.old { object = command_after present self.old.object command.now }) }
+            ≡ record self.old { object = command_after newest_rules self.old.object command.now }) }
         ensures err { OnErr result (self.new ≡ self.old) }
     {
         match command {
@@ -301,7 +301,7 @@ impl Editor {
 
     fn stage_if_lawful(&mut self, edit: &Edit) -> Result<(), AllocError>
         ensures ok { OnOk result (self.new
-            ≡ record self.old { object = stage_after present self.old.object edit.now }) }
+            ≡ record self.old { object = stage_after newest_rules self.old.object edit.now }) }
         ensures err { OnErr result (self.new ≡ self.old) }
     {
         match self.check(edit) {

@@ -1,6 +1,6 @@
 ghost use Rattle.std.specs.Prelude.{◌≡◌, true, length, IfOk, IfErr, OnErr, Some};
 ghost use Rattle.left_right.specs.Sides.{view};
-ghost use Rattle.osn_days.specs.Profile.{present};
+ghost use Rattle.osn_days.specs.Profile.{newest_rules};
 ghost use Rattle.osn_register.specs.Answer.{takes_memory};
 ghost use Rattle.osn_core.specs.Sequential.{reply_at};
 ghost use Rattle.osn_live.specs.declared.rule.Origin.{Origin};
@@ -88,9 +88,9 @@ impl Reader {
         ensures origin { self.new.origin ≡ self.old.origin }
         ensures seen { Begins self.old.seen self.new.seen }
         ensures value { IfOk result
-            (λ r. r ≡ reply_at present self.new.origin.limits self.new.seen query.now) }
+            (λ r. r ≡ reply_at newest_rules self.new.origin.limits self.new.seen query.now) }
         ensures memory { IfErr result (λ f. f ≡ AskFault.NoMemory → takes_memory
-            (reply_at present self.new.origin.limits self.new.seen query.now).answer ≡ true) }
+            (reply_at newest_rules self.new.origin.limits self.new.seen query.now).answer ≡ true) }
         ensures no_place { IfErr result (λ f. f ≡ AskFault.NoPlace → self.new ≡ self.old) }
     {
         let looked = replace_with(

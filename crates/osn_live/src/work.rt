@@ -1,6 +1,6 @@
 //! A reader at work through a list of questions.
 ghost use Rattle.std.specs.Prelude.{◌≡◌, IfOk, IfErr};
-ghost use Rattle.osn_days.specs.Profile.{present};
+ghost use Rattle.osn_days.specs.Profile.{newest_rules};
 ghost use Rattle.osn_core.specs.Sequential.{reply_at};
 ghost use Rattle.osn_live.specs.Batches.{Begins};
 ghost use Rattle.osn_live.specs.Desk.{AreReplies};
@@ -45,7 +45,7 @@ fn answer_one(reader: &mut Reader, question: &Query) -> Result<Reply, DeskFault>
     ensures origin { reader.new.origin ≡ reader.old.origin }
     ensures seen { Begins reader.old.seen reader.new.seen }
     ensures value { IfOk result
-        (λ r. r ≡ reply_at present reader.new.origin.limits reader.new.seen question.now) }
+        (λ r. r ≡ reply_at newest_rules reader.new.origin.limits reader.new.seen question.now) }
     ensures fault { IfErr result IsPlain }
 {
     match reader.ask(question) {
@@ -64,7 +64,7 @@ fn answer_all<G: Gate>(
 ) -> Result<Vec<Reply>, DeskFault>
     ensures origin { reader.new.origin ≡ reader.old.origin }
     ensures replies { IfOk result (λ rs.
-        AreReplies present reader.old.origin.limits reader.new.seen 0 questions.now rs.items) }
+        AreReplies newest_rules reader.old.origin.limits reader.new.seen 0 questions.now rs.items) }
     ensures fault { IfErr result IsPlain }
 {
     let mut replies = Vec::new(alloc);

@@ -25,6 +25,7 @@ use Rattle.osn_register.specs.Code.{is_code}
 use Rattle.osn_register.specs.Plain.{PlainLand, PlainRegister, land_of, territory_of, code_refusal}
 use Rattle.osn_register.specs.Plain.{is_off_line, is_off_years, refusal_in, inside, with_territory}
 use Rattle.osn_register.specs.Plain.{AreDistinct, IsSoundTerritory, AreSound, IsWellFormed}
+use Rattle.osn_register.specs.Plain.{is_style_refused}
 use Rattle.osn_register.specs.Refusal.{or_else}
 use Rattle.osn_register.specs.InsideChange.{change_refusal, territory_after}
 use Rattle.osn_register.proofs.CoverFacts.{covers-with_change, covers-with_altered}
@@ -216,8 +217,9 @@ still_sound p limits (Add d regime) t lawful sound =
     let line = first_passed (is_off_line p (pos d)) Refusal.DayOffLine _ lawful in
     let later = first_passed (d == 1) Refusal.OpeningPeriod _ line.1 in
     let free = first_passed (starts_on t d) Refusal.ChangeExists _ later.1 in
+    let style = first_passed (is_style_refused p regime) Refusal.StyleNeedsJulian _ free.1 in
     let room = first_passed (nat_lt limits.changes (length t.starts)) Refusal.TooManyChanges None
-    free.1 in
+    style.1 in
     let within = in_line p d line.0 in
     let at_most : length t.starts ≤ limits.changes = not_lt limits.changes (length t.starts) room.0
     in

@@ -65,12 +65,12 @@ query_refusal p lands queries.Lands = None
 query_refusal p lands (queries.Periods code) = code_refusal lands code
 
 -- a day as a regime names it
-abbrev pub found_under : Regime → ℕ → Found
-found_under r d = record { day = d; label = local r d; dual = dual_text r d }
+abbrev pub found_under : Profile → Regime → ℕ → Found
+found_under p r d = record { day = d; label = local p r d; dual = dual_text p r d }
 
 -- a day as the territory names it, by the regime in force on it
-abbrev pub found_on : PlainTerritory → ℕ → Found
-found_on t d = found_under (regime_at t d) d
+abbrev pub found_on : Profile → PlainTerritory → ℕ → Found
+found_on p t d = found_under p (regime_at t d) d
 
 abbrev pub label_from : ℤ → ℤ → ℤ → Label
 label_from year month day =
@@ -78,7 +78,8 @@ label_from year month day =
 
 abbrev pub reading_answer : Profile → Option PlainTerritory → Label → Answer
 reading_answer p None label = Refused UnknownLand
-reading_answer p (Some t) label = Reading (map (found_on t) (reading p t label)) (skipped p t label)
+reading_answer p (Some t) label = Reading (map (found_on p t) (reading p t label))
+    (skipped p t label)
 
 abbrev pub holds : ℕ → Period → Bool
 holds d period = nat_le period.first d && nat_le d period.last
@@ -93,13 +94,13 @@ on_day (Some period) found = OnDay found period
 
 abbrev pub day_answer : Profile → Option PlainTerritory → ℕ → Answer
 day_answer p None d = Refused UnknownLand
-day_answer p (Some t) d = on_day (period_on (periods_of p t) d) (found_on t d)
+day_answer p (Some t) d = on_day (period_on (periods_of p t) d) (found_on p t d)
 
 -- the Easters of a year, and whether they are listed
 abbrev pub easters_answer : Profile → Option PlainTerritory → ℕ → Answer
 easters_answer p None y = Refused UnknownLand
 easters_answer p (Some t) y =
-    Easters (map (found_on t) (easters p t y)) (is_some (exception_of t y))
+    Easters (map (found_on p t) (easters p t y)) (is_some (exception_of t y))
 
 -- the figures of a year with its letters and Easters, of which each year in the range has both
 abbrev pub figures_with : ℕ → Option Letters → Option Letters → Option ℕ → Option ℕ → Answer

@@ -14,8 +14,8 @@ use Rattle.osn_register.specs.Plain.{add_exception_refusal, drop_exception_refus
 
 -- why a change is refused by what the territory holds
 abbrev pub change_refusal : Profile → Limits → Change → PlainTerritory → Option Refusal
-change_refusal p limits (Add day regime) t = add_change_refusal p limits (pos day) t
-change_refusal p limits (Alter day regime) t = alter_change_refusal p (pos day) t
+change_refusal p limits (Add day regime) t = add_change_refusal p limits (pos day) regime t
+change_refusal p limits (Alter day regime) t = alter_change_refusal p (pos day) regime t
 change_refusal p limits (Drop day) t = drop_change_refusal p (pos day) t
 change_refusal p limits (AddException year day) t =
     add_exception_refusal p limits (pos year) (pos day) t

@@ -6,6 +6,8 @@ use Rattle.std.specs.Prelude.{◌++◌, length, fold, find, Option, Some, None, 
 use Rattle.std.specs.Prelude.{option_map}
 use Rattle.std.specs.Str.{bytes_eq}
 use Rattle.osn_days.specs.Profile.{Profile}
+use Rattle.osn_lands.specs.declared.regime.Regime.{Regime}
+use Rattle.osn_lands.specs.Style.{lacks_julian}
 use Rattle.osn_lands.specs.Territory.{PlainTerritory, opened, periods_of, CoversLine}
 use Rattle.osn_lands.specs.Changes.{starts_on, with_change, with_altered, without_change}
 use Rattle.osn_lands.specs.Exceptions.{exception_of, with_exception, without_exception}
@@ -23,6 +25,7 @@ use Rattle.osn_register.specs.declared.refusal.Refusal.TheVariants.{ExceptionExi
 use Rattle.osn_register.specs.declared.refusal.Refusal.TheVariants.{NoSuchException, TooManyLands}
 use Rattle.osn_register.specs.declared.refusal.Refusal.TheVariants.{TooManyChanges}
 use Rattle.osn_register.specs.declared.refusal.Refusal.TheVariants.{TooManyExceptions}
+use Rattle.osn_register.specs.declared.refusal.Refusal.TheVariants.{StyleNeedsJulian}
 use Rattle.osn_register.specs.Refusal.{first_refusal, or_else}
 use Rattle.osn_register.specs.Code.{is_code, is_name}
 
@@ -47,11 +50,17 @@ territory_of code lands = option_map (λ l. l.territory) (land_of code lands)
 abbrev pub is_between : ℤ → ℤ → ℤ → Bool
 is_between low high n = int_le low n && int_le n high
 
-abbrev pub add_land_refusal : Limits → List PlainLand → List ℕ → List ℕ → Option Refusal
-add_land_refusal limits lands code name = first_refusal (
+-- the regime has a style that does not go with its calendar or its rule, where the rules test that
+abbrev pub is_style_refused : Profile → Regime → Bool
+is_style_refused p regime = p.tests_style && lacks_julian regime
+
+abbrev pub add_land_refusal : Profile → Limits → List PlainLand → List ℕ → List ℕ → Regime
+    → Option Refusal
+add_land_refusal p limits lands code name regime = first_refusal (
     (not (is_code code), BadCode)
     ∷ (not (is_name name), BadName)
     ∷ (is_some (land_of code lands), LandExists)
+    ∷ (is_style_refused p regime, StyleNeedsJulian)
     ∷ (nat_le limits.lands (length lands), TooManyLands)
     ∷ [])
 
@@ -67,18 +76,20 @@ is_off_line p day = not (is_between (pos 1) (pos p.high) day)
 abbrev pub is_off_years : Profile → ℤ → Bool
 is_off_years p year = not (is_between (pos 1) (pos p.last_year) year)
 
-abbrev pub add_change_refusal : Profile → Limits → ℤ → PlainTerritory → Option Refusal
-add_change_refusal p limits day t = first_refusal (
+abbrev pub add_change_refusal : Profile → Limits → ℤ → Regime → PlainTerritory → Option Refusal
+add_change_refusal p limits day regime t = first_refusal (
     (is_off_line p day, DayOffLine)
     ∷ (unsigned_abs day == 1, OpeningPeriod)
     ∷ (starts_on t (unsigned_abs day), ChangeExists)
+    ∷ (is_style_refused p regime, StyleNeedsJulian)
     ∷ (nat_lt limits.changes (length t.starts), TooManyChanges)
     ∷ [])
 
-abbrev pub alter_change_refusal : Profile → ℤ → PlainTerritory → Option Refusal
-alter_change_refusal p day t = first_refusal (
+abbrev pub alter_change_refusal : Profile → ℤ → Regime → PlainTerritory → Option Refusal
+alter_change_refusal p day regime t = first_refusal (
     (is_off_line p day, DayOffLine)
     ∷ (not (starts_on t (unsigned_abs day)), NoSuchChange)
+    ∷ (is_style_refused p regime, StyleNeedsJulian)
     ∷ [])
 
 abbrev pub drop_change_refusal : Profile → ℤ → PlainTerritory → Option Refusal
@@ -113,11 +124,12 @@ refusal_in lands code refused =
 
 -- why an edit is refused, if it is
 abbrev pub refusal : Profile → Limits → List PlainLand → Edit → Option Refusal
-refusal p limits lands (AddLand code name regime) = add_land_refusal limits lands code name
+refusal p limits lands (AddLand code name regime) =
+    add_land_refusal p limits lands code name regime
 refusal p limits lands (AddChange code day regime) =
-    refusal_in lands code (add_change_refusal p limits day)
+    refusal_in lands code (add_change_refusal p limits day regime)
 refusal p limits lands (AlterChange code day regime) =
-    refusal_in lands code (alter_change_refusal p day)
+    refusal_in lands code (alter_change_refusal p day regime)
 refusal p limits lands (DropChange code day) = refusal_in lands code (drop_change_refusal p day)
 refusal p limits lands (AddException code year day) =
     refusal_in lands code (add_exception_refusal p limits year day)

@@ -12,7 +12,7 @@ use Rattle.osn_register.specs.declared.refusal.Refusal.TheVariants.{TooManyChang
 use Rattle.osn_register.specs.declared.refusal.Refusal.TheVariants.{TooManyExceptions}
 use Rattle.osn_register.specs.declared.refusal.Refusal.TheVariants.{NothingPending, JournalFull}
 use Rattle.osn_register.specs.declared.refusal.Refusal.TheVariants.{EditionsFull, BadDate, NoMemory}
-use Rattle.osn_register.specs.declared.refusal.Refusal.TheVariants.{BadCount}
+use Rattle.osn_register.specs.declared.refusal.Refusal.TheVariants.{BadCount, StyleNeedsJulian}
 
 abbrev pub refusal_number : Refusal → ℕ
 refusal_number BadCode = 1
@@ -33,6 +33,7 @@ refusal_number NothingPending = 15
 refusal_number JournalFull = 16
 refusal_number EditionsFull = 17
 refusal_number BadDate = 18
+refusal_number StyleNeedsJulian = 19
 refusal_number NoMemory = 90
 refusal_number BadCount = 92
 
@@ -55,6 +56,7 @@ refusal_name NothingPending = codes "NothingPending"
 refusal_name JournalFull = codes "JournalFull"
 refusal_name EditionsFull = codes "EditionsFull"
 refusal_name BadDate = codes "BadDate"
+refusal_name StyleNeedsJulian = codes "StyleNeedsJulian"
 refusal_name NoMemory = codes "NoMemory"
 refusal_name BadCount = codes "BadCount"
 

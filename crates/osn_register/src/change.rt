@@ -1,6 +1,6 @@
 //! Lawful changes of a territory.
 ghost use Rattle.std.specs.Prelude.{◌≡◌, true, None, OnOk, OnErr};
-ghost use Rattle.osn_days.specs.Profile.{present};
+ghost use Rattle.osn_days.specs.Profile.{newest_rules};
 ghost use Rattle.osn_register.specs.declared.limits.Limits.{Limits};
 ghost use Rattle.osn_register.specs.InsideChange.{change_refusal, territory_after};
 ghost use Rattle.osn_register.specs.InsideChange.{change_takes_memory};
@@ -22,7 +22,8 @@ pub(crate) enum Change {
 impl Change {
     /// Makes the change. Without memory nothing has changed.
     pub(crate) fn make(self, territory: &mut Territory) -> Result<(), AllocError>
-        requires { (limits : Limits) × (change_refusal present limits self territory.old ≡ None) }
+        requires { (limits : Limits) × (change_refusal newest_rules limits self territory.old
+            ≡ None) }
         ensures ok { OnOk result (territory.new ≡ territory_after self territory.old) }
         ensures err { OnErr result (territory.new ≡ territory.old) }
         ensures memory { OnErr result (change_takes_memory self ≡ true) }

@@ -1,6 +1,6 @@
 //! The figures of a year, which are the same in every territory.
 ghost use Rattle.std.specs.Prelude.{◌≡◌, None};
-ghost use Rattle.osn_days.specs.Profile.{present};
+ghost use Rattle.osn_days.specs.Profile.{newest_rules};
 ghost use Rattle.osn_register.specs.Answer.{figures_of, refusal_in};
 
 use crate::answer::Answer;
@@ -11,7 +11,7 @@ use osn_days::{Calendar, Year};
 
 /// The figures of a year.
 pub(crate) fn figures(year: Year) -> Answer
-    ensures value { result ≡ figures_of present year }
+    ensures value { result ≡ figures_of newest_rules year }
     ensures answered { refusal_in result ≡ None }
 {
     Answer::Figures {

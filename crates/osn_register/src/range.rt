@@ -1,6 +1,6 @@
 //! The days, years and labels of numbers that a request gives, where they are in their ranges.
 ghost use Rattle.std.specs.Prelude.{◌≡◌, true, false, IfOk, MatchResult, unsigned_abs};
-ghost use Rattle.osn_days.specs.Profile.{present};
+ghost use Rattle.osn_days.specs.Profile.{newest_rules};
 ghost use Rattle.osn_register.specs.Refusal.{IsTestOf};
 ghost use Rattle.osn_register.specs.declared.refusal.Refusal.TheVariants.{DayOffLine, YearOffRange};
 ghost use Rattle.osn_register.specs.Plain.{is_off_line, is_off_years};
@@ -16,8 +16,8 @@ const LAST_LABEL_YEAR: i64 = 3000;
 /// The day of a number, where it is on the line.
 pub(crate) fn day_on_line(number: i64) -> Result<Day, Refusal>
     ensures { MatchResult result
-        (λ d. (is_off_line present number ≡ false) × (d ≡ unsigned_abs number))
-        (λ f. (is_off_line present number ≡ true) × (f ≡ DayOffLine)) }
+        (λ d. (is_off_line newest_rules number ≡ false) × (d ≡ unsigned_abs number))
+        (λ f. (is_off_line newest_rules number ≡ true) × (f ≡ DayOffLine)) }
 {
     match Day::new(number) {
         Some(day) => Ok(day),
@@ -28,8 +28,8 @@ pub(crate) fn day_on_line(number: i64) -> Result<Day, Refusal>
 /// The year of a number, where it has figures, an Easter and exceptions.
 pub(crate) fn year_in_range(number: i64) -> Result<Year, Refusal>
     ensures { MatchResult result
-        (λ y. (is_off_years present number ≡ false) × (y ≡ unsigned_abs number))
-        (λ f. (is_off_years present number ≡ true) × (f ≡ YearOffRange)) }
+        (λ y. (is_off_years newest_rules number ≡ false) × (y ≡ unsigned_abs number))
+        (λ f. (is_off_years newest_rules number ≡ true) × (f ≡ YearOffRange)) }
 {
     match Year::new(number) {
         Some(year) => Ok(year),
@@ -39,7 +39,7 @@ pub(crate) fn year_in_range(number: i64) -> Result<Year, Refusal>
 
 /// The label of a date that is asked for, where it may be one.
 pub(crate) fn asked_label(year: i64, month: i64, day: i64) -> Result<Label, Refusal>
-    ensures test { IsTestOf (date_refusal present year month day) result }
+    ensures test { IsTestOf (date_refusal newest_rules year month day) result }
     ensures value { IfOk result (λ l. l ≡ label_from year month day) }
 {
     if year < 0 || year > LAST_LABEL_YEAR {

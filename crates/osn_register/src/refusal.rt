@@ -40,6 +40,8 @@ pub enum Refusal {
     EditionsFull,
     /// The month is not 1 to 12, or the day not 1 to 31.
     BadDate,
+    /// A year from Easter to Easter goes with the Julian calendar and the Julian rule alone.
+    StyleNeedsJulian,
     /// A growth of memory was refused; the call may be tried again.
     NoMemory,
     /// The number of readers is not 1 to 64.
@@ -70,6 +72,7 @@ impl Refusal {
             Refusal::JournalFull => 16,
             Refusal::EditionsFull => 17,
             Refusal::BadDate => 18,
+            Refusal::StyleNeedsJulian => 19,
             Refusal::NoMemory => 90,
             Refusal::BadCount => 92,
         }
@@ -98,6 +101,7 @@ impl Refusal {
             Refusal::JournalFull => "JournalFull",
             Refusal::EditionsFull => "EditionsFull",
             Refusal::BadDate => "BadDate",
+            Refusal::StyleNeedsJulian => "StyleNeedsJulian",
             Refusal::NoMemory => "NoMemory",
             Refusal::BadCount => "BadCount",
         }

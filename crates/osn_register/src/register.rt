@@ -1,7 +1,8 @@
 ghost use Rattle.std.specs.Prelude.{◌≡◌, ◌++◌, [], ◌∷◌, true, Some, None, IfOk, IfErr, OnOk, OnErr};
 ghost use Rattle.std.specs.Prelude.{◌<◌, length, is_some, option_copied, string_bytes};
-ghost use Rattle.osn_days.specs.Profile.{present};
+ghost use Rattle.osn_days.specs.Profile.{newest_rules};
 ghost use Rattle.osn_lands.specs.Territory.{opened};
+ghost use Rattle.osn_lands.specs.Changes.{regime_fault};
 ghost use Rattle.osn_register.specs.Plain.{refusal, add_land_refusal, code_refusal, refusal_in};
 ghost use Rattle.osn_register.specs.Plain.{with_land, with_territory, effect, applied, folded};
 ghost use Rattle.osn_register.specs.Plain.{takes_memory};
@@ -19,7 +20,7 @@ use crate::code::{is_code, is_name};
 use crate::edit::Edit;
 use crate::edit_checks::{
     check_add_change, check_add_exception, check_alter_change, check_drop_change,
-    check_drop_exception,
+    check_drop_exception, check_style,
 };
 use crate::limits::Limits;
 use crate::refusal::Refusal;
@@ -40,11 +41,12 @@ struct Entry {
 impl Entry {
     /// A territory that opens with a regime.
     fn new(alloc: Global, name: &Text, regime: Regime) -> Result<Entry, AllocError>
+        requires { regime_fault regime ≡ None }
         ensures { IfOk result (λ e. (e.name ≡ name.now) × (e.territory ≡ opened regime)) }
     {
         Ok(Entry {
             name: name.copy()?,
-            territory: Territory::new(alloc, regime)?,
+            territory: Territory::open(alloc, regime)?,
         })
     }
 
@@ -67,7 +69,7 @@ pub struct Register {
 }
 
 impl Model for Register {
-    ghost use Rattle.osn_days.specs.Profile.{present};
+    ghost use Rattle.osn_days.specs.Profile.{newest_rules};
     ghost use Rattle.osn_register.specs.Plain.{PlainRegister, IsWellFormed};
 
     ghost Value = { PlainRegister };
@@ -76,13 +78,13 @@ impl Model for Register {
 
     ghost view = { register_in };
 
-    ghost invariant = { λ r. IsWellFormed present (register_in r) };
+    ghost invariant = { λ r. IsWellFormed newest_rules (register_in r) };
 }
 
 impl Register {
     /// An empty register.
     pub fn new(alloc: Global, limits: Limits) -> Register
-        ensures { result ≡ folded present limits [] }
+        ensures { result ≡ folded newest_rules limits [] }
     {
         Register {
             alloc,
@@ -94,7 +96,7 @@ impl Register {
     /// The limits.
     pub fn limits(&self) -> Limits
         ensures value { result ≡ self.now.limits }
-        ensures well_formed { IsWellFormed present self.now }
+        ensures well_formed { IsWellFormed newest_rules self.now }
     {
         self.limits
     }
@@ -135,15 +137,18 @@ impl Register {
     ///
     /// The first refusal that applies.
     pub fn check(&self, edit: &Edit) -> Result<(), Refusal>
-        ensures { IsTestOf (refusal present self.now.limits self.now.lands edit.now) result }
+        ensures { IsTestOf (refusal newest_rules self.now.limits self.now.lands edit.now) result }
     {
         match edit {
-            Edit::AddLand { code, name, .. } => self.check_add_land(code.as_str(), name.as_str()),
-            Edit::AddChange { code, day, .. } => {
-                check_add_change(self.limits, self.known_territory(code.as_str())?, *day)
+            Edit::AddLand { code, name, regime } => {
+                self.check_add_land(code.as_str(), name.as_str(), *regime)
             }
-            Edit::AlterChange { code, day, .. } => {
-                check_alter_change(self.known_territory(code.as_str())?, *day)
+            Edit::AddChange { code, day, regime } => {
+                let territory = self.known_territory(code.as_str())?;
+                check_add_change(self.limits, territory, *day, *regime)
+            }
+            Edit::AlterChange { code, day, regime } => {
+                check_alter_change(self.known_territory(code.as_str())?, *day, *regime)
             }
             Edit::DropChange { code, day } => {
                 check_drop_change(self.known_territory(code.as_str())?, *day)
@@ -162,9 +167,10 @@ impl Register {
         }
     }
 
-    fn check_add_land(&self, code: &str, name: &str) -> Result<(), Refusal>
+    fn check_add_land(&self, code: &str, name: &str, regime: Regime) -> Result<(), Refusal>
         ensures { IsTestOf
-            (add_land_refusal self.now.limits self.now.lands code.now name.now) result }
+            (add_land_refusal newest_rules self.now.limits self.now.lands code.now name.now regime)
+            result }
     {
         if !is_code(code) {
             return Err(Refusal::BadCode);
@@ -175,6 +181,7 @@ impl Register {
         if self.has_land(code) {
             return Err(Refusal::LandExists);
         }
+        check_style(regime)?;
         if self.lands.len() >= self.limits.lands as usize {
             return Err(Refusal::TooManyLands);
         }
@@ -189,11 +196,11 @@ impl Register {
     /// that alters or drops takes none. Nothing has changed then.
     pub fn apply(&mut self, edit: &Edit) -> Result<(), Refusal>
         ensures lawful { OnOk result
-            (refusal present self.old.limits self.old.lands edit.now ≡ None) }
+            (refusal newest_rules self.old.limits self.old.lands edit.now ≡ None) }
         ensures ok { OnOk result
             (self.new ≡ record self.old { lands = effect self.old.lands edit.now }) }
         ensures refused { IfErr result
-            (IsRefusalOrNoMemory (refusal present self.old.limits self.old.lands edit.now)) }
+            (IsRefusalOrNoMemory (refusal newest_rules self.old.limits self.old.lands edit.now)) }
         ensures err { OnErr result (self.new ≡ self.old) }
         ensures memory { IfErr result (λ f. f ≡ Refusal.NoMemory → takes_memory edit.now ≡ true) }
     {
@@ -211,11 +218,11 @@ impl Register {
     /// Only where no memory is found, of which a refused edit takes none. Nothing has changed then.
     pub fn apply_if_lawful(&mut self, edit: &Edit) -> Result<(), AllocError>
         ensures ok { OnOk result (self.new ≡ record self.old {
-          lands = applied present self.old.limits self.old.lands edit.now;
+          lands = applied newest_rules self.old.limits self.old.lands edit.now;
         }) }
         ensures err { OnErr result (self.new ≡ self.old) }
         ensures memory { OnErr result
-            (apply_takes_memory present self.old.limits self.old.lands edit.now ≡ true) }
+            (apply_takes_memory newest_rules self.old.limits self.old.lands edit.now ≡ true) }
     {
         match self.check(edit) {
             Ok(()) => self.admit(edit),
@@ -230,7 +237,7 @@ impl Register {
     /// Only where no memory is found, of which an edit that alters or drops takes none. Nothing has
     /// changed then.
     pub fn admit(&mut self, edit: &Edit) -> Result<(), AllocError>
-        requires { refusal present self.old.limits self.old.lands edit.now ≡ None }
+        requires { refusal newest_rules self.old.limits self.old.lands edit.now ≡ None }
         ensures ok { OnOk result
             (self.new ≡ record self.old { lands = effect self.old.lands edit.now }) }
         ensures err { OnErr result (self.new ≡ self.old) }
@@ -260,7 +267,7 @@ impl Register {
     /// Makes a lawful change in the territory of a code.
     fn change(&mut self, code: &str, change: Change) -> Result<(), AllocError>
         requires { refusal_in self.old.lands code.now
-            (change_refusal present self.old.limits change) ≡ None }
+            (change_refusal newest_rules self.old.limits change) ≡ None }
         ensures ok { OnOk result (self.new ≡ record self.old {
           lands = with_territory code.now (territory_after change) self.old.lands;
         }) }
@@ -273,6 +280,7 @@ impl Register {
 
     fn add_land(&mut self, code: &Text, name: &Text, regime: Regime) -> Result<(), AllocError>
         requires absent { land_of code.now self.old.lands ≡ None }
+        requires regime { regime_fault regime ≡ None }
         requires room { length self.old.lands < self.old.limits.lands }
         ensures ok { OnOk result (self.new ≡ record self.old {
           lands = with_land self.old.lands code.now name.now (opened regime);
@@ -286,7 +294,7 @@ impl Register {
     fn insert(&mut self, code: String, entry: Entry) -> Result<(), AllocError>
         requires absent { land_of (string_bytes code) self.old.lands ≡ None }
         requires room { length self.old.lands < self.old.limits.lands }
-        requires territory { IsSoundTerritory present self.old.limits entry.territory }
+        requires territory { IsSoundTerritory newest_rules self.old.limits entry.territory }
         ensures ok { OnOk result (self.new ≡ record self.old {
           lands = with_land self.old.lands (string_bytes code) entry.name entry.territory;
         }) }

@@ -1,6 +1,6 @@
 -- The line of a transcript: what a reader asked, and the reply. The members of an object stand in
 -- ascending order of their names. This project's profile.
-use Rattle.std.specs.Prelude.{ℕ, ℤ, List, codes}
+use Rattle.std.specs.Prelude.{ℕ, List, codes}
 use Rattle.serde_json.specs.Data.{Data, string, object, member, no_members}
 use Rattle.osn_register.specs.declared.query.Query.{Query}
 use Rattle.osn_register.specs.declared.query.Query.TheVariants.{Read, DayIn, Easter, YearFigures}

@@ -3,7 +3,7 @@ use Rattle.std.specs.Prelude.{◌≡◌, ℕ, ◌≤◌, List, length, nat_lt, i
 use Rattle.std.proofs.Common.{ap, sym, ◌∙◌, arith, ⊎_elim}
 use Rattle.std.proofs.lemmas.List.{length-take, take_all}
 use Rattle.std.proofs.lemmas.Bool.{lt-ltb, cases_lt}
-use Rattle.osn_days.specs.Profile.{present}
+use Rattle.osn_days.specs.Profile.{newest_rules}
 use Rattle.osn_lines.specs.Lines.{front_of}
 use Rattle.osn_request.specs.declared.wire_fault.WireFault.TheVariants.{LineTooLong}
 use Rattle.osn_request.specs.Field.{◌>>=◌}
@@ -38,6 +38,6 @@ object_of_front line = by_length (Err LineTooLong) (λ l. object_in (value_of l)
 
 -- and so is its request
 pub request_of_front : (readers : ℕ) (line : List ℕ)
-    → request present readers (front_of line) ≡ request present readers line
+    → request newest_rules readers (front_of line) ≡ request newest_rules readers line
 request_of_front readers line =
-    ap (λ object. object >>= request_of present readers) (object_of_front line)
+    ap (λ object. object >>= request_of newest_rules readers) (object_of_front line)

@@ -5,6 +5,7 @@ use Rattle.serde_json.specs.Data.{Data}
 use Rattle.serde_json.specs.Find.{get, as_str, as_number, as_i64}
 use Rattle.osn_days.specs.Profile.{Profile}
 use Rattle.osn_lands.specs.declared.regime.Regime.{Regime}
+use Rattle.osn_lands.specs.declared.style.Style.{Style}
 use Rattle.osn_request.specs.declared.member.Member.{Member}
 use Rattle.osn_request.specs.declared.member.Member.TheVariants as members
 use Rattle.osn_request.specs.declared.wire_fault.WireFault.{WireFault}
@@ -37,10 +38,14 @@ whole_at m d =
 abbrev pub word_at : {A : Type 0} → Member → (List ℕ → Option A) → Data → Result A WireFault
 word_at m named d = text_at m d >>= λ word. or_fault (BadField m) (named word)
 
+-- the member that is a style's word, where the rules have it
+abbrev pub style_at : Profile → Data → Result Style WireFault
+style_at p d = word_at members.Style (style_named p) d
+
 -- a regime by its three members
 unfoldable pub regime_of : Profile → Data → Result Regime WireFault
 regime_of p d = do
   calendar ← word_at members.Calendar calendar_named d
-  style ← word_at members.Style (style_named p) d
+  style ← style_at p d
   rule ← word_at members.Rule rule_named d
   Ok (record { calendar = calendar; style = style; rule = rule })

@@ -2,9 +2,10 @@
 ghost use Rattle.std.specs.Prelude.{◌≡◌, ◌<◌, length, MatchResult, IfErr, Ok, Err, Some};
 ghost use Rattle.std.specs.Str.{IsUtf8};
 ghost use Rattle.serde_json.specs.View.{view};
-ghost use Rattle.osn_days.specs.Profile.{present};
+ghost use Rattle.osn_days.specs.Profile.{newest_rules};
 ghost use Rattle.osn_request.specs.Request as said;
 ghost use Rattle.osn_request.specs.declared.request.RequestError.TheVariants.{NoMemory};
+ghost use Rattle.osn_words.specs.Version.{rules_of};
 
 mod edit;
 mod field;
@@ -17,6 +18,7 @@ pub use field::{text_at, whole_at};
 pub use op::{EditOp, Op, QueryOp, op_of};
 use osn_lines::LONGEST_LINE;
 use osn_register::{Edit, Query};
+use osn_words::Version;
 pub use query::{query_of, reader_in};
 use serde_json::Value;
 use std::alloc::{AllocError, Global};
@@ -105,12 +107,17 @@ pub fn object_of(alloc: Global, line: &[u8]) -> Result<Value, RequestError>
     Ok(value)
 }
 
-/// The request of a line's object.
-fn request_of(alloc: Global, readers: u32, value: &Value) -> Result<Request, RequestError>
-    ensures { said.Gives result (said.request_of present readers (view value.now)) }
+/// The request of a line's object, by the rules of a version.
+fn request_of(
+    alloc: Global,
+    version: Version,
+    readers: u32,
+    value: &Value,
+) -> Result<Request, RequestError>
+    ensures { said.Gives result (said.request_of (rules_of version) readers (view value.now)) }
 {
     match op_of(value)? {
-        Op::Edit(op) => Ok(Request::Stage(edit_of(alloc, op, value)?)),
+        Op::Edit(op) => Ok(Request::Stage(edit_of(alloc, version, op, value)?)),
         Op::Publish => Ok(Request::Publish),
         Op::Query(op) => {
             let (reader, query) = query_of(alloc, readers, op, value)?;
@@ -125,9 +132,9 @@ fn request_of(alloc: Global, readers: u32, value: &Value) -> Result<Request, Req
 /// The first fault of the line; or want of memory, for a line alone that is a text, not an empty
 /// one and not too long.
 pub fn read_request(alloc: Global, readers: u32, line: &[u8]) -> Result<Request, RequestError>
-    ensures request { said.Gives result (said.request present readers line.now) }
+    ensures request { said.Gives result (said.request newest_rules readers line.now) }
     ensures memory { IfErr result (λ e. e ≡ NoMemory → said.IsReadable line.now) }
 {
     let value = object_of(alloc, line)?;
-    request_of(alloc, readers, &value)
+    request_of(alloc, Version::newest(), readers, &value)
 }

@@ -8,7 +8,7 @@ use Rattle.std.specs.List.{range_with_len, find, list_any}
 use Rattle.std.specs.Option.{option_map}
 use Rattle.osn_days.specs.declared.calendar.Calendar.{Calendar}
 use Rattle.osn_days.specs.declared.calendar.Calendar.TheVariants as calendar
-use Rattle.osn_days.specs.Profile.{Profile, present}
+use Rattle.osn_days.specs.Profile.{Profile, newest_rules}
 use Rattle.osn_days.specs.Line.{line, IsDay, IsOnLine}
 use Rattle.osn_days.specs.Chain.{date_of}
 use Rattle.osn_computus.specs.declared.epact.Epact.{Epact}
@@ -139,24 +139,24 @@ table_some (Some k) m d h =
     ap (λ (x : ℕ). let r : MonthDay = record { month = x; day = k.day } in Some r) (ap first h)
     ∙ ap (λ (x : ℕ). let r : MonthDay = record { month = m; day = x } in Some r) (ap second h)
 
-pub moved_13 : (r : Option ℕ) (d : ℕ) → (IsSome r ↔ IsOnLine present (pos d +ℤ pos 13)) →
+pub moved_13 : (r : Option ℕ) (d : ℕ) → (IsSome r ↔ IsOnLine newest_rules (pos d +ℤ pos 13)) →
     IfSome r (λ e. pos e ≡ pos d +ℤ pos 13) → d + 13 ≤ 1095362 → r ≡ Some (d + 13)
 moved_13 None d on value high = absurd (false≢true (on.1 (search arith, omega (arith, ints))))
 moved_13 (Some e) d on value high = ap Some (omega (arith, ints, value))
 
 -- the moon by the table
 pub julian_moon : (y : ℕ) (m : MonthDay) → julian_full_moon (golden_number y) ≡ Some m →
-    paschal_moon present Julian y ≡ day_with present calendar.Julian (date_in y m)
+    paschal_moon newest_rules Julian y ≡ day_with newest_rules calendar.Julian (date_in y m)
 unfolding paschal_moon
 julian_moon y m table = rw table refl
 
 pub gregorian_moon : (y : ℕ) (m : MonthDay) → gregorian_new_moon (gregorian_epact y) ≡ Some m →
-    paschal_moon present Gregorian y ≡ option_map (λ d. d + 13)
-    (day_with present calendar.Gregorian (date_in y m))
+    paschal_moon newest_rules Gregorian y ≡ option_map (λ d. d + 13)
+    (day_with newest_rules calendar.Gregorian (date_in y m))
 unfolding paschal_moon
 gregorian_moon y m table = rw table refl
 
 pub gregorian_none : (y : ℕ) → gregorian_new_moon (gregorian_epact y) ≡ None →
-    paschal_moon present Gregorian y ≡ None
+    paschal_moon newest_rules Gregorian y ≡ None
 unfolding paschal_moon
 gregorian_none y table = rw table refl

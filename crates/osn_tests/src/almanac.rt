@@ -271,6 +271,43 @@ fn changes_at_both_ends_of_the_year(rt: HostRuntime) -> Result<(), Fail> {
     has_almanacs(&rt, rt.alloc(), ENDS, &rows)
 }
 
+/// A year from Easter to Easter, in which a 1 April falls twice.
+const FRANCE: &str = r#"{"op":"add_land","code":"FR","name":"Sample FR","calendar":"julian",
+  "style":"easter","rule":"julian"}
+"#;
+
+const FRANCE_1543: &str = "Almanac of Sample FR (FR) for 1543
+Golden number 5, indiction 1
+Julian epact 14, Sunday letter G
+Gregorian epact 15, Sunday letter C
+Easter by rule
+Septuagesima  Sunday     563234 21 January 1542/3
+Ash Wednesday Wednesday  563251 7 February 1542/3
+Easter        Sunday     563297 25 March 1543
+Ascension     Thursday   563336 3 May 1543
+Pentecost     Sunday     563346 13 May 1543
+Trinity       Sunday     563353 20 May 1543
+January       Tuesday    563579 1544-01-11
+February      Friday     563610 1544-02-11
+March         Saturday   563639 1544-03-11
+April         Sunday     563304 1543-04-11
+April         Tuesday    563670 1544-04-11
+May           Tuesday    563334 1543-05-11
+June          Friday     563365 1543-06-11
+July          Sunday     563395 1543-07-11
+August        Wednesday  563426 1543-08-11
+September     Saturday   563457 1543-09-11
+October       Monday     563487 1543-10-11
+November      Thursday   563518 1543-11-11
+December      Saturday   563548 1543-12-11
+";
+
+#[test]
+fn a_month_that_begins_twice(rt: HostRuntime) -> Result<(), Fail> {
+    let rows = [("FR", 1543, FRANCE_1543)];
+    has_almanacs(&rt, rt.alloc(), FRANCE, &rows)
+}
+
 #[test]
 fn refusals_of_the_almanac(rt: HostRuntime) -> Result<(), Fail> {
     let rows = [("gb", 0, 1), ("FR", 0, 3), ("GB", 0, 9), ("GB", 3000, 9)];

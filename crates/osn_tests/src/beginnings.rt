@@ -293,6 +293,31 @@ const DUAL: &str = r#"
   "regime":{"calendar":"julian","rule":"julian","style":"september"}},"edition":1,"reader":1}
 "#;
 
+/// The year of Pisa begins on the 25 March before that of the Annunciation.
+const PISA: &str = r#"
+{"op":"add_land","code":"PI","name":"Pisa","calendar":"julian","style":"pisan","rule":"julian"}
+{"ok":"staged","pending":1}
+{"op":"publish"}
+{"edition":1,"ok":"published"}
+{"op":"read","reader":1,"code":"PI","year":1500,"month":3,"day":25}
+{"answer":{"days":[{"day":547226,"dual":"25 March 1500","gregorian":"1499-04-03","jdn":2268651,
+  "julian":"1499-03-25","label":"1500-03-25","weekday":"Monday"}],"skipped":[]},"edition":1,
+  "reader":1}
+{"op":"read","reader":1,"code":"PI","year":1500,"month":3,"day":24}
+{"answer":{"days":[{"day":547591,"dual":"24 March 1500","gregorian":"1500-04-03","jdn":2269016,
+  "julian":"1500-03-24","label":"1500-03-24","weekday":"Tuesday"}],"skipped":[]},"edition":1,
+  "reader":1}
+{"op":"read","reader":1,"code":"PI","year":1,"month":3,"day":25}
+{"answer":{"days":[],"skipped":[]},"edition":1,"reader":1}
+{"op":"day","reader":1,"code":"PI","day":82}
+{"answer":{"first":1,"found":{"day":82,"dual":"25 March 2","gregorian":"0001-03-23","jdn":1721507,
+  "julian":"0001-03-25","label":"0002-03-25","weekday":"Friday"},"last":1095362,
+  "regime":{"calendar":"julian","rule":"julian","style":"pisan"}},"edition":1,"reader":1}
+{"op":"periods","reader":1,"code":"PI"}
+{"answer":{"periods":[{"calendar":"julian","first":1,"last":1095362,"rule":"julian",
+  "style":"pisan"}]},"edition":1,"reader":1}
+"#;
+
 #[test]
 fn days_of_four_beginnings(rt: HostRuntime) -> Result<(), Fail> {
     serves(&rt, rt.alloc(), Limits::standard(), 8, WORKED)
@@ -306,6 +331,11 @@ fn days_on_both_sides_of_each_beginning(rt: HostRuntime) -> Result<(), Fail> {
 #[test]
 fn beginnings_at_the_ends_of_the_line(rt: HostRuntime) -> Result<(), Fail> {
     serves(&rt, rt.alloc(), Limits::standard(), 8, ENDS)
+}
+
+#[test]
+fn days_of_the_year_of_pisa(rt: HostRuntime) -> Result<(), Fail> {
+    serves(&rt, rt.alloc(), Limits::standard(), 8, PISA)
 }
 
 #[test]

@@ -30,9 +30,9 @@ type Row = (
     Option<&'static str>,
 );
 
-const EMPTY_JOURNAL: &str = "{\"journal\":1}\n";
+const EMPTY_JOURNAL: &str = "{\"journal\":2}\n";
 
-const RM_SAVED: &str = r#"{"journal":1}
+const RM_SAVED: &str = r#"{"journal":2}
 {"calendar":"julian","code":"RM","name":"Rome","op":"add_land","rule":"julian","style":"january"}
 "#;
 
@@ -48,7 +48,7 @@ const SERVED: [Row; 6] = [
         LANDS,
         (0, ROME, ""),
         Some(
-            "{\"journal\":1}
+            "{\"journal\":2}
 {\"calendar\":\"julian\",\"code\":\"RM\",\"name\":\"Rome\",\"op\":\"add_land\",\"rule\":\"julian\",
   \"style\":\"january\"}
 {\"op\":\"publish\"}
@@ -61,7 +61,7 @@ const SERVED: [Row; 6] = [
         "{\"op\":\"publish\"}\n",
         (0, "{\"edition\":1,\"ok\":\"published\"}\n", ""),
         Some(
-            "{\"journal\":1}
+            "{\"journal\":2}
 {\"calendar\":\"julian\",\"code\":\"RM\",\"name\":\"Rome\",\"op\":\"add_land\",\"rule\":\"julian\",
   \"style\":\"january\"}
 {\"op\":\"publish\"}

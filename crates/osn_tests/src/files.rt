@@ -195,7 +195,7 @@ const KEPT: [RunRow; 5] = [
     ),
 ];
 
-const SAVED: &str = r#"{"journal":1}
+const SAVED: &str = r#"{"journal":2}
 {"calendar":"julian","code":"RM","name":"Rome","op":"add_land","rule":"julian","style":"january"}
 {"op":"publish"}
 {"code":"RM","day":577736,"op":"add_exception","year":1582}

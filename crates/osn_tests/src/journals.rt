@@ -11,13 +11,13 @@ use std::process::Abort;
 use std::test::Fail;
 
 /// One territory, in one edition.
-const ROME: &str = r#"{"journal":1}
+const ROME: &str = r#"{"journal":2}
 {"calendar":"julian","code":"RM","name":"Rome","op":"add_land","rule":"julian","style":"january"}
 {"op":"publish"}
 "#;
 
 /// One territory with its changes in one edition, and a pending edit.
-const BRITAIN: &str = r#"{"journal":1}
+const BRITAIN: &str = r#"{"journal":2}
 {"calendar":"julian","code":"GB","name":"Great Britain","op":"add_land","rule":"julian",
   "style":"annunciation"}
 {"calendar":"julian","code":"GB","day":639551,"op":"add_change","rule":"julian","style":"january"}
@@ -28,7 +28,7 @@ const BRITAIN: &str = r#"{"journal":1}
 "#;
 
 /// Every kind of edit, in two editions and pending.
-const SWEDEN: &str = r#"{"journal":1}
+const SWEDEN: &str = r#"{"journal":2}
 {"calendar":"swedish","code":"SE","name":"Sverige \"ö\" \\","op":"add_land","rule":"julian",
   "style":"nativity"}
 {"op":"publish"}
@@ -40,29 +40,52 @@ const SWEDEN: &str = r#"{"journal":1}
 {"code":"SE","day":1,"op":"add_exception","year":1}
 "#;
 
-/// Texts that are written as they were loaded: pending edits stay pending, and batches stay apart.
-const KEPT: [&str; 4] = ["{\"journal\":1}\n", ROME, BRITAIN, SWEDEN];
+/// The styles that version 1 does not have.
+const FRANCE: &str = r#"{"journal":2}
+{"calendar":"julian","code":"FR","name":"Sample FR","op":"add_land","rule":"julian",
+  "style":"easter"}
+{"calendar":"gregorian","code":"FR","day":563579,"op":"add_change","rule":"gregorian",
+  "style":"pisan"}
+{"op":"publish"}
+{"calendar":"julian","code":"FR","day":563579,"op":"alter_change","rule":"julian","style":"easter"}
+"#;
 
-/// Other texts, and the journal of what is loaded from each: members in any order, others passed
-/// over, and a last line without its line feed.
-const TAKEN: [(&str, &str); 3] = [
-    ("{\"x\":[],\"journal\":1}", "{\"journal\":1}\n"),
+/// Texts that are written as they were loaded: pending edits stay pending, and batches stay apart.
+const KEPT: [&str; 5] = ["{\"journal\":2}\n", ROME, BRITAIN, SWEDEN, FRANCE];
+
+/// Other texts, and the journal of what is loaded from each: version 1, which is written as
+/// version 2, members in any order, others passed over, the last one of a name taken, and a last
+/// line without its line feed.
+const TAKEN: [(&str, &str); 6] = [
+    (
+        r#"{"journal":1}
+{"calendar":"julian","code":"RM","name":"Rome","op":"add_land","rule":"julian","style":"january"}
+{"op":"publish"}
+"#,
+        ROME,
+    ),
+    ("{\"journal\":1}\n", "{\"journal\":2}\n"),
+    ("{\"x\":[],\"journal\":1}", "{\"journal\":2}\n"),
     (
         r#"{"journal":1}
 {"op":"add_land","code":"RM","name":"R\u006fme","calendar":"julian","style":"january",
   "rule":"julian"}
  { "op" : "publish", "reader": 0 }"#,
-        r#"{"journal":1}
-{"calendar":"julian","code":"RM","name":"Rome","op":"add_land","rule":"julian",
-  "style":"january"}
-{"op":"publish"}
+        ROME,
+    ),
+    ("{\"journal\":3,\"journal\":1}\n", "{\"journal\":2}\n"),
+    (
+        r#"{"journal":1,"journal":2}
+{"op":"add_land","code":"PI","name":"Pisa","calendar":"julian","style":"pisan","rule":"julian"}
+"#,
+        r#"{"journal":2}
+{"calendar":"julian","code":"PI","name":"Pisa","op":"add_land","rule":"julian","style":"pisan"}
 "#,
     ),
-    ("{\"journal\":2,\"journal\":1}\n", "{\"journal\":1}\n"),
 ];
 
 /// Texts that are no journal, and why.
-const REFUSED: [(&str, &str); 20] = [
+const REFUSED: [(&str, &str); 25] = [
     ("", "Journal line 1: 37 BadHead"),
     ("\n", "Journal line 1: 32 NotJson"),
     ("{\"journal\":1", "Journal line 1: 32 NotJson"),
@@ -101,6 +124,36 @@ const REFUSED: [(&str, &str); 20] = [
 {"op":"add_land","code":"RM","name":"Rome","calendar":"julian","style":"pisan","rule":"julian"}
 "#,
         "Journal line 2: 34 BadField",
+    ),
+    (
+        r#"{"journal":1}
+{"op":"add_change","code":"RM","day":2,"calendar":"julian","style":"easter","rule":"julian"}
+"#,
+        "Journal line 2: 34 BadField",
+    ),
+    (
+        r#"{"journal":1}
+{"op":"alter_change","code":"RM","day":1,"calendar":"julian","style":"pisan","rule":"julian"}
+"#,
+        "Journal line 2: 34 BadField",
+    ),
+    (
+        r#"{"journal":2,"journal":1}
+{"op":"add_land","code":"RM","name":"Rome","calendar":"julian","style":"easter","rule":"julian"}
+"#,
+        "Journal line 2: 34 BadField",
+    ),
+    (
+        r#"{"journal":2}
+{"op":"add_land","code":"RM","name":"Rome","calendar":"julian","style":"Pisan","rule":"julian"}
+"#,
+        "Journal line 2: 34 BadField",
+    ),
+    (
+        r#"{"journal":2}
+{"op":"add_land","code":"RM","name":"Rome","calendar":"julian","style":"easter","rule":"gregorian"}
+"#,
+        "Journal line 2: 19 StyleNeedsJulian",
     ),
     (
         r#"{"journal":1}

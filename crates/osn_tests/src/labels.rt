@@ -23,7 +23,7 @@ pub fn label(ymd: (i32, u8, u8)) -> Label {
 }
 
 /// A day under a regime of a calendar and a style: its number, its label and its dual text.
-type Named = (Calendar, Style, u32, (i32, u8, u8), &'static str);
+pub type Named = (Calendar, Style, u32, (i32, u8, u8), &'static str);
 
 const NAMED: [Named; 39] = [
     (
@@ -302,7 +302,7 @@ const NAMED: [Named; 39] = [
 ];
 
 /// The regime of a calendar and a style under the Julian rule.
-fn regime_of(calendar: Calendar, style: Style) -> Regime {
+pub fn regime_of(calendar: Calendar, style: Style) -> Regime {
     let rule = Rule::Julian;
     Regime {
         calendar,
@@ -312,11 +312,11 @@ fn regime_of(calendar: Calendar, style: Style) -> Regime {
 }
 
 /// That days are named so, and are those of their labels.
-fn are_named(rt: &impl Abort, alloc: Global, rows: &[Named]) -> Result<(), AllocError> {
+pub fn are_named(rt: &impl Abort, alloc: Global, rows: &[Named]) -> Result<(), AllocError> {
     for (calendar, style, number, ymd, text) in rows {
         let (regime, day) = (regime_of(*calendar, *style), day_of(*number));
         let found = (label_of(regime, day), day_of_label(regime, label(*ymd)));
-        same(rt, found, (label(*ymd), Some(day)));
+        same(rt, found, (label(*ymd), [Some(day), None]));
         same(rt, dual_text(alloc, regime, day)?.as_str(), *text);
     }
     Ok(())
@@ -344,7 +344,7 @@ const OF_NO_DAY: [(Calendar, Style, (i32, u8, u8)); 10] = [
 fn have_no_day(rt: &impl Abort, rows: &[(Calendar, Style, (i32, u8, u8))]) {
     for (calendar, style, ymd) in rows {
         let found = day_of_label(regime_of(*calendar, *style), label(*ymd));
-        same(rt, (ymd, found), (ymd, None));
+        same(rt, (ymd, found), (ymd, [None, None]));
     }
 }
 

@@ -9,6 +9,7 @@ use osn_days::{Calendar, Day, Year};
 use osn_lands::{LandFault, Period, Regime, Style, Territory};
 use std::alloc::{AllocError, Global};
 use std::process::Abort;
+use std::test::Fail;
 
 const JULIAN: Regime = Regime {
     calendar: Calendar::Julian,
@@ -19,6 +20,13 @@ const JULIAN: Regime = Regime {
 const GREGORIAN: Regime = Regime {
     calendar: Calendar::Gregorian,
     style: Style::January,
+    rule: Rule::Gregorian,
+};
+
+/// A year from Easter to Easter with another rule than the Julian one: no territory takes it.
+const UNTAKEN: Regime = Regime {
+    calendar: Calendar::Julian,
+    style: Style::Easter,
     rule: Rule::Gregorian,
 };
 
@@ -50,13 +58,30 @@ fn year_of(number: u32) -> Year {
 }
 
 /// Calls in turn, and what each of them is answered.
-const CALLS: [(Call, Result<(), LandFault>); 18] = [
+const CALLS: [(Call, Result<(), LandFault>); 23] = [
+    (Call::AddChange(1, UNTAKEN), Err(LandFault::OpeningPeriod)),
+    (
+        Call::AlterChange(1, UNTAKEN),
+        Err(LandFault::StyleNeedsJulian),
+    ),
     (Call::AddChange(1, GREGORIAN), Err(LandFault::OpeningPeriod)),
     (Call::DropChange(1), Err(LandFault::OpeningPeriod)),
     (Call::AddChange(639_797, GREGORIAN), Ok(())),
     (
         Call::AddChange(639_797, JULIAN),
         Err(LandFault::ChangeExists),
+    ),
+    (
+        Call::AddChange(639_797, UNTAKEN),
+        Err(LandFault::ChangeExists),
+    ),
+    (
+        Call::AddChange(639_798, UNTAKEN),
+        Err(LandFault::StyleNeedsJulian),
+    ),
+    (
+        Call::AlterChange(639_798, UNTAKEN),
+        Err(LandFault::NoSuchChange),
     ),
     (Call::AddChange(1_095_362, JULIAN), Ok(())),
     (Call::AddChange(2, GREGORIAN), Ok(())),
@@ -89,12 +114,21 @@ fn changed(
     rt: &impl Abort,
     alloc: Global,
     calls: &[(Call, Result<(), LandFault>)],
-) -> Result<Territory, AllocError> {
+) -> Result<Territory, LandFault> {
     let mut territory = Territory::new(alloc, JULIAN)?;
     for (call, answer) in calls {
         same(rt, made(&mut territory, *call), *answer);
     }
     Ok(territory)
+}
+
+#[test]
+fn a_territory_is_not_opened(rt: HostRuntime) -> Result<(), Fail> {
+    let Err(fault) = Territory::new(rt.alloc(), UNTAKEN) else {
+        return Err(Fail::new("opened"));
+    };
+    same(&rt, fault, LandFault::StyleNeedsJulian);
+    Ok(())
 }
 
 /// That a territory has some periods, and their regimes from edge to edge.
@@ -116,7 +150,7 @@ fn has_periods(rt: &impl Abort, territory: &Territory, periods: &[(u32, u32, Reg
 }
 
 #[test]
-fn a_territory_is_changed_and_copied(rt: HostRuntime) -> Result<(), AllocError> {
+fn a_territory_is_changed_and_copied(rt: HostRuntime) -> Result<(), Fail> {
     let territory = changed(&rt, rt.alloc(), &CALLS)?;
     has_periods(&rt, &territory, &PERIODS);
     has_periods(&rt, &territory.copy()?, &PERIODS);
@@ -147,10 +181,11 @@ fn has_easters(
 }
 
 #[test]
-fn exceptions_and_easters(rt: HostRuntime) -> Result<(), AllocError> {
+fn exceptions_and_easters(rt: HostRuntime) -> Result<(), Fail> {
     let territory = changed(&rt, rt.alloc(), &CALLS)?;
     same(&rt, territory.exception_count(), 2);
-    has_easters(&rt, &territory, &EASTERS)
+    has_easters(&rt, &territory, &EASTERS)?;
+    Ok(())
 }
 
 /// A date, the day on which it is read, and the change at which it is skipped.
@@ -180,13 +215,14 @@ fn reads(rt: &impl Abort, territory: &Territory, rows: &[Read]) -> Result<(), Al
 }
 
 #[test]
-fn dates_are_read_or_skipped(rt: HostRuntime) -> Result<(), AllocError> {
+fn dates_are_read_or_skipped(rt: HostRuntime) -> Result<(), Fail> {
     let territory = changed(&rt, rt.alloc(), &CALLS)?;
-    reads(&rt, &territory, &READ)
+    reads(&rt, &territory, &READ)?;
+    Ok(())
 }
 
 /// A territory that changes its calendar forty times, every 1,000 days from day 401000 on.
-pub fn of_forty_changes(alloc: Global) -> Result<Territory, AllocError> {
+pub fn of_forty_changes(alloc: Global) -> Result<Territory, LandFault> {
     let mut territory = Territory::new(alloc, JULIAN)?;
     for place in 1..41 {
         let regime = if place % 2 == 1 { GREGORIAN } else { JULIAN };
@@ -197,7 +233,7 @@ pub fn of_forty_changes(alloc: Global) -> Result<Territory, AllocError> {
 
 /// A search through 41 periods tests at most six starts, and a reading at most three days a period.
 #[test]
-fn tests_are_counted(rt: HostRuntime) -> Result<(), AllocError> {
+fn tests_are_counted(rt: HostRuntime) -> Result<(), Fail> {
     let territory = of_forty_changes(rt.alloc())?;
     let (place, starts) = territory.period_at(day_of(421_000));
     same(&rt, place, 21);
@@ -209,7 +245,7 @@ fn tests_are_counted(rt: HostRuntime) -> Result<(), AllocError> {
 }
 
 fn inserted(territory: &mut Territory, day: Day, regime: Regime) -> Result<bool, AllocError> {
-    if day == Day::FIRST || territory.starts_on(day) {
+    if day == Day::FIRST || territory.starts_on(day) || regime.lacks_julian() {
         return Ok(false);
     }
     territory.insert_change(day, regime)?;
@@ -217,11 +253,11 @@ fn inserted(territory: &mut Territory, day: Day, regime: Regime) -> Result<bool,
 }
 
 fn set(territory: &mut Territory, day: Day, regime: Regime) -> bool {
-    let is_start = territory.starts_on(day);
-    if is_start {
+    let is_taken = territory.starts_on(day) && !regime.lacks_julian();
+    if is_taken {
         territory.set_regime(day, regime);
     }
-    is_start
+    is_taken
 }
 
 fn removed(territory: &mut Territory, day: Day) -> bool {
@@ -264,7 +300,7 @@ fn admitting(
     rt: &impl Abort,
     alloc: Global,
     calls: &[(Call, Result<(), LandFault>)],
-) -> Result<Territory, AllocError> {
+) -> Result<Territory, LandFault> {
     let mut territory = Territory::new(alloc, JULIAN)?;
     for (call, answer) in calls {
         same(rt, admitted(&mut territory, *call)?, answer.is_ok());
@@ -273,8 +309,9 @@ fn admitting(
 }
 
 #[test]
-fn a_territory_admits_what_is_lawful(rt: HostRuntime) -> Result<(), AllocError> {
+fn a_territory_admits_what_is_lawful(rt: HostRuntime) -> Result<(), Fail> {
     let territory = admitting(&rt, rt.alloc(), &CALLS)?;
     has_periods(&rt, &territory, &PERIODS);
-    has_easters(&rt, &territory, &EASTERS)
+    has_easters(&rt, &territory, &EASTERS)?;
+    Ok(())
 }

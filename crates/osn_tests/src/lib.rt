@@ -23,6 +23,10 @@ mod computus;
 #[cfg(test)]
 mod days;
 #[cfg(test)]
+mod desks;
+#[cfg(test)]
+mod easter_years;
+#[cfg(test)]
 mod easters;
 #[cfg(test)]
 mod editions;

@@ -7,7 +7,7 @@ use std::alloc::AllocError;
 use std::process::Abort;
 
 /// The refusals.
-const REFUSALS: [(Refusal, u8, &str); 20] = [
+const REFUSALS: [(Refusal, u8, &str); 21] = [
     (Refusal::BadCode, 1, "BadCode"),
     (Refusal::BadName, 2, "BadName"),
     (Refusal::UnknownLand, 3, "UnknownLand"),
@@ -26,6 +26,7 @@ const REFUSALS: [(Refusal, u8, &str); 20] = [
     (Refusal::JournalFull, 16, "JournalFull"),
     (Refusal::EditionsFull, 17, "EditionsFull"),
     (Refusal::BadDate, 18, "BadDate"),
+    (Refusal::StyleNeedsJulian, 19, "StyleNeedsJulian"),
     (Refusal::NoMemory, 90, "NoMemory"),
     (Refusal::BadCount, 92, "BadCount"),
 ];

@@ -120,7 +120,7 @@ fn an_almanac_is_printed(rt: HostRuntime) -> Result<(), Fail> {
 /// How many readers there are, and a schedule.
 type Replay = (u32, &'static str, Wanted);
 
-const REPLAYS: [Replay; 11] = [
+const REPLAYS: [Replay; 12] = [
     (
         1,
         r#"{"step":"look","op":"lands","reader":1}
@@ -136,6 +136,13 @@ const REPLAYS: [Replay; 11] = [
 "#,
             "",
         ),
+    ),
+    (
+        1,
+        r#"{"step":"stage","op":"add_land","code":"PI","name":"Pisa","calendar":"julian",
+  "style":"pisan","rule":"julian"}
+"#,
+        (0, "{\"ok\":\"staged\",\"pending\":1}\n", ""),
     ),
     (1, "", (0, "", "")),
     (0, "", (1, "", "oldstyle: 92 BadCount\n")),
@@ -198,7 +205,7 @@ const EMPTY: &str = "{\"journal\":1}\n";
 /// A script and questions.
 type Desk = (&'static str, &'static str, Wanted);
 
-const DESKS: [Desk; 8] = [
+const DESKS: [Desk; 10] = [
     (
         EMPTY,
         "{\"op\":\"lands\",\"reader\":1}\n",
@@ -244,6 +251,26 @@ const DESKS: [Desk; 8] = [
         (1, "", "oldstyle: questions line 2: 35 UnknownOp\n"),
     ),
     ("", "", (1, "", "oldstyle: script line 1: 37 BadHead\n")),
+    (
+        r#"{"journal":1}
+{"op":"add_land","code":"PI","name":"Pisa","calendar":"julian","style":"pisan","rule":"julian"}
+"#,
+        "",
+        (1, "", "oldstyle: script line 2: 34 BadField\n"),
+    ),
+    (
+        r#"{"journal":2}
+{"op":"add_land","code":"PI","name":"Pisa","calendar":"julian","style":"pisan","rule":"julian"}
+"#,
+        "{\"op\":\"lands\",\"reader\":1}\n",
+        (
+            0,
+            r#"{"ask":{"op":"lands","reader":1},"reply":{"answer":{"lands":[]},"edition":0,
+  "reader":1}}
+"#,
+            "",
+        ),
+    ),
     (
         "{\"journal\":1}\n{\"op\":\"lands\",\"reader\":1}",
         "",

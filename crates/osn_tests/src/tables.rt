@@ -3,7 +3,7 @@
 ghost use Rattle.std.specs.Prelude.{◌≡◌, ℕ, Bool, slice_get};
 ghost use Rattle.std.specs.List.{find};
 ghost use Rattle.std.specs.Option.{option_map};
-ghost use Rattle.osn_days.specs.Profile.{present};
+ghost use Rattle.osn_days.specs.Profile.{newest_rules};
 ghost use Rattle.osn_days.specs.Line.{IsYear};
 ghost use Rattle.osn_computus.specs.Moon as table;
 ghost use Rattle.osn_computus.specs.Easter as feast;
@@ -118,7 +118,7 @@ fn gregorian_new_moon(epact: Epact) -> Option<(u8, u8)>
 
 /// The day of the line with a date.
 fn day_with(calendar: Calendar, date: Date) -> Option<Day>
-    ensures { result ≡ feast.day_with present calendar date }
+    ensures { result ≡ feast.day_with newest_rules calendar date }
 {
     for number in 1..HIGH + 1 {
         let day = day_at(number);
@@ -131,7 +131,7 @@ fn day_with(calendar: Calendar, date: Date) -> Option<Day>
 
 fn date_in(year: Year, month: u8, day: u8) -> Date
     ensures value { result ≡ feast.date_in year (record { month = month; day = day }) }
-    ensures in_range { IsYear present year }
+    ensures in_range { IsYear newest_rules year }
 {
     Date {
         year: year.number() as i32,
@@ -142,7 +142,7 @@ fn date_in(year: Year, month: u8, day: u8) -> Date
 
 /// The full moon of the table, or 13 days after the new moon.
 fn paschal_moon(rule: Rule, year: Year) -> Option<Day>
-    ensures { result ≡ feast.paschal_moon present rule year }
+    ensures { result ≡ feast.paschal_moon newest_rules rule year }
 {
     match rule {
         Rule::Julian => {
@@ -158,7 +158,7 @@ fn paschal_moon(rule: Rule, year: Year) -> Option<Day>
 
 /// The first Sunday strictly after a day.
 fn first_sunday_after(moon: Day) -> Option<Day>
-    ensures { result ≡ feast.first_sunday_after present moon }
+    ensures { result ≡ feast.first_sunday_after newest_rules moon }
 {
     for number in 1..HIGH + 1 {
         if moon.number() < number && number % 7 == 0 {
@@ -170,7 +170,7 @@ fn first_sunday_after(moon: Day) -> Option<Day>
 
 /// The first Sunday after the paschal moon.
 fn easter(rule: Rule, year: Year) -> Option<Day>
-    ensures { result ≡ feast.easter_of present rule year }
+    ensures { result ≡ feast.easter_of newest_rules rule year }
 {
     first_sunday_after(paschal_moon(rule, year)?)
 }
@@ -231,7 +231,7 @@ fn is_sunday_of(calendar: Calendar, year: Year, low: u8, high: u8, day: Day) -> 
 
 /// The letter of the first of those Sundays.
 fn letter_of_sundays(calendar: Calendar, year: Year, low: u8, high: u8) -> Option<Letter>
-    ensures { result ≡ letters.letter_of_sundays present calendar year low high }
+    ensures { result ≡ letters.letter_of_sundays newest_rules calendar year low high }
 {
     let mut letter = first_letter(calendar);
     for number in 1..HIGH + 1 {
@@ -249,7 +249,7 @@ fn letter_of_sundays(calendar: Calendar, year: Year, low: u8, high: u8) -> Optio
 /// The letters of the first Sundays of January and from March on, or `None` for the Swedish
 /// calendar.
 fn sunday_letters(calendar: Calendar, year: Year) -> Option<Letters>
-    ensures { result ≡ letters.letters_of present calendar year }
+    ensures { result ≡ letters.letters_of newest_rules calendar year }
 {
     if !has_letters(calendar) {
         return None;

@@ -2,7 +2,7 @@
 //! calls beside it.
 ghost use Rattle.std.specs.Prelude.{◌≡◌, ◌+◌, ◌<◌, ◌≤◌, ◌^◌, pos, ◌<ℤ◌};
 ghost use Rattle.std.specs.Option.{option_to_list};
-ghost use Rattle.osn_days.specs.Profile.{present};
+ghost use Rattle.osn_days.specs.Profile.{newest_rules};
 ghost use Rattle.osn_days.specs.Line.{IsDay};
 ghost use Rattle.osn_days.specs.Chain as chain;
 ghost use Rattle.osn_days.specs.declared.calendar.Calendar.TheVariants.{Swedish};
@@ -12,7 +12,7 @@ use osn_days::{Calendar, Date, Day, HIGH};
 
 /// The day of a number of the line.
 pub fn day_at(number: u32) -> Day
-    requires { IsDay present number }
+    requires { IsDay newest_rules number }
     ensures { result ≡ number }
 {
     Day::on_line(i64::from(number))
@@ -137,7 +137,7 @@ pub fn date_of(calendar: Calendar, day: Day) -> Date
 
 /// The one day that has the date, or `None` where no day of the line has it.
 pub fn day_of(calendar: Calendar, date: Date) -> Option<Day>
-    ensures { option_to_list result ≡ chain.days_with_date present calendar date }
+    ensures { option_to_list result ≡ chain.days_with_date newest_rules calendar date }
 {
     let mut here = first_date(calendar);
     for number in 1..HIGH + 1 {

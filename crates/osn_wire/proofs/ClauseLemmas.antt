@@ -4,7 +4,7 @@ use Rattle.std.proofs.Common.{None, Result, Ok, Err, IfSome, IfErr, length, take
 use Rattle.std.proofs.Common.{subst, ◌∙◌, length-append, length-take, arith, ⊎_elim, inl, inr}
 use Rattle.std.proofs.lemmas.List.{take-append-drop}
 use Rattle.std.specs.Io.KnownBytes.{Appends}
-use Rattle.osn_days.specs.Profile.{present}
+use Rattle.osn_days.specs.Profile.{newest_rules}
 use Rattle.osn_core.specs.Sequential.{ObjectState}
 use Rattle.osn_lines.specs.Lines.{lines}
 use Rattle.osn_wire.specs.declared.fault.ServeFault.{ServeFault}
@@ -45,25 +45,25 @@ MatchFault-weaker (WriteFault n) P Q R P' Q' R' p q r h = r n h
 pub all_written : {W : Type 0} (contents : W → Option (List ℕ)) (s t : Session W) (u : W)
     (input : Option (List ℕ)) (n : ℕ) → AnswersAll contents s t input n → u ≡ t.sink.now →
     IfSome input (λ bytes. Appends (contents s.sink.now) (contents u)
-    (outputs present s.readers s.object.now (lines bytes)))
+    (outputs newest_rules s.readers s.object.now (lines bytes)))
 all_written {W} contents s t u input n h same =
     IfSome-weaker input (λ bytes. lines bytes ≡ h.taken)
     (λ bytes. Appends (contents s.sink.now) (contents u)
-    (outputs present s.readers s.object.now (lines bytes)))
+    (outputs newest_rules s.readers s.object.now (lines bytes)))
     (λ bytes e.
     subst (λ (v : W). Appends (contents s.sink.now) (contents v)
-    (outputs present s.readers s.object.now (lines bytes))) (sym same)
+    (outputs newest_rules s.readers s.object.now (lines bytes))) (sym same)
     (subst (λ (l : List (List ℕ)). Appends (contents s.sink.now) (contents t.sink.now)
-    (outputs present s.readers s.object.now l)) (sym e) h.written))
+    (outputs newest_rules s.readers s.object.now l)) (sym e) h.written))
     h.all
 
 pub all_reached : {W : Type 0} (contents : W → Option (List ℕ)) (s t : Session W) (u : ObjectState)
     (input : Option (List ℕ)) (n : ℕ) → AnswersAll contents s t input n → u ≡ t.object.now →
-    IfSome input (λ bytes. u ≡ after_lines present s.readers s.object.now (lines bytes))
+    IfSome input (λ bytes. u ≡ after_lines newest_rules s.readers s.object.now (lines bytes))
 all_reached contents s t u input n h same =
     IfSome-weaker input (λ bytes. lines bytes ≡ h.taken)
-    (λ bytes. u ≡ after_lines present s.readers s.object.now (lines bytes))
-    (λ bytes e. same ∙ (h.reached ∙ ap (after_lines present s.readers s.object.now) (sym e)))
+    (λ bytes. u ≡ after_lines newest_rules s.readers s.object.now (lines bytes))
+    (λ bytes e. same ∙ (h.reached ∙ ap (after_lines newest_rules s.readers s.object.now) (sym e)))
     h.all
 
 pub all_counted : {W : Type 0} (contents : W → Option (List ℕ)) (s t : Session W)
@@ -84,43 +84,44 @@ first_enough all taken n count e = omega (arith, count, ap length e, length-take
 
 pub first_written : {W : Type 0} (contents : W → Option (List ℕ)) (s t : Session W) (u : W)
     (input : Option (List ℕ)) (n : ℕ) → AnswersFirst contents s t input n → u ≡ t.sink.now →
-    IfSome input (λ bytes. WritesFirst present s.readers s.object.now (contents s.sink.now)
+    IfSome input (λ bytes. WritesFirst newest_rules s.readers s.object.now (contents s.sink.now)
     (contents u) (lines bytes) n)
 first_written {W} contents s t u input n h same =
     IfSome-weaker input (λ bytes. take (length h.taken) (lines bytes) ≡ h.taken)
-    (λ bytes. WritesFirst present s.readers s.object.now (contents s.sink.now) (contents u)
+    (λ bytes. WritesFirst newest_rules s.readers s.object.now (contents s.sink.now) (contents u)
     (lines bytes) n)
     (λ bytes e. record {
       enough = first_enough (lines bytes) h.taken n h.count e;
       written =
           subst (λ (v : W). Appends (contents s.sink.now) (contents v)
-          (outputs present s.readers s.object.now (take n (lines bytes)))) (sym same)
+          (outputs newest_rules s.readers s.object.now (take n (lines bytes)))) (sym same)
           (subst (λ (l : List (List ℕ)). Appends (contents s.sink.now) (contents t.sink.now)
-          (outputs present s.readers s.object.now l)) (sym
+          (outputs newest_rules s.readers s.object.now l)) (sym
           (first_by (lines bytes) h.taken n h.count e)) h.written);
     })
     h.first
 
 pub first_reached : {W : Type 0} (contents : W → Option (List ℕ)) (s t : Session W)
     (u : ObjectState) (input : Option (List ℕ)) (n : ℕ) → AnswersFirst contents s t input n →
-    u ≡ t.object.now → IfSome input (λ bytes. StandsAt present s.readers s.object.now u
+    u ≡ t.object.now → IfSome input (λ bytes. StandsAt newest_rules s.readers s.object.now u
     (lines bytes) n)
 first_reached contents s t u input n h same =
     IfSome-weaker input (λ bytes. take (length h.taken) (lines bytes) ≡ h.taken)
-    (λ bytes. StandsAt present s.readers s.object.now u (lines bytes) n)
+    (λ bytes. StandsAt newest_rules s.readers s.object.now u (lines bytes) n)
     (λ bytes e. same ∙ (h.reached
-    ∙ ap (after_lines present s.readers s.object.now)
+    ∙ ap (after_lines newest_rules s.readers s.object.now)
     (sym (first_by (lines bytes) h.taken n h.count e))))
     h.first
 
 -- no reply is empty
 some_text : (readers : ℕ) (s : ObjectState) (line : List ℕ) →
-    0 < length (line_text present readers s line)
+    0 < length (line_text newest_rules readers s line)
 unfolding reply_line
 some_text readers s line =
     omega (
       arith,
-      length-append (compact_text (outcome_data (line_outcome present readers s line))) (10 ∷ []),
+      length-append (compact_text (outcome_data (line_outcome newest_rules readers s line)))
+          (10 ∷ []),
     )
 
 -- the lines that were answered begin the input
@@ -128,26 +129,28 @@ part_of_all : {W : Type 0} (contents : W → Option (List ℕ)) (has_failed : W 
     (s t : Session W) (input : Option (List ℕ)) (n : ℕ)
     (h : AnswersInPart contents s t input has_failed n) (all : List (List ℕ)) →
     take (length h.taken) all ≡ h.taken →
-    InPart (line_text present s.readers) (line_after present s.readers) s.object.now t.object.now
+    InPart (line_text newest_rules s.readers)
+    (line_after newest_rules s.readers) s.object.now t.object.now
     all (contents s.sink.now) (contents t.sink.now) n
 part_of_all contents has_failed s t input n h all e =
     let rest = drop (length h.taken) all in
     let whole : h.taken ++ rest ≡ all =
     ap (λ l. l ++ rest) (sym e) ∙ take-append-drop (length h.taken) all in
-    subst (λ (l : List (List ℕ)). InPart (line_text present s.readers)
-    (line_after present s.readers) s.object.now t.object.now l (contents s.sink.now)
+    subst (λ (l : List (List ℕ)). InPart (line_text newest_rules s.readers)
+    (line_after newest_rules s.readers) s.object.now t.object.now l (contents s.sink.now)
     (contents t.sink.now) n) whole
-    (InPart-more (line_text present s.readers) (line_after present s.readers) (some_text s.readers)
+    (InPart-more (line_text newest_rules s.readers) (line_after newest_rules s.readers)
+    (some_text s.readers)
     s.object.now t.object.now h.taken rest _ _ n h.part)
 
 pub part_written : {W : Type 0} (contents : W → Option (List ℕ)) (has_failed : W → Bool)
     (s t : Session W) (u : W) (input : Option (List ℕ)) (n : ℕ) →
     AnswersInPart contents s t input has_failed n → u ≡ t.sink.now →
-    IfSome input (λ bytes. WritesInPart present s.readers s.object.now (contents s.sink.now)
+    IfSome input (λ bytes. WritesInPart newest_rules s.readers s.object.now (contents s.sink.now)
     (contents u) (lines bytes) n)
 part_written {W} contents has_failed s t u input n h same =
     IfSome-weaker input (λ bytes. take (length h.taken) (lines bytes) ≡ h.taken)
-    (λ bytes. WritesInPart present s.readers s.object.now (contents s.sink.now) (contents u)
+    (λ bytes. WritesInPart newest_rules s.readers s.object.now (contents s.sink.now) (contents u)
     (lines bytes) n)
     (λ bytes e.
     let k = part_of_all contents has_failed s t input n h (lines bytes) e in
@@ -156,7 +159,7 @@ part_written {W} contents has_failed s t u input n h same =
       enough = k.enough;
       written =
           subst (λ (v : W). Appends (contents s.sink.now) (contents v)
-          (take k.bytes (outputs present s.readers s.object.now (lines bytes)))) (sym same)
+          (take k.bytes (outputs newest_rules s.readers s.object.now (lines bytes)))) (sym same)
           k.written;
       whole = k.whole;
       no_more = k.no_more;
@@ -166,10 +169,10 @@ part_written {W} contents has_failed s t u input n h same =
 pub part_reached : {W : Type 0} (contents : W → Option (List ℕ)) (has_failed : W → Bool)
     (s t : Session W) (u : ObjectState) (input : Option (List ℕ)) (n : ℕ) →
     AnswersInPart contents s t input has_failed n → u ≡ t.object.now →
-    IfSome input (λ bytes. StandsNear present s.readers s.object.now u (lines bytes) n)
+    IfSome input (λ bytes. StandsNear newest_rules s.readers s.object.now u (lines bytes) n)
 part_reached contents has_failed s t u input n h same =
     IfSome-weaker input (λ bytes. take (length h.taken) (lines bytes) ≡ h.taken)
-    (λ bytes. StandsNear present s.readers s.object.now u (lines bytes) n)
+    (λ bytes. StandsNear newest_rules s.readers s.object.now u (lines bytes) n)
     (λ bytes e. ⊎_elim (λ k. inl (same ∙ k)) (λ k. inr (same ∙ k.1))
     (part_of_all contents has_failed s t input n h (lines bytes) e).reached)
     h.first
@@ -179,28 +182,30 @@ pub part_reason : {W : Type 0} (contents : W → Option (List ℕ)) (has_failed 
     (s t : Session W) (u : W) (input : Option (List ℕ)) (n : ℕ) →
     AnswersInPart contents s t input has_failed n → u ≡ t.sink.now →
     (has_failed u ≡ true)
-    ⊎ IfSome input (λ bytes. 4294967295 ≤ length (outputs present s.readers s.object.now
+    ⊎ IfSome input (λ bytes. 4294967295 ≤ length (outputs newest_rules s.readers s.object.now
     (lines bytes)))
 part_reason contents has_failed s t u input n h same =
     ⊎_elim (λ k. inl (ap has_failed same ∙ k))
     (λ k. inr
     (IfSome-weaker input (λ bytes. take (length h.taken) (lines bytes) ≡ h.taken)
-    (λ bytes. 4294967295 ≤ length (outputs present s.readers s.object.now (lines bytes)))
+    (λ bytes. 4294967295 ≤ length (outputs newest_rules s.readers s.object.now (lines bytes)))
     (λ bytes e.
     let rest = drop (length h.taken) (lines bytes) in
     let whole : lines bytes ≡ h.taken ++ rest =
     sym (ap (λ l. l ++ rest) (sym e) ∙ take-append-drop (length h.taken) (lines bytes)) in
     let said =
-    ap (outputs present s.readers s.object.now) whole
-    ∙ replies-append (line_text present s.readers) (line_after present s.readers) s.object.now
+    ap (outputs newest_rules s.readers s.object.now) whole
+    ∙ replies-append (line_text newest_rules s.readers)
+    (line_after newest_rules s.readers) s.object.now
     h.taken rest in
     omega (
       arith,
       k.1,
       ap length said,
       length-append
-          (outputs present s.readers s.object.now h.taken)
-          (outputs present s.readers (after_lines present s.readers s.object.now h.taken) rest),
+          (outputs newest_rules s.readers s.object.now h.taken)
+          (outputs newest_rules s.readers
+          (after_lines newest_rules s.readers s.object.now h.taken) rest),
     ))
     h.first))
     h.reason

@@ -4,7 +4,7 @@ use Rattle.std.proofs.Common.{Result, Err, IfErr, length, take, fold, IfSome, re
 use Rattle.std.proofs.Common.{◌∙◌, length-append, arith, ⊎_elim, inl, inr}
 use Rattle.std.proofs.lemmas.List.{take_all}
 use Rattle.std.specs.Io.KnownBytes.{Appends}
-use Rattle.osn_days.specs.Profile.{present}
+use Rattle.osn_days.specs.Profile.{newest_rules}
 use Rattle.osn_lines.specs.Faults.{WriteFails}
 use Rattle.osn_core.specs.Sequential.{ObjectState}
 use Rattle.osn_lines.specs.Lines.{lines, front_of}
@@ -52,8 +52,8 @@ pub Serving-settle : {W : Type 0} (contents : W → Option (List ℕ)) (has_fail
     Settles mid (contents t.sink.now) w t.waiting.now →
     has_failed t.sink.now ≡ has_failed s.sink.now → Serving contents has_failed begun lines t
 Serving-settle contents has_failed begun s t lines mid w h lent same settled again sound =
-    let text = line_text present begun.readers in
-    let after = line_after present begun.readers in
+    let text = line_text newest_rules begun.readers in
+    let after = line_after newest_rules begun.readers in
     let first =
     Waits-settle text after begun.object.now s.object.now s.object.now lines _ _ mid
     s.waiting.now w h.waits settled refl in
@@ -70,25 +70,25 @@ pub Serving-add : {W : Type 0} (contents : W → Option (List ℕ)) (has_failed 
     (begun s t : Session W) (before : List (List ℕ)) (given whole : List ℕ) (mid : Option (List ℕ))
     (w : Waiting) → Serving contents has_failed begun before s → IsSame s t →
     Settles (contents s.sink.now) mid s.waiting.now w →
-    Adds s.object.now t.object.now (line_text present s.readers s.object.now given) mid
+    Adds s.object.now t.object.now (line_text newest_rules s.readers s.object.now given) mid
     (contents t.sink.now) w t.waiting.now →
-    t.object.now ≡ line_after present s.readers s.object.now given → given ≡ front_of whole →
+    t.object.now ≡ line_after newest_rules s.readers s.object.now given → given ≡ front_of whole →
     has_failed t.sink.now ≡ has_failed s.sink.now →
     Serving contents has_failed begun (before ++ whole ∷ []) t
 Serving-add contents has_failed begun s t before given whole mid w h lent settled adds e front
     sound =
     let readers = begun.readers in
-    let text = line_text present readers in
-    let after = line_after present readers in
+    let text = line_text newest_rules readers in
+    let after = line_after newest_rules readers in
     let now = s.object.now in
     let first =
     Waits-settle text after begun.object.now now now before _ _ mid s.waiting.now w h.waits
     settled refl in
-    let reply : line_text present s.readers now given ≡ text now whole =
-    ap (λ r. line_text present r now given) h.same.readers
+    let reply : line_text newest_rules s.readers now given ≡ text now whole =
+    ap (λ r. line_text newest_rules r now given) h.same.readers
     ∙ line_text_of_front readers now given whole front in
-    let stands : line_after present s.readers now given ≡ after now whole =
-    ap (λ r. line_after present r now given) h.same.readers
+    let stands : line_after newest_rules s.readers now given ≡ after now whole =
+    ap (λ r. line_after newest_rules r now given) h.same.readers
     ∙ line_after_front readers now given whole front in
     record {
       same = IsSame-then h.same lent;
@@ -108,8 +108,8 @@ pub Failing-from : {W : Type 0} (contents : W → Option (List ℕ)) (has_failed
     Failing contents has_failed begun lines t unwritten
 Failing-from contents has_failed begun s t lines unwritten mid failed w h lent same settled sound
     some reason =
-    let text = line_text present begun.readers in
-    let after = line_after present begun.readers in
+    let text = line_text newest_rules begun.readers in
+    let after = line_after newest_rules begun.readers in
     let old = contents begun.sink.now in
     let new = contents t.sink.now in
     let now = s.object.now in
@@ -120,7 +120,7 @@ Failing-from contents has_failed begun s t lines unwritten mid failed w h lent s
     PartOf-from text after begun.object.now now lines old mid new w unwritten first some in
     let all = Waits-all text after begun.object.now now lines old mid w first in
     let size =
-    length-append (outputs present begun.readers begun.object.now first.done) w.text.items in
+    length-append (outputs newest_rules begun.readers begun.object.now first.done) w.text.items in
     record {
       whole = part.n;
       count = part.count;
@@ -154,8 +154,8 @@ Serving-few contents has_failed begun s lines h =
       length-append w.done w.rest,
       ap length w.places,
       length-ends
-          (line_text present begun.readers) (line_after present begun.readers) 0
-          (fold (line_after present begun.readers) begun.object.now w.done) w.rest,
+          (line_text newest_rules begun.readers) (line_after newest_rules begun.readers) 0
+          (fold (line_after newest_rules begun.readers) begun.object.now w.done) w.rest,
     )
 
 -- all that waits is written
@@ -163,7 +163,7 @@ pub Serving-written : {W : Type 0} (contents : W → Option (List ℕ)) (has_fai
     (begun s t : Session W) (lines : List (List ℕ)) → Serving contents has_failed begun lines s →
     Writes (contents s.sink.now) (contents t.sink.now) s.waiting.now t.waiting.now →
     Appends (contents begun.sink.now) (contents t.sink.now)
-    (outputs present begun.readers begun.object.now lines)
+    (outputs newest_rules begun.readers begun.object.now lines)
 Serving-written contents has_failed begun s t lines h k =
     Waits-written _ _ begun.object.now s.object.now lines _ _ _ s.waiting.now h.waits k.all
 
@@ -192,8 +192,8 @@ AnswersInPart-from contents has_failed begun t input taken n unwritten h count f
     record {
       taken = taken;
       part =
-          subst (λ (i : ℕ). InPart (line_text present begun.readers)
-          (line_after present begun.readers) begun.object.now t.object.now taken
+          subst (λ (i : ℕ). InPart (line_text newest_rules begun.readers)
+          (line_after newest_rules begun.readers) begun.object.now t.object.now taken
           (contents begun.sink.now) (contents t.sink.now) i) same h.part;
       reason = h.reason;
       first = first;

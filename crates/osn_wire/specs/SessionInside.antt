@@ -3,7 +3,7 @@ use Rattle.std.specs.Prelude.{◌≡◌, ◌+◌, ℕ, Bool, List, Option, lengt
 use Rattle.std.specs.Io.KnownBytes.{Appends}
 use Rattle.osn_lines.specs.Faults.{WriteFails}
 use Rattle.osn_lines.specs.Lines.{lines}
-use Rattle.osn_days.specs.Profile.{present}
+use Rattle.osn_days.specs.Profile.{newest_rules}
 use Rattle.osn_wire.specs.declared.session.Session.{Session}
 use Rattle.osn_wire.specs.declared.stop.Stop.{Stop}
 use Rattle.osn_wire.specs.Served.{line_text, outputs, after_lines}
@@ -21,7 +21,7 @@ pub record IsSame {W : Type 0} (begun now : Session W) : Type 0 where
 pub record Serving {W : Type 0} (contents : W → Option (List ℕ)) (has_failed : W → Bool)
     (begun : Session W) (lines : List (List ℕ)) (now : Session W) : Type 0 where
   pub same : IsSame begun now
-  pub waits : Waits (line_text present begun.readers) (line_after present begun.readers)
+  pub waits : Waits (line_text newest_rules begun.readers) (line_after newest_rules begun.readers)
       begun.object.now now.object.now lines (contents begun.sink.now) (contents now.sink.now)
       now.waiting.now
   pub sound : has_failed now.sink.now ≡ has_failed begun.sink.now
@@ -32,10 +32,10 @@ pub record Failing {W : Type 0} (contents : W → Option (List ℕ)) (has_failed
   pub whole : ℕ
   pub count : whole + unwritten ≡ length lines
   pub same : IsSame begun now
-  pub part : InPart (line_text present begun.readers) (line_after present begun.readers)
+  pub part : InPart (line_text newest_rules begun.readers) (line_after newest_rules begun.readers)
       begun.object.now now.object.now lines (contents begun.sink.now) (contents now.sink.now) whole
   pub reason : WriteFails (has_failed begun.sink.now) (has_failed now.sink.now)
-      (outputs present begun.readers begun.object.now lines)
+      (outputs newest_rules begun.readers begun.object.now lines)
 
 -- it took these lines and stopped, between two lines or at one
 abbrev pub StopsServing : {W : Type 0} → (W → Option (List ℕ)) → (W → Bool) → Session W →
@@ -51,8 +51,8 @@ pub record AnswersAll {W : Type 0} (contents : W → Option (List ℕ)) (begun n
   pub taken : List (List ℕ)
   pub count : n ≡ length taken
   pub written : Appends (contents begun.sink.now) (contents now.sink.now)
-      (outputs present begun.readers begun.object.now taken)
-  pub reached : now.object.now ≡ after_lines present begun.readers begun.object.now taken
+      (outputs newest_rules begun.readers begun.object.now taken)
+  pub reached : now.object.now ≡ after_lines newest_rules begun.readers begun.object.now taken
   pub all : IfSome input (λ bytes. lines bytes ≡ taken)
 
 -- they are the first n of the input, where that is known
@@ -61,8 +61,8 @@ pub record AnswersFirst {W : Type 0} (contents : W → Option (List ℕ)) (begun
   pub taken : List (List ℕ)
   pub count : n ≡ length taken
   pub written : Appends (contents begun.sink.now) (contents now.sink.now)
-      (outputs present begun.readers begun.object.now taken)
-  pub reached : now.object.now ≡ after_lines present begun.readers begun.object.now taken
+      (outputs newest_rules begun.readers begun.object.now taken)
+  pub reached : now.object.now ≡ after_lines newest_rules begun.readers begun.object.now taken
   pub first : IfSome input (λ bytes. take (length taken) (lines bytes) ≡ taken)
 
 -- the first lines of the input were answered, and of their replies a front with those to n lines is
@@ -70,8 +70,8 @@ pub record AnswersFirst {W : Type 0} (contents : W → Option (List ℕ)) (begun
 pub record AnswersInPart {W : Type 0} (contents : W → Option (List ℕ)) (begun now : Session W)
     (input : Option (List ℕ)) (has_failed : W → Bool) (n : ℕ) : Type 0 where
   pub taken : List (List ℕ)
-  pub part : InPart (line_text present begun.readers) (line_after present begun.readers)
+  pub part : InPart (line_text newest_rules begun.readers) (line_after newest_rules begun.readers)
       begun.object.now now.object.now taken (contents begun.sink.now) (contents now.sink.now) n
   pub reason : WriteFails (has_failed begun.sink.now) (has_failed now.sink.now)
-      (outputs present begun.readers begun.object.now taken)
+      (outputs newest_rules begun.readers begun.object.now taken)
   pub first : IfSome input (λ bytes. take (length taken) (lines bytes) ≡ taken)

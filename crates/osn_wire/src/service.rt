@@ -2,7 +2,7 @@
 ghost use Rattle.std.specs.Prelude.{◌≡◌, ◌≤◌, ◌+◌, ⊤, [], ℕ, length, IfOk, IfErr, IfSome, OnOk};
 ghost use Rattle.std.specs.Prelude.{OnErr};
 ghost use Rattle.std.specs.Io.KnownBytes.{Appends, IsAtEnd};
-ghost use Rattle.osn_days.specs.Profile.{present};
+ghost use Rattle.osn_days.specs.Profile.{newest_rules};
 ghost use Rattle.osn_lines.specs.Faults.{IsReadFault, WriteFails};
 ghost use Rattle.osn_lines.specs.Lines.{lines};
 ghost use Rattle.osn_lines.specs.Taking.{HasRead};
@@ -118,10 +118,10 @@ fn answer_lines<R: Source, W: Sink>(
     ensures same_sink { session.new.sink.ghost_name ≡ session.old.sink.ghost_name }
     ensures written { OnOk result (IfSome (R.remaining source.old) (λ input.
         Appends (W.contents session.old.sink.now) (W.contents session.new.sink.now)
-        (outputs present session.old.readers session.old.object.now (lines input)))) }
+        (outputs newest_rules session.old.readers session.old.object.now (lines input)))) }
     ensures object { OnOk result (IfSome (R.remaining source.old) (λ input.
         session.new.object.now
-        ≡ after_lines present session.old.readers session.old.object.now (lines input))) }
+        ≡ after_lines newest_rules session.old.readers session.old.object.now (lines input))) }
     ensures count { IfOk result (λ n. IfSome (R.remaining source.old) (λ input.
         n ≡ length (lines input))) }
     ensures end { OnOk result (IsAtEnd (R.remaining source.new)) }
@@ -130,20 +130,20 @@ fn answer_lines<R: Source, W: Sink>(
         (W.has_failed session.new.sink.now ≡ W.has_failed session.old.sink.now) }
     ensures written_first { IfErr result (λ fault. IfSome (R.remaining source.old) (λ input.
         MatchFault fault
-        (WritesFirst present session.old.readers session.old.object.now
+        (WritesFirst newest_rules session.old.readers session.old.object.now
         (W.contents session.old.sink.now) (W.contents session.new.sink.now) (lines input))
-        (WritesFirst present session.old.readers session.old.object.now
+        (WritesFirst newest_rules session.old.readers session.old.object.now
         (W.contents session.old.sink.now) (W.contents session.new.sink.now) (lines input))
-        (WritesInPart present session.old.readers session.old.object.now
+        (WritesInPart newest_rules session.old.readers session.old.object.now
         (W.contents session.old.sink.now) (W.contents session.new.sink.now)
         (lines input)))) }
     ensures stands { IfErr result (λ fault. IfSome (R.remaining source.old) (λ input.
         MatchFault fault
-        (StandsAt present session.old.readers session.old.object.now session.new.object.now
+        (StandsAt newest_rules session.old.readers session.old.object.now session.new.object.now
         (lines input))
-        (StandsAt present session.old.readers session.old.object.now session.new.object.now
+        (StandsAt newest_rules session.old.readers session.old.object.now session.new.object.now
         (lines input))
-        (StandsNear present session.old.readers session.old.object.now session.new.object.now
+        (StandsNear newest_rules session.old.readers session.old.object.now session.new.object.now
         (lines input)))) }
     ensures read { IfErr result (λ fault. MatchFault fault (λ _. ⊤)
         (HasRead (R.remaining source.old) (R.remaining source.new)) (λ _. ⊤)) }
@@ -154,7 +154,7 @@ fn answer_lines<R: Source, W: Sink>(
     ensures sink_reason { IfErr result (λ fault. MatchFault fault
         (λ _. W.has_failed session.new.sink.now ≡ W.has_failed session.old.sink.now)
         (λ _. W.has_failed session.new.sink.now ≡ W.has_failed session.old.sink.now)
-        (λ _. IsUnwritten present session.old.readers session.old.object.now
+        (λ _. IsUnwritten newest_rules session.old.readers session.old.object.now
         (R.remaining source.old) (W.has_failed session.new.sink.now))) }
 {
     run(session, source)
@@ -184,9 +184,9 @@ pub fn serve_from<R: Source, W: Sink>(
     // Every line was answered.
     ensures written { OnOk result (IfSome (R.remaining source.old) (λ input.
         Appends (W.contents sink.old) (W.contents sink.new)
-        (outputs present readers object.old (lines input)))) }
+        (outputs newest_rules readers object.old (lines input)))) }
     ensures object { OnOk result (IfSome (R.remaining source.old) (λ input.
-        object.new ≡ after_lines present readers object.old (lines input))) }
+        object.new ≡ after_lines newest_rules readers object.old (lines input))) }
     ensures count { IfOk result (λ n. IfSome (R.remaining source.old) (λ input.
         n ≡ length (lines input))) }
     ensures end { OnOk result (IsAtEnd (R.remaining source.new)) }
@@ -198,17 +198,17 @@ pub fn serve_from<R: Source, W: Sink>(
     // What is written otherwise, and where the object stands.
     ensures written_first { IfErr result (λ fault. IfSome (R.remaining source.old) (λ input.
         MatchFault fault
-        (WritesFirst present readers object.old (W.contents sink.old) (W.contents sink.new)
+        (WritesFirst newest_rules readers object.old (W.contents sink.old) (W.contents sink.new)
         (lines input))
-        (WritesFirst present readers object.old (W.contents sink.old) (W.contents sink.new)
+        (WritesFirst newest_rules readers object.old (W.contents sink.old) (W.contents sink.new)
         (lines input))
-        (WritesInPart present readers object.old (W.contents sink.old) (W.contents sink.new)
+        (WritesInPart newest_rules readers object.old (W.contents sink.old) (W.contents sink.new)
         (lines input)))) }
     ensures stands { IfErr result (λ fault. IfSome (R.remaining source.old) (λ input.
         MatchFault fault
-        (StandsAt present readers object.old object.new (lines input))
-        (StandsAt present readers object.old object.new (lines input))
-        (StandsNear present readers object.old object.new (lines input)))) }
+        (StandsAt newest_rules readers object.old object.new (lines input))
+        (StandsAt newest_rules readers object.old object.new (lines input))
+        (StandsNear newest_rules readers object.old object.new (lines input)))) }
 
     // Of the line that a failed read cut short nothing is answered.
     ensures read { IfErr result (λ fault. MatchFault fault (λ _. ⊤)
@@ -222,7 +222,7 @@ pub fn serve_from<R: Source, W: Sink>(
     ensures sink_reason { IfErr result (λ fault. MatchFault fault
         (λ _. W.has_failed sink.new ≡ W.has_failed sink.old)
         (λ _. W.has_failed sink.new ≡ W.has_failed sink.old)
-        (λ _. IsUnwritten present readers object.old (R.remaining source.old)
+        (λ _. IsUnwritten newest_rules readers object.old (R.remaining source.old)
         (W.has_failed sink.new))) }
 {
     let mut waiting = Waiting::new(alloc);
@@ -252,7 +252,7 @@ pub fn serve<R: Source, W: Sink>(
     // Every line was answered.
     ensures written { OnOk result (IfSome (R.remaining source.old) (λ input.
         Appends (W.contents sink.old) (W.contents sink.new)
-        (outputs present readers (opened limits) (lines input)))) }
+        (outputs newest_rules readers (opened limits) (lines input)))) }
     ensures count { IfOk result (λ n. IfSome (R.remaining source.old) (λ input.
         n ≡ length (lines input))) }
     ensures end { OnOk result (IsAtEnd (R.remaining source.new)) }
@@ -264,11 +264,14 @@ pub fn serve<R: Source, W: Sink>(
     // What is written otherwise.
     ensures written_first { IfErr result (λ fault. IfSome (R.remaining source.old) (λ input.
         MatchFault fault
-        (WritesFirst present readers (opened limits) (W.contents sink.old) (W.contents sink.new)
+        (WritesFirst newest_rules readers (opened limits) (W.contents sink.old)
+        (W.contents sink.new)
         (lines input))
-        (WritesFirst present readers (opened limits) (W.contents sink.old) (W.contents sink.new)
+        (WritesFirst newest_rules readers (opened limits) (W.contents sink.old)
+        (W.contents sink.new)
         (lines input))
-        (WritesInPart present readers (opened limits) (W.contents sink.old) (W.contents sink.new)
+        (WritesInPart newest_rules readers (opened limits) (W.contents sink.old)
+        (W.contents sink.new)
         (lines input)))) }
 
     // Of the line that a failed read cut short nothing is answered.
@@ -283,7 +286,7 @@ pub fn serve<R: Source, W: Sink>(
     ensures sink_reason { IfErr result (λ fault. MatchFault fault
         (λ _. W.has_failed sink.new ≡ W.has_failed sink.old)
         (λ _. W.has_failed sink.new ≡ W.has_failed sink.old)
-        (λ _. IsUnwritten present readers (opened limits) (R.remaining source.old)
+        (λ _. IsUnwritten newest_rules readers (opened limits) (R.remaining source.old)
         (W.has_failed sink.new))) }
 {
     let mut object = Object::new(alloc, limits);

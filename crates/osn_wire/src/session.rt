@@ -4,7 +4,7 @@
 //! wait only the first has changed it.
 ghost use Rattle.std.specs.Prelude.{◌≡◌, ◌<◌, [], ◌∷◌, length, IfErr, OnOk, OnErr};
 ghost use Rattle.std.specs.Io.KnownBytes.{Appends};
-ghost use Rattle.osn_days.specs.Profile.{present};
+ghost use Rattle.osn_days.specs.Profile.{newest_rules};
 ghost use Rattle.osn_lines.specs.Faults.{WriteFails};
 ghost use Rattle.osn_reply.specs.ReplyText.{reply_line};
 ghost use Rattle.osn_wire.specs.ServiceInside.{full, Pushes, Adds, Settles, WritesSome};
@@ -52,9 +52,9 @@ fn stage<W: Sink>(
     edit: &Edit,
 ) -> Result<(), Stop>
     ensures ok { OnOk result (Adds object.old object.new
-        (reply_line (said.stage_outcome present object.old edit.now))
+        (reply_line (said.stage_outcome newest_rules object.old edit.now))
         (W.contents sink.old) (W.contents sink.new) waiting.old waiting.new) }
-    ensures after { OnOk result (object.new ≡ said.stage_after present object.old edit.now) }
+    ensures after { OnOk result (object.new ≡ said.stage_after newest_rules object.old edit.now) }
     ensures sound { OnOk result (W.has_failed sink.new ≡ W.has_failed sink.old) }
     ensures err { IfErr result (λ stop. MatchStop stop
         (Settles (W.contents sink.old) (W.contents sink.new) waiting.old waiting.new)
@@ -119,7 +119,7 @@ fn ask(
     waiting: &mut Waiting,
 ) -> Result<(), AllocError>
     ensures ok { OnOk result (Pushes waiting.old waiting.new
-        (reply_line (said.ask_outcome present object.now reader query.now))) }
+        (reply_line (said.ask_outcome newest_rules object.now reader query.now))) }
     ensures err { OnErr result (waiting.new.text.items ≡ waiting.old.text.items) }
     ensures err_ends { OnErr result (waiting.new.ends.items ≡ waiting.old.ends.items) }
 {
@@ -138,9 +138,10 @@ fn answer<W: Sink>(
     line: &[u8],
 ) -> Result<(), Stop>
     ensures ok { OnOk result (Adds object.old object.new
-        (line_text present readers object.old line.now)
+        (line_text newest_rules readers object.old line.now)
         (W.contents sink.old) (W.contents sink.new) waiting.old waiting.new) }
-    ensures after { OnOk result (object.new ≡ said.line_after present readers object.old line.now) }
+    ensures after { OnOk result (object.new
+        ≡ said.line_after newest_rules readers object.old line.now) }
     ensures sound { OnOk result (W.has_failed sink.new ≡ W.has_failed sink.old) }
     ensures err { IfErr result (λ stop. MatchStop stop
         (Settles (W.contents sink.old) (W.contents sink.new) waiting.old waiting.new)

@@ -1,3 +1,4 @@
 pub mod Words
+pub mod Version
 pub mod Texts
 pub mod Json

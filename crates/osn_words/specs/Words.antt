@@ -1,6 +1,7 @@
 -- The words for calendars, styles of the year and rules of Easter, in a line and in a reply: this
 -- project's profile.
-use Rattle.std.specs.Prelude.{ℕ, if◌then◌else◌, List, [], ◌∷◌, map, codes, Option, Some, None}
+use Rattle.std.specs.Prelude.{ℕ, Bool, if◌then◌else◌, List, [], ◌∷◌, map, codes}
+use Rattle.std.specs.Prelude.{Option, Some, None, option_and_then}
 use Rattle.std.specs.List.{list_any}
 use Rattle.std.specs.Str.{bytes_eq}
 use Rattle.osn_computus.specs.declared.rule.Rule.{Rule}
@@ -21,6 +22,8 @@ style_word styles.January = codes "january"
 style_word styles.Annunciation = codes "annunciation"
 style_word styles.Nativity = codes "nativity"
 style_word styles.September = codes "september"
+style_word styles.Pisan = codes "pisan"
+style_word styles.Easter = codes "easter"
 
 abbrev pub rule_word : Rule → List ℕ
 rule_word rules.Julian = codes "julian"
@@ -39,13 +42,21 @@ abbrev pub calendar_named : List ℕ → Option Calendar
 calendar_named =
     written_by calendar_word (calendars.Julian ∷ calendars.Gregorian ∷ calendars.Swedish ∷ [])
 
--- a style's word, where the rules have it
+-- the style that is written by a word, whatever the rules
+abbrev pub style_written : List ℕ → Option Style
+style_written =
+    written_by style_word
+    (styles.January ∷ styles.Annunciation ∷ styles.Nativity ∷ styles.September
+    ∷ styles.Pisan ∷ styles.Easter ∷ [])
+
+-- the rules have the style's word
+abbrev pub has_style : Profile → Style → Bool
+has_style p style = list_any (bytes_eq (style_word style)) p.style_words
+
+-- the style of a word, where the rules have it
 abbrev pub style_named : Profile → List ℕ → Option Style
 style_named p word =
-    if list_any (bytes_eq word) p.style_words
-    then written_by style_word
-    (styles.January ∷ styles.Annunciation ∷ styles.Nativity ∷ styles.September ∷ []) word
-    else None
+    option_and_then (λ style. if has_style p style then Some style else None) (style_written word)
 
 abbrev pub rule_named : List ℕ → Option Rule
 rule_named = written_by rule_word (rules.Julian ∷ rules.Gregorian ∷ [])

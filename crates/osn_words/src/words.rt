@@ -1,6 +1,5 @@
 //! The words for calendars, styles of the year and rules of Easter, in a line and in a reply.
 ghost use Rattle.std.specs.Prelude.{◌≡◌, ℕ, List, Option};
-ghost use Rattle.osn_days.specs.Profile.{present};
 ghost use Rattle.osn_words.specs.Words as words;
 
 use osn_computus::Rule;
@@ -50,7 +49,7 @@ impl Word for Calendar {
 impl Word for Style {
     ghost word_of = { words.style_word };
 
-    ghost meaning = { words.style_named present };
+    ghost meaning = { words.style_written };
 
     fn word(self) -> &'static str {
         match self {
@@ -58,6 +57,8 @@ impl Word for Style {
             Style::Annunciation => "annunciation",
             Style::Nativity => "nativity",
             Style::September => "september",
+            Style::Pisan => "pisan",
+            Style::Easter => "easter",
         }
     }
 
@@ -67,6 +68,8 @@ impl Word for Style {
             "annunciation" => Some(Style::Annunciation),
             "nativity" => Some(Style::Nativity),
             "september" => Some(Style::September),
+            "pisan" => Some(Style::Pisan),
+            "easter" => Some(Style::Easter),
             _ => None,
         }
     }

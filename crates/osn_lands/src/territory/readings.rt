@@ -1,8 +1,8 @@
 //! The days that a label names, and the changes at which it is skipped.
 ghost use Rattle.std.specs.Prelude.{◌≡◌, ◌≤◌, ◌*◌, IfOk, length};
-ghost use Rattle.osn_days.specs.Profile.{present};
+ghost use Rattle.osn_days.specs.Profile.{newest_rules};
 ghost use Rattle.osn_lands.specs.Territory as plain;
-ghost use Rattle.osn_lands.specs.Inside.{most_tested, IsSearch};
+ghost use Rattle.osn_lands.specs.Inside.{most_tested, IsSearchIn};
 
 use crate::label::Label;
 use crate::label_search::LabelSearch;
@@ -19,7 +19,7 @@ impl Territory {
     ///
     /// `AllocError` where there is no memory for the list.
     pub fn read(&self, label: Label) -> Result<Vec<Day>, AllocError>
-        ensures { IfOk result (λ days. days.items ≡ plain.reading present self.now label) }
+        ensures { IfOk result (λ days. days.items ≡ plain.reading newest_rules self.now label) }
     {
         let (days, _) = self.read_counted(label)?;
         Ok(days)
@@ -31,34 +31,33 @@ impl Territory {
     ///
     /// `AllocError` where there is no memory for the list.
     pub fn read_counted(&self, label: Label) -> Result<(Vec<Day>, u32), AllocError>
-        ensures value { IfOk result (λ read. read.0.items ≡ plain.reading present self.now label) }
+        ensures value { IfOk result (λ read. read.0.items
+            ≡ plain.reading newest_rules self.now label) }
         ensures tested { IfOk result (λ read.
-            read.1 ≤ 3 * length (plain.periods_of present self.now)) }
+            read.1 ≤ 3 * length (plain.periods_of newest_rules self.now)) }
     {
         self.read_by(&self.search_for(label))
     }
 
     /// The search for a label in the territory.
     fn search_for(&self, label: Label) -> LabelSearch
-        ensures value { IsSearch present result }
+        ensures search { IsSearchIn self.now result }
         ensures label { result.label ≡ label }
-        ensures tested { result.tested ≤ most_tested result.table 0 }
-        ensures few { most_tested result.table (length (plain.periods_of present self.now))
-            ≤ 3 * length (plain.periods_of present self.now) }
+        ensures tested { result.tested
+            ≤ most_tested result.table (length (plain.periods_of newest_rules self.now)) 0 }
     {
-        LabelSearch::new(label, self.periods().len())
+        LabelSearch::new(label, self.periods())
     }
 
     /// The days that are found by a search, and how many dates were tested in all.
     fn read_by(&self, search: &LabelSearch) -> Result<(Vec<Day>, u32), AllocError>
-        requires search { IsSearch present search.now }
-        requires tested { search.now.tested ≤ most_tested search.now.table 0 }
-        requires few { most_tested search.now.table (length (plain.periods_of present self.now))
-            ≤ 3 * length (plain.periods_of present self.now) }
+        requires search { IsSearchIn self.now search.now }
+        requires tested { search.now.tested
+            ≤ most_tested search.now.table (length (plain.periods_of newest_rules self.now)) 0 }
         ensures value { IfOk result (λ read.
-            read.0.items ≡ plain.reading present self.now search.now.label) }
+            read.0.items ≡ plain.reading newest_rules self.now search.now.label) }
         ensures tested { IfOk result (λ read.
-            read.1 ≤ 3 * length (plain.periods_of present self.now)) }
+            read.1 ≤ 3 * length (plain.periods_of newest_rules self.now)) }
     {
         let mut days = Vec::new(self.alloc);
         let mut tested = search.tested;
@@ -74,20 +73,21 @@ impl Territory {
     ///
     /// `AllocError` where there is no memory for the list.
     pub fn skipped(&self, label: Label) -> Result<Vec<Day>, AllocError>
-        ensures value { IfOk result (λ days. days.items ≡ plain.skipped present self.now label) }
+        ensures value { IfOk result (λ days. days.items
+            ≡ plain.skipped newest_rules self.now label) }
         ensures explained { IfOk result (λ days.
-            plain.IsExplained present self.now label days.items) }
+            plain.IsExplained newest_rules self.now label days.items) }
     {
         self.skipped_by(&self.search_for(label))
     }
 
     /// The days of the changes at which the label of a search is skipped.
     fn skipped_by(&self, search: &LabelSearch) -> Result<Vec<Day>, AllocError>
-        requires { IsSearch present search.now }
+        requires { IsSearchIn self.now search.now }
         ensures value { IfOk result (λ days.
-            days.items ≡ plain.skipped present self.now search.now.label) }
+            days.items ≡ plain.skipped newest_rules self.now search.now.label) }
         ensures explained { IfOk result (λ days.
-            plain.IsExplained present self.now search.now.label days.items) }
+            plain.IsExplained newest_rules self.now search.now.label days.items) }
     {
         let mut days = Vec::new(self.alloc);
         let periods: &[Period] = &self.periods;
@@ -100,22 +100,25 @@ impl Territory {
     }
 
     /// The days that the territory dates with the label, and the days of the changes at which it is
-    /// skipped, both in order: what `read` and `skipped` answer, by one search.
+    /// skipped, both in order: what `read` and `skipped` answer, by one search. And how many dates
+    /// were tested to find both: at most three a period.
     ///
     /// # Errors
     ///
     /// `AllocError` where there is no memory for the lists.
-    pub fn read_and_skipped(&self, label: Label) -> Result<(Vec<Day>, Vec<Day>), AllocError>
+    pub fn read_and_skipped(&self, label: Label) -> Result<(Vec<Day>, Vec<Day>, u32), AllocError>
         ensures read { IfOk result (λ found.
-            found.0.items ≡ plain.reading present self.now label) }
+            found.0.items ≡ plain.reading newest_rules self.now label) }
         ensures skipped { IfOk result (λ found.
-            found.1.items ≡ plain.skipped present self.now label) }
+            found.1.items ≡ plain.skipped newest_rules self.now label) }
         ensures explained { IfOk result (λ found.
-            plain.IsExplained present self.now label found.1.items) }
+            plain.IsExplained newest_rules self.now label found.1.items) }
+        ensures tested { IfOk result (λ found.
+            found.2 ≤ 3 * length (plain.periods_of newest_rules self.now)) }
     {
         let search = self.search_for(label);
-        let (days, _) = self.read_by(&search)?;
+        let (days, tested) = self.read_by(&search)?;
         let skipped = self.skipped_by(&search)?;
-        Ok((days, skipped))
+        Ok((days, skipped, tested))
     }
 }

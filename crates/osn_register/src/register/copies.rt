@@ -1,6 +1,6 @@
 //! Registers made of another one, and of edits.
 ghost use Rattle.std.specs.Prelude.{◌≡◌, [], true, None, IfOk, OnOk, OnErr, ◌<◌, length};
-ghost use Rattle.osn_days.specs.Profile.{present};
+ghost use Rattle.osn_days.specs.Profile.{newest_rules};
 ghost use Rattle.osn_register.specs.Plain.{folded, fold_takes_memory};
 ghost use Rattle.osn_register.specs.Plain.{land_of, with_land, IsSoundTerritory};
 
@@ -30,7 +30,7 @@ impl Register {
     fn insert_copy(&mut self, code: &str, entry: &Entry) -> Result<(), AllocError>
         requires absent { land_of code.now self.old.lands ≡ None }
         requires room { length self.old.lands < self.old.limits.lands }
-        requires territory { IsSoundTerritory present self.old.limits entry.now.territory }
+        requires territory { IsSoundTerritory newest_rules self.old.limits entry.now.territory }
         ensures ok { OnOk result (self.new ≡ record self.old {
           lands = with_land self.old.lands code.now entry.now.name entry.now.territory;
         }) }
@@ -47,8 +47,8 @@ impl Register {
     /// Only where no memory is found, of which refused edits and those that alter or drop take
     /// none.
     pub fn fold(alloc: Global, limits: Limits, edits: &[Edit]) -> Result<Register, AllocError>
-        ensures value { IfOk result (λ r. r ≡ folded present limits edits.now) }
-        ensures memory { OnErr result (fold_takes_memory present limits [] edits.now ≡ true) }
+        ensures value { IfOk result (λ r. r ≡ folded newest_rules limits edits.now) }
+        ensures memory { OnErr result (fold_takes_memory newest_rules limits [] edits.now ≡ true) }
     {
         let mut register = Register::new(alloc, limits);
         for edit in edits {

@@ -1,6 +1,6 @@
 //! What the register answers to queries.
 ghost use Rattle.std.specs.Prelude.{◌≡◌, true, None, IfOk, OnErr, ◌<◌, length, map};
-ghost use Rattle.osn_days.specs.Profile.{present};
+ghost use Rattle.osn_days.specs.Profile.{first_rules, newest_rules};
 ghost use Rattle.osn_register.specs.Answer as said;
 ghost use Rattle.osn_register.specs.Refusal.{IsTestOf};
 ghost use Rattle.osn_register.specs.Plain.{code_refusal};
@@ -36,12 +36,15 @@ impl Register {
     /// Only where no memory is found, of which a refusal, the figures of a year and an empty list
     /// of territories take none.
     pub fn answer(&self, query: &Query) -> Result<Answer, AllocError>
-        ensures value { IfOk result (λ a. a ≡ said.answer present self.now.lands query.now) }
+        ensures value { IfOk result (λ a. a ≡ said.answer newest_rules self.now.lands query.now) }
         // as a law: nothing but the definition's refusals refuses a query
         ensures refused { IfOk result
-            (λ a. said.refusal_in a ≡ said.query_refusal present self.now.lands query.now) }
+            (λ a. said.refusal_in a ≡ said.query_refusal newest_rules self.now.lands query.now) }
         ensures memory { OnErr result
-            (said.takes_memory (said.answer present self.now.lands query.now) ≡ true) }
+            (said.takes_memory (said.answer newest_rules self.now.lands query.now) ≡ true) }
+        // as a law: by the rules of the first version the answer is the same
+        ensures kept { said.answer newest_rules self.now.lands query.now
+            ≡ said.answer first_rules self.now.lands query.now }
     {
         match self.lawful_answer(query) {
             Ok(answer) => Ok(answer),
@@ -56,7 +59,7 @@ impl Register {
     ///
     /// The first refusal that applies.
     pub fn check_easter(&self, code: &str, year: i64) -> Result<(), Refusal>
-        ensures { IsTestOf (said.easter_refusal present self.now.lands code.now year) result }
+        ensures { IsTestOf (said.easter_refusal newest_rules self.now.lands code.now year) result }
     {
         self.known_territory(code)?;
         year_in_range(year)?;
@@ -65,8 +68,8 @@ impl Register {
 
     fn lawful_answer(&self, query: &Query) -> Result<Answer, Unanswered>
         ensures { IsAnswered
-            (said.query_refusal present self.now.lands query.now)
-            (said.answer present self.now.lands query.now) result }
+            (said.query_refusal newest_rules self.now.lands query.now)
+            (said.answer newest_rules self.now.lands query.now) result }
     {
         match query {
             Query::Read {
@@ -85,8 +88,8 @@ impl Register {
 
     fn read(&self, code: &str, year: i64, month: i64, day: i64) -> Result<Answer, Unanswered>
         ensures { IsAnswered
-            (said.read_refusal present self.now.lands code.now year month day)
-            (said.read_answer present self.now.lands code.now year month day) result }
+            (said.read_refusal newest_rules self.now.lands code.now year month day)
+            (said.read_answer newest_rules self.now.lands code.now year month day) result }
     {
         let territory = self.known_territory(code)?;
         let label = asked_label(year, month, day)?;
@@ -95,8 +98,8 @@ impl Register {
 
     fn day_in(&self, code: &str, day: i64) -> Result<Answer, Unanswered>
         ensures { IsAnswered
-            (said.day_refusal present self.now.lands code.now day)
-            (said.day_in_answer present self.now.lands code.now day) result }
+            (said.day_refusal newest_rules self.now.lands code.now day)
+            (said.day_in_answer newest_rules self.now.lands code.now day) result }
     {
         let territory = self.known_territory(code)?;
         let day = day_on_line(day)?;
@@ -105,8 +108,8 @@ impl Register {
 
     fn easter(&self, code: &str, year: i64) -> Result<Answer, Unanswered>
         ensures { IsAnswered
-            (said.easter_refusal present self.now.lands code.now year)
-            (said.easter_answer present self.now.lands code.now year) result }
+            (said.easter_refusal newest_rules self.now.lands code.now year)
+            (said.easter_answer newest_rules self.now.lands code.now year) result }
     {
         let territory = self.known_territory(code)?;
         let year = year_in_range(year)?;
@@ -116,7 +119,7 @@ impl Register {
     fn periods(&self, code: &str) -> Result<Answer, Unanswered>
         ensures { IsAnswered
             (code_refusal self.now.lands code.now)
-            (said.periods_in_answer present self.now.lands code.now) result }
+            (said.periods_in_answer newest_rules self.now.lands code.now) result }
     {
         let territory = self.known_territory(code)?;
         Ok(periods(self.alloc, territory)?)

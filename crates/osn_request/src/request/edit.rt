@@ -1,48 +1,49 @@
 //! The edit of a line's object. A journal, a script and a schedule read theirs by the same call.
 ghost use Rattle.std.specs.Prelude.{◌≡◌, Err, IsOk};
 ghost use Rattle.serde_json.specs.View.{view};
-ghost use Rattle.osn_days.specs.Profile.{present};
 ghost use Rattle.osn_request.specs.EditRequest as said;
 ghost use Rattle.osn_request.specs.Request.{GivesLast};
+ghost use Rattle.osn_words.specs.Version.{rules_of};
 
 use crate::member::Member;
 use crate::request::RequestError;
 use crate::request::field::{regime_of, text_at, whole_at};
 use crate::request::op::EditOp;
 use osn_register::{Edit, Text};
+use osn_words::Version;
 use serde_json::Value;
 use std::alloc::Global;
 
 #[tactic(auto, unfolding(crate::specs::EditRequest::add_land_of))]
-fn add_land_of(alloc: Global, value: &Value) -> Result<Edit, RequestError>
-    ensures { GivesLast result (said.add_land_of present (view value.now)) }
+fn add_land_of(alloc: Global, version: Version, value: &Value) -> Result<Edit, RequestError>
+    ensures { GivesLast result (said.add_land_of (rules_of version) (view value.now)) }
 {
     let code = text_at(value, Member::Code)?;
     let name = text_at(value, Member::Name)?;
-    let regime = regime_of(value)?;
+    let regime = regime_of(version, value)?;
     let code = Text::from_str(alloc, code)?;
     let name = Text::from_str(alloc, name)?;
     Ok(Edit::AddLand { code, name, regime })
 }
 
 #[tactic(auto, unfolding(crate::specs::EditRequest::add_change_of))]
-fn add_change_of(alloc: Global, value: &Value) -> Result<Edit, RequestError>
-    ensures { GivesLast result (said.add_change_of present (view value.now)) }
+fn add_change_of(alloc: Global, version: Version, value: &Value) -> Result<Edit, RequestError>
+    ensures { GivesLast result (said.add_change_of (rules_of version) (view value.now)) }
 {
     let code = text_at(value, Member::Code)?;
     let day = whole_at(value, Member::Day)?;
-    let regime = regime_of(value)?;
+    let regime = regime_of(version, value)?;
     let code = Text::from_str(alloc, code)?;
     Ok(Edit::AddChange { code, day, regime })
 }
 
 #[tactic(auto, unfolding(crate::specs::EditRequest::alter_change_of))]
-fn alter_change_of(alloc: Global, value: &Value) -> Result<Edit, RequestError>
-    ensures { GivesLast result (said.alter_change_of present (view value.now)) }
+fn alter_change_of(alloc: Global, version: Version, value: &Value) -> Result<Edit, RequestError>
+    ensures { GivesLast result (said.alter_change_of (rules_of version) (view value.now)) }
 {
     let code = text_at(value, Member::Code)?;
     let day = whole_at(value, Member::Day)?;
-    let regime = regime_of(value)?;
+    let regime = regime_of(version, value)?;
     let code = Text::from_str(alloc, code)?;
     Ok(Edit::AlterChange { code, day, regime })
 }
@@ -78,17 +79,23 @@ fn drop_exception_of(alloc: Global, value: &Value) -> Result<Edit, RequestError>
     Ok(Edit::DropException { code, year })
 }
 
-/// The edit of a line's object, or the fault of its first member in order that is no such member.
+/// The edit of a line's object by the rules of a version, or the fault of its first member in order
+/// that is no such member.
 ///
 /// # Errors
 /// Memory is taken for the texts of the edit alone, once every member was found good.
-pub fn edit_of(alloc: Global, op: EditOp, value: &Value) -> Result<Edit, RequestError>
-    ensures { GivesLast result (said.edit_of present op (view value.now)) }
+pub fn edit_of(
+    alloc: Global,
+    version: Version,
+    op: EditOp,
+    value: &Value,
+) -> Result<Edit, RequestError>
+    ensures { GivesLast result (said.edit_of (rules_of version) op (view value.now)) }
 {
     match op {
-        EditOp::AddLand => add_land_of(alloc, value),
-        EditOp::AddChange => add_change_of(alloc, value),
-        EditOp::AlterChange => alter_change_of(alloc, value),
+        EditOp::AddLand => add_land_of(alloc, version, value),
+        EditOp::AddChange => add_change_of(alloc, version, value),
+        EditOp::AlterChange => alter_change_of(alloc, version, value),
         EditOp::DropChange => drop_change_of(alloc, value),
         EditOp::AddException => add_exception_of(alloc, value),
         EditOp::DropException => drop_exception_of(alloc, value),

@@ -1,13 +1,13 @@
 //! The members of a line's object, by their types.
 ghost use Rattle.std.specs.Prelude.{◌≡◌, MatchResult, Ok, Err};
 ghost use Rattle.serde_json.specs.View.{view};
-ghost use Rattle.osn_days.specs.Profile.{present};
 ghost use Rattle.osn_request.specs.Field as said;
+ghost use Rattle.osn_words.specs.Version.{rules_of};
 
 use crate::member::Member;
 use crate::wire_fault::WireFault;
-use osn_lands::Regime;
-use osn_words::Word;
+use osn_lands::{Regime, Style};
+use osn_words::{Version, Word};
 use serde_json::Value;
 
 /// A member that is a text.
@@ -42,13 +42,25 @@ fn word_at<W: Word>(value: &Value, member: Member) -> Result<W, WireFault>
     }
 }
 
-/// The regime that three members give.
+/// The style that a member gives, if its word is one of the version's.
+fn style_at(version: Version, value: &Value) -> Result<Style, WireFault>
+    ensures { result ≡ said.style_at (rules_of version) (view value.now) }
+{
+    let style = word_at(value, Member::Style)?;
+    if version.has_style(style) {
+        Ok(style)
+    } else {
+        Err(WireFault::BadField(Member::Style))
+    }
+}
+
+/// The regime that three members give, by the rules of a version.
 #[tactic(auto, unfolding(crate::specs::Field::regime_of))]
-pub fn regime_of(value: &Value) -> Result<Regime, WireFault>
-    ensures { result ≡ said.regime_of present (view value.now) }
+pub fn regime_of(version: Version, value: &Value) -> Result<Regime, WireFault>
+    ensures { result ≡ said.regime_of (rules_of version) (view value.now) }
 {
     let calendar = word_at(value, Member::Calendar)?;
-    let style = word_at(value, Member::Style)?;
+    let style = style_at(version, value)?;
     let rule = word_at(value, Member::Rule)?;
     Ok(Regime {
         calendar,

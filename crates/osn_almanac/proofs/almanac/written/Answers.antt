@@ -1,5 +1,5 @@
 use Rattle.std.proofs.Common.{◌≡◌, rules, subst, string_bytes, to_z, of_z, w64}
-use Rattle.osn_days.specs.Profile.{present}
+use Rattle.osn_days.specs.Profile.{newest_rules}
 use Rattle.osn_almanac.specs.Almanac as said
 use Rattle.osn_almanac.proofs.Text.{five_parts}
 use Rattle.osn_almanac.proofs.almanac.written.Goals as goal
@@ -9,7 +9,7 @@ unfolding said.almanac
 returns c =
     let year : to_z w64 (of_z w64 c.args.year) ≡ c.args.year = search rules in
     subst (λ y. string_bytes c.push_months.new.out
-    ≡ said.almanac present c.args.register.now.lands c.args.code.now y) year
+    ≡ said.almanac newest_rules c.args.register.now.lands c.args.code.now y) year
     (five_parts _ _ _ _ _ (string_bytes c.in_ok-text.text)
     (string_bytes c.push_heading.new.out) (string_bytes c.push_figures.new.out)
     (string_bytes c.push_changes.new.out) (string_bytes c.push_easters.new.out)

@@ -1,5 +1,6 @@
 use Rattle.std.proofs.Common.{◌≡◌, ◌++◌, take, string_bytes}
 use Rattle.std.specs.List.{flat_map}
+use Rattle.osn_days.specs.Profile.{newest_rules}
 use Rattle.osn_almanac.specs.Almanac as said
 use Rattle.osn_almanac.proofs.changes.push_changes_among.Given as goal
 
@@ -7,4 +8,5 @@ use Rattle.osn_almanac.proofs.changes.push_changes_among.Given as goal
 abbrev pub invariant-loop-period : goal.invariant-loop-period
 invariant-loop-period l =
     string_bytes l.out ≡ string_bytes l.initial.out
-    ++ said.lines_text (flat_map (said.change_of l.year) (take l.period-index l.periods))
+    ++ said.lines_text (flat_map (said.change_of newest_rules l.year)
+    (take l.period-index l.periods))

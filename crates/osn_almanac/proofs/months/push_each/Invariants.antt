@@ -1,6 +1,6 @@
 use Rattle.std.proofs.Common.{◌≡◌, ◌++◌, take, string_bytes}
 use Rattle.std.specs.List.{flat_map}
-use Rattle.osn_days.specs.Profile.{present}
+use Rattle.osn_days.specs.Profile.{newest_rules}
 use Rattle.osn_almanac.specs.Almanac as said
 use Rattle.osn_almanac.proofs.months.push_each.Given as goal
 
@@ -8,5 +8,5 @@ use Rattle.osn_almanac.proofs.months.push_each.Given as goal
 abbrev pub invariant-loop-month : goal.invariant-loop-month
 invariant-loop-month l =
     string_bytes l.out ≡ string_bytes l.initial.out ++ said.lines_text
-    (flat_map (said.month_lines present l.register.lands l.code l.year)
+    (flat_map (said.month_lines newest_rules l.register.lands l.code l.year)
     (take l.month-index l.months))

@@ -1,5 +1,5 @@
 use Rattle.std.proofs.Common.{ap, ◌∙◌, arith}
-use Rattle.osn_days.specs.Profile.{present}
+use Rattle.osn_days.specs.Profile.{newest_rules}
 use Rattle.osn_register.specs.Plain.{applied_all}
 use Rattle.osn_audit.proofs.EditLemmas.{batch_more}
 use Rattle.osn_audit.proofs.follower.apply_batches.Goals as goal
@@ -13,6 +13,6 @@ loop-batch-preserved c =
       limits = ap (λ r. r.limits) one ∙ l.invariant.limits;
       lands = batch_more _ _ _ _ _ c.args.batches.now l.batch-index c.batch-item.result
           (omega arith) c.batch-item.is l.invariant.limits (ap (λ r. r.lands) one
-          ∙ ap (applied_all present l.register.limits l.register.lands) edits)
+          ∙ ap (applied_all newest_rules l.register.limits l.register.lands) edits)
           l.invariant.lands;
     }

@@ -1,5 +1,5 @@
 use Rattle.std.proofs.Common.{◌≡◌, drop}
-use Rattle.osn_days.specs.Profile.{present}
+use Rattle.osn_days.specs.Profile.{newest_rules}
 use Rattle.osn_register.specs.Plain.{applied_all}
 use Rattle.osn_core.specs.Sequential.{joined}
 use Rattle.osn_audit.proofs.follower.apply_batches.Given as goal
@@ -9,7 +9,8 @@ abbrev pub invariant-loop-batch : goal.invariant-loop-batch
 invariant-loop-batch l = record {
   limits : l.register.limits ≡ l.initial.register.limits;
   lands :
-      applied_all present l.initial.register.limits l.register.lands
+      applied_all newest_rules l.initial.register.limits l.register.lands
       (joined (drop l.batch-index l.batches))
-      ≡ applied_all present l.initial.register.limits l.initial.register.lands (joined l.batches);
+      ≡ applied_all newest_rules l.initial.register.limits l.initial.register.lands
+      (joined l.batches);
 }

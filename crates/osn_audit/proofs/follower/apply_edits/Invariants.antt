@@ -1,5 +1,5 @@
 use Rattle.std.proofs.Common.{◌≡◌, drop}
-use Rattle.osn_days.specs.Profile.{present}
+use Rattle.osn_days.specs.Profile.{newest_rules}
 use Rattle.osn_register.specs.Plain.{applied_all}
 use Rattle.osn_audit.proofs.follower.apply_edits.Given as goal
 
@@ -8,6 +8,7 @@ abbrev pub invariant-loop-edit : goal.invariant-loop-edit
 invariant-loop-edit l = record {
   limits : l.register.limits ≡ l.initial.register.limits;
   lands :
-      applied_all present l.initial.register.limits l.register.lands (drop l.edit-index l.edits)
-      ≡ applied_all present l.initial.register.limits l.initial.register.lands l.edits;
+      applied_all newest_rules l.initial.register.limits l.register.lands
+      (drop l.edit-index l.edits)
+      ≡ applied_all newest_rules l.initial.register.limits l.initial.register.lands l.edits;
 }

@@ -1,6 +1,6 @@
 use Rattle.std.proofs.Common.{◌∙◌, ap, refl, arith}
 use Rattle.osn_days.specs.declared.date.Date.{Date}
-use Rattle.osn_days.specs.Profile.{present}
+use Rattle.osn_days.specs.Profile.{newest_rules}
 use Rattle.osn_days.specs.Chain.{days_with_date}
 use Rattle.osn_computus.specs.declared.letters.Letters.{Letters}
 use Rattle.osn_computus.proofs.MoonFacts.{spring_found}
@@ -12,7 +12,7 @@ pub unwrap-february_1-requires : goal.unwrap-february_1-requires
 unwrap-february_1-requires c =
     let k = c.args.calendar in
     let found = c.day_of.ensures
-    ∙ ap (λ (d : Date). days_with_date present k d) c.date_in.ensures.value in
+    ∙ ap (λ (d : Date). days_with_date newest_rules k d) c.date_in.ensures.value in
     rw (february_found k c.requires c.args.year c.date_in.ensures.in_range c.day_of.result found)
     refl
 
@@ -20,7 +20,7 @@ pub unwrap-march_1-requires : goal.unwrap-march_1-requires
 unwrap-march_1-requires c =
     let k = c.args.calendar in
     let found = c.day_of-2.ensures
-    ∙ ap (λ (d : Date). days_with_date present k d) c.date_in-2.ensures.value in
+    ∙ ap (λ (d : Date). days_with_date newest_rules k d) c.date_in-2.ensures.value in
     rw (spring_found k c.requires c.args.year 0 c.date_in.ensures.in_range (omega arith)
     c.day_of-2.result found) refl
 
@@ -32,9 +32,9 @@ returns-clause-sundays c =
       march = c.sunday_letter-2.result;
     } in
     let february = c.day_of.ensures
-    ∙ ap (λ (d : Date). days_with_date present k d) c.date_in.ensures.value in
+    ∙ ap (λ (d : Date). days_with_date newest_rules k d) c.date_in.ensures.value in
     let march = c.day_of-2.ensures
-    ∙ ap (λ (d : Date). days_with_date present k d) c.date_in-2.ensures.value in
+    ∙ ap (λ (d : Date). days_with_date newest_rules k d) c.date_in-2.ensures.value in
     letters_from k c.requires c.args.year c.unwrap-february_1.result c.unwrap-march_1.result letters
     (february_1_is k c.requires c.args.year c.date_in.ensures.in_range c.day_of.result
     c.unwrap-february_1.result february c.unwrap-february_1.ensures)
@@ -59,9 +59,9 @@ returns-clause-common_year c =
       march = c.sunday_letter-2.result;
     } in
     let february = c.day_of.ensures
-    ∙ ap (λ (d : Date). days_with_date present k d) c.date_in.ensures.value in
+    ∙ ap (λ (d : Date). days_with_date newest_rules k d) c.date_in.ensures.value in
     let march = c.day_of-2.ensures
-    ∙ ap (λ (d : Date). days_with_date present k d) c.date_in-2.ensures.value in
+    ∙ ap (λ (d : Date). days_with_date newest_rules k d) c.date_in-2.ensures.value in
     λ common. same_in_common_year k c.args.year c.unwrap-february_1.result c.unwrap-march_1.result
     letters common
     (february_1_is k c.requires c.args.year c.date_in.ensures.in_range c.day_of.result

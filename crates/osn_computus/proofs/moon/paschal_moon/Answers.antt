@@ -3,7 +3,7 @@ use Rattle.std.proofs.lemmas.Int.{ints}
 use Rattle.osn_days.specs.declared.calendar.Calendar.{Calendar}
 use Rattle.osn_days.specs.declared.date.Date.{Date}
 use Rattle.std.specs.Option.{option_to_list}
-use Rattle.osn_days.specs.Profile.{present}
+use Rattle.osn_days.specs.Profile.{newest_rules}
 use Rattle.osn_days.specs.Line.{IsYear}
 use Rattle.osn_days.specs.Chain.{days_with_date}
 use Rattle.osn_computus.specs.declared.rule.Rule.{Rule}
@@ -14,14 +14,14 @@ use Rattle.osn_computus.proofs.MoonFacts.{of_months, HasMoonAt, moon_is, some_sa
 use Rattle.osn_computus.proofs.moon.paschal_moon.Goals as goal
 use Rattle.osn_computus.proofs.moon.paschal_moon.Goals.{in-Julian, in-Gregorian}
 
-march_21_found : (rule : Rule) (y : ℕ) → IsYear present y
+march_21_found : (rule : Rule) (y : ℕ) → IsYear newest_rules y
     → (day : Option ℕ) (k : Calendar) (date : Date)
-    → option_to_list day ≡ days_with_date present k date → k ≡ calendar_of rule
+    → option_to_list day ≡ days_with_date newest_rules k date → k ≡ calendar_of rule
     → date ≡ date_in y (march 21)
     → day ≡ Some (march_1 (calendar_of rule) y + 20 + 1)
 march_21_found rule y year day k date e same is =
-    let found = e ∙ ap (λ (x : Calendar). days_with_date present x date) same
-    ∙ ap (λ (d : Date). days_with_date present (calendar_of rule) d) is in
+    let found = e ∙ ap (λ (x : Calendar). days_with_date newest_rules x date) same
+    ∙ ap (λ (d : Date). days_with_date newest_rules (calendar_of rule) d) is in
     spring_found (calendar_of rule) (of_months rule) y 20 year (omega arith) day found
 
 pub unwrap-march_21-requires : goal.unwrap-march_21-requires

@@ -4,7 +4,7 @@ use Rattle.std.specs.Option.{option_to_list}
 use Rattle.std.proofs.lemmas.Int.{ints}
 use Rattle.jiff_core.specs.Calendar.{IsCivilDate, IsDate}
 use Rattle.jiff_core.specs.Date.{epoch_day}
-use Rattle.osn_days.specs.Profile.{present}
+use Rattle.osn_days.specs.Profile.{newest_rules}
 use Rattle.osn_days.specs.declared.calendar.Calendar.TheVariants.{Gregorian}
 use Rattle.osn_days.proofs.ChainFacts.{gregorian_by_months}
 use Rattle.osn_days.proofs.CountFacts.{days_at_count, days_not}
@@ -17,7 +17,7 @@ pub returns-in_err-civil_date : goal.returns-in_err-civil_date
 returns-in_err-civil_date c =
     let d = c.args.date in
     ap option_to_list c.from_residual.ensures
-    ∙ days_not present Gregorian d gregorian_by_months (λ n on s same.
+    ∙ days_not newest_rules Gregorian d gregorian_by_months (λ n on s same.
     let year = gregorian_last_year d s (omega (arith, gregorian_place d n on.0 same)) in
     let is : IsDate d.year (pos d.month) (pos d.day) = (
       (omega (arith, ints, s.year_low), omega (arith, ints, year)),
@@ -40,7 +40,7 @@ returns c =
     let count = gregorian_days made d days (is.0, month, day)
     (ap (λ x. epoch_day x +ℤ pos 4_371_587) (sym c.to_plain.ensures)
     ∙ c.days_since_min-days.ensures.value) in
-    days_at_count present Gregorian gregorian_count gregorian_is d _
+    days_at_count newest_rules Gregorian gregorian_count gregorian_is d _
     (λ low. gregorian_real d civil (omega (arith, ints, low, count)))
     (omega (arith, ints, gregorian_first, count)) c.new.result c.new.ensures.on_line
     c.new.ensures.value

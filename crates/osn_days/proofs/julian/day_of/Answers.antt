@@ -2,7 +2,7 @@ use Rattle.std.proofs.Common.{◌≡◌, inl, inr, ap, ◌∙◌, arith, ℤ, po
 use Rattle.std.proofs.lemmas.Int.{ints}
 use Rattle.std.proofs.lemmas.Bool.{false≢true}
 use Rattle.std.specs.Option.{option_to_list}
-use Rattle.osn_days.specs.Profile.{present}
+use Rattle.osn_days.specs.Profile.{newest_rules}
 use Rattle.osn_days.specs.declared.calendar.Calendar.TheVariants.{Julian}
 use Rattle.osn_days.specs.Chain.{month_length}
 use Rattle.osn_days.proofs.ChainFacts.{julian_by_months}
@@ -12,26 +12,28 @@ use Rattle.osn_days.proofs.JulianFacts.{julian_count-late, julian_count-early}
 use Rattle.osn_days.proofs.julian.day_of.Goals as goal
 use Rattle.osn_days.proofs.julian.day_of.Goals.{then-date-gt2, else-date-gt2}
 use Rattle.osn_days.proofs.julian.day_of.Goals.{then-date-lt1-2-via-then-date-lt1-2}
+use Rattle.osn_days.proofs.julian.day_of.Goals.{}
 use Rattle.osn_days.proofs.julian.day_of.Goals.{then-date-lt1-2-via-else-date-lt1-2+then-date-month_length}
 
 pub returns-in_err-year : goal.returns-in_err-year
 returns-in_err-year c =
     let d = c.args.date in
     ap option_to_list c.from_residual.ensures
-    ∙ days_not present Julian d julian_by_months (λ n on s same.
+    ∙ days_not newest_rules Julian d julian_by_months (λ n on s same.
     let high = julian_last_year d s (omega (arith, julian_place d n on.0 same)) in
     absurd (false≢true (c.in_err-year.ensures.in_range.1
     (omega (arith, ints, s.year_low), omega (arith, ints, high)))))
 
 pub returns-then-date-lt1 : goal.returns-then-date-lt1
-returns-then-date-lt1 c = days_not present Julian c.args.date julian_by_months (λ n on s same.
+returns-then-date-lt1 c = days_not newest_rules Julian c.args.date julian_by_months (λ n on s same.
     elim c.then-date-lt1.either [
       | inl low ↦ absurd (omega (arith, low, s.month_low))
       | inr high ↦ absurd (omega (arith, high, s.month_high))
     ])
 
 pub returns-then-date-lt1-2 : goal.returns-then-date-lt1-2
-returns-then-date-lt1-2 c = days_not present Julian c.args.date julian_by_months (λ n on s same.
+returns-then-date-lt1-2 c = days_not newest_rules Julian c.args.date julian_by_months
+    (λ n on s same.
     elim c.then-date-lt1-2.branch [
       | then-date-lt1-2-via-then-date-lt1-2 w ↦ absurd (omega (arith, s.day_low))
       | then-date-lt1-2-via-else-date-lt1-2+then-date-month_length w ↦
@@ -55,7 +57,7 @@ returns c =
       day_low = omega arith;
       day_high = omega arith;
     } in
-    days_at_count present Julian julian_count julian_is d _ (λ low. s)
+    days_at_count newest_rules Julian julian_count julian_is d _ (λ low. s)
     (elim c.if-date-gt2.branch [
       | then-date-gt2 w ↦ let count = julian_count-late d (omega arith) in grind (arith, ints)
       | else-date-gt2 w ↦ let count = julian_count-early d (omega arith) in grind (arith, ints)

@@ -1,5 +1,5 @@
 use Rattle.std.proofs.Common.{◌≡◌, ◌<◌, length, refl, ap, subst}
-use Rattle.osn_days.specs.Profile.{present}
+use Rattle.osn_days.specs.Profile.{newest_rules}
 use Rattle.osn_lands.specs.declared.period.Period.{Period}
 use Rattle.osn_lands.proofs.CoverFacts.{covers_set, read_at}
 use Rattle.osn_lands.proofs.ChangeFacts.{altered-at}
@@ -22,12 +22,12 @@ on c =
 
 pub returns-clause-covers : goal.returns-clause-covers
 returns-clause-covers c =
-    covers_set c.args.periods.now.items c.place_of_start-place.result 1 present.high
+    covers_set c.args.periods.now.items c.place_of_start-place.result 1 newest_rules.high
     c.index_mut-period.result.now (altered c) (within c) c.index_mut-period.ensures.value refl
     refl c.requires.covers
 
 pub returns-clause-starts : goal.returns-clause-starts
 returns-clause-starts c =
-    altered-at c.args.periods.now.items c.place_of_start-place.result 1 present.high c.args.day
+    altered-at c.args.periods.now.items c.place_of_start-place.result 1 newest_rules.high c.args.day
     c.index_mut-period.result.now (within c) c.index_mut-period.ensures.value c.requires.covers
     (altered c) c.args.regime (on c) (ap (λ d. (d, c.args.regime)) (on c))

@@ -1,5 +1,5 @@
 use Rattle.std.proofs.Common.{◌==◌, sym, ap, ◌∙◌}
-use Rattle.osn_days.specs.Profile.{present}
+use Rattle.osn_days.specs.Profile.{newest_rules}
 use Rattle.osn_lands.proofs.ChangeFacts.{found_start}
 use Rattle.osn_lands.proofs.cover.is_start.Goals as goal
 
@@ -10,5 +10,5 @@ returns c =
     let p = c.index-periods-place_of in
     c.eq.ensures
     ∙ ap (λ q. q.first == c.args.day) (sym p.is)
-    ∙ sym (found_start ps c.place_of.result present.high c.args.day p.result c.requires
+    ∙ sym (found_start ps c.place_of.result newest_rules.high c.args.day p.result c.requires
     found.within found.holds p.is)

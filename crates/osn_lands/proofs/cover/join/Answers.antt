@@ -3,7 +3,7 @@ use Rattle.std.proofs.Common.{set, map, refl, ap, sym, subst, ◌∙◌, arith}
 use Rattle.std.specs.List.{remove}
 use Rattle.std.proofs.lemmas.List.{length-take-le, get_or-map, map-set, set-get_or}
 use Rattle.std.proofs.lemmas.List.Edits.{get_or-remove_below, length-remove}
-use Rattle.osn_days.specs.Profile.{present}
+use Rattle.osn_days.specs.Profile.{newest_rules}
 use Rattle.osn_lands.specs.declared.period.Period.{Period}
 use Rattle.osn_lands.specs.Territory.{CoversLine}
 use Rattle.osn_lands.specs.Inside.{start_of}
@@ -61,10 +61,10 @@ returns-clause-covers c =
     let read = same_place ps qs i j p next (inside c) c.remove-removed.ensures.items
     c.index_mut-joined.ensures.value in
     let whole = at_places ps i j p q next (inside c) read c.remove-removed.ensures.value in
-    subst (CoversLine present) (sym (left ps qs i j p q joined next (inside c) read
+    subst (CoversLine newest_rules) (sym (left ps qs i j p q joined next (inside c) read
     c.remove-removed.ensures.value c.remove-removed.ensures.items))
-    (covers_join (take i ps) (drop (j + 1) ps) p q joined 1 present.high refl refl
-    (subst (CoversLine present) whole c.requires.covers))
+    (covers_join (take i ps) (drop (j + 1) ps) p q joined 1 newest_rules.high refl refl
+    (subst (CoversLine newest_rules) whole c.requires.covers))
 
 pub returns-clause-starts : goal.returns-clause-starts
 returns-clause-starts c =
@@ -81,5 +81,5 @@ returns-clause-starts c =
     same_starts qs (j - 1) p joined (omega (arith, short, fewer, later c, inside c))
     c.index_mut-joined.ensures.value refl
     ∙ ap (map start_of) c.remove-removed.ensures.items
-    ∙ without-at ps j 1 present.high c.args.day c.remove-removed.result (inside c)
+    ∙ without-at ps j 1 newest_rules.high c.args.day c.remove-removed.result (inside c)
     c.remove-removed.ensures.value c.requires.covers on

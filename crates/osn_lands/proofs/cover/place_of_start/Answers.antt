@@ -1,6 +1,6 @@
 use Rattle.std.proofs.Common.{get_or, arith}
 use Rattle.std.proofs.lemmas.List.{get_or_default}
-use Rattle.osn_days.specs.Profile.{present}
+use Rattle.osn_days.specs.Profile.{newest_rules}
 use Rattle.osn_lands.proofs.ChangeFacts.{found_on_start, later_place}
 use Rattle.osn_lands.proofs.cover.place_of_start.Goals as goal
 
@@ -10,11 +10,11 @@ returns-clause-starts c p =
     let i = c.place_of.result in
     let found = c.place_of.ensures in
     let q = get_or ps i p in
-    found_on_start ps i present.high c.args.day q c.requires.covers found.within found.holds
+    found_on_start ps i newest_rules.high c.args.day q c.requires.covers found.within found.holds
     (get_or_default ps i p q found.within) c.requires.start
 
 pub returns-clause-later : goal.returns-clause-later
 returns-clause-later c later =
     let found = c.place_of.ensures in
-    later_place c.args.periods.now c.place_of.result present.high c.args.day c.requires.covers
+    later_place c.args.periods.now c.place_of.result newest_rules.high c.args.day c.requires.covers
     (omega (arith, found.within)) (returns-clause-starts c) later

@@ -1,6 +1,6 @@
 use Rattle.std.proofs.Common.{get_or}
 use Rattle.std.proofs.lemmas.List.{get_or_default}
-use Rattle.osn_days.specs.Profile.{present}
+use Rattle.osn_days.specs.Profile.{newest_rules}
 use Rattle.osn_lands.proofs.ChangeFacts.{found_apart}
 use Rattle.osn_lands.proofs.cover.place_to_split.Goals as goal
 
@@ -10,7 +10,7 @@ returns-clause-holds c p =
     let i = c.place_of.result in
     let found = c.place_of.ensures in
     let q = get_or ps i p in (
-      found_apart ps i present.high c.args.day q c.requires.covers found.within found.holds
+      found_apart ps i newest_rules.high c.args.day q c.requires.covers found.within found.holds
           (get_or_default ps i p q found.within) c.requires.apart,
       (found.holds p).1,
     )

@@ -3,7 +3,7 @@ use Rattle.std.proofs.Common.{set, map, refl, ap, sym, subst, ◌∙◌, arith}
 use Rattle.std.specs.List.{insert}
 use Rattle.std.proofs.lemmas.List.{length-take-le, get_or_default}
 use Rattle.std.proofs.lemmas.List.Edits.{get_or-insert_below}
-use Rattle.osn_days.specs.Profile.{present}
+use Rattle.osn_days.specs.Profile.{newest_rules}
 use Rattle.osn_lands.specs.declared.period.Period.{Period}
 use Rattle.osn_lands.specs.Territory.{CoversLine}
 use Rattle.osn_lands.specs.Changes.{with_start}
@@ -44,10 +44,10 @@ held c =
     c.deref.ensures.value c.index.ensures c.place_to_split-place.ensures.holds
 
 covering : (c : goal.After-periods-1) →
-    CoversLine present (take c.place_to_split-place.result c.args.periods.now.items
+    CoversLine newest_rules (take c.place_to_split-place.result c.args.periods.now.items
     ++ c.index.result.now
     ∷ drop (c.place_to_split-place.result + 1) c.args.periods.now.items)
-covering c = subst (CoversLine present)
+covering c = subst (CoversLine newest_rules)
     (at_place c.args.periods.now.items c.place_to_split-place.result
     c.index.result.now (within c) c.index.ensures) c.requires.covers
 
@@ -76,7 +76,7 @@ day_before-ended-requires c =
     let p = c.index.result.now in
     let found = c.place_to_split-place.ensures in
     let inside = subst (λ l. i < length l) c.deref.ensures.value found.within in
-    let begin = no_sooner-at ps i 1 present.high c.args.day p inside c.index.ensures
+    let begin = no_sooner-at ps i 1 newest_rules.high c.args.day p inside c.index.ensures
     c.requires.covers in
     let first = read_at (λ q. q.first < c.args.day) c.deref.result.now ps i p
     c.deref.ensures.value c.index.ensures (λ q. (found.holds q).0) in
@@ -87,10 +87,10 @@ returns-clause-covers c =
     let ps = c.args.periods.now.items in
     let on = held c in
     let begin = ap (λ q. q.first) (kept c) in
-    subst (CoversLine present) (sym (made c))
+    subst (CoversLine newest_rules) (sym (made c))
     (covers_split (take c.place_to_split-place.result ps)
     (drop (c.place_to_split-place.result + 1) ps)
-    c.index.result.now (ended c) (started c) 1 present.high
+    c.index.result.now (ended c) (started c) 1 newest_rules.high
     begin (omega (arith, begin, on.0, c.day_before-ended.ensures)) c.day_before-ended.ensures
     on.1 refl (covering c))
 
@@ -101,7 +101,7 @@ returns-clause-ok c =
     ap (map start_of) (made c)
     ∙ with_start-is (take c.place_to_split-place.result ps)
     (drop (c.place_to_split-place.result + 1) ps)
-    c.index.result.now (ended c) (started c) 1 present.high c.args.day c.args.regime
+    c.index.result.now (ended c) (started c) 1 newest_rules.high c.args.day c.args.regime
     (covering c) on.0 on.1 (ap start_of (kept c)) refl
     ∙ ap (λ qs. with_start c.args.day c.args.regime (map start_of qs))
     (sym (at_place ps c.place_to_split-place.result c.index.result.now (within c)

@@ -1,9 +1,12 @@
 use Rattle.std.proofs.Common.{◌≤◌, length, sym, subst}
-use Rattle.osn_days.specs.Profile.{present}
-use Rattle.osn_lands.proofs.LabelFacts.{one_day_of_label}
+use Rattle.osn_days.specs.Profile.{newest_rules}
+use Rattle.osn_lands.proofs.LabelFacts.{two_days_of_label}
 use Rattle.osn_lands.proofs.label.day_of_label.Goals as goal
 
-pub only-requires : goal.only-requires
-only-requires c =
-    subst (λ days. length days ≤ 1) (sym c.days_of_label.ensures.value)
-    (one_day_of_label present c.args.regime c.args.label)
+pub pair-requires : goal.pair-requires
+pair-requires c =
+    subst (λ days. length days ≤ 2) (sym c.days_of_label.ensures.value)
+    (two_days_of_label newest_rules c.args.regime c.args.label)
+
+pub returns-clause-no_third : goal.returns-clause-no_third
+returns-clause-no_third c = two_days_of_label newest_rules c.args.regime c.args.label

@@ -1,10 +1,10 @@
 use Rattle.std.proofs.Common.{rules}
-use Rattle.osn_days.specs.Profile.{present}
+use Rattle.osn_days.specs.Profile.{newest_rules}
 use Rattle.osn_lands.proofs.LabelFacts.{three_years_found}
 use Rattle.osn_lands.proofs.label_days.days_of_label.Goals as goal
 
 pub returns-clause-value : goal.returns-clause-value
 returns-clause-value c =
-    three_years_found present c.args.regime c.args.label _ _ _ _ _ _
+    three_years_found newest_rules c.args.regime c.args.label _ _ _ _ _ _
     c.day_in_year-before.ensures.value c.day_in_year-same.ensures.value
     c.day_in_year-after.ensures.value (search rules) (search rules) (search rules)

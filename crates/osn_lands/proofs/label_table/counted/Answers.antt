@@ -1,6 +1,6 @@
 use Rattle.std.proofs.Common.{◌≡◌, ℤ, ap, sym, ◌∙◌, refl, rules, of_z, to_z, w32, w64}
 use Rattle.std.specs.Option.{option_to_list}
-use Rattle.osn_days.specs.Profile.{present}
+use Rattle.osn_days.specs.Profile.{newest_rules}
 use Rattle.osn_days.specs.Line.{IsYearNumber}
 use Rattle.osn_days.specs.Chain.{days_with_date}
 use Rattle.osn_lands.specs.Inside.{date_in}
@@ -10,10 +10,10 @@ use Rattle.osn_lands.proofs.label_table.counted.Goals as goal
 
 pub returns-in_default : goal.returns-in_default
 returns-in_default c =
-    none_counted present c.args.regime c.args.label c.args.year c.args.found c.in_default.is
+    none_counted newest_rules c.args.regime c.args.label c.args.year c.args.found c.in_default.is
     c.requires
 
-on_line : (c : goal.In-Some) → IsYearNumber present c.args.year
+on_line : (c : goal.In-Some) → IsYearNumber newest_rules c.args.year
 on_line c =
     year_of_dated c.args.regime.calendar c.args.label c.args.year c.args.year c.in-Some.day
     c.args.found c.in-Some.is c.requires refl
@@ -32,21 +32,22 @@ pub returns-then-year_of-label : goal.returns-then-year_of-label
 unfolding date_year
 returns-then-year_of-label c =
     let l = c.args.label in
-    let on : IsYearNumber present c.args.year =
+    let on : IsYearNumber newest_rules c.args.year =
     year_of_dated c.args.regime.calendar l c.args.year c.args.year c.in-Some.day c.args.found
     c.in-Some.is c.requires refl in
     let same : date_year c.args.year ≡ c.args.year = search (rules, on) in
     ap option_to_list (sym c.in-Some.is) ∙ c.requires
-    ∙ ap (λ y. days_with_date present c.args.regime.calendar (date_in y l)) (sym same)
-    ∙ days_of_year present c.args.regime l c.args.year (date_year c.args.year) same (search rules)
+    ∙ ap (λ y. days_with_date newest_rules c.args.regime.calendar (date_in y l)) (sym same)
+    ∙ days_of_year newest_rules c.args.regime l c.args.year (date_year c.args.year) same
+    (search rules)
 
 pub returns-else-year_of-label : goal.returns-else-year_of-label
 unfolding date_year
 returns-else-year_of-label c =
     let l = c.args.label in
-    let on : IsYearNumber present c.args.year =
+    let on : IsYearNumber newest_rules c.args.year =
     year_of_dated c.args.regime.calendar l c.args.year c.args.year c.in-Some.day c.args.found
     c.in-Some.is c.requires refl in
     let same : date_year c.args.year ≡ c.args.year = search (rules, on) in
-    no_day_of_other_year present c.args.regime l c.args.year (date_year c.args.year) same
+    no_day_of_other_year newest_rules c.args.regime l c.args.year (date_year c.args.year) same
     (λ counted. c.if-year_of-label.false (ap (of_z w32) (c.year_of.ensures ∙ counted)))

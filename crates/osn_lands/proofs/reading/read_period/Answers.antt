@@ -1,6 +1,6 @@
 use Rattle.std.proofs.Common.{◌++◌, filter, sym, ap, ◌∙◌, rules}
 use Rattle.std.proofs.lemmas.List.{append-nil}
-use Rattle.osn_days.specs.Profile.{present}
+use Rattle.osn_days.specs.Profile.{newest_rules}
 use Rattle.osn_lands.specs.Inside.{is_held}
 use Rattle.osn_lands.proofs.ReadingFacts.{held_days}
 use Rattle.osn_lands.proofs.SearchFacts.{reads_none}
@@ -12,7 +12,8 @@ returns-then-not-reaches_into-clause-value c =
     let s = c.args.search.now in
     let items = c.args.days.now.items in
     sym (append-nil items)
-    ∙ ap (λ found. items ++ found) (reads_none present s.label p s.first s.last c.requires.line.0
+    ∙ ap (λ found. items ++ found) (reads_none newest_rules s.label p s.table s.first s.last
+    c.requires.known c.requires.line.0
     c.requires.line.1 c.requires.line.2 c.requires.search.1 (sym c.if-not-reaches_into.ensures))
 
 pub returns-clause-value : goal.returns-clause-value
@@ -22,7 +23,7 @@ returns-clause-value c =
     ∙ ap (λ found. c.args.days.now.items ++ filter (is_held p) found)
     c.days-found.ensures.value
     ∙ ap (λ found. c.args.days.now.items ++ found)
-    (held_days present c.args.search.now.label p c.requires.line.0 c.requires.line.1
+    (held_days newest_rules c.args.search.now.label p c.requires.line.0 c.requires.line.1
     c.requires.line.2)
 
 pub returns-clause-tested : goal.returns-clause-tested

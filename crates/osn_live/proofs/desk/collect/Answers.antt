@@ -1,5 +1,5 @@
-use Rattle.std.proofs.Common.{rules, ◌≡◌, []}
-use Rattle.osn_days.specs.Profile.{present}
+use Rattle.std.proofs.Common.{rules}
+use Rattle.osn_days.specs.Profile.{newest_rules}
 use Rattle.osn_live.specs.Desk.{AreReplies, AreAll}
 use Rattle.osn_live.proofs.AtWork.{next_pair, no_pair, few_left, count_left, one_done, all_done}
 use Rattle.osn_live.proofs.AtWork.{started_rest, started_count}
@@ -20,7 +20,7 @@ loop-list-preserved g c =
     let told = c.in_ok-replies.replies in
     let step = next_pair loop.list-iterator c.next.new.self _ (list, c.in-Some.handle)
     c.in-Some.is c.next.ensures.steps in
-    let one : AreReplies present origin.limits batches 0 list.now.items told.items =
+    let one : AreReplies newest_rules origin.limits batches 0 list.now.items told.items =
     rw (c.note.ensures.batches, c.note.ensures.origin, c.as_slice.ensures.value)
     at c.in_ok-replies.ensures.replies in
     record {
@@ -28,7 +28,7 @@ loop-list-preserved g c =
       count = count_left _ _ _ list.now _ step.0 step.2 loop.invariant.count;
       started = started_rest origin _ _ _ _ c.in-Some.handle list.now step.1 step.0
           loop.invariant.started;
-      replies = rw c.in-Ok.ensures.items (one_done (AreAll present origin.limits batches)
+      replies = rw c.in-Ok.ensures.items (one_done (AreAll newest_rules origin.limits batches)
           c.args.lists.now _ _ list.now loop.all.items told step.0 (λ more rest. (one, rest))
           loop.invariant.replies);
     }
@@ -38,5 +38,5 @@ returns-clause-replies g c =
     let loop = c.loop-list in
     let none = no_pair loop.list-iterator c.next.new.self _ c.in-None.is c.next.ensures.steps
     loop.invariant.count in
-    all_done (AreAll present c.args.editor.now.origin.limits c.args.editor.now.object.batches)
+    all_done (AreAll newest_rules c.args.editor.now.origin.limits c.args.editor.now.object.batches)
     c.args.lists.now _ loop.all.items none tt loop.invariant.replies

@@ -3,7 +3,7 @@ use Rattle.std.specs.Iterator.Adapters.{zip_first, zip_second}
 use Rattle.std.specs.Slice.Iter.{iter_rest}
 use Rattle.std.specs.Vec.Iter.{into_iter_items, into_iter_len}
 use Rattle.std.specs.declared.alloc.Global.{Global}
-use Rattle.osn_days.specs.Profile.{present}
+use Rattle.osn_days.specs.Profile.{newest_rules}
 use Rattle.osn_core.specs.declared.step.Reply.{Reply}
 use Rattle.osn_live.specs.Desk.{AreAll}
 use Rattle.osn_live.specs.InsideDesk.{AreStarted}
@@ -18,8 +18,8 @@ invariant-loop-list g l = record {
   started : AreStarted l.fn.editor.origin (into_iter_items (zip_second l.list-iterator))
       (iter_rest (zip_first l.list-iterator));
   replies : (more : List (Vec Reply Global)) →
-      AreAll present l.fn.editor.origin.limits l.fn.editor.object.batches
+      AreAll newest_rules l.fn.editor.origin.limits l.fn.editor.object.batches
       (iter_rest (zip_first l.list-iterator)) more →
-      AreAll present l.fn.editor.origin.limits l.fn.editor.object.batches l.lists
+      AreAll newest_rules l.fn.editor.origin.limits l.fn.editor.object.batches l.lists
       (l.all.items ++ more);
 }

@@ -1,5 +1,5 @@
 use Rattle.std.proofs.Common.{◌≡◌, take}
-use Rattle.osn_days.specs.Profile.{present}
+use Rattle.osn_days.specs.Profile.{newest_rules}
 use Rattle.osn_core.specs.Script.{script_after}
 use Rattle.osn_live.proofs.desk.edit_all.Given as goal
 
@@ -7,6 +7,6 @@ abbrev pub invariant-loop-command : goal.invariant-loop-command
 invariant-loop-command g l = record {
   origin : l.editor.origin ≡ l.fn.editor.origin;
   object : l.editor.object
-      ≡ script_after present l.fn.editor.object (take l.command-index l.commands);
+      ≡ script_after newest_rules l.fn.editor.object (take l.command-index l.commands);
   index : l.index ≡ l.command-index;
 }

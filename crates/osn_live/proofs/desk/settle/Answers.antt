@@ -1,5 +1,5 @@
 use Rattle.std.proofs.Common.{◌≤◌, length, arith}
-use Rattle.osn_days.specs.Profile.{present}
+use Rattle.osn_days.specs.Profile.{newest_rules}
 use Rattle.osn_live.proofs.Answered.{later_first, replies_settled}
 use Rattle.osn_live.proofs.desk.settle.Goals as goal
 
@@ -14,5 +14,5 @@ returns-clause-replies c =
       c.edition-editions.ensures,
       c.if-last-editions.false,
     ) in
-    replies_settled present c.args.note.origin.limits xs ys c.args.questions.now
+    replies_settled newest_rules c.args.note.origin.limits xs ys c.args.questions.now
     c.args.worked.replies (later_first xs ys _ c.learn.ensures.later le) c.requires.replies

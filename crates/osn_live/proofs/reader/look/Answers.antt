@@ -1,5 +1,5 @@
 use Rattle.std.proofs.Common.{◌≡◌, ◌∙◌, refl, ap, sym, subst, true, List, IfOk, OnErr}
-use Rattle.osn_days.specs.Profile.{present}
+use Rattle.osn_days.specs.Profile.{newest_rules}
 use Rattle.osn_register.specs.declared.limits.Limits.{Limits}
 use Rattle.osn_register.specs.declared.edit.Edit.{Edit}
 use Rattle.osn_register.specs.Answer.{takes_memory}
@@ -29,8 +29,8 @@ returns-in-Ok-clause-answer c o at =
     ap (λ (y : EditionState). y.certificate.batches) c.get-in-Ok.ensures
     ∙ ap (λ (i : CertificateState). i.batches) (sym certificate) in
     let Is : Limits → List (List Edit) → Type 0 = λ l bs.
-    IfOk c.ask-answer.result (λ r. r ≡ reply_at present l bs q)
-    × OnErr c.ask-answer.result (takes_memory (reply_at present l bs q).answer ≡ true) in
+    IfOk c.ask-answer.result (λ r. r ≡ reply_at newest_rules l bs q)
+    × OnErr c.ask-answer.result (takes_memory (reply_at newest_rules l bs q).answer ≡ true) in
     let answer : Is o.limits k.batches = subst (λ l. Is l k.batches) limits
     (subst (Is x.limits) batches (c.ask-answer.ensures.value, c.ask-answer.ensures.memory)) in (
       ap (λ (i : CertificateState). i.book) certificate ∙ ap (λ (p : Origin). p.book) here,

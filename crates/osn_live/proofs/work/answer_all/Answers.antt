@@ -2,7 +2,7 @@ use Rattle.std.proofs.Common.{◌≡◌, ◌++◌, ◌+◌, [], ◌∷◌, get_o
 use Rattle.std.proofs.Common.{◌∙◌}
 use Rattle.std.proofs.lemmas.Grind.{common_steps}
 use Rattle.std.proofs.lemmas.List.{take_more}
-use Rattle.osn_days.specs.Profile.{present}
+use Rattle.osn_days.specs.Profile.{newest_rules}
 use Rattle.osn_register.specs.declared.query.Query.{Query}
 use Rattle.osn_register.specs.declared.limits.Limits.{Limits}
 use Rattle.osn_core.specs.Sequential.{reply_at}
@@ -25,15 +25,15 @@ loop-question-preserved g c =
     take_more questions loop.question-index question (omega arith) in
     let pushed : c.push.new.self.items ≡ loop.replies.items ++ c.in_ok-reply.reply ∷ [] =
     grind (arith, common_steps) in
-    let one : c.in_ok-reply.reply ≡ reply_at present l now q =
-    told.value ∙ ap (λ (o : Origin). reply_at present o.limits now question)
-    (told.origin ∙ loop.invariant.origin) ∙ ap (reply_at present l now) c.question-item.is in
-    let later : AreReplies present l now 0 before loop.replies.items =
-    replies_later present l loop.reader.seen now 0 before loop.replies.items told.seen
+    let one : c.in_ok-reply.reply ≡ reply_at newest_rules l now q =
+    told.value ∙ ap (λ (o : Origin). reply_at newest_rules o.limits now question)
+    (told.origin ∙ loop.invariant.origin) ∙ ap (reply_at newest_rules l now) c.question-item.is in
+    let later : AreReplies newest_rules l now 0 before loop.replies.items =
+    replies_later newest_rules l loop.reader.seen now 0 before loop.replies.items told.seen
     loop.invariant.replies in
     record {
       origin = search rules;
       replies = rw (more, pushed, one)
-          (replies_more present l now 0 before loop.replies.items q zero-le later);
+          (replies_more newest_rules l now 0 before loop.replies.items q zero-le later);
       index = search rules;
     }

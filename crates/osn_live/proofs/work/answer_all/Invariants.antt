@@ -1,12 +1,12 @@
 use Rattle.std.proofs.Common.{◌≡◌, take}
-use Rattle.osn_days.specs.Profile.{present}
+use Rattle.osn_days.specs.Profile.{newest_rules}
 use Rattle.osn_live.specs.Desk.{AreReplies}
 use Rattle.osn_live.proofs.work.answer_all.Given as goal
 
 abbrev pub invariant-loop-question : goal.invariant-loop-question
 invariant-loop-question g l = record {
   origin : l.reader.origin ≡ l.fn.reader.origin;
-  replies : AreReplies present l.fn.reader.origin.limits l.reader.seen 0
+  replies : AreReplies newest_rules l.fn.reader.origin.limits l.reader.seen 0
       (take l.question-index l.questions) l.replies.items;
   index : l.index ≡ l.question-index;
 }

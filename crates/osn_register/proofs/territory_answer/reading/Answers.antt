@@ -1,7 +1,7 @@
 use Rattle.std.proofs.Common.{◌≡◌, ap, sym, ◌∙◌}
 use Rattle.std.proofs.lemmas.List.Elements.{filter_passes, All-same}
 use Rattle.std.specs.List.{All}
-use Rattle.osn_days.specs.Profile.{Profile, present}
+use Rattle.osn_days.specs.Profile.{Profile, newest_rules}
 use Rattle.osn_days.specs.Line.{line}
 use Rattle.osn_lands.specs.declared.label.Label.{Label}
 use Rattle.osn_lands.specs.Label.{local, same_label}
@@ -19,15 +19,16 @@ labels_equal a b parts =
 
 -- each day of a reading has the label
 reading-labels : (p : Profile) (t : PlainTerritory) (label : Label) →
-    All (λ d. label ≡ local (regime_at t d) d) (reading p t label)
+    All (λ d. label ≡ local p (regime_at t d) d) (reading p t label)
 unfolding reading
 reading-labels p t label k d within =
     labels_equal _ label ((same_label_decides _ label).0
-    (filter_passes (λ d. same_label (local (regime_at t d) d) label) (line p) k d within))
+    (filter_passes (λ d. same_label (local p (regime_at t d) d) label) (line p) k d within))
 
 pub read_days-requires : goal.read_days-requires
 read_days-requires c =
     let t = c.args.territory.now in
-    All-same (λ d. c.args.label ≡ local (regime_at t d) d) c.as_slice.result.now
-    (reading present t c.args.label)
-    (c.as_slice.ensures.value ∙ c.in_ok-days.ensures.read) (reading-labels present t c.args.label)
+    All-same (λ d. c.args.label ≡ local newest_rules (regime_at t d) d) c.as_slice.result.now
+    (reading newest_rules t c.args.label)
+    (c.as_slice.ensures.value ∙ c.in_ok-days.ensures.read)
+    (reading-labels newest_rules t c.args.label)

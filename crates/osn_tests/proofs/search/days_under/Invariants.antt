@@ -1,5 +1,6 @@
 use Rattle.std.proofs.Common.{◌≡◌, ◌-◌, ◌≤◌, filter}
 use Rattle.std.specs.List.{range_with_len}
+use Rattle.osn_days.specs.Profile.{newest_rules}
 use Rattle.osn_lands.specs.Label.{local, same_label}
 use Rattle.osn_tests.proofs.search.days_under.Given as goal
 
@@ -7,5 +8,5 @@ use Rattle.osn_tests.proofs.search.days_under.Given as goal
 abbrev pub invariant-loop-number : goal.invariant-loop-number
 invariant-loop-number l =
     (l.number ≤ 1095363)
-    × (l.days.items ≡ filter (λ d. same_label (local l.regime d) l.label)
+    × (l.days.items ≡ filter (λ d. same_label (local newest_rules l.regime d) l.label)
     (range_with_len 1 (l.number - 1)))

@@ -1,6 +1,6 @@
 use Rattle.std.proofs.Common.{◌≡◌, Some, sym, ap, ◌∙◌, arith, true, false}
 use Rattle.osn_days.specs.declared.date.Date.{Date}
-use Rattle.osn_days.specs.Profile.{present}
+use Rattle.osn_days.specs.Profile.{newest_rules}
 use Rattle.osn_days.specs.Chain.{date_of, same_date}
 use Rattle.osn_computus.specs.Easter.{day_with}
 use Rattle.osn_computus.proofs.FindFacts.{find_on_line}
@@ -18,7 +18,7 @@ returns-then-eq c =
     let same : same_date (date_of c.args.calendar n) c.args.date ≡ true =
     ap (λ (e : Date). same_date e c.args.date) (sym here) ∙ sym c.eq.ensures ∙ c.if-eq.true in
     ap Some c.day_at-day.ensures
-    ∙ sym (find_on_line present (λ d. same_date (date_of c.args.calendar d) c.args.date) n
+    ∙ sym (find_on_line newest_rules (λ d. same_date (date_of c.args.calendar d) c.args.date) n
     (omega arith, omega arith) same c.loop-number.invariant)
 
 pub loop-number-preserved : goal.loop-number-preserved
@@ -33,5 +33,5 @@ loop-number-preserved c =
 pub returns : goal.returns
 unfolding day_with
 returns c =
-    sym (none_on_line present (λ d. same_date (date_of c.args.calendar d) c.args.date)
+    sym (none_on_line newest_rules (λ d. same_date (date_of c.args.calendar d) c.args.date)
     (λ d on. c.loop-number.invariant d on.0 (omega arith)))

@@ -1,6 +1,6 @@
 use Rattle.std.proofs.Common.{◌≡◌, ◌==◌, ◌&&◌, nat_lt, Some, sym, ap, ◌∙◌, arith, true, false}
 use Rattle.std.proofs.lemmas.Bool.Decides.{nat_tests, Decides-and, Decides-eqb, Decides-ltb}
-use Rattle.osn_days.specs.Profile.{present}
+use Rattle.osn_days.specs.Profile.{newest_rules}
 use Rattle.osn_days.specs.Line.{weekday}
 use Rattle.osn_computus.specs.Easter.{first_sunday_after}
 use Rattle.osn_computus.proofs.FindFacts.{find_on_line}
@@ -18,7 +18,8 @@ returns-then-number-eq0 c =
     let is : (nat_lt m n && (weekday n == 0)) ≡ true =
     (Decides-and _ _ (Decides-ltb m n) (Decides-eqb (weekday n) 0)).1 (omega arith, omega arith) in
     ap Some c.day_at.ensures
-    ∙ sym (find_on_line present (λ d. nat_lt m d && (weekday d == 0)) n (omega arith, omega arith)
+    ∙ sym (find_on_line newest_rules (λ d. nat_lt m d && (weekday d == 0)) n
+    (omega arith, omega arith)
     is c.loop-number.invariant)
 
 pub loop-number-preserved : goal.loop-number-preserved
@@ -35,5 +36,5 @@ loop-number-preserved c =
 pub returns : goal.returns
 unfolding first_sunday_after
 returns c =
-    sym (none_on_line present (λ d. nat_lt c.args.moon d && (weekday d == 0))
+    sym (none_on_line newest_rules (λ d. nat_lt c.args.moon d && (weekday d == 0))
     (λ d on. c.loop-number.invariant d on.0 (omega arith)))

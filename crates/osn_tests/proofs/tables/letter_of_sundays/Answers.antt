@@ -1,7 +1,7 @@
 use Rattle.std.proofs.Common.{◌≡◌, ◌+◌, ◌-◌, ℕ, Option, Some, sym, ap, ◌∙◌, arith, true, false}
 use Rattle.std.specs.Option.{option_map}
 use Rattle.osn_days.specs.declared.date.Date.{Date}
-use Rattle.osn_days.specs.Profile.{present}
+use Rattle.osn_days.specs.Profile.{newest_rules}
 use Rattle.osn_days.specs.Chain.{date_of}
 use Rattle.osn_computus.specs.Letters.{letter_at, letter_after, letter_of, is_sunday_of}
 use Rattle.osn_computus.specs.Letters.{letter_of_sundays}
@@ -36,7 +36,7 @@ returns-then-is_sunday_of c =
     ap test (sym c.day_at-day.ensures) ∙ sym c.is_sunday_of.ensures ∙ c.if-is_sunday_of.true in
     ap Some letter
     ∙ sym (ap (λ (o : Option ℕ). option_map (λ d. letter_of k d) o)
-    (find_on_line present test n (omega arith, omega arith) is c.loop-number.invariant.1))
+    (find_on_line newest_rules test n (omega arith, omega arith) is c.loop-number.invariant.1))
 
 pub loop-number-preserved : goal.loop-number-preserved
 loop-number-preserved c =
@@ -66,4 +66,4 @@ returns c =
     let k = c.args.calendar in
     let test = is_sunday_of k c.args.year c.args.low c.args.high in
     sym (ap (λ (o : Option ℕ). option_map (λ d. letter_of k d) o)
-    (none_on_line present test (λ d on. c.loop-number.invariant.1 d on.0 (omega arith))))
+    (none_on_line newest_rules test (λ d on. c.loop-number.invariant.1 d on.0 (omega arith))))

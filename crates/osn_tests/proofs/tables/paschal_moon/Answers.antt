@@ -2,7 +2,7 @@ use Rattle.std.proofs.Common.{◌≡◌, ℕ, ◌+◌, Option, Some, sym, ap, �
 use Rattle.std.specs.Option.{option_map}
 use Rattle.osn_days.specs.declared.date.Date.{Date}
 use Rattle.osn_days.specs.declared.calendar.Calendar.TheVariants as calendar
-use Rattle.osn_days.specs.Profile.{present}
+use Rattle.osn_days.specs.Profile.{newest_rules}
 use Rattle.osn_computus.specs.declared.epact.Epact.{Epact}
 use Rattle.osn_computus.specs.declared.rule.Rule.TheVariants.{Gregorian}
 use Rattle.osn_computus.specs.Moon.{MonthDay, julian_full_moon, gregorian_new_moon}
@@ -32,7 +32,7 @@ returns-in_err-day_with-in-Gregorian c =
     ∙ table_some (gregorian_new_moon c.gregorian_epact.result) month day
     (sym c.gregorian_new_moon.ensures ∙ c.in_ok-month-in-Gregorian.was) in
     let none =
-    ap (λ (d : Date). day_with present calendar.Gregorian d)
+    ap (λ (d : Date). day_with newest_rules calendar.Gregorian d)
     (sym c.date_in-in-Gregorian.ensures.value) ∙ sym c.day_with-in-Gregorian.ensures
     ∙ c.in_err-day_with-in-Gregorian.was in
     rw c.in-Gregorian.is
@@ -49,7 +49,7 @@ returns-in_ok-month-in-Julian c =
     ∙ table_some (julian_full_moon c.golden_number.result) month day
     (sym c.julian_full_moon.ensures ∙ c.in_ok-month-in-Julian.was) in
     rw c.in-Julian.is
-    (c.day_with.ensures ∙ ap (λ (d : Date). day_with present calendar.Julian d)
+    (c.day_with.ensures ∙ ap (λ (d : Date). day_with newest_rules calendar.Julian d)
     c.date_in.ensures.value ∙ sym (julian_moon c.args.year m table))
 
 pub returns-in_ok-day_with-in-Gregorian : goal.returns-in_ok-day_with-in-Gregorian
@@ -64,10 +64,10 @@ returns-in_ok-day_with-in-Gregorian c =
     ∙ table_some (gregorian_new_moon c.gregorian_epact.result) month day
     (sym c.gregorian_new_moon.ensures ∙ c.in_ok-month-in-Gregorian.was) in
     let found =
-    ap (λ (e : Date). day_with present calendar.Gregorian e)
+    ap (λ (e : Date). day_with newest_rules calendar.Gregorian e)
     (sym c.date_in-in-Gregorian.ensures.value) ∙ sym c.day_with-in-Gregorian.ensures
     ∙ c.in_ok-day_with-in-Gregorian.was in
-    let moon : paschal_moon present Gregorian y ≡ Some (d + 13) =
+    let moon : paschal_moon newest_rules Gregorian y ≡ Some (d + 13) =
     gregorian_moon y m table ∙ ap (λ (o : Option ℕ). option_map (λ e. e + 13) o) found in
     let bounds = moon_bounds Gregorian y (d + 13) c.date_in-in-Gregorian.ensures.in_range moon in
     rw c.in-Gregorian.is (moved_13 c.plus.result d c.plus.ensures.on_line c.plus.ensures.value

@@ -1,5 +1,5 @@
 use Rattle.std.proofs.Common.{◌≡◌, Some, None, true, false, refl, sym, ◌∙◌}
-use Rattle.osn_days.specs.Profile.{present}
+use Rattle.osn_days.specs.Profile.{newest_rules}
 use Rattle.osn_computus.specs.Letters.{has_letters, letter_of_sundays, letters_of}
 use Rattle.osn_tests.proofs.tables.sunday_letters.Goals as goal
 
@@ -15,7 +15,7 @@ unfolding letters_of
 returns-in_err-january c =
     let has : has_letters c.args.calendar ≡ true =
     sym c.has_letters.ensures ∙ c.if-not-has_letters.false in
-    let january : letter_of_sundays present c.args.calendar c.args.year 1 1 ≡ None =
+    let january : letter_of_sundays newest_rules c.args.calendar c.args.year 1 1 ≡ None =
     sym c.letter_of_sundays.ensures ∙ c.in_err-january.was in
     rw has (rw january c.from_residual.ensures)
 
@@ -24,9 +24,9 @@ unfolding letters_of
 returns-in_err-march c =
     let has : has_letters c.args.calendar ≡ true =
     sym c.has_letters.ensures ∙ c.if-not-has_letters.false in
-    let january : letter_of_sundays present c.args.calendar c.args.year 1 1 ≡ Some
+    let january : letter_of_sundays newest_rules c.args.calendar c.args.year 1 1 ≡ Some
     c.in_ok-january.january = sym c.letter_of_sundays.ensures ∙ c.in_ok-january.was in
-    let march : letter_of_sundays present c.args.calendar c.args.year 3 12 ≡ None =
+    let march : letter_of_sundays newest_rules c.args.calendar c.args.year 3 12 ≡ None =
     sym c.letter_of_sundays-2.ensures ∙ c.in_err-march.was in
     rw has (rw january (rw march c.from_residual-in_err-march.ensures))
 
@@ -35,8 +35,8 @@ unfolding letters_of
 returns c =
     let has : has_letters c.args.calendar ≡ true =
     sym c.has_letters.ensures ∙ c.if-not-has_letters.false in
-    let january : letter_of_sundays present c.args.calendar c.args.year 1 1 ≡ Some
+    let january : letter_of_sundays newest_rules c.args.calendar c.args.year 1 1 ≡ Some
     c.in_ok-january.january = sym c.letter_of_sundays.ensures ∙ c.in_ok-january.was in
-    let march : letter_of_sundays present c.args.calendar c.args.year 3 12 ≡ Some
+    let march : letter_of_sundays newest_rules c.args.calendar c.args.year 3 12 ≡ Some
     c.in_ok-march.march = sym c.letter_of_sundays-2.ensures ∙ c.in_ok-march.was in
     rw has (rw january (rw march refl))

@@ -1,5 +1,5 @@
 use Rattle.std.proofs.Common.{◌≡◌, ◌+◌, ◌-◌, ◌∷◌, [], suc, arith, sym, ap, ◌∙◌, true, false}
-use Rattle.osn_days.specs.Profile.{present}
+use Rattle.osn_days.specs.Profile.{newest_rules}
 use Rattle.osn_days.specs.Chain.{next, same_date, date_of}
 use Rattle.osn_days.proofs.ChainFacts.{chain-zero, chain-suc, year_bound, days_one, days_none}
 use Rattle.osn_days.proofs.ChainFacts.{none_before}
@@ -18,7 +18,7 @@ returns-then-eq c =
     ap (λ d. same_date d c.args.date) (sym c.loop-number.invariant.0) ∙ sym c.eq.ensures
     ∙ c.if-eq.true in
     ap (λ d. d ∷ []) c.day_at.ensures
-    ∙ sym (days_one present c.args.calendar c.args.date c.loop-number.number
+    ∙ sym (days_one newest_rules c.args.calendar c.args.date c.loop-number.number
     (omega arith, omega arith) same)
 
 pub next-here-requires : goal.next-here-requires
@@ -38,5 +38,5 @@ loop-number-preserved c =
 
 pub returns : goal.returns
 returns c =
-    sym (days_none present c.args.calendar c.args.date
+    sym (days_none newest_rules c.args.calendar c.args.date
     (λ d on. c.loop-number.invariant.1 d on.0 (omega arith)))

@@ -1,6 +1,6 @@
 use Rattle.std.proofs.Common.{ℕ, List, refl}
 use Rattle.std.proofs.lemmas.Result.{IfOk-weaker, IfErr-weaker}
-use Rattle.osn_days.specs.Profile.{present}
+use Rattle.osn_days.specs.Profile.{newest_rules}
 use Rattle.osn_lines.specs.Lines.{lines}
 use Rattle.osn_wire.specs.Served.{WritesFirst, WritesInPart, StandsAt, StandsNear}
 use Rattle.osn_wire.proofs.ClauseLemmas.{swap_known, MatchFault-weaker, all_written, all_reached}
@@ -45,10 +45,10 @@ returns-clause-written_first g c =
     let t = c.run.new.session in
     let input = g.R.Source.remaining c.args.source.now in
     let first : List ℕ → ℕ → Type 0 =
-    λ bytes n. WritesFirst present s.readers s.object.now (contents s.sink.now)
+    λ bytes n. WritesFirst newest_rules s.readers s.object.now (contents s.sink.now)
     (contents t.sink.now) (lines bytes) n in
     let in_part : List ℕ → ℕ → Type 0 =
-    λ bytes n. WritesInPart present s.readers s.object.now (contents s.sink.now)
+    λ bytes n. WritesInPart newest_rules s.readers s.object.now (contents s.sink.now)
     (contents t.sink.now) (lines bytes) n in
     IfErr-weaker c.run.result _ _
     (λ fault h. swap_known fault input first first in_part
@@ -67,9 +67,9 @@ returns-clause-stands g c =
     let t = c.run.new.session in
     let input = g.R.Source.remaining c.args.source.now in
     let at : List ℕ → ℕ → Type 0 =
-    λ bytes n. StandsAt present s.readers s.object.now t.object.now (lines bytes) n in
+    λ bytes n. StandsAt newest_rules s.readers s.object.now t.object.now (lines bytes) n in
     let near : List ℕ → ℕ → Type 0 =
-    λ bytes n. StandsNear present s.readers s.object.now t.object.now (lines bytes) n in
+    λ bytes n. StandsNear newest_rules s.readers s.object.now t.object.now (lines bytes) n in
     IfErr-weaker c.run.result _ _
     (λ fault h. swap_known fault input at at near
     (MatchFault-weaker fault _ _ _ _ _ _

@@ -1,5 +1,5 @@
 use Rattle.std.proofs.Common.{ap, ◌∙◌, slice_range}
-use Rattle.osn_days.specs.Profile.{present}
+use Rattle.osn_days.specs.Profile.{newest_rules}
 use Rattle.osn_register.specs.Plain.{applied_all}
 use Rattle.osn_core.specs.Sequential.{joined}
 use Rattle.osn_audit.proofs.EditLemmas.{lands_on}
@@ -16,6 +16,6 @@ returns-clause-register c = λ limits h.
           lands_on limits c.args.batches.now c.args.self.edition c.args.edition old _
           c.requires.from h.lands
           (ap (λ r. r.lands) one
-          ∙ ap (λ m. applied_all present m old (joined
+          ∙ ap (λ m. applied_all newest_rules m old (joined
           (slice_range c.args.batches.now c.args.self.edition c.args.edition))) h.same);
     }

@@ -1,5 +1,5 @@
 use Rattle.std.proofs.Common.{sym, ap, ◌∙◌}
-use Rattle.osn_days.specs.Profile.{present}
+use Rattle.osn_days.specs.Profile.{newest_rules}
 use Rattle.osn_lands.specs.declared.regime.Regime.{Regime}
 use Rattle.osn_lands.specs.Inside.{is_rule}
 use Rattle.osn_lands.proofs.EasterFacts.{in_force, not_in_force, same_rule}
@@ -7,14 +7,14 @@ use Rattle.osn_lands.proofs.territory.Territory.easter_in_force.Goals as goal
 
 pub returns-then-eq : goal.returns-then-eq
 returns-then-eq c =
-    in_force present c.args.self.now c.args.rule c.args.year c.easter-day.result
+    in_force newest_rules c.args.self.now c.args.rule c.args.year c.easter-day.result
     c.easter-day.ensures.value
     (ap (λ (r : Regime). is_rule r.rule c.args.rule) (sym c.regime_at.ensures)
     ∙ same_rule c.regime_at.result.rule c.args.rule ∙ sym c.eq.ensures ∙ c.if-eq.true)
 
 pub returns-else-eq : goal.returns-else-eq
 returns-else-eq c =
-    not_in_force present c.args.self.now c.args.rule c.args.year c.easter-day.result
+    not_in_force newest_rules c.args.self.now c.args.rule c.args.year c.easter-day.result
     c.easter-day.ensures.value
     (ap (λ (r : Regime). is_rule r.rule c.args.rule) (sym c.regime_at.ensures)
     ∙ same_rule c.regime_at.result.rule c.args.rule ∙ sym c.eq.ensures ∙ c.if-eq.false)

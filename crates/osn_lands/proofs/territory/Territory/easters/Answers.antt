@@ -1,5 +1,5 @@
 use Rattle.std.proofs.Common.{◌++◌, sym, ap, ◌∙◌}
-use Rattle.osn_days.specs.Profile.{present}
+use Rattle.osn_days.specs.Profile.{newest_rules}
 use Rattle.osn_lands.specs.Inside.{days_in_order}
 use Rattle.osn_lands.proofs.EasterFacts.{easters_are}
 use Rattle.osn_lands.proofs.territory.Territory.easters.Goals as goal
@@ -10,5 +10,5 @@ returns c =
     let other = c.easter_in_force-gregorian.result in
     c.in_ok-push_in_order.ensures
     ∙ ap (λ ds. ds ++ days_in_order one other) c.new-days.ensures.items
-    ∙ easters_are present c.args.self.now c.args.year one other (sym c.exception.ensures
+    ∙ easters_are newest_rules c.args.self.now c.args.year one other (sym c.exception.ensures
     ∙ c.in_default.is) c.easter_in_force-julian.ensures c.easter_in_force-gregorian.ensures

@@ -1,12 +1,12 @@
 use Rattle.std.proofs.Common.{◌≡◌, ◌<◌, ◌≤◌, length, get_or, subst}
-use Rattle.osn_days.specs.Profile.{present}
+use Rattle.osn_days.specs.Profile.{newest_rules}
 use Rattle.osn_lands.specs.Territory.{IsWithinBinaryDigits, periods_of}
 use Rattle.osn_lands.proofs.PeriodFacts.{periods_kept}
 use Rattle.osn_lands.proofs.territory.Territory.period_at.Goals as goal
 
-kept : (c : goal.After-find_period) → c.deref.result.now ≡ periods_of present c.args.self.now
+kept : (c : goal.After-find_period) → c.deref.result.now ≡ periods_of newest_rules c.args.self.now
 kept c =
-    periods_kept c.self.inside.exceptions.entries present c.args.self.now c.deref.result.now
+    periods_kept c.self.inside.exceptions.entries newest_rules c.args.self.now c.deref.result.now
     c.self.inside.periods.items c.deref.ensures.value c.self.view_is c.self.invariant
 
 pub returns-clause-within : goal.returns-clause-within

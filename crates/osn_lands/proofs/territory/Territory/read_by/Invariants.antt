@@ -1,5 +1,6 @@
-use Rattle.std.proofs.Common.{◌≡◌, ◌≤◌, ◌++◌, drop}
+use Rattle.std.proofs.Common.{◌≡◌, ◌≤◌, ◌++◌, drop, length}
 use Rattle.std.specs.List.{flat_map}
+use Rattle.osn_days.specs.Profile.{newest_rules}
 use Rattle.osn_lands.specs.Inside.{days_read, most_tested}
 use Rattle.osn_lands.proofs.territory.Territory.read_by.Given as goal
 
@@ -7,6 +8,7 @@ use Rattle.osn_lands.proofs.territory.Territory.read_by.Given as goal
 -- as many periods
 abbrev pub invariant-loop-period : goal.invariant-loop-period
 invariant-loop-period l =
-    (l.days.items ++ flat_map (days_read l.search.label) (drop l.period-index l.period-items)
-    ≡ flat_map (days_read l.search.label) l.period-items)
-    × (l.tested ≤ most_tested l.search.table l.period-index)
+    (l.days.items ++ flat_map (days_read newest_rules l.search.label)
+    (drop l.period-index l.period-items)
+    ≡ flat_map (days_read newest_rules l.search.label) l.period-items)
+    × (l.tested ≤ most_tested l.search.table (length l.period-items) l.period-index)

@@ -1,5 +1,5 @@
 use Rattle.std.proofs.Common.{ap, sym, ◌∙◌}
-use Rattle.osn_days.specs.Profile.{present}
+use Rattle.osn_days.specs.Profile.{newest_rules}
 use Rattle.osn_lands.proofs.RegimeFacts.{regime_found}
 use Rattle.osn_lands.proofs.territory.Territory.regime_at.Goals as goal
 
@@ -9,6 +9,6 @@ returns c =
     let i = c.period_at-place.result.0 in
     let p = c.index-periods-place.result in
     ap (λ q. q.regime) (sym c.index-periods-place.is)
-    ∙ regime_found present t c.periods.result.now i p c.args.day c.periods.ensures.value
+    ∙ regime_found newest_rules t c.periods.result.now i p c.args.day c.periods.ensures.value
     c.periods.ensures.whole c.period_at-place.ensures.within c.period_at-place.ensures.holds
     c.index-periods-place.is

@@ -1,9 +1,12 @@
-use Rattle.std.proofs.Common.{◌++◌, ◌∷◌, [], sym, ap, subst, ◌∙◌, arith}
+use Rattle.std.proofs.Common.{◌-◌, ◌++◌, ◌∷◌, [], sym, ap, subst, ◌∙◌, arith}
 use Rattle.std.proofs.lemmas.List.{get_or_default}
-use Rattle.osn_days.specs.Profile.{present}
+use Rattle.osn_days.specs.Profile.{newest_rules}
 use Rattle.osn_lands.specs.declared.period.Period.{Period}
 use Rattle.osn_lands.specs.Territory.{CoversLine}
+use Rattle.osn_lands.specs.Inside.{AreKnown}
 use Rattle.osn_lands.proofs.CoverFacts.{later_at}
+use Rattle.osn_lands.proofs.PeriodFacts.{periods_kept}
+use Rattle.osn_lands.proofs.SearchFacts.{known_at}
 use Rattle.osn_lands.proofs.SkippedFacts.{named_more, named_no_more, skipped_is}
 use Rattle.osn_lands.proofs.ExplainedFacts.{explained_is}
 use Rattle.osn_lands.proofs.territory.Territory.skipped_by.Goals as goal
@@ -13,9 +16,31 @@ use Rattle.osn_lands.proofs.territory.Territory.skipped_by.Goals.{else-is_skippe
 pub is_skipped_at-requires-clause-line : goal.is_skipped_at-requires-clause-line
 is_skipped_at-requires-clause-line c =
     let new = c.index-periods-i-in-loop-i in
-    let covers = subst (CoversLine present) (sym c.deref-periods.ensures.value) c.self.invariant in
-    later_at c.deref-periods.result.now c.loop-i.i 1 present.high new.result covers (omega arith)
+    let covers = subst (CoversLine newest_rules)
+    (sym c.deref-periods.ensures.value) c.self.invariant in
+    later_at c.deref-periods.result.now c.loop-i.i 1 newest_rules.high new.result covers
+    (omega arith)
     c.loop-i-test.true new.is
+
+pub is_skipped_at-requires-clause-old : goal.is_skipped_at-requires-clause-old
+is_skipped_at-requires-clause-old c =
+    let old = c.index-periods-i in
+    let ps = c.deref-periods.result.now in
+    let kept = periods_kept c.self.inside.exceptions.entries newest_rules c.args.self.now ps
+    c.self.inside.periods.items c.deref-periods.ensures.value c.self.view_is c.self.invariant in
+    let table = c.args.search.now.table in
+    let known = subst (AreKnown table) (sym kept) c.requires.1 in
+    known_at table ps (c.loop-i.i - 1) old.result old.result known (omega arith) (sym old.is)
+
+pub is_skipped_at-requires-clause-new : goal.is_skipped_at-requires-clause-new
+is_skipped_at-requires-clause-new c =
+    let new = c.index-periods-i-in-loop-i in
+    let ps = c.deref-periods.result.now in
+    let kept = periods_kept c.self.inside.exceptions.entries newest_rules c.args.self.now ps
+    c.self.inside.periods.items c.deref-periods.ensures.value c.self.view_is c.self.invariant in
+    let table = c.args.search.now.table in
+    let known = subst (AreKnown table) (sym kept) c.requires.1 in
+    known_at table ps c.loop-i.i new.result new.result known c.loop-i-test.true (sym new.is)
 
 pub loop-i-preserved : goal.loop-i-preserved
 loop-i-preserved c =
@@ -27,7 +52,7 @@ loop-i-preserved c =
     elim c.if-is_skipped_at.branch [
       | then-is_skipped_at+in_ok-push w ↦
           let pushed = w.index-periods-i-then-is_skipped_at in
-          named_more present label ps i old.result new.result old.result new.result
+          named_more newest_rules label ps i old.result new.result old.result new.result
           c.loop-i.days.items c.if-is_skipped_at.days.items _ (omega arith) (omega arith)
           (sym old.is) (sym new.is) c.loop-i.invariant
           (ap (λ v. v.items) w.days-is ∙ w.in_ok-push.ensures.items
@@ -35,7 +60,7 @@ loop-i-preserved c =
           (get_or_default ps i pushed.result new.result c.loop-i-test.true
           ∙ sym new.is))
           (sym c.is_skipped_at.ensures ∙ w.if-is_skipped_at.true)
-      | else-is_skipped_at w ↦ named_no_more present label ps i old.result new.result
+      | else-is_skipped_at w ↦ named_no_more newest_rules label ps i old.result new.result
           old.result new.result c.loop-i.days.items c.if-is_skipped_at.days.items _
           (omega arith) (omega arith) (sym old.is) (sym new.is) c.loop-i.invariant
           (ap (λ v. v.items) w.days-is) (sym c.is_skipped_at.ensures ∙ w.if-is_skipped_at.false)
@@ -43,13 +68,13 @@ loop-i-preserved c =
 
 pub returns-clause-value : goal.returns-clause-value
 returns-clause-value c =
-    skipped_is c.self.inside.exceptions.entries present c.args.self.now c.args.search.now.label
+    skipped_is c.self.inside.exceptions.entries newest_rules c.args.self.now c.args.search.now.label
     c.loop-i.days.items c.deref-periods.result.now c.self.inside.periods.items c.loop-i.i
     c.deref-periods.ensures.value c.self.view_is c.self.invariant (omega arith) (omega arith)
     c.loop-i.invariant
 
 pub returns-clause-explained : goal.returns-clause-explained
 returns-clause-explained c =
-    explained_is c.self.inside.exceptions.entries present c.args.self.now
+    explained_is c.self.inside.exceptions.entries newest_rules c.args.self.now
     c.args.search.now.label c.loop-i.days.items c.self.inside.periods.items c.self.view_is
     c.self.invariant (returns-clause-value c)

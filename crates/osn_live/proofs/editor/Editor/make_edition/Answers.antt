@@ -1,5 +1,5 @@
 use Rattle.std.proofs.Common.{rules, ◌≡◌, [], ◌∷◌, ◌++◌, List, ap, sym, ◌∙◌}
-use Rattle.osn_days.specs.Profile.{present}
+use Rattle.osn_days.specs.Profile.{newest_rules}
 use Rattle.osn_register.specs.declared.edit.Edit.{Edit}
 use Rattle.osn_register.specs.Plain.{PlainLand}
 use Rattle.osn_core.specs.Sequential.{ObjectState, lands_of, draft_lands, edits_in, with_edition}
@@ -11,8 +11,8 @@ use Rattle.osn_live.proofs.editor.Editor.make_edition.Goals as goal
 pub new-next-requires : goal.new-next-requires
 new-next-requires g c =
     let limits = c.self.inside.limits in
-    let lands = draft_shown present (object_in c.self.inside)
-    ∙ ap (λ (k : CertificateState). lands_of present limits k.batches)
+    let lands = draft_shown newest_rules (object_in c.self.inside)
+    ∙ ap (λ (k : CertificateState). lands_of newest_rules limits k.batches)
     (sym (c.again.ensures ∙ c.in-Some.ensures)) in
     c.in-Ok.ensures.ok ∙ c.in_ok-draft.ensures.value ∙ c.self.invariant.draft
     ∙ ap (λ (ls : List PlainLand). record { limits = limits; lands = ls }) lands
@@ -33,6 +33,6 @@ invariant_of-self-2 g c =
       book = search rules;
       draft = c.self.invariant.draft
           ∙ ap (λ (ls : List PlainLand). record { limits = limits; lands = ls })
-          (draft_published present old ∙ ap (draft_lands present) (sym now));
+          (draft_published newest_rules old ∙ ap (draft_lands newest_rules) (sym now));
       counted = c.self.invariant.counted ∙ edits_published old ∙ ap edits_in (sym now);
     }

@@ -3,7 +3,7 @@ use Rattle.std.proofs.Common.{option_map, string_bytes}
 use Rattle.std.specs.declared.result.Result.{Result}
 use Rattle.std.specs.Result.{OnOk, OnErr}
 use Rattle.std.specs.Option.{option_copied_mut}
-use Rattle.osn_days.specs.Profile.{present}
+use Rattle.osn_days.specs.Profile.{newest_rules}
 use Rattle.osn_lands.specs.Territory.{PlainTerritory}
 use Rattle.osn_register.specs.declared.register.Entry.{Entry}
 use Rattle.osn_register.specs.Plain.{territory_of, with_territory, IsWellFormed}
@@ -24,7 +24,7 @@ pub unwrap-entry-requires : goal.unwrap-entry-requires
 unwrap-entry-requires c =
     let es = c.self.inside.lands.entries in
     some_of option_copied_mut refl c.get_mut.result (λ none.
-    no_territory c.args.self.now.lands c.args.code.now (change_refusal present
+    no_territory c.args.self.now.lands c.args.code.now (change_refusal newest_rules
     c.args.self.now.limits c.args.change) c.requires
     (
     ap (λ r. territory_of c.args.code.now r.lands) (sym c.self.view_is)
@@ -45,7 +45,8 @@ known c =
 pub make-requires : goal.make-requires
 make-requires c = (
   c.args.self.now.limits,
-  lawful_in c.args.self.now.lands c.args.code.now (change_refusal present c.args.self.now.limits
+  lawful_in c.args.self.now.lands c.args.code.now
+      (change_refusal newest_rules c.args.self.now.limits
       c.args.change) c.requires
       c.unwrap-entry.result.now.territory (known c),
 )
@@ -89,17 +90,18 @@ written c f land =
 
 pub invariant_of-self : goal.invariant_of-self
 invariant_of-self c =
-    let before : IsWellFormed present c.args.self.now = subst (IsWellFormed present) c.self.view_is
+    let before : IsWellFormed newest_rules c.args.self.now = subst
+    (IsWellFormed newest_rules) c.self.view_is
     c.self.invariant in
-    let refused = change_refusal present c.args.self.now.limits c.args.change in
+    let refused = change_refusal newest_rules c.args.self.now.limits c.args.change in
     either c.make.result
-    (λ is. subst (IsWellFormed present) (sym (written c (territory_after c.args.change) is))
-    (IsWellFormed-with present c.args.self.now c.args.code.now (territory_after c.args.change)
+    (λ is. subst (IsWellFormed newest_rules) (sym (written c (territory_after c.args.change) is))
+    (IsWellFormed-with newest_rules c.args.self.now c.args.code.now (territory_after c.args.change)
     before
-    (λ t there sound. still_sound present c.args.self.now.limits c.args.change t
+    (λ t there sound. still_sound newest_rules c.args.self.now.limits c.args.change t
     (lawful_in c.args.self.now.lands c.args.code.now refused c.requires t there) sound)))
-    (λ is. subst (IsWellFormed present) (sym (written c (λ t. t) is))
-    (IsWellFormed-with present c.args.self.now c.args.code.now (λ t. t) before
+    (λ is. subst (IsWellFormed newest_rules) (sym (written c (λ t. t) is))
+    (IsWellFormed-with newest_rules c.args.self.now c.args.code.now (λ t. t) before
     (λ t there sound. sound)))
     c.make.ensures.ok c.make.ensures.err
 

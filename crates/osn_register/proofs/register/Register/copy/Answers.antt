@@ -1,5 +1,5 @@
 use Rattle.std.proofs.Common.{◌≡◌, ◌∷◌, ◌++◌, map, ap, sym, subst, ◌∙◌, string_bytes}
-use Rattle.osn_days.specs.Profile.{present}
+use Rattle.osn_days.specs.Profile.{newest_rules}
 use Rattle.osn_register.specs.declared.register.Entry.{Entry}
 use Rattle.osn_register.specs.Plain.{IsWellFormed}
 use Rattle.osn_register.specs.Inside.{land_in}
@@ -8,8 +8,8 @@ use Rattle.osn_register.proofs.Kept.{copied_some, same_register, on_err}
 use Rattle.osn_register.proofs.register.Register.copy.Goals as goal
 use Rattle.osn_register.proofs.register.Register.copy.Goals.{After-as_str}
 
-well_formed : (c : After-as_str) → IsWellFormed present c.args.self.now
-well_formed c = subst (IsWellFormed present) c.self.view_is c.self.invariant
+well_formed : (c : After-as_str) → IsWellFormed newest_rules c.args.self.now
+well_formed c = subst (IsWellFormed newest_rules) c.self.view_is c.self.invariant
 
 -- what is copied, this territory and those left are all
 all : (c : After-as_str) → c.loop-code.copied.lands ++ land_in string_bytes (λ v. v.name)
@@ -27,7 +27,7 @@ insert_copy-requires-clause-room c = copied_room _ _ _ _ _ _ (all c) (well_forme
     (ap (λ m. m.lands) c.loop-code.invariant.0)
 
 pub insert_copy-requires-clause-territory : goal.insert_copy-requires-clause-territory
-insert_copy-requires-clause-territory c = copied_within present _ _ _ _ _ _ (all c)
+insert_copy-requires-clause-territory c = copied_within newest_rules _ _ _ _ _ _ (all c)
     (well_formed c).territories c.loop-code.invariant.0
 
 pub loop-code-preserved : goal.loop-code-preserved

@@ -1,7 +1,7 @@
 use Rattle.std.proofs.Common.{◌≡◌, ℕ, ◌<◌, ◌+◌, ◌||◌, Bool, true, false, List, ◌∷◌, length, get_or}
 use Rattle.std.proofs.Common.{drop, refl, ap, sym, ◌∙◌, arith}
 use Rattle.std.proofs.lemmas.List.{drop_more}
-use Rattle.osn_days.specs.Profile.{present}
+use Rattle.osn_days.specs.Profile.{newest_rules}
 use Rattle.osn_register.specs.declared.edit.Edit.{Edit}
 use Rattle.osn_register.specs.Plain.{applied, applied_all, apply_takes_memory}
 use Rattle.osn_register.specs.Plain.{fold_takes_memory}
@@ -25,19 +25,19 @@ loop-edit-preserved c =
     let before = c.loop-edit.register.lands in
     let is = c.in_ok-apply_if_lawful.ensures.ok in
     let left = left_from es c.loop-edit.edit-index e (omega arith) c.edit-item.is in
-    let lands : c.apply_if_lawful.new.self.lands ≡ applied present limits before e =
-    ap (λ r. r.lands) is ∙ ap (λ m. applied present m before e) c.loop-edit.invariant.limits in
+    let lands : c.apply_if_lawful.new.self.lands ≡ applied newest_rules limits before e =
+    ap (λ r. r.lands) is ∙ ap (λ m. applied newest_rules m before e) c.loop-edit.invariant.limits in
     record {
       limits = ap (λ r. r.limits) is ∙ c.loop-edit.invariant.limits;
       lands =
-          ap (λ ls. applied_all present limits ls rest) lands
-          ∙ sym (ap (applied_all present limits before) left)
+          ap (λ ls. applied_all newest_rules limits ls rest) lands
+          ∙ sym (ap (applied_all newest_rules limits before) left)
           ∙ c.loop-edit.invariant.lands;
       memory = λ more. c.loop-edit.invariant.memory (
-          ap (fold_takes_memory present limits before) left
-          ∙ ap (λ b. apply_takes_memory present limits before e || b)
-          (ap (λ ls. fold_takes_memory present limits ls rest) (sym lands) ∙ more)
-          ∙ or_true (apply_takes_memory present limits before e)
+          ap (fold_takes_memory newest_rules limits before) left
+          ∙ ap (λ b. apply_takes_memory newest_rules limits before e || b)
+          (ap (λ ls. fold_takes_memory newest_rules limits ls rest) (sym lands) ∙ more)
+          ∙ or_true (apply_takes_memory newest_rules limits before e)
           );
     }
 
@@ -49,12 +49,12 @@ returns-in_err-apply_if_lawful-clause-memory c =
     let limits = c.args.limits in
     let before = c.loop-edit.register.lands in
     let left = left_from es c.loop-edit.edit-index e (omega arith) c.edit-item.is in
-    let here : apply_takes_memory present limits before e ≡ true =
-    ap (λ m. apply_takes_memory present m before e) (sym c.loop-edit.invariant.limits) ∙
+    let here : apply_takes_memory newest_rules limits before e ≡ true =
+    ap (λ m. apply_takes_memory newest_rules m before e) (sym c.loop-edit.invariant.limits) ∙
     c.in_err-apply_if_lawful.ensures.memory in
     let all = c.loop-edit.invariant.memory (
-    ap (fold_takes_memory present limits before) left
-    ∙ ap (λ b. b || fold_takes_memory present limits (applied present limits before e)
+    ap (fold_takes_memory newest_rules limits before) left
+    ∙ ap (λ b. b || fold_takes_memory newest_rules limits (applied newest_rules limits before e)
     (drop (c.loop-edit.edit-index + 1) es)) here
     ) in
     on_err c.from_residual.result all

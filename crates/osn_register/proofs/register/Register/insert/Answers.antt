@@ -3,7 +3,7 @@ use Rattle.std.proofs.Common.{string_bytes}
 use Rattle.std.specs.String.{string_eq}
 use Rattle.indexmap.specs.IndexMap.{get}
 use Rattle.indexmap.proofs.CallerLemmas.{insert_entry-new}
-use Rattle.osn_days.specs.Profile.{present}
+use Rattle.osn_days.specs.Profile.{newest_rules}
 use Rattle.osn_register.specs.Plain.{PlainLand, PlainRegister, land_of, IsWellFormed}
 use Rattle.osn_register.specs.Inside.{register_in}
 use Rattle.osn_register.proofs.Kept.{land_of-none, kept_new, IsWellFormed-push}
@@ -40,9 +40,11 @@ added c =
 
 pub invariant_of-self-2 : goal.invariant_of-self-2
 invariant_of-self-2 c =
-    let before : IsWellFormed present c.args.self.now = subst (IsWellFormed present) c.self.view_is
+    let before : IsWellFormed newest_rules c.args.self.now = subst
+    (IsWellFormed newest_rules) c.self.view_is
     c.self.invariant in
-    subst (IsWellFormed present) (sym (added c)) (IsWellFormed-push present c.args.self.now
+    subst (IsWellFormed newest_rules) (sym (added c))
+    (IsWellFormed-push newest_rules c.args.self.now
     (new_land c) before c.requires.absent c.requires.room c.requires.territory)
 
 pub returns-clause-ok : goal.returns-clause-ok

@@ -1,0 +1,160 @@
+-- What rules don't refuse, rules of a line and of years that are as long or longer don't refuse
+-- either, where no edit has a style that goes from Easter to Easter.
+use Rattle.std.proofs.Common.{◌≡◌, ℕ, ◌≤◌, ◌==◌, ◌&&◌, Bool, true, false, not, ℤ, pos, negsuc}
+use Rattle.std.proofs.Common.{nat_le, List, [], ◌∷◌, Option, Some, None, is_some}
+use Rattle.std.proofs.Common.{unsigned_abs, refl, sym, ap, ◌∙◌, arith, leb-true}
+use Rattle.std.proofs.Common.{le-leb}
+use Rattle.std.proofs.lemmas.Bool.{and_parts, false≢true}
+use Rattle.osn_days.specs.Profile.{Profile}
+use Rattle.osn_lands.specs.declared.regime.Regime.{Regime}
+use Rattle.osn_lands.specs.Style.{is_julian}
+use Rattle.osn_lands.specs.Changes.{starts_on}
+use Rattle.osn_lands.specs.Territory.{PlainTerritory}
+use Rattle.osn_register.specs.declared.edit.Edit.{Edit}
+use Rattle.osn_register.specs.declared.edit.Edit.TheVariants.{AddLand, AddChange, AlterChange}
+use Rattle.osn_register.specs.declared.edit.Edit.TheVariants.{DropChange, AddException}
+use Rattle.osn_register.specs.declared.edit.Edit.TheVariants.{DropException}
+use Rattle.osn_register.specs.declared.limits.Limits.{Limits}
+use Rattle.osn_register.specs.declared.refusal.Refusal.{Refusal}
+use Rattle.osn_register.specs.Code.{is_code, is_name}
+use Rattle.osn_register.specs.Plain as plain
+use Rattle.osn_register.specs.Plain.{PlainLand, refusal, effect, applied_all, folded}
+use Rattle.osn_register.specs.Refusal.{or_else}
+use Rattle.osn_core.specs.Sequential.{AreLawful}
+use Rattle.osn_core.proofs.Lawful.{applied-lawful}
+use Rattle.osn_files.proofs.CommandFacts.{next_test, un_not, both_none}
+use Rattle.osn_files.proofs.OldFacts.{IsFixed, HasFixed, HaveFixed}
+
+-- the line and the years of rules are as long as those of others, or longer
+pub record IsLonger (p q : Profile) : Type 0 where
+  pub line : p.high ≤ q.high
+  pub years : p.last_year ≤ q.last_year
+
+-- a number within a range is within a longer one
+within_longer : (m n : ℕ) (z : ℤ) → m ≤ n → not (plain.is_between (pos 1) (pos m) z) ≡ false
+    → not (plain.is_between (pos 1) (pos n) z) ≡ false
+within_longer m n (pos k) more h =
+    let p = and_parts (nat_le 1 k) (nat_le k m) (un_not (nat_le 1 k && nat_le k m) h) in
+    let below : k ≤ m = leb-true k m p.1 in
+    rw (p.0, le-leb k n (omega (arith, more, below))) refl
+within_longer m n (negsuc k) more h = absurd (false≢true (un_not _ h))
+
+on_line : (p q : Profile) (day : ℤ) → IsLonger p q → plain.is_off_line p day ≡ false
+    → plain.is_off_line q day ≡ false
+on_line p q day longer h = within_longer p.high q.high day longer.line h
+
+in_years : (p q : Profile) (year : ℤ) → IsLonger p q → plain.is_off_years p year ≡ false
+    → plain.is_off_years q year ≡ false
+in_years p q year longer h = within_longer p.last_year q.last_year year longer.years h
+
+and_false : (b : Bool) → (b && false) ≡ false
+and_false true = refl
+and_false false = refl
+
+-- a year that begins on the same date goes with every calendar and rule
+style_passes : (q : Profile) (r : Regime) → IsFixed r → plain.is_style_refused q r ≡ false
+style_passes q r fixed =
+    ap (λ easter. q.tests_style && (easter && not (is_julian r.calendar r.rule))) fixed
+    ∙ and_false q.tests_style
+
+inside_passes : (f g : PlainTerritory → Option Refusal)
+    → ((t : PlainTerritory) → f t ≡ None → g t ≡ None) → (o : Option PlainTerritory)
+    → plain.inside f o ≡ None → plain.inside g o ≡ None
+inside_passes f g each None h = refl
+inside_passes f g each (Some t) h = each t h
+
+territory_passes : (lands : List PlainLand) (code : List ℕ) (f g : PlainTerritory → Option Refusal)
+    → ((t : PlainTerritory) → f t ≡ None → g t ≡ None) → plain.refusal_in lands code f ≡ None
+    → plain.refusal_in lands code g ≡ None
+territory_passes lands code f g each h =
+    let parts = both_none (plain.code_refusal lands code) _ h in
+    ap (λ r. or_else r (plain.inside g (plain.territory_of code lands))) parts.0
+    ∙ inside_passes f g each (plain.territory_of code lands) parts.1
+
+add_land_passes : (p q : Profile) (limits : Limits) (lands : List PlainLand) (code name : List ℕ)
+    (r : Regime) → IsFixed r → plain.add_land_refusal p limits lands code name r ≡ None
+    → plain.add_land_refusal q limits lands code name r ≡ None
+add_land_passes p q limits lands code name r fixed h =
+    let a = next_test (not (is_code code)) _ _ h in
+    let b = next_test (not (is_name name)) _ _ a.1 in
+    let c = next_test (is_some (plain.land_of code lands)) _ _ b.1 in
+    let d = next_test (plain.is_style_refused p r) _ _ c.1 in
+    rw (a.0, b.0, c.0, style_passes q r fixed) d.1
+
+add_change_passes : (p q : Profile) (limits : Limits) (day : ℤ) (r : Regime) (t : PlainTerritory)
+    → IsLonger p q → IsFixed r → plain.add_change_refusal p limits day r t ≡ None
+    → plain.add_change_refusal q limits day r t ≡ None
+add_change_passes p q limits day r t longer fixed h =
+    let a = next_test (plain.is_off_line p day) _ _ h in
+    let b = next_test (unsigned_abs day == 1) _ _ a.1 in
+    let c = next_test (starts_on t (unsigned_abs day)) _ _ b.1 in
+    let d = next_test (plain.is_style_refused p r) _ _ c.1 in
+    rw (on_line p q day longer a.0, b.0, c.0, style_passes q r fixed) d.1
+
+alter_change_passes : (p q : Profile) (day : ℤ) (r : Regime) (t : PlainTerritory) → IsLonger p q
+    → IsFixed r → plain.alter_change_refusal p day r t ≡ None
+    → plain.alter_change_refusal q day r t ≡ None
+alter_change_passes p q day r t longer fixed h =
+    let a = next_test (plain.is_off_line p day) _ _ h in
+    let b = next_test (not (starts_on t (unsigned_abs day))) _ _ a.1 in
+    rw (on_line p q day longer a.0, b.0, style_passes q r fixed) refl
+
+drop_change_passes : (p q : Profile) (day : ℤ) (t : PlainTerritory) → IsLonger p q
+    → plain.drop_change_refusal p day t ≡ None → plain.drop_change_refusal q day t ≡ None
+drop_change_passes p q day t longer h =
+    let a = next_test (plain.is_off_line p day) _ _ h in rw (on_line p q day longer a.0) a.1
+
+add_exception_passes : (p q : Profile) (limits : Limits) (year day : ℤ) (t : PlainTerritory)
+    → IsLonger p q → plain.add_exception_refusal p limits year day t ≡ None
+    → plain.add_exception_refusal q limits year day t ≡ None
+add_exception_passes p q limits year day t longer h =
+    let a = next_test (plain.is_off_line p day) _ _ h in
+    let b = next_test (plain.is_off_years p year) _ _ a.1 in
+    rw (on_line p q day longer a.0, in_years p q year longer b.0) b.1
+
+drop_exception_passes : (p q : Profile) (year : ℤ) (t : PlainTerritory) → IsLonger p q
+    → plain.drop_exception_refusal p year t ≡ None → plain.drop_exception_refusal q year t ≡ None
+drop_exception_passes p q year t longer h =
+    let a = next_test (plain.is_off_years p year) _ _ h in rw (in_years p q year longer a.0) a.1
+
+-- an edit that rules don't refuse
+pub refusal_passes : (p q : Profile) (limits : Limits) (lands : List PlainLand) (e : Edit)
+    → IsLonger p q → HasFixed e → refusal p limits lands e ≡ None → refusal q limits lands e ≡ None
+refusal_passes p q limits lands (AddLand code name r) longer fixed h =
+    add_land_passes p q limits lands code name r fixed h
+refusal_passes p q limits lands (AddChange code day r) longer fixed h =
+    territory_passes lands code _ _ (λ t. add_change_passes p q limits day r t longer fixed) h
+refusal_passes p q limits lands (AlterChange code day r) longer fixed h =
+    territory_passes lands code _ _ (λ t. alter_change_passes p q day r t longer fixed) h
+refusal_passes p q limits lands (DropChange code day) longer fixed h =
+    territory_passes lands code _ _ (λ t. drop_change_passes p q day t longer) h
+refusal_passes p q limits lands (AddException code year day) longer fixed h =
+    territory_passes lands code _ _ (λ t. add_exception_passes p q limits year day t longer) h
+refusal_passes p q limits lands (DropException code year) longer fixed h =
+    territory_passes lands code _ _ (λ t. drop_exception_passes p q year t longer) h
+
+-- edits that are lawful in turn
+pub lawful_passes : (p q : Profile) (limits : Limits) (lands : List PlainLand) (es : List Edit)
+    → IsLonger p q → HaveFixed es → AreLawful p limits lands es → AreLawful q limits lands es
+lawful_passes p q limits lands [] longer fixed h = tt
+lawful_passes p q limits lands (e ∷ es) longer fixed h = (
+  refusal_passes p q limits lands e longer fixed.0 h.0,
+  lawful_passes p q limits (effect lands e) es longer fixed.1 h.1,
+)
+
+-- edits that are lawful under both do the same under both
+applied-both : (p q : Profile) (limits : Limits) (lands : List PlainLand) (es : List Edit)
+    → AreLawful p limits lands es → AreLawful q limits lands es
+    → applied_all p limits lands es ≡ applied_all q limits lands es
+applied-both p q limits lands [] h k = refl
+applied-both p q limits lands (e ∷ es) h k =
+    ap (λ ls. applied_all p limits ls es) (applied-lawful p limits lands e h.0)
+    ∙ (applied-both p q limits (effect lands e) es h.1 k.1
+    ∙ sym (ap (λ ls. applied_all q limits ls es) (applied-lawful q limits lands e k.0)))
+
+-- so do edits that are lawful under the rules of the shorter line
+pub applied_passes : (p q : Profile) (limits : Limits) (lands : List PlainLand) (es : List Edit)
+    → IsLonger p q → HaveFixed es → AreLawful p limits lands es
+    → applied_all p limits lands es ≡ applied_all q limits lands es
+applied_passes p q limits lands es longer fixed h =
+    applied-both p q limits lands es h (lawful_passes p q limits lands es longer fixed h)
