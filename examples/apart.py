@@ -55,15 +55,24 @@ def dates(calendar):
     return found
 
 
-def style_year(style, date):
-    year, month, day = date
+def style_year(calendar, style, day):
+    """The year of a day as the style counts it, `year` being the calendar's from 1 January."""
+    year, month, of_month = dates(calendar)[day]
     if style == "annunciation":
-        return year - 1 if (month, day) < (3, 25) else year
+        return year - 1 if (month, of_month) < (3, 25) else year
     if style == "nativity":
-        return year + 1 if (month, day) >= (12, 25) else year
+        return year + 1 if (month, of_month) >= (12, 25) else year
     if style == "september":
-        return year + 1 if (month, day) >= (9, 1) else year
+        return year + 1 if (month, of_month) >= (9, 1) else year
+    if style == "pisan":
+        return year + 1 if (month, of_month) >= (3, 25) else year
+    if style == "easter":
+        return year - 1 if day < easter("julian", year) else year
     return year
+
+
+def label_of(calendar, style, day):
+    return style_year(calendar, style, day), *dates(calendar)[day][1:]
 
 
 def key_of(year, month, day):
@@ -73,7 +82,7 @@ def key_of(year, month, day):
 @functools.cache
 def labels(calendar, style):
     """The labels of all days as numbers, the place of a label being its day. No day is 0."""
-    keys = [key_of(style_year(style, d), d[1], d[2]) for d in dates(calendar)[1:]]
+    keys = [key_of(*label_of(calendar, style, day)) for day in range(1, HIGH + 1)]
     return array.array("l", [-1] + keys)
 
 
@@ -89,7 +98,7 @@ def places(numbers, number):
 
 def dual_text(regime, day):
     year, month, of_month = dates(regime[0])[day]
-    styled = style_year(regime[1], (year, month, of_month))
+    styled = style_year(*regime[:2], day)
     text = f"{of_month} {MONTHS[month - 1]} {styled}"
     if styled >= year:
         return text
@@ -119,7 +128,8 @@ def gregorian_epact(year):
 
 @functools.cache
 def day_with(calendar, date):
-    return dates(calendar).index(date)
+    """The day of a date, which is sought from 365 days for each year before it, less a week."""
+    return dates(calendar).index(date, max(0, 365 * (date[0] - 1) - 7))
 
 
 @functools.cache
@@ -207,14 +217,13 @@ class Land:
 
     def found(self, day):
         regime = self.period(day)[2]
-        year, month, of_month = dates(regime[0])[day]
         return {
             "day": day,
             "dual": dual_text(regime, day),
             "gregorian": written(dates("gregorian")[day]),
             "jdn": day + 1_721_425,
             "julian": written(dates("julian")[day]),
-            "label": written((style_year(regime[1], (year, month, of_month)), month, of_month)),
+            "label": written(label_of(*regime[:2], day)),
             "weekday": WEEKDAYS[day % 7],
         }
 
@@ -229,10 +238,10 @@ NAMES = {1: "BadCode", 2: "BadName", 3: "UnknownLand", 4: "LandExists", 5: "DayO
 NAMES |= {6: "ChangeExists", 7: "NoSuchChange", 8: "OpeningPeriod", 9: "YearOffRange"}
 NAMES |= {10: "ExceptionExists", 11: "NoSuchException", 12: "TooManyLands", 13: "TooManyChanges"}
 NAMES |= {14: "TooManyExceptions", 15: "NothingPending", 16: "JournalFull", 17: "EditionsFull"}
-NAMES |= {18: "BadDate", 31: "LineTooLong", 32: "NotJson", 33: "NotObject", 34: "BadField"}
-NAMES |= {35: "UnknownOp", 36: "UnknownReader"}
+NAMES |= {18: "BadDate", 19: "StyleNeedsJulian", 31: "LineTooLong", 32: "NotJson"}
+NAMES |= {33: "NotObject", 34: "BadField", 35: "UnknownOp", 36: "UnknownReader"}
 REGIME = {"calendar": ("julian", "gregorian", "swedish"), "rule": ("julian", "gregorian")}
-REGIME["style"] = ("january", "annunciation", "nativity", "september")
+REGIME["style"] = ("january", "annunciation", "nativity", "september", "pisan", "easter")
 MEMBERS = {
     "add_land": "code name calendar style rule",
     "add_change": "code day calendar style rule",
@@ -335,10 +344,12 @@ class Service:
 
     def stage(self, op, value):
         code, day, year = value["code"], value.get("day"), value.get("year")
+        regime = tuple(value.get(member) for member in ("calendar", "style", "rule"))
         land = self.draft.get(code)
         tests = [(lambda: not is_code(code), 1)]
         if op == "add_land":
             tests += [(lambda: not is_name(value["name"]), 2), (lambda: land is not None, 4)]
+            tests += [(lambda: needs_julian(regime), 19)]
             tests += [(lambda: len(self.draft) >= self.most["lands"], 12)]
         else:
             tests += [(lambda: land is None, 3)]
@@ -347,10 +358,12 @@ class Service:
         if op in ("add_change", "drop_change"):
             tests += [(lambda: day == 1, 8)]
         if op == "add_change":
-            tests += [(lambda: day in land.starts, 6)]
+            tests += [(lambda: day in land.starts, 6), (lambda: needs_julian(regime), 19)]
             tests += [(lambda: len(land.starts) > self.most["changes"], 13)]
         if op in ("alter_change", "drop_change"):
             tests += [(lambda: day not in land.starts, 7)]
+        if op == "alter_change":
+            tests += [(lambda: needs_julian(regime), 19)]
         if op in ("add_exception", "drop_exception"):
             tests += [(lambda: not 1 <= year <= 2999, 9)]
         if op == "add_exception":
@@ -359,7 +372,6 @@ class Service:
         if op == "drop_exception":
             tests += [(lambda: year not in land.exceptions, 11)]
         refuse(*tests, (lambda: self.edits >= self.most["edits"], 16))
-        regime = tuple(value.get(member) for member in ("calendar", "style", "rule"))
         if op == "add_land":
             self.draft[code] = Land(value["name"], regime)
         elif op in ("add_change", "alter_change"):
@@ -409,6 +421,12 @@ class Service:
 
 def regime_of(regime):
     return dict(zip(("calendar", "style", "rule"), regime))
+
+
+def needs_julian(regime):
+    """Whether the style is that of Easter, and calendar or rule isn't Julian."""
+    calendar, style, rule = regime
+    return style == "easter" and (calendar, rule) != ("julian", "julian")
 
 
 def is_code(code):

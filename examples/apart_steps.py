@@ -135,18 +135,27 @@ NEXT = {"idle": "look", "noted": "pin", "marked": "check", "entered": "answer", 
 WORK = {"ready": ["stage", "stage", "publish"], "draining": ["claim"], "claimed": ["absorb"]}
 READER, EDITOR = list(NEXT.values()), ["stage", "publish", "claim", "absorb"]
 CODES = ["RM", "GB", "FR", "DE", "rm"]
-REGIME = {"calendar": "julian", "style": "january", "rule": "julian"}
+JULIAN = {"calendar": "julian", "style": "january", "rule": "julian"}
 
 
 def query(chance):
     code = chance.choice(CODES)
+    day = chance.choice([0, 1, 547_226, 563_670, 577_736])
     return chance.choice([{"op": "lands"}, {"op": "periods", "code": code},
-                          {"op": "day", "code": code, "day": chance.choice([0, 1, 577_736])}])
+                          {"op": "day", "code": code, "day": day}])
+
+
+def regime(chance):
+    """A regime of the Julian calendar mostly. That of Easter is refused with another one."""
+    style = chance.choice(["january", "january", "pisan", "easter"])
+    calendar = chance.choice(["julian", "julian", "gregorian"])
+    return {**JULIAN, "calendar": calendar, "style": style}
 
 
 def edit(chance):
-    edits = [{"op": "add_land", "name": "Sample", **REGIME},
-             {"op": "add_change", "day": 577_736, **REGIME, "calendar": "gregorian"},
+    edits = [{"op": "add_land", "name": "Sample", **regime(chance)},
+             {"op": "add_change", "day": 577_736, **regime(chance)},
+             {"op": "alter_change", "day": chance.choice([1, 577_736]), **regime(chance)},
              {"op": "drop_change", "day": 577_736}]
     return {**chance.choice(edits), "code": chance.choice(CODES)}
 

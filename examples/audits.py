@@ -6,9 +6,9 @@
 
 A journal of random edits is served, edition by edition, to readers who ask in between; each query
 and its reply are put down as a transcript, or the journal is worked through at a desk, whose
-transcript is taken. The audit has to agree to all replies. Then one digit within a reply is changed,
-and the audit has to name that line. In the end a transcript of over 128 MiB is audited, which has
-to say on a terminal how far it is, and nowhere else.
+transcript is taken. The audit has to agree to all replies. Then one digit within a reply is
+changed, and the audit has to name that line. In the end a transcript of over 128 MiB is audited,
+which has to say on a terminal how far it is, and nowhere else.
 """
 import json
 import os
@@ -35,8 +35,9 @@ def run(program, words, lines=()):
 
 
 def edit(chance):
-    edits = [{"op": "add_land", "name": "Sample \u00e9", **JULIAN},
-             {"op": "add_change", "day": 577_736, **JULIAN},
+    style = {"style": chance.choice(["january", "annunciation", "pisan", "easter"])}
+    edits = [{"op": "add_land", "name": "Sample \u00e9", **JULIAN, **style},
+             {"op": "add_change", "day": 577_736, **JULIAN, **style},
              {"op": "drop_change", "day": 577_736},
              {"op": "add_exception", "year": 1724, "day": 629_412}]
     return {**chance.choice(edits), "code": chance.choice(CODES)}
@@ -48,7 +49,8 @@ def query(chance):
                           {"op": "figures", "year": 1724},
                           {"op": "easter", "code": code, "year": 1724},
                           {"op": "day", "code": code, "day": 577_736},
-                          {"op": "read", "code": code, "year": 1582, "month": 10, "day": 4}])
+                          {"op": "read", "code": code, "year": 1582, "month": 10, "day": 4},
+                          {"op": "read", "code": code, "year": 1543, "month": 4, "day": 1}])
 
 
 def served(program, chance, journal):

@@ -20,6 +20,7 @@ HERE = os.path.dirname(os.path.abspath(__file__))
 READERS, EDITIONS, LANDS = 64, 40, 12
 JULIAN = {"calendar": "julian", "style": "january", "rule": "julian"}
 GREGORIAN = {"calendar": "gregorian", "style": "january", "rule": "gregorian"}
+STYLES = ["january", "annunciation", "nativity", "september", "pisan", "easter"]
 
 
 def compact(value):
@@ -32,25 +33,29 @@ def editions(chance):
     for place in range(EDITIONS):
         if place % 3 == 0 and len(codes) < LANDS:
             codes.append(f"L{len(codes):02}")
-            name = f"Sample {place}"
-            batches.append([{"op": "add_land", "code": codes[-1], "name": name, **JULIAN}])
+            name, regime = f"Sample {place}", {**JULIAN, "style": chance.choice(STYLES)}
+            batches.append([{"op": "add_land", "code": codes[-1], "name": name, **regime}])
         else:
             day = 560_000 + place
+            opening = chance.choice([JULIAN, GREGORIAN, {**JULIAN, "style": "easter"}])
+            regime = {**JULIAN, "style": chance.choice(STYLES)}
             batches.append([
-                {"op": "alter_change", "code": chance.choice(codes), "day": 1, **GREGORIAN},
-                {"op": "add_change", "code": chance.choice(codes), "day": day, **JULIAN},
+                {"op": "alter_change", "code": chance.choice(codes), "day": 1, **opening},
+                {"op": "add_change", "code": chance.choice(codes), "day": day, **regime},
             ])
     return batches
 
 
 def queries(chance):
-    """Some 50 queries, of territories that come early, late and never."""
+    """Some 80 queries, of territories that come early, late and never."""
     asked = [{"op": "lands"}]
     for place in range(LANDS + 1):
         code = f"L{place:02}"
         asked += [{"op": "periods", "code": code},
                   {"op": "easter", "code": code, "year": 1700 + place},
                   {"op": "read", "code": code, "year": 1534, "month": 3, "day": 1 + place},
+                  {"op": "read", "code": code, "year": 1533, "month": 3, "day": 15 + place},
+                  {"op": "read", "code": code, "year": 1534, "month": 4, "day": 1 + place},
                   {"op": "day", "code": code, "day": 560_000 + chance.randrange(EDITIONS)}]
     return asked
 
@@ -98,7 +103,7 @@ def main():
     chance, met = random.Random(1), set()
     batches, asked = editions(chance), queries(chance)
     told = told_by_service(program, batches, asked)
-    script = [compact({"journal": 1})]
+    script = [compact({"journal": 2})]
     for batch in batches:
         script += [compact(edit) for edit in batch] + [compact({"op": "publish"})]
     with tempfile.TemporaryDirectory() as room:

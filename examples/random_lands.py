@@ -1,13 +1,17 @@
 #!/usr/bin/env python3
-"""Holds what 100 random territories answer against a search through every day.
+"""Holds what random territories answer against a search through every day.
 
-    examples/random_lands.py [SEED [PROGRAM]]      seed 1 and ../oldstyle where none is given
+    examples/random_lands.py [SEED [PROGRAM [COUNT]]]
+        seed 1, ../oldstyle and 100 territories where none is given
 
 The search shares no rule of conversion with the service. The calendars are laid out month by month
 over all 1,095,362 days, each day is given its label under each calendar and style, and what a label
 means is looked up among all of them: that gives the readings and the skipped dates, the latter by
 the definition in docs/DEFINITIONS.md. Easter is found in the tables of the computus, day by day.
-It takes half a minute, and the time of the program for 10,000 readings and all years' Easters.
+Changes and labels come anywhere, and near Easter and 25 March, where years begin.
+
+Each 100 territories are a run of their own. It takes half a minute, and the time of the program for
+10,000 readings and all years' Easters.
 """
 import json
 import os
@@ -19,11 +23,15 @@ from array import array
 SEED = int(sys.argv[1]) if len(sys.argv) > 1 else 1
 HERE = os.path.dirname(os.path.abspath(__file__))
 PROGRAM = sys.argv[2] if len(sys.argv) > 2 else os.path.join(HERE, "..", "oldstyle")
+COUNT = int(sys.argv[3]) if len(sys.argv) > 3 else 100
 LANDS, READINGS = 100, 100
 HIGH, LAST_YEAR = 1_095_362, 2_999
 CALENDARS = ["julian", "gregorian", "swedish"]
-STYLES = ["january", "annunciation", "nativity", "september"]
+STYLES = ["january", "annunciation", "nativity", "september", "pisan"]
 RULES = ["julian", "gregorian"]
+
+# The style of Easter stands with the Julian calendar and rule alone.
+EASTER_STYLE = ("julian", "easter")
 
 # Days of the line at which something happens: its ends, and the changes of the Swedish calendar.
 EVENTS = [2, 3, HIGH - 1, HIGH, 620_616, 620_617, 620_618, 624_999, 625_000, 625_001, 625_002]
@@ -63,8 +71,16 @@ def styled(style, date):
     place = date % 10_000
     if style == "annunciation":
         return date - 10_000 if place < 325 else date
-    start = {"january": 1_300, "nativity": 1_225, "september": 901}[style]
+    start = {"january": 1_300, "nativity": 1_225, "september": 901, "pisan": 325}[style]
     return date + 10_000 if place >= start else date
+
+
+def styled_by_easter(dates, easters):
+    """The labels of all days, the years beginning at these days of Easter."""
+    labels = array("i", [0])
+    for day, date in enumerate(dates[1:], 1):
+        labels.append(date - 10_000 if day < easters[date // 10_000] else date)
+    return labels
 
 
 def gregorian_moon(year):
@@ -94,15 +110,27 @@ def easter_days(rule, dates):
 
 
 def random_regime(numbers):
+    if numbers.random() < 0.25:
+        return *EASTER_STYLE, "julian"
     return numbers.choice(CALENDARS), numbers.choice(STYLES), numbers.choice(RULES)
 
 
-def random_starts(numbers):
-    """The first days of periods with their regimes, ascending: anywhere, or close together."""
+def random_start(numbers, beginnings):
+    """A day on which a change may come: anywhere, at an event, or within weeks of a beginning."""
+    chance = numbers.random()
+    if chance < 0.1:
+        return numbers.choice(EVENTS)
+    if chance < 0.5:
+        return max(2, numbers.choice(beginnings) + numbers.randint(-35, 35))
+    return numbers.randint(2, HIGH)
+
+
+def random_starts(numbers, beginnings):
+    """The first days of periods with their regimes, ascending: far apart, or close together."""
     days = set()
     count = numbers.choice([0, 1, 2, 5, 10, 20, 40])
     while len(days) < count:
-        day = numbers.choice(EVENTS) if numbers.random() < 0.1 else numbers.randint(2, HIGH)
+        day = random_start(numbers, beginnings)
         for _ in range(numbers.choice([1, 1, 1, 2, 3])):
             if day <= HIGH and len(days) < count:
                 days.add(day)
@@ -115,17 +143,29 @@ def random_exceptions(numbers):
     return {year: numbers.randint(1, HIGH) for year in years}
 
 
+def random_spring(numbers, year):
+    """A label of that year from 10 March to 5 May, where Easter and 25 March are."""
+    place = numbers.randint(10, 66)
+    return key(year, 3, place) if place <= 31 else key(year, 4, min(place - 31, 30))
+
+
 def random_labels(numbers, starts, labels):
-    """Labels to read: near the changes under both of their regimes, leap days, and any others."""
+    """Labels to read: near the changes under both of their regimes, dates of spring, both near the
+    changes and in any years, leap days, and any others."""
     wanted = {key(1712, 2, 30), key(1700, 2, 29), key(0, 1, 3), key(3000, 12, 31)}
     while len(wanted) < READINGS:
         place = numbers.randrange(len(starts))
         regime = starts[numbers.choice([place, place - 1]) if place else 0][1]
         day = min(HIGH, max(1, starts[place][0] + numbers.randint(-15, 15)))
-        chance = numbers.random()
-        if chance < 0.6:
-            wanted.add(labels[regime[:2]][day])
+        chance, near = numbers.random(), labels[regime[:2]][day]
+        if chance < 0.45:
+            wanted.add(near)
+        elif chance < 0.65:
+            year = min(3_000, max(0, near // 10_000 + numbers.randint(-1, 1)))
+            wanted.add(random_spring(numbers, year))
         elif chance < 0.8:
+            wanted.add(random_spring(numbers, numbers.randint(0, 3000)))
+        elif chance < 0.9:
             wanted.add(key(numbers.randint(0, 3000), 2, numbers.choice([29, 29, 30])))
         else:
             month, day = numbers.randint(1, 12), numbers.randint(1, 31)
@@ -199,11 +239,11 @@ def label_text(label):
     return f"{label // 10_000:04}-{label // 100 % 100:02}-{label % 100:02}"
 
 
-def random_lands(numbers, labels):
+def random_lands(numbers, count, labels, beginnings):
     """Codes, with the periods of a territory, its exceptions and the labels to read there."""
     lands = {}
-    for number in range(LANDS):
-        starts = random_starts(numbers)
+    for number in range(count):
+        starts = random_starts(numbers, beginnings)
         wanted = random_labels(numbers, starts, labels)
         lands[f"T{number}"] = starts, random_exceptions(numbers), wanted
     return lands
@@ -242,8 +282,8 @@ def answered(reply):
     return days, texts, answer.get("skipped", answer.get("listed"))
 
 
-def report(cases, answers):
-    """Prints what differs, and how many cases say something."""
+def compared(cases, answers):
+    """How many cases there are, how many say something, and how many differ, which are printed."""
     apart = 0
     for (request, expected), reply in zip(cases, answers):
         if "fault" in reply or answered(reply) != expected:
@@ -252,20 +292,20 @@ def report(cases, answers):
                 print(f"{request}\n  is answered {reply}\n  the search: {expected}")
     several = sum(len(expected[0]) > 1 for _, expected in cases)
     lost = sum(isinstance(expected[2], list) and expected[2] != [] for _, expected in cases)
-    print(f"{len(cases)} cases, {several} of several days, {lost} skipped, {apart} differ")
-    return apart
+    return len(cases), several, lost, apart
 
 
-def main():
-    numbers = random.Random(SEED)
-    dates = {calendar: chain(calendar) for calendar in CALENDARS}
-    labels = {
-        (calendar, style): array("i", [styled(style, date) for date in dates[calendar]])
-        for calendar in CALENDARS
-        for style in STYLES
-    }
-    easters = {rule: easter_days(rule, dates[rule]) for rule in RULES}
-    lands = random_lands(numbers, labels)
+def days_that_begin(dates, easters):
+    """The days of Easter by both rules, and 25 March of each calendar."""
+    days = [day for found in easters.values() for day in found.values()]
+    for line in dates.values():
+        days += [day for day, date in enumerate(line) if date % 10_000 == 325]
+    return sorted(days)
+
+
+def run(numbers, count, labels, easters, beginnings):
+    """One run of so many territories, and what came of it."""
+    lands = random_lands(numbers, count, labels, beginnings)
     asked = set().union(*(wanted for _, _, wanted in lands.values()))
     under = {names: days_by_label(line, asked) for names, line in labels.items()}
 
@@ -280,7 +320,28 @@ def main():
     lines = replies(staged + [request for request, _ in cases])
     if any("fault" in line for line in lines[: len(staged)]):
         sys.exit("an edit was refused")
-    return 1 if report(cases, lines[len(staged) :]) else 0
+    return compared(cases, lines[len(staged) :])
+
+
+def main():
+    numbers = random.Random(SEED)
+    dates = {calendar: chain(calendar) for calendar in CALENDARS}
+    easters = {rule: easter_days(rule, dates[rule]) for rule in RULES}
+    labels = {
+        (calendar, style): array("i", [styled(style, date) for date in dates[calendar]])
+        for calendar in CALENDARS
+        for style in STYLES
+    }
+    labels[EASTER_STYLE] = styled_by_easter(dates["julian"], easters["julian"])
+    beginnings = days_that_begin(dates, easters)
+
+    sums = [0, 0, 0, 0]
+    for done in range(0, COUNT, LANDS):
+        told = run(numbers, min(LANDS, COUNT - done), labels, easters, beginnings)
+        sums = [one + more for one, more in zip(sums, told)]
+    cases, several, lost, apart = sums
+    print(f"{cases} cases, {several} of several days, {lost} skipped, {apart} differ")
+    return 1 if apart else 0
 
 
 sys.exit(main())

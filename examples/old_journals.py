@@ -1,0 +1,234 @@
+#!/usr/bin/env python3
+"""Holds what an older program and a newer one make of random journals of version 1.
+
+    examples/old_journals.py OLD NEW [COUNT [SEED]]      1,000 journals and seed 1 if none is given
+
+OLD and NEW are the words of a command, as in 'path/to/oldstyle', to which `serve` and its options
+are added. Each journal has edits of all six kinds and publishes, in any spelling that is allowed,
+and mostly edits that are pending. Some have a line that is refused or no request, so that nothing
+is loaded. Both programs load each journal, answer queries of all six kinds, make some further
+edits, and save. What they have to agree in: their statuses and messages, their replies, and what
+they save, but that the older one writes the head {"journal":1} and the newer one {"journal":2}.
+"""
+import json
+import os
+import random
+import shlex
+import subprocess
+import sys
+import tempfile
+
+HIGH, LAST_YEAR = 1_095_362, 2_999
+CALENDARS = ["julian", "gregorian", "swedish"]
+STYLES = ["january", "annunciation", "nativity", "september"]
+RULES = ["julian", "gregorian"]
+CODES = ["RM", "GB", "FR", "SE", "DE", "A1B2C3D4"]
+NAMES = ["Rome", "Sample", "Île é", "x" * 64, 'A "quoted" \\ name', "two  spaces"]
+HEADS = ['{"journal":1}', ' {"note":[1,2.5,null],"journal":1}\t', '{ "journal" : 1 }']
+
+# Days near which something happens: the line's ends, Swedish dates, and changes of calendar.
+DAYS = [1, 2, 3, HIGH, 620_617, 625_000, 625_001, 577_736, 639_551, 639_797, 700_214]
+
+# Lines of which each ends a journal of version 1, whatever was before it.
+BAD_LINES = [
+    "", "[1]", "{", '{"op":"fly"}', '{"op":7}', '{"op":"lands","reader":1}', '{"journal":1}',
+    '{"op":"add_land","code":"ZZ","name":"Later","calendar":"julian","style":"pisan",'
+    '"rule":"julian"}',
+    '{"op":"add_change","code":"RM","day":2,"calendar":"julian","style":"easter","rule":"julian"}',
+    '{"op":"alter_change","code":"RM","day":1,"calendar":"swedish","style":"easter",'
+    '"rule":"gregorian"}',
+    '{"op":"drop_change","code":"rm","day":2}', '{"op":"drop_change","code":"RM","day":0}',
+    '{"op":"add_exception","code":"RM","year":1582,"day":1.0}',
+]
+BAD_HEADS = ["", "{}", '{"journal":0}', '{"journal":3}', '{"journal":"1"}', '{"journal":1.0}']
+HEAD, NEXT_HEAD = b'{"journal":1}\n', b'{"journal":2}\n'
+
+
+def random_regime(chance):
+    words = {"calendar": CALENDARS, "style": STYLES, "rule": RULES}
+    return {member: chance.choice(among) for member, among in words.items()}
+
+
+def random_day(chance):
+    if chance.random() < 0.5:
+        return min(HIGH, max(1, chance.choice(DAYS) + chance.randint(-3, 3)))
+    return chance.randint(1, HIGH)
+
+
+class Lands:
+    """The territories of a journal, so that its edits are lawful unless they are to be refused."""
+
+    def __init__(self, chance):
+        self.chance, self.changes, self.exceptions = chance, {}, {}
+
+    def edit(self):
+        """An edit that is lawful."""
+        chance, absent = self.chance, [code for code in CODES if code not in self.changes]
+        if absent and (not self.changes or chance.random() < 0.2):
+            code = chance.choice(absent)
+            self.changes[code], self.exceptions[code] = set(), set()
+            name = chance.choice(NAMES)
+            return {"op": "add_land", "code": code, "name": name, **random_regime(chance)}
+        code = chance.choice(list(self.changes))
+        changes, exceptions = self.changes[code], self.exceptions[code]
+        op = chance.choice(["add_change", "alter_change", "drop_change",
+                            "add_exception", "drop_exception"])
+        if op == "alter_change":
+            day = chance.choice([1, *sorted(changes)])
+            return {"op": op, "code": code, "day": day, **random_regime(chance)}
+        if op == "drop_change" and changes:
+            day = chance.choice(sorted(changes))
+            changes.remove(day)
+            return {"op": op, "code": code, "day": day}
+        if op == "drop_exception" and exceptions:
+            year = chance.choice(sorted(exceptions))
+            exceptions.remove(year)
+            return {"op": op, "code": code, "year": year}
+        day, year = random_day(chance), chance.randint(1, LAST_YEAR)
+        if op == "add_change" and day > 1 and day not in changes and len(changes) < 40:
+            changes.add(day)
+            return {"op": op, "code": code, "day": day, **random_regime(chance)}
+        if year in exceptions:
+            return {"op": "alter_change", "code": code, "day": 1, **random_regime(chance)}
+        exceptions.add(year)
+        return {"op": "add_exception", "code": code, "year": year, "day": day}
+
+    def refused_edit(self):
+        """An edit that is refused, where there is a territory."""
+        chance, code = self.chance, self.chance.choice(list(self.changes))
+        changes, exceptions = self.changes[code], self.exceptions[code]
+        taken = chance.choice([1, *sorted(changes)])
+        edits = [
+            {"op": "add_land", "code": code, "name": "Again", **random_regime(chance)},
+            {"op": "add_change", "code": code, "day": taken, **random_regime(chance)},
+            {"op": "alter_change", "code": code, "day": HIGH + 1, **random_regime(chance)},
+            {"op": "drop_change", "code": code, "day": 1},
+            {"op": "drop_change", "code": "ZZ", "day": 2},
+            {"op": "add_exception", "code": code, "year": LAST_YEAR + 1, "day": 5},
+            {"op": "drop_exception", "code": code, "year": 0},
+        ]
+        edits += [{"op": "add_exception", "code": code, "year": year, "day": 7}
+                  for year in sorted(exceptions)[:1]]
+        return chance.choice(edits)
+
+
+def spelt(chance, value):
+    """A line of the value: as a program writes it, or with its members in another order, spaces,
+    a further member, and letters as numbers."""
+    if chance.random() < 0.5:
+        return json.dumps(value, separators=(",", ":"), sort_keys=True, ensure_ascii=False)
+    members = list(value.items()) + [("note", {"a": [1, None, 2.5]})] * chance.randrange(2)
+    chance.shuffle(members)
+    separators = chance.choice([(",", ":"), (", ", ": "), (" ,\t", " :  ")])
+    is_plain = chance.random() < 0.5
+    return json.dumps(dict(members), separators=separators, ensure_ascii=is_plain)
+
+
+def random_journal(chance):
+    """The lines of a journal, and the territories that it has where it isn't refused."""
+    lands, lines, pending = Lands(chance), [chance.choice(HEADS)], False
+    for _ in range(chance.choice([0, 1, 3, 10, 30, 60])):
+        is_publish = pending and chance.random() < 0.25
+        lines.append(spelt(chance, {"op": "publish"} if is_publish else lands.edit()))
+        pending = not is_publish
+    spoiling = chance.random()
+    if spoiling < 0.1:
+        lines.insert(chance.randint(1, len(lines)), chance.choice(BAD_LINES))
+    elif spoiling < 0.2 and lands.changes:
+        lines.append(spelt(chance, lands.refused_edit()))
+    elif spoiling < 0.23:
+        lines[0] = chance.choice(BAD_HEADS)
+    elif spoiling < 0.26 and not pending:
+        lines.append('{"op":"publish"}')
+    elif spoiling < 0.27:
+        lines.clear()
+    return lines, lands
+
+
+def random_queries(chance):
+    """Queries of each kind, with their readers, of territories that there are and are not."""
+    queries = []
+    for _ in range(chance.choice([1, 3, 6])):
+        code = chance.choice([*CODES, *CODES, "ZZ", "rm"])
+        label = {"year": chance.randint(-1, 3001), "month": chance.randint(0, 13)}
+        queries += [
+            {"op": "lands"},
+            {"op": "periods", "code": code},
+            {"op": "figures", "year": chance.randint(0, 3000)},
+            {"op": "easter", "code": code, "year": chance.randint(0, 3000)},
+            {"op": "day", "code": code, "day": random_day(chance)},
+            {"op": "read", "code": code, **label, "day": chance.randint(0, 32)},
+            {"op": "read", "code": code, "year": 1752, "month": 9, "day": chance.randint(1, 14)},
+        ]
+    return [{**query, "reader": chance.randint(1, 9)} for query in queries]
+
+
+def random_requests(chance, lands):
+    """Queries; mostly further edits and a publish too, and the queries again."""
+    queries = random_queries(chance)
+    requests = list(queries)
+    if chance.random() < 0.7:
+        requests += [lands.edit() for _ in range(chance.randrange(4))] + [{"op": "publish"}]
+        requests += queries
+    if chance.random() < 0.3:
+        requests.append(lands.edit())
+    return [spelt(chance, request) for request in requests]
+
+
+def made(command, journal, requests, saved):
+    """What a program makes of a journal: its status and message, its replies, and what it saves,
+    or None where it saves nothing."""
+    if os.path.exists(saved):
+        os.remove(saved)
+    words = [*command, "serve", "--journal", journal, "--save", saved]
+    done = subprocess.run(words, input=requests, capture_output=True, check=False)
+    journal_text = None
+    if os.path.exists(saved):
+        with open(saved, "rb") as file:
+            journal_text = file.read()
+    return done.returncode, done.stderr, done.stdout, journal_text
+
+
+def difference(old, new):
+    """In what the two differ, or None."""
+    for name, one, other in zip(("statuses", "messages", "replies"), old, new):
+        if one != other:
+            return f"{name}: {one!r}\n  and {other!r}"
+    one, other = old[3], new[3]
+    if (one is None) != (other is None):
+        return f"saved: {one!r}\n  and {other!r}"
+    if one is not None and not (one.startswith(HEAD) and other.startswith(NEXT_HEAD)):
+        return f"saved heads: {one[:40]!r}\n  and {other[:40]!r}"
+    if one is not None and one[len(HEAD) :] != other[len(NEXT_HEAD) :]:
+        return f"saved: {one!r}\n  and {other!r}"
+    return None
+
+
+def main():
+    if len(sys.argv) < 3:
+        sys.exit(__doc__)
+    commands = [shlex.split(words) for words in sys.argv[1:3]]
+    count = int(sys.argv[3]) if len(sys.argv) > 3 else 1_000
+    chance = random.Random(int(sys.argv[4]) if len(sys.argv) > 4 else 1)
+    failed = refused = 0
+    with tempfile.TemporaryDirectory() as room:
+        journal, saved = (os.path.join(room, name) for name in ("journal", "saved"))
+        for place in range(count):
+            lines, lands = random_journal(chance)
+            requests = random_requests(chance, lands)
+            with open(journal, "w", encoding="utf-8", newline="\n") as file:
+                file.write("\n".join(lines) + chance.choice(["\n", ""]))
+            text = "".join(line + "\n" for line in requests).encode()
+            old, new = (made(command, journal, text, saved) for command in commands)
+            refused += old[0] == 1
+            if told := difference(old, new):
+                failed += 1
+                if failed <= 10:
+                    print(f"journal {place}, {len(lines)} lines: {told}")
+    print(f"{refused} of the journals are refused by the older program")
+    print(f"journals: {count - failed} hold, {failed} fail")
+    return 1 if failed else 0
+
+
+if __name__ == "__main__":
+    sys.exit(main())
