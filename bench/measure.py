@@ -16,12 +16,19 @@ PLAIN = os.path.join(HERE, "plain")
 ROUNDS = 5
 
 CALENDARS = ["julian", "gregorian", "swedish"]
-STYLES = ["january", "annunciation", "nativity", "september"]
 RULES = ["julian", "gregorian"]
 LAST_YEAR = 2_999
 
+# The loads are compared between commits, so they have the styles that all of these know. The others
+# are measured where `--six` is among the words.
+STYLES = ["january", "annunciation", "nativity", "september"]
+SIX_STYLES = STYLES + ["pisan", "easter"]
+WORDS = [word for word in sys.argv[1:] if word != "--six"]
+IS_SIX = "--six" in sys.argv[1:]
+
 JULIAN = {"calendar": "julian", "style": "january", "rule": "julian"}
 GREGORIAN = {"calendar": "gregorian", "style": "january", "rule": "gregorian"}
+EASTER_STYLE = {**JULIAN, "style": "easter"}
 
 
 def request(op, **members):
@@ -64,10 +71,12 @@ def published_after(count):
     return lines
 
 
-def regime(number):
-    """A regime of each calendar, style and rule in turn."""
-    calendar, style, rule = CALENDARS[number % 3], STYLES[number // 3 % 4], RULES[number % 2]
-    return {"calendar": calendar, "style": style, "rule": rule}
+def regime(number, styles):
+    """A regime of each calendar, style and rule in turn; that of the Easter style is Julian."""
+    style = styles[number // 3 % len(styles)]
+    if style == "easter":
+        return EASTER_STYLE
+    return {"calendar": CALENDARS[number % 3], "style": style, "rule": RULES[number % 2]}
 
 
 def land_edits(code, opening, changes):
@@ -77,13 +86,14 @@ def land_edits(code, opening, changes):
         yield request("add_change", code=code, day=day, **words)
 
 
-def many_territories(count):
-    """500 territories with so many changes each, spread over the whole line, of all regimes."""
+def many_territories(count, styles=STYLES):
+    """500 territories with so many changes each, spread over the whole line, of all regimes of
+    these styles."""
     edits = []
     for place in range(LANDS):
         days = [(change * 27_000 + place * 37, change) for change in range(1, count + 1)]
-        changes = [(day, regime(place + change)) for day, change in days]
-        edits += land_edits(f"T{place:05}", regime(place), changes)
+        changes = [(day, regime(place + change, styles)) for day, change in days]
+        edits += land_edits(f"T{place:05}", regime(place, styles), changes)
     return edits
 
 
@@ -105,7 +115,7 @@ def usual_read(code, n):
 
 def program():
     """The program of the command line, or the one that was built."""
-    return sys.argv[1] if len(sys.argv) > 1 else BUILT
+    return WORDS[0] if WORDS else BUILT
 
 
 def is_stale(built, sources):

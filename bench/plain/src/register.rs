@@ -31,6 +31,7 @@ pub enum Refusal {
     JournalFull,
     EditionsFull,
     BadDate,
+    StyleNeedsJulian,
 }
 
 use Refusal::*;
@@ -65,6 +66,10 @@ pub fn check_year(year: i64) -> Result<(), Refusal> {
     ensure((1..=LAST_YEAR).contains(&year), YearOffRange)
 }
 
+fn check_style(regime: Regime) -> Result<(), Refusal> {
+    ensure(regime.has_lawful_style(), StyleNeedsJulian)
+}
+
 fn is_code(code: &str) -> bool {
     (2..=8).contains(&code.len())
         && code
@@ -91,24 +96,27 @@ impl Register {
     }
 
     fn check(&self, edit: &Edit) -> Result<(), Refusal> {
-        if let Action::AddLand { name, .. } = &edit.action {
+        if let Action::AddLand { name, regime } = &edit.action {
             ensure(is_code(&edit.code), BadCode)?;
             ensure(is_name(name), BadName)?;
             ensure(!self.territories.contains_key(&edit.code), LandExists)?;
+            check_style(*regime)?;
             return ensure(self.lands.len() < LANDS, TooManyLands);
         }
         let territory = self.territory(&edit.code)?;
         match edit.action {
             Action::AddLand { .. } => Ok(()),
-            Action::AddChange { day, .. } => {
+            Action::AddChange { day, regime } => {
                 check_day(day)?;
                 ensure(day > 1, OpeningPeriod)?;
                 ensure(!territory.has_start(day), ChangeExists)?;
+                check_style(regime)?;
                 ensure(territory.changes() < CHANGES, TooManyChanges)
             }
-            Action::AlterChange { day, .. } => {
+            Action::AlterChange { day, regime } => {
                 check_day(day)?;
-                ensure(territory.has_start(day), NoSuchChange)
+                ensure(territory.has_start(day), NoSuchChange)?;
+                check_style(regime)
             }
             Action::DropChange { day } => {
                 check_day(day)?;

@@ -37,6 +37,8 @@ fn style_word(style: Style) -> &'static str {
         Style::Annunciation => "annunciation",
         Style::Nativity => "nativity",
         Style::September => "september",
+        Style::Pisan => "pisan",
+        Style::Easter => "easter",
     }
 }
 

@@ -67,6 +67,8 @@ impl Members {
             "annunciation" => Style::Annunciation,
             "nativity" => Style::Nativity,
             "september" => Style::September,
+            "pisan" => Style::Pisan,
+            "easter" => Style::Easter,
             _ => return Err(Fault::BadField("style")),
         };
         let rule = match self.text("rule")? {

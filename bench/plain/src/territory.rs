@@ -19,13 +19,16 @@ const MONTHS: [&str; 12] = [
     "December",
 ];
 
-/// Where the year begins: 1 January, 25 March, 25 December before or 1 September before.
+/// Where the year begins: 1 January, 25 March, 25 December before, 1 September before, 25 March
+/// before, or the Julian Easter.
 #[derive(Clone, Copy, PartialEq, Eq)]
 pub enum Style {
     January,
     Annunciation,
     Nativity,
     September,
+    Pisan,
+    Easter,
 }
 
 #[derive(Clone, Copy, PartialEq, Eq)]
@@ -35,14 +38,42 @@ pub struct Regime {
     pub rule: Rule,
 }
 
+/// Whether a Julian date is one of the line, and before the Easter of its year, which is from 22
+/// March to 25 April.
+fn is_before_easter(date: Date) -> bool {
+    let place = (date.month, date.day);
+    let is_before = |day| day < easter(Rule::Julian, date.year);
+    place < (3, 22) || place < (4, 25) && day_of(Calendar::Julian, date).is_some_and(is_before)
+}
+
+/// The days that have a label under a regime: the first one, and the other one.
+type Days = [Option<i64>; 2];
+
+const NO_DAYS: Days = [None, None];
+
 impl Regime {
-    fn year_of(self, date: Date) -> i64 {
+    /// Whether the style may stand here: that of Easter wants the Julian calendar and rule.
+    pub fn has_lawful_style(self) -> bool {
+        self.style != Style::Easter
+            || self.calendar == Calendar::Julian && self.rule == Rule::Julian
+    }
+
+    /// The year as a style counts it whose years begin on the same date each time.
+    fn year_by_date(self, date: Date) -> i64 {
         let place = (date.month, date.day);
         match self.style {
             Style::Annunciation if place < (3, 25) => date.year - 1,
             Style::Nativity if place >= (12, 25) => date.year + 1,
             Style::September if place >= (9, 1) => date.year + 1,
+            Style::Pisan if place >= (3, 25) => date.year + 1,
             _ => date.year,
+        }
+    }
+
+    fn year_of(self, date: Date) -> i64 {
+        match self.style {
+            Style::Easter => date.year - i64::from(is_before_easter(date)),
+            _ => self.year_by_date(date),
         }
     }
 
@@ -54,12 +85,18 @@ impl Regime {
         }
     }
 
-    /// The day that has the label: its year counted from 1 January is at most one away.
-    fn day_of_label(self, label: Date) -> Option<i64> {
-        (label.year - 1..=label.year + 1)
-            .map(|year| Date { year, ..label })
-            .filter(|&date| self.year_of(date) == label.year)
-            .find_map(|date| day_of(self.calendar, date))
+    /// The days that have the label: their years counted from 1 January are at most one away. Two
+    /// days have it under the style of Easter alone.
+    fn days_of_label(self, label: Date) -> Days {
+        let mut dates = (label.year - 1..=label.year + 1).map(|year| Date { year, ..label });
+        if self.style == Style::Easter {
+            let mut days = dates
+                .filter(|&date| self.year_of(date) == label.year)
+                .filter_map(|date| day_of(self.calendar, date));
+            return [days.next(), days.next()];
+        }
+        let date = dates.find(|&date| self.year_by_date(date) == label.year);
+        [date.and_then(|date| day_of(self.calendar, date)), None]
     }
 
     /// The day as it is cited: `11 February 1731/2`.
@@ -83,11 +120,27 @@ impl Regime {
     }
 }
 
+/// Whether the days of a label lie so that a change steps over it: an old one is late or there is
+/// none, a new one is early or there is none, and not both have none.
+fn is_passed_over(old: Days, new: Days, change: i64) -> bool {
+    let [first_new, _] = new;
+    let last_old = old[1].or(old[0]);
+    let is_late = last_old.map_or(true, |day| day >= change);
+    let is_early = first_new.map_or(true, |day| day < change);
+    is_late && is_early && (last_old, first_new) != (None, None)
+}
+
 #[derive(Clone, Copy)]
 pub struct Period {
     pub first: i64,
     pub last: i64,
     pub regime: Regime,
+}
+
+impl Period {
+    fn has(self, day: i64) -> bool {
+        (self.first..=self.last).contains(&day)
+    }
 }
 
 pub struct Territory {
@@ -155,16 +208,17 @@ impl Territory {
     /// The days that have the label, and the days of the changes at which it was skipped.
     pub fn read(&self, label: Date) -> (Vec<i64>, Vec<i64>) {
         let (mut found, mut skipped) = (Vec::new(), Vec::new());
-        let mut before = None;
+        let (mut old, mut was_read) = (NO_DAYS, false);
         for (place, period) in self.periods().enumerate() {
-            let day = period.regime.day_of_label(label);
-            found.extend(day.filter(|day| (period.first..=period.last).contains(day)));
-            let is_late = before.map_or(true, |day| day >= period.first);
-            let is_early = day.map_or(true, |day| day < period.first);
-            if place > 0 && is_late && is_early && (before, day) != (None, None) {
+            let days = period.regime.days_of_label(label);
+            let count = found.len();
+            found.extend(days.into_iter().flatten().filter(|&day| period.has(day)));
+            let is_read = found.len() > count;
+            let is_missing = place > 0 && !is_read && !was_read;
+            if is_missing && is_passed_over(old, days, period.first) {
                 skipped.push(period.first);
             }
-            before = day;
+            (old, was_read) = (days, is_read);
         }
         (found, skipped)
     }
