@@ -17,14 +17,18 @@ ROUNDS = 5
 
 CALENDARS = ["julian", "gregorian", "swedish"]
 RULES = ["julian", "gregorian"]
-LAST_YEAR = 2_999
 
-# The loads are compared between commits, so they have the styles that all of these know. The others
-# are measured where `--six` is among the words.
+# The loads are compared between commits, so they have the styles, years and days that all of these
+# know. The other styles are measured where `--six` is among the words, and the whole line, to the
+# end of the year 9999, where `--long` is.
 STYLES = ["january", "annunciation", "nativity", "september"]
 SIX_STYLES = STYLES + ["pisan", "easter"]
-WORDS = [word for word in sys.argv[1:] if word != "--six"]
-IS_SIX = "--six" in sys.argv[1:]
+WORDS = [word for word in sys.argv[1:] if word not in ("--six", "--long")]
+IS_SIX, IS_LONG = "--six" in sys.argv[1:], "--long" in sys.argv[1:]
+LAST_DAY, LAST_YEAR = (3_652_059, 9_999) if IS_LONG else (1_095_362, 2_999)
+
+# The days between the changes of a territory that has many.
+APART = 90_000 if IS_LONG else 27_000
 
 JULIAN = {"calendar": "julian", "style": "january", "rule": "julian"}
 GREGORIAN = {"calendar": "gregorian", "style": "january", "rule": "gregorian"}
@@ -87,11 +91,11 @@ def land_edits(code, opening, changes):
 
 
 def many_territories(count, styles=STYLES):
-    """500 territories with so many changes each, spread over the whole line, of all regimes of
-    these styles."""
+    """500 territories with so many changes each, spread over all days up to the last one, of all
+    regimes of these styles."""
     edits = []
     for place in range(LANDS):
-        days = [(change * 27_000 + place * 37, change) for change in range(1, count + 1)]
+        days = [(change * APART + place * 37, change) for change in range(1, count + 1)]
         changes = [(day, regime(place + change, styles)) for day, change in days]
         edits += land_edits(f"T{place:05}", regime(place, styles), changes)
     return edits

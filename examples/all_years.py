@@ -1,5 +1,5 @@
 #!/usr/bin/env python3
-"""Holds the figures of all 2,999 years against formulas written apart.
+"""Holds the figures of all 9,999 years against formulas written apart.
 
     examples/all_years.py [PROGRAM]
 
@@ -15,7 +15,7 @@ import sys
 
 HERE = os.path.dirname(os.path.abspath(__file__))
 PROGRAM = sys.argv[1] if len(sys.argv) > 1 else os.path.join(HERE, "..", "oldstyle")
-YEARS = range(1, 3000)
+YEARS = range(1, 10_000)
 
 
 def julian_day(year, month, day):

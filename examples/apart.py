@@ -12,7 +12,7 @@ import json
 import re
 import sys
 
-HIGH = 1_095_362
+HIGH, LAST_YEAR, LAST_LABEL_YEAR = 3_652_059, 9_999, 10_000
 MONTHS = (
     "January February March April May June July August September October November December"
 ).split()
@@ -83,7 +83,7 @@ def key_of(year, month, day):
 def labels(calendar, style):
     """The labels of all days as numbers, the place of a label being its day. No day is 0."""
     keys = [key_of(*label_of(calendar, style, day)) for day in range(1, HIGH + 1)]
-    return array.array("l", [-1] + keys)
+    return array.array("i", [-1] + keys)
 
 
 def places(numbers, number):
@@ -189,7 +189,7 @@ class Land:
     def all_labels(self):
         key = tuple(self.periods())
         if key != getattr(self, "known", None):
-            self.known, self.labelled = key, array.array("l", [-1])
+            self.known, self.labelled = key, array.array("i", [-1])
             for first, last, (calendar, style, _) in key:
                 self.labelled += labels(calendar, style)[first : last + 1]
         return self.labelled
@@ -365,7 +365,7 @@ class Service:
         if op == "alter_change":
             tests += [(lambda: needs_julian(regime), 19)]
         if op in ("add_exception", "drop_exception"):
-            tests += [(lambda: not 1 <= year <= 2999, 9)]
+            tests += [(lambda: not 1 <= year <= LAST_YEAR, 9)]
         if op == "add_exception":
             tests += [(lambda: year in land.exceptions, 10)]
             tests += [(lambda: len(land.exceptions) >= self.most["exceptions"], 14)]
@@ -397,7 +397,7 @@ class Service:
             lands = self.published.items()
             return {"lands": [{"code": code, "name": land.name} for code, land in lands]}
         if op == "figures":
-            refuse((lambda: not 1 <= year <= 2999, 9))
+            refuse((lambda: not 1 <= year <= LAST_YEAR, 9))
             return figures(year)
         land = self.published.get(code)
         refuse((lambda: not is_code(code), 1), (lambda: land is None, 3))
@@ -410,10 +410,10 @@ class Service:
             found = land.found(day)
             return {"first": first, "found": found, "last": last, "regime": regime_of(regime)}
         if op == "easter":
-            refuse((lambda: not 1 <= year <= 2999, 9))
+            refuse((lambda: not 1 <= year <= LAST_YEAR, 9))
             days = [land.found(d) for d in land.easters(year)]
             return {"days": days, "listed": year in land.exceptions}
-        refuse((lambda: not 0 <= year <= 3000, 9))
+        refuse((lambda: not 0 <= year <= LAST_LABEL_YEAR, 9))
         refuse((lambda: not 1 <= month <= 12 or not 1 <= day <= 31, 18))
         key = key_of(year, month, day)
         return {"days": [land.found(d) for d in land.read(key)], "skipped": land.skipped(key)}

@@ -9,6 +9,11 @@ and mostly edits that are pending. Some have a line that is refused or no reques
 is loaded. Both programs load each journal, answer queries of all six kinds, make some further
 edits, and save. What they have to agree in: their statuses and messages, their replies, and what
 they save, but that the older one writes the head {"journal":1} and the newer one {"journal":2}.
+
+By the older program's rules the line ends on 31 December 2999, and by the newer one's on that of
+9999; the journals and queries are of days and years that both have, or neither. In a reply of the
+newer one the end of its line counts as that of the shorter one, days found behind that are left
+out, and of labels about the year 2999 the skipped dates are not compared.
 """
 import json
 import os
@@ -18,7 +23,14 @@ import subprocess
 import sys
 import tempfile
 
+# The last day and year by the older program's rules, and what is off the line by those of both.
 HIGH, LAST_YEAR = 1_095_362, 2_999
+OFF_DAY, OFF_YEAR, OFF_LABEL_YEAR = 3_652_060, 10_000, 10_001
+
+# The last day by the newer program's rules; and the last year of which the days of each label, in
+# any calendar, are on both lines.
+NEW_HIGH, LAST_FULL_YEAR = 3_652_059, 2_997
+
 CALENDARS = ["julian", "gregorian", "swedish"]
 STYLES = ["january", "annunciation", "nativity", "september"]
 RULES = ["julian", "gregorian"]
@@ -53,6 +65,17 @@ def random_day(chance):
     if chance.random() < 0.5:
         return min(HIGH, max(1, chance.choice(DAYS) + chance.randint(-3, 3)))
     return chance.randint(1, HIGH)
+
+
+def random_year(chance):
+    """A year that both lines have, or now and then one that neither has."""
+    return chance.choice([0, OFF_YEAR]) if chance.random() < 0.01 else chance.randint(1, LAST_YEAR)
+
+
+def random_label_year(chance):
+    """The same of the year of a label."""
+    is_off = chance.random() < 0.01
+    return chance.choice([-1, OFF_LABEL_YEAR]) if is_off else chance.randint(0, LAST_YEAR + 1)
 
 
 class Lands:
@@ -101,10 +124,10 @@ class Lands:
         edits = [
             {"op": "add_land", "code": code, "name": "Again", **random_regime(chance)},
             {"op": "add_change", "code": code, "day": taken, **random_regime(chance)},
-            {"op": "alter_change", "code": code, "day": HIGH + 1, **random_regime(chance)},
+            {"op": "alter_change", "code": code, "day": OFF_DAY, **random_regime(chance)},
             {"op": "drop_change", "code": code, "day": 1},
             {"op": "drop_change", "code": "ZZ", "day": 2},
-            {"op": "add_exception", "code": code, "year": LAST_YEAR + 1, "day": 5},
+            {"op": "add_exception", "code": code, "year": OFF_YEAR, "day": 5},
             {"op": "drop_exception", "code": code, "year": 0},
         ]
         edits += [{"op": "add_exception", "code": code, "year": year, "day": 7}
@@ -150,12 +173,12 @@ def random_queries(chance):
     queries = []
     for _ in range(chance.choice([1, 3, 6])):
         code = chance.choice([*CODES, *CODES, "ZZ", "rm"])
-        label = {"year": chance.randint(-1, 3001), "month": chance.randint(0, 13)}
+        label = {"year": random_label_year(chance), "month": chance.randint(0, 13)}
         queries += [
             {"op": "lands"},
             {"op": "periods", "code": code},
-            {"op": "figures", "year": chance.randint(0, 3000)},
-            {"op": "easter", "code": code, "year": chance.randint(0, 3000)},
+            {"op": "figures", "year": random_year(chance)},
+            {"op": "easter", "code": code, "year": random_year(chance)},
             {"op": "day", "code": code, "day": random_day(chance)},
             {"op": "read", "code": code, **label, "day": chance.randint(0, 32)},
             {"op": "read", "code": code, "year": 1752, "month": 9, "day": chance.randint(1, 14)},
@@ -189,6 +212,35 @@ def made(command, journal, requests, saved):
     return done.returncode, done.stderr, done.stdout, journal_text
 
 
+def compact(value):
+    return json.dumps(value, separators=(",", ":"), sort_keys=True, ensure_ascii=False)
+
+
+def on_shorter_line(request, reply):
+    """A reply as it has to be by the shorter line: the last day of a last period is that line's, a
+    reading has the days that are on it, and is without skipped dates where they may differ."""
+    told = json.loads(reply)
+    if "answer" not in told or compact(told) != reply:
+        return reply
+    asked, answer = json.loads(request), told["answer"]
+    for period in [answer, *answer.get("periods", [])]:
+        if period.get("last") == NEW_HIGH:
+            period["last"] = HIGH
+    if asked["op"] == "read":
+        answer["days"] = [found for found in answer["days"] if found["day"] <= HIGH]
+        if asked["year"] > LAST_FULL_YEAR:
+            del answer["skipped"]
+    return compact(told)
+
+
+def compared(requests, run):
+    """What a run is compared by, its replies being those of the shorter line."""
+    replies = run[2].decode().splitlines()
+    if len(replies) == len(requests):
+        replies = [on_shorter_line(*pair) for pair in zip(requests, replies)]
+    return run[0], run[1], replies, run[3]
+
+
 def difference(old, new):
     """In what the two differ, or None."""
     for name, one, other in zip(("statuses", "messages", "replies"), old, new):
@@ -219,7 +271,8 @@ def main():
             with open(journal, "w", encoding="utf-8", newline="\n") as file:
                 file.write("\n".join(lines) + chance.choice(["\n", ""]))
             text = "".join(line + "\n" for line in requests).encode()
-            old, new = (made(command, journal, text, saved) for command in commands)
+            runs = [made(command, journal, text, saved) for command in commands]
+            old, new = (compared(requests, run) for run in runs)
             refused += old[0] == 1
             if told := difference(old, new):
                 failed += 1

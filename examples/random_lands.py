@@ -5,12 +5,12 @@
         seed 1, ../oldstyle and 100 territories where none is given
 
 The search shares no rule of conversion with the service. The calendars are laid out month by month
-over all 1,095,362 days, each day is given its label under each calendar and style, and what a label
+over all 3,652,059 days, each day is given its label under each calendar and style, and what a label
 means is looked up among all of them: that gives the readings and the skipped dates, the latter by
 the definition in docs/DEFINITIONS.md. Easter is found in the tables of the computus, day by day.
 Changes and labels come anywhere, and near Easter and 25 March, where years begin.
 
-Each 100 territories are a run of their own. It takes half a minute, and the time of the program for
+Each 30 territories are a run of their own. It takes two minutes, and the time of the program for
 10,000 readings and all years' Easters.
 """
 import json
@@ -24,8 +24,8 @@ SEED = int(sys.argv[1]) if len(sys.argv) > 1 else 1
 HERE = os.path.dirname(os.path.abspath(__file__))
 PROGRAM = sys.argv[2] if len(sys.argv) > 2 else os.path.join(HERE, "..", "oldstyle")
 COUNT = int(sys.argv[3]) if len(sys.argv) > 3 else 100
-LANDS, READINGS = 100, 100
-HIGH, LAST_YEAR = 1_095_362, 2_999
+LANDS, READINGS = 30, 100
+HIGH, LAST_YEAR, LAST_LABEL_YEAR = 3_652_059, 9_999, 10_000
 CALENDARS = ["julian", "gregorian", "swedish"]
 STYLES = ["january", "annunciation", "nativity", "september", "pisan"]
 RULES = ["julian", "gregorian"]
@@ -152,7 +152,7 @@ def random_spring(numbers, year):
 def random_labels(numbers, starts, labels):
     """Labels to read: near the changes under both of their regimes, dates of spring, both near the
     changes and in any years, leap days, and any others."""
-    wanted = {key(1712, 2, 30), key(1700, 2, 29), key(0, 1, 3), key(3000, 12, 31)}
+    wanted = {key(1712, 2, 30), key(1700, 2, 29), key(0, 1, 3), key(LAST_LABEL_YEAR, 12, 31)}
     while len(wanted) < READINGS:
         place = numbers.randrange(len(starts))
         regime = starts[numbers.choice([place, place - 1]) if place else 0][1]
@@ -161,15 +161,15 @@ def random_labels(numbers, starts, labels):
         if chance < 0.45:
             wanted.add(near)
         elif chance < 0.65:
-            year = min(3_000, max(0, near // 10_000 + numbers.randint(-1, 1)))
+            year = min(LAST_LABEL_YEAR, max(0, near // 10_000 + numbers.randint(-1, 1)))
             wanted.add(random_spring(numbers, year))
         elif chance < 0.8:
-            wanted.add(random_spring(numbers, numbers.randint(0, 3000)))
+            wanted.add(random_spring(numbers, numbers.randint(0, LAST_LABEL_YEAR)))
         elif chance < 0.9:
-            wanted.add(key(numbers.randint(0, 3000), 2, numbers.choice([29, 29, 30])))
+            wanted.add(key(numbers.randint(0, LAST_LABEL_YEAR), 2, numbers.choice([29, 29, 30])))
         else:
             month, day = numbers.randint(1, 12), numbers.randint(1, 31)
-            wanted.add(key(numbers.randint(0, 3000), month, day))
+            wanted.add(key(numbers.randint(0, LAST_LABEL_YEAR), month, day))
     return wanted
 
 

@@ -1,7 +1,8 @@
 //! Days and dates. Day 1 is 1 January of year 1 in the Gregorian calendar.
 
-pub const LAST_DAY: i64 = 1_095_362;
-pub const LAST_YEAR: i64 = 2_999;
+pub const LAST_DAY: i64 = 3_652_059;
+pub const LAST_YEAR: i64 = 9_999;
+pub const LAST_LABEL_YEAR: i64 = 10_000;
 
 /// The day before 1 March of year 0, in each calendar.
 const GREGORIAN_MARCH: i64 = -305;

@@ -1,6 +1,6 @@
 //! From a request to the JSON value of its reply.
 
-use crate::calendar::{date_of, Calendar, Date};
+use crate::calendar::{date_of, Calendar, Date, LAST_LABEL_YEAR};
 use crate::computus::{
     easter, golden_number, gregorian_epact, indiction, julian_epact, sunday_letters, Rule,
 };
@@ -86,7 +86,7 @@ fn period_value(period: Period) -> Value {
 }
 
 fn reading(territory: &Territory, label: Date) -> Result<Value, Refusal> {
-    ensure((0..=3_000).contains(&label.year), Refusal::YearOffRange)?;
+    ensure((0..=LAST_LABEL_YEAR).contains(&label.year), Refusal::YearOffRange)?;
     let is_date = (1..=12).contains(&label.month) && (1..=31).contains(&label.day);
     ensure(is_date, Refusal::BadDate)?;
     let (days, skipped) = territory.read(label);

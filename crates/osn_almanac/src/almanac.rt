@@ -29,7 +29,7 @@ fn written(alloc: Global, register: &Register, code: &str, year: i64) -> Result<
     Ok(text)
 }
 
-/// The almanac of a territory and a year from 1 to 2999: the figures of the year, the changes that
+/// The almanac of a territory and a year from 1 to 9999: the figures of the year, the changes that
 /// fall in it, its feasts and the first days of its months. The figures, the Easters and the
 /// heading count the year from 1 January, and the months count it as the territory does.
 ///

@@ -181,7 +181,7 @@ fn almanac_words<'a>(alloc: Global) -> Result<Command<'a>, AllocError>
 {
     let journal = required_word(alloc, "journal", "JOURNAL").help("The file of the journal");
     let code = required_word(alloc, "code", "CODE").help("The code of the territory");
-    let year = year_word(alloc).help("The year, 1 to 2999");
+    let year = year_word(alloc).help("The year, 1 to 9999");
     Command::new(alloc, "almanac")
         .about("Prints the almanac of a territory and year, as a journal published the territory")
         .after_help(ALMANAC_EXAMPLE)

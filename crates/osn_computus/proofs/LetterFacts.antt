@@ -12,7 +12,7 @@ use Rattle.osn_days.specs.declared.calendar.Calendar.TheVariants.{Julian, Gregor
 use Rattle.osn_days.specs.Profile.{newest_rules}
 use Rattle.osn_days.specs.Line.{weekday, IsDay, IsYear}
 use Rattle.osn_days.specs.Chain.{is_leap, month_length, chain, date_of, days_with_date}
-use Rattle.osn_days.proofs.ChainFacts.{chain_apart}
+use Rattle.osn_days.proofs.ChainFacts.{chain_apart, chain_rises}
 use Rattle.osn_days.proofs.LineFacts.{one_day}
 use Rattle.osn_computus.specs.declared.letter.Letter.{Letter}
 use Rattle.osn_computus.specs.declared.letter.Letter.TheVariants.{A, B, C, D, E, F, G}
@@ -131,9 +131,26 @@ letter_found c y low high l found each =
 not_leap_month : (e : Date) → e.month ≢ 2 → is_leap_day e ≡ false
 not_leap_month e other = grind (arith, nat_tests)
 
-pub january_found : (c : Calendar) → c ≢ Swedish → (y : ℕ) → IsYear newest_rules y
-    → Found newest_rules (is_sunday_of c y 1 1)
-january_found c months y year =
+-- a Sunday of January is on the line
+pub record January (c : Calendar) (y : ℕ) : Type 0 where
+  pub day : ℕ
+  pub low : 1 ≤ day
+  pub high : day ≤ newest_rules.high
+  pub is : is_sunday_of c y 1 1 day ≡ true
+  pub before_march : day ≤ march_1 c y + 1
+
+-- a day of January is before 1 March
+january_early : (c : Calendar) → c ≢ Swedish → (y n : ℕ) (day : ℕ) → 1 ≤ y → day ≤ 31
+    → chain c n ≡ date (pos y) 1 day → n ≤ march_1 c y
+january_early c months y n day low high is =
+    let march = march_at c months y low in
+    elim (cases_lt (march_1 c y) n) [
+      | inl lt ↦ absurd (omega (arith, ints, rw (march, is) at (chain_rises c (march_1 c y) n lt)))
+      | inr le ↦ le
+    ]
+
+pub january_sunday : (c : Calendar) → c ≢ Swedish → (y : ℕ) → IsYear newest_rules y → January c y
+january_sunday c months y year =
     let first = january_8 c months (y - 1) (omega (arith, year.1)) in
     let n = first.0 in
     let k = 6 - n % 7 in
@@ -143,24 +160,39 @@ january_found c months y year =
     let place : d - 1 ≡ n + k = omega arith in
     let here : date_of c d ≡ date (pos y) 1 (8 + k) =
     rw place (at ∙ ap (λ (x : ℕ). date (pos x) 1 (8 + k)) more) in
-    found_on_line newest_rules (is_sunday_of c y 1 1) d (omega arith, omega (arith, first.2))
-    ((sunday_decides c y 1 1 d).1 (
-      omega arith,
-      (
-        ap (λ (e : Date). e.year) here,
-        (
-          omega (arith, ap (λ (e : Date). e.month) here),
-          omega
-              (arith, ap (λ (e : Date). e.month) here),
-        ),
-      ),
-    ))
+    let early = january_early c months y (d - 1) (8 + k) year.0 (omega arith) here in
+    record {
+      day = d;
+      low = omega arith;
+      high = omega (arith, first.2);
+      is =
+          (sunday_decides c y 1 1 d).1 (
+            omega arith,
+            (
+              ap (λ (e : Date). e.year) here,
+              (
+                omega (arith, ap (λ (e : Date). e.month) here),
+                omega (arith, ap (λ (e : Date). e.month) here),
+              ),
+            ),
+          );
+      before_march = omega (arith, early);
+    }
 
-pub march_found : (c : Calendar) → c ≢ Swedish → (y : ℕ) → IsYear newest_rules y
-    → Found newest_rules (is_sunday_of c y 3 12)
-march_found c months y year =
+pub january_found : (c : Calendar) → c ≢ Swedish → (y : ℕ) → IsYear newest_rules y
+    → Found newest_rules (is_sunday_of c y 1 1)
+january_found c months y year =
+    let sunday = january_sunday c months y year in
+    found_on_line newest_rules (is_sunday_of c y 1 1) sunday.day (sunday.low, sunday.high) sunday.is
+
+-- the first Sunday of March
+abbrev pub march_sunday : Calendar → ℕ → ℕ
+march_sunday c y = march_1 c y + (6 - march_1 c y % 7) + 1
+
+pub march_sunday_is : (c : Calendar) → c ≢ Swedish → (y : ℕ) → IsYear newest_rules y
+    → is_sunday_of c y 3 12 (march_sunday c y) ≡ true
+march_sunday_is c months y year =
     let n = march_1 c y in
-    let bound = march_1-bound c y year.0 year.1 in
     let k = 6 - n % 7 in
     let more : y - 1 + 1 ≡ y = omega (arith, year.0) in
     let first = march_on_chain c months (y - 1) in
@@ -169,18 +201,23 @@ march_found c months y year =
     let d = n + k + 1 in
     let place : d - 1 ≡ n + k = omega arith in
     let here : date_of c d ≡ date (pos y) 3 (1 + k) = rw place at in
-    found_on_line newest_rules (is_sunday_of c y 3 12) d (omega arith, omega (arith, bound.1))
-    ((sunday_decides c y 3 12 d).1 (
+    (sunday_decides c y 3 12 d).1 (
       omega arith,
       (
         ap (λ (e : Date). e.year) here,
         (
           omega (arith, ap (λ (e : Date). e.month) here),
-          omega
-              (arith, ap (λ (e : Date). e.month) here),
+          omega (arith, ap (λ (e : Date). e.month) here),
         ),
       ),
-    ))
+    )
+
+pub march_found : (c : Calendar) → c ≢ Swedish → (y : ℕ) → IsYear newest_rules y
+    → Found newest_rules (is_sunday_of c y 3 12)
+march_found c months y year =
+    let bound = march_1-bound c y year.0 year.1 in
+    found_on_line newest_rules (is_sunday_of c y 3 12) (march_sunday c y)
+    (omega arith, omega (arith, bound.1)) (march_sunday_is c months y year)
 
 has_letters_is : (c : Calendar) → c ≢ Swedish → has_letters c ≡ true
 has_letters_is Julian months = refl

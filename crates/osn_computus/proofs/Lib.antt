@@ -5,3 +5,5 @@ pub mod TableFacts
 pub mod MoonFacts
 pub mod PlaceFacts
 pub mod LetterFacts
+pub mod KeptEasters
+pub mod KeptLetters

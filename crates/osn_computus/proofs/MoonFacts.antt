@@ -130,7 +130,7 @@ some_same a b o p q = cc
 pub moon_bounds : (rule : Rule) (y moon : ℕ) → IsYear newest_rules y
     → paschal_moon newest_rules rule y ≡ Some moon
     → (march_1 (calendar_of rule) y + 21 ≤ moon) × (moon < march_1 (calendar_of rule) y + 50) ×
-    (moon + 7 ≤ 1095362)
+    (moon + 7 ≤ newest_rules.high)
 moon_bounds rule y moon year is =
     let found = moon_of rule y in
     let same = some_same moon _ (paschal_moon newest_rules rule y) is
@@ -165,7 +165,8 @@ season rule y moon d year is after within =
     rw place (rw (spring_date c (of_months rule) y n year.0 (omega arith)) (in_season y n low high))
 
 -- the first Sunday after a day
-pub sunday_is : (m : ℕ) → m + 7 ≤ 1095362 → first_sunday_after newest_rules m ≡ Some (m + 7 - m % 7)
+pub sunday_is : (m : ℕ) → m + 7 ≤ newest_rules.high
+    → first_sunday_after newest_rules m ≡ Some (m + 7 - m % 7)
 unfolding first_sunday_after
 sunday_is m h =
     find_on_line newest_rules (λ d. nat_lt m d && (weekday d == 0)) (m + 7 - m % 7)

@@ -4,6 +4,7 @@ use Rattle.std.proofs.Common.{◌≡◌, ◌≢◌, ℕ, zero, suc, ◌+◌, ◌
 use Rattle.std.proofs.Common.{nat_lt, refl, ap, ◌∙◌, arith, ℤ, pos, ◌+ℤ◌}
 use Rattle.std.proofs.lemmas.Bool.Decides.{nat_tests}
 use Rattle.osn_days.specs.declared.date.Date.{Date}
+use Rattle.osn_days.specs.Profile.{newest_rules}
 use Rattle.osn_days.specs.declared.calendar.Calendar.{Calendar}
 use Rattle.osn_days.specs.declared.calendar.Calendar.TheVariants.{Julian, Gregorian, Swedish}
 use Rattle.osn_days.specs.Chain.{month_length, next, chain}
@@ -139,16 +140,18 @@ march_on_chain c months (suc y) =
     rw more (rw (march_1-suc c (y + 1) (omega arith))
     (march_to_march c months (pos (y + 1)) (march_1 c (y + 1)) (march_on_chain c months y)))
 
-pub march_1-bound : (c : Calendar) (y : ℕ) → 1 ≤ y → y ≤ 2999
-    → (57 ≤ march_1 c y) × (march_1 c y + 365 * (2999 - y) ≤ 1095085)
+-- and the last one is 232 days at least before the last day of the line
+pub march_1-bound : (c : Calendar) (y : ℕ) → 1 ≤ y → y ≤ newest_rules.last_year
+    → (57 ≤ march_1 c y) × (march_1 c y + 365 * (newest_rules.last_year - y) + 233
+    ≤ newest_rules.high)
 unfolding march_1
 march_1-bound Julian y low high = (omega arith, omega arith)
 march_1-bound Gregorian y low high = (omega arith, omega arith)
 march_1-bound Swedish y low high = (omega arith, omega arith)
 
 -- 8 January of each year is on the line
-pub january_8 : (c : Calendar) → c ≢ Swedish → (y : ℕ) → y ≤ 2998
-    → (n : ℕ) × (chain c n ≡ date (pos (y + 1)) 1 8) × (n < 1095347)
+pub january_8 : (c : Calendar) → c ≢ Swedish → (y : ℕ) → y < newest_rules.last_year
+    → (n : ℕ) × (chain c n ≡ date (pos (y + 1)) 1 8) × (n + 15 < newest_rules.high)
 january_8 Julian months zero low =
     (5, on_in_month Julian months (pos 1) 1 3 0 5 (chain-zero Julian) (omega arith), omega arith)
 january_8 Gregorian months zero low = (

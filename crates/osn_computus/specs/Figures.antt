@@ -38,7 +38,7 @@ epact_number y =
     unsigned_abs (int_rem_euclid (older -ℤ pos (solar_correction y)) (pos 30))
 
 -- 25 has a prime where the golden number is above 11, so that no two of the 19 years of a cycle
--- have one new moon. Up to 2999 the golden numbers with the epact 25 are 11 at most or 14 at least:
+-- have one new moon. Up to 3107 the golden numbers with the epact 25 are 11 at most or 14 at least:
 -- 12 first has it in 3108
 abbrev pub gregorian_epact : ℕ → Epact
 gregorian_epact y = record {

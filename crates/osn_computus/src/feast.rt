@@ -1,7 +1,7 @@
 //! Easter by both rules.
-ghost use Rattle.std.specs.Prelude.{◌≡◌, ◌+◌, Some, IsSomeAnd};
-ghost use Rattle.osn_days.specs.Profile.{newest_rules};
-ghost use Rattle.osn_days.specs.Line.{IsDay, weekday};
+ghost use Rattle.std.specs.Prelude.{◌≡◌, ◌≤◌, ◌+◌, Some, IsSomeAnd};
+ghost use Rattle.osn_days.specs.Profile.{first_rules, newest_rules};
+ghost use Rattle.osn_days.specs.Line.{IsDay, IsYear, weekday};
 ghost use Rattle.osn_days.specs.Chain.{date_of};
 ghost use Rattle.osn_computus.specs.Easter as feast;
 ghost use Rattle.osn_computus.specs.Easter.{easter_of, IsInWeekAfter, IsEasterDate};
@@ -32,6 +32,9 @@ pub fn easter(rule: Rule, year: Year) -> Day
     ensures season { IsEasterDate year (date_of (feast.calendar_of rule) result) }
     ensures moon { IsSomeAnd (feast.paschal_moon newest_rules rule year)
         (λ moon. IsInWeekAfter moon result) }
+    // as a law: a year of the first rules keeps its Easter, which is a day of their line
+    ensures kept { IsYear first_rules year
+        → (easter_of first_rules rule year ≡ Some result) × (result ≤ first_rules.high) }
 {
     sunday_after(paschal_moon(rule, year))
 }

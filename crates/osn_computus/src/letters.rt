@@ -1,6 +1,7 @@
 //! The Sunday letters.
 ghost use Rattle.std.specs.Prelude.{◌≡◌, ◌≢◌, ◌↔◌, ◌+◌, ◌%◌, pos, false, Some, IsNone, IfSome};
-ghost use Rattle.osn_days.specs.Profile.{newest_rules};
+ghost use Rattle.osn_days.specs.Profile.{first_rules, newest_rules};
+ghost use Rattle.osn_days.specs.Line.{IsYear};
 ghost use Rattle.osn_days.specs.Chain as chain;
 ghost use Rattle.osn_days.specs.declared.calendar.Calendar.TheVariants.{Swedish};
 ghost use Rattle.osn_computus.specs.declared.letter.Letter.TheVariants.{D};
@@ -49,6 +50,8 @@ fn letters_of_year(calendar: Calendar, year: Year) -> Letters
 /// The Sunday letters of the year, or `None` for a calendar that has none: the Swedish.
 pub fn sunday_letters(calendar: Calendar, year: Year) -> Option<Letters>
     ensures value { result ≡ letters_of newest_rules calendar year }
+    // as a law: a year of the first rules keeps its letters
+    ensures kept { IsYear first_rules year → result ≡ letters_of first_rules calendar year }
     ensures none { IsNone result ↔ (calendar ≡ Swedish) }
     // in the subject's own words
     ensures sundays { IfSome result (AreSundayLetters newest_rules calendar year) }

@@ -9,7 +9,7 @@ use Rattle.std.specs.Bool.{Decides}
 use Rattle.osn_days.specs.declared.date.Date.{Date}
 use Rattle.osn_days.specs.declared.calendar.Calendar.{Calendar}
 use Rattle.osn_days.specs.declared.calendar.Calendar.TheVariants.{Julian, Gregorian, Swedish}
-use Rattle.osn_days.specs.Profile.{Profile}
+use Rattle.osn_days.specs.Profile.{Profile, newest_rules}
 use Rattle.osn_days.specs.Line.{line, IsDay}
 use Rattle.osn_days.specs.Chain.{month_length, next, next_by_months, february, march_1, first_date}
 use Rattle.osn_days.specs.Chain.{chain, date_of, same_date, days_with_date}
@@ -252,7 +252,8 @@ pub chain_apart : (c : Calendar) (m n : ℕ) → m < n ⊎ (n < m) → chain c m
 chain_apart c m n (inl lt) e = omega (arith, ints, chain_rises c m n lt, ap key e)
 chain_apart c m n (inr gt) e = omega (arith, ints, chain_rises c n m gt, ap key e)
 
-pub year_bound : (c : Calendar) (d : ℕ) → d ≤ 1095363 → (date_of c d).year <ℤ pos 2000000
+pub year_bound : (c : Calendar) (d : ℕ) → d ≤ newest_rules.high + 1
+    → (date_of c d).year <ℤ pos 4000000
 year_bound c d h = let s = chain_small c (d - 1) in omega (arith, ints, s.year_high)
 
 pub same_date_self : (a : Date) → same_date a a ≡ true

@@ -9,6 +9,7 @@ use Rattle.jiff_core.proofs.MarchLemmas.{day_count-early, day_count-late}
 use Rattle.jiff_core.proofs.CalendarLemmas.{days_from_civil-day_count, day_count-day}
 use Rattle.jiff_core.proofs.CalendarLemmas.{day_count-next_month, day_count-next_year}
 use Rattle.jiff_core.proofs.CalendarLemmas.{day_count-last_of_year, day_count-lt_year}
+use Rattle.osn_days.specs.Profile.{newest_rules}
 use Rattle.osn_days.specs.declared.date.Date.{Date}
 use Rattle.osn_days.specs.declared.calendar.Calendar.TheVariants.{Gregorian}
 use Rattle.osn_days.specs.Chain.{month_length, next, date_of}
@@ -23,9 +24,10 @@ gregorian_count d = day_count d.year d.month d.day
 pub gregorian_first : day_count (pos 1) 1 1 ≡ 3_652_791
 gregorian_first = day_count-early (pos 1) 10000 1 1 refl (omega arith) (omega arith) (omega arith)
 
-pub gregorian_last : day_count (pos 2999) 12 31 ≡ 4_748_152
-gregorian_last = day_count-late (pos 2999) 12999 12 31 refl (omega arith) (omega arith)
-    (omega arith)
+pub gregorian_last : day_count (pos newest_rules.last_year) 12 31 ≡ newest_rules.high + 3_652_790
+gregorian_last =
+    day_count-late (pos newest_rules.last_year) (newest_rules.last_year + 10000) 12 31 refl
+    (omega arith) (omega arith) (omega arith)
 
 gregorian_steps : (d : Date) → IsReal Gregorian d
     → gregorian_count (next Gregorian d) ≡ suc (gregorian_count d)
@@ -76,15 +78,15 @@ gregorian_place d n low same =
           gregorian_is (n - 1),
     )
 
--- the dates of the line are those from the year 1 to the year 2999
-pub gregorian_last_year : (d : Date) → IsReal Gregorian d → gregorian_count d ≤ 4_748_152
-    → d.year ≤ℤ pos 2999
+-- the dates of the line are those from the year 1 to its last year
+pub gregorian_last_year : (d : Date) → IsReal Gregorian d
+    → gregorian_count d ≤ newest_rules.high + 3_652_790 → d.year ≤ℤ pos newest_rules.last_year
 gregorian_last_year d s high =
-    by_lt_z (pos 2999) d.year
+    by_lt_z (pos newest_rules.last_year) d.year
     (λ lt. absurd (omega (
       arith,
       gregorian_last,
-      day_count-lt_year (pos 2999) 12 31 d.year d.month
+      day_count-lt_year (pos newest_rules.last_year) 12 31 d.year d.month
           d.day (search arith, omega arith, omega arith) s.day_low lt,
     )))
     (λ le. le)

@@ -6,6 +6,7 @@ use Rattle.std.proofs.Common.{unsigned_abs}
 use Rattle.std.proofs.lemmas.Bool.{cases_order}
 use Rattle.std.proofs.lemmas.Bool.Decides.{nat_tests}
 use Rattle.std.proofs.lemmas.Int.{ints}
+use Rattle.osn_days.specs.Profile.{newest_rules}
 use Rattle.osn_days.specs.declared.date.Date.{Date}
 use Rattle.osn_days.specs.declared.calendar.Calendar.TheVariants.{Julian}
 use Rattle.osn_days.specs.Chain.{month_length, next, first_date, date_of}
@@ -114,8 +115,9 @@ pub julian_place : (d : Date) (n : ℕ) → 1 ≤ n → date_of Julian n ≡ d �
 julian_place d n low same =
     omega (arith, ap julian_count same, count_chain Julian julian_count julian_is (n - 1))
 
--- the line ends in the year 2999
-pub julian_last_year : (d : Date) → IsReal Julian d → julian_count d ≤ 1095670 → d.year ≤ℤ pos 2999
+-- the line ends in its last year
+pub julian_last_year : (d : Date) → IsReal Julian d → julian_count d ≤ newest_rules.high + 308
+    → d.year ≤ℤ pos newest_rules.last_year
 julian_last_year d s high =
     elim (cases_order d.month 2) [
       | inl here ↦ omega (arith, ints, s.year_low, julian_count-early d (omega arith))

@@ -2,6 +2,7 @@
 use Rattle.std.proofs.Common.{◌≡◌, ℕ, ◌+◌, ◌≤◌, refl, arith, pos}
 use Rattle.std.proofs.lemmas.Int.{ints}
 use Rattle.jiff_core.proofs.MarchLemmas.{day_count-early, day_count-late}
+use Rattle.osn_days.specs.Profile.{newest_rules}
 use Rattle.osn_days.specs.declared.date.Date.{Date}
 use Rattle.osn_days.specs.declared.calendar.Calendar.{Calendar}
 use Rattle.osn_days.specs.declared.calendar.Calendar.TheVariants.{Julian, Gregorian}
@@ -72,9 +73,9 @@ epoch_2000 =
       refl,
     )
 
--- the line ends with 31 December 2999
-last_day : date_of Gregorian 1095362 ≡ date 2999 12 31
+-- the line ends with 31 December of its last year
+last_day : date_of Gregorian newest_rules.high ≡ date newest_rules.last_year 12 31
 last_day =
-    gregorian 2999 12 31 1095362
+    gregorian newest_rules.last_year 12 31 newest_rules.high
     (omega arith, omega arith, omega arith, omega arith, omega arith) (omega arith)
     (omega (arith, gregorian_first, gregorian_last))

@@ -6,3 +6,4 @@ pub mod GregorianFacts
 pub mod JulianFacts
 pub mod LineFacts
 pub mod SwedishFacts
+pub mod KeptYears

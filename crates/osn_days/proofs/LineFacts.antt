@@ -21,24 +21,26 @@ use Rattle.osn_days.proofs.SwedishFacts.{swedish_cases}
 -- the date of a day of the line: a year that has figures, a month, and a day of at most 31
 pub record IsLineDate (d : Date) : Type 0 where
   pub year_low : pos 1 ≤ℤ d.year
-  pub year_high : d.year ≤ℤ pos 2999
+  pub year_high : d.year ≤ℤ pos newest_rules.last_year
   pub month_low : 1 ≤ d.month
   pub month_high : d.month ≤ 12
   pub day_low : 1 ≤ d.day
   pub day_high : d.day ≤ 31
 
-last_julian_year : (n : ℕ) → IsDay newest_rules n → (date_of Julian n).year ≤ℤ pos 2999
+last_julian_year : (n : ℕ) → IsDay newest_rules n
+    → (date_of Julian n).year ≤ℤ pos newest_rules.last_year
 last_julian_year n on =
     julian_last_year (date_of Julian n) (chain_real Julian (n - 1) julian_by_months)
     (omega (arith, on, julian_place (date_of Julian n) n on.0 refl))
 
-last_year : (c : Calendar) (n : ℕ) → IsDay newest_rules n → (date_of c n).year ≤ℤ pos 2999
+last_year : (c : Calendar) (n : ℕ) → IsDay newest_rules n
+    → (date_of c n).year ≤ℤ pos newest_rules.last_year
 last_year Julian n on = last_julian_year n on
 last_year Gregorian n on =
     gregorian_last_year (date_of Gregorian n) (chain_real Gregorian (n - 1) gregorian_by_months)
     (omega (arith, on, gregorian_place (date_of Gregorian n) n on.0 refl))
 last_year Swedish n on =
-    swedish_cases (λ d. d.year ≤ℤ pos 2999) n
+    swedish_cases (λ d. d.year ≤ℤ pos newest_rules.last_year) n
     (λ _. last_julian_year n on)
     (λ low high. last_julian_year (n + 1) (omega arith, omega arith))
     (λ _. search arith)

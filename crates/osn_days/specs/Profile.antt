@@ -28,9 +28,9 @@ first_rules = record {
 -- the rules of the newest version
 abbrev pub newest_rules : Profile
 newest_rules = record {
-  high = 1095362;
-  last_year = 2999;
-  last_label_year = 3000;
+  high = 3652059;
+  last_year = 9999;
+  last_label_year = 10000;
   style_words =
       codes "january" ∷ codes "annunciation" ∷ codes "nativity" ∷ codes "september"
       ∷ codes "pisan" ∷ codes "easter" ∷ [];

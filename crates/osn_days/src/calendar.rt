@@ -19,7 +19,7 @@ pub enum Calendar {
 }
 
 /// The date of a day in a calendar: in the Gregorian by *Calendrical Calculations*, chapter 2, in
-/// the Julian by chapter 3. Its year is from 1 to 2999.
+/// the Julian by chapter 3. Its year is from 1 to 9999.
 pub fn date_of(calendar: Calendar, day: Day) -> Date
     ensures value { result ≡ chain.date_of calendar day }
     ensures year { IsYearNumber newest_rules result.year }

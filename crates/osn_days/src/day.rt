@@ -6,8 +6,8 @@ ghost use Rattle.osn_days.specs.Weekday.{weekday_number};
 use crate::weekday::Weekday;
 use std::marker::Model;
 
-/// The number of the last day of the line, 31 December 2999 Gregorian. That of the first is 1.
-pub const HIGH: u32 = 1_095_362;
+/// The number of the last day of the line, 31 December 9999 Gregorian. That of the first is 1.
+pub const HIGH: u32 = 3_652_059;
 
 /// The Julian day number of the day before the first.
 const JULIAN_DAY_OFFSET: u32 = 1_721_425;

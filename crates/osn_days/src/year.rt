@@ -4,7 +4,7 @@ ghost use Rattle.osn_days.specs.Line.{IsYear, IsYearNumber};
 
 use std::marker::Model;
 
-/// A year counted from 1 January, from 1 to 2999: the years that have figures.
+/// A year counted from 1 January, from 1 to 9999: the years that have figures.
 #[derive(Clone, Copy, Debug, PartialEq, Eq, PartialOrd, Ord, Hash)]
 pub struct Year {
     number: u32,
@@ -29,7 +29,7 @@ impl Year {
     pub const FIRST: Year = Year { number: 1 };
 
     /// The last year, whose 31 December Gregorian is the last day of the line.
-    pub const LAST: Year = Year { number: 2_999 };
+    pub const LAST: Year = Year { number: 9_999 };
 
     /// The year of that number, or `None` outside the range.
     pub fn new(number: i64) -> Option<Year>

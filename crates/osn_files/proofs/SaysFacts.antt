@@ -143,24 +143,24 @@ Says-lawful limits lands (AddLand code name r) h =
     Says-add_land code name r (un_not _ code_good.0) (un_not _ name_good.0)
 Says-lawful limits lands (AddChange code day r) h =
     let it = lawful_in lands code _ h in
-    let on = within 1095362 day (next_test _ _ _ it.lawful).0 in
+    let on = within newest_rules.high day (next_test _ _ _ it.lawful).0 in
     subst (λ z. Says (edit_data (AddChange code z r)) (Stage (AddChange code z r))) (sym on.is)
     (Says-add_change code on.number r it.code_is (omega (arith, on.low)))
 Says-lawful limits lands (AlterChange code day r) h =
     let it = lawful_in lands code _ h in
-    let on = within 1095362 day (next_test _ _ _ it.lawful).0 in
+    let on = within newest_rules.high day (next_test _ _ _ it.lawful).0 in
     subst (λ z. Says (edit_data (AlterChange code z r)) (Stage (AlterChange code z r))) (sym on.is)
     (Says-alter_change code on.number r it.code_is (omega (arith, on.low)))
 Says-lawful limits lands (DropChange code day) h =
     let it = lawful_in lands code _ h in
-    let on = within 1095362 day (next_test _ _ _ it.lawful).0 in
+    let on = within newest_rules.high day (next_test _ _ _ it.lawful).0 in
     subst (λ z. Says (edit_data (DropChange code z)) (Stage (DropChange code z))) (sym on.is)
     (Says-drop_change code on.number it.code_is (omega (arith, on.low)))
 Says-lawful limits lands (AddException code year day) h =
     let it = lawful_in lands code _ h in
     let first = next_test _ _ _ it.lawful in
-    let on = within 1095362 day first.0 in
-    let in_year = within 2999 year (next_test _ _ _ first.1).0 in
+    let on = within newest_rules.high day first.0 in
+    let in_year = within newest_rules.last_year year (next_test _ _ _ first.1).0 in
     subst (λ z. Says (edit_data (AddException code z day)) (Stage (AddException code z day)))
     (sym in_year.is)
     (subst (λ z. Says (edit_data (AddException code (pos in_year.number) z))
@@ -169,7 +169,7 @@ Says-lawful limits lands (AddException code year day) h =
     (omega (arith, on.low))))
 Says-lawful limits lands (DropException code year) h =
     let it = lawful_in lands code _ h in
-    let in_year = within 2999 year (next_test _ _ _ it.lawful).0 in
+    let in_year = within newest_rules.last_year year (next_test _ _ _ it.lawful).0 in
     subst (λ z. Says (edit_data (DropException code z)) (Stage (DropException code z)))
     (sym in_year.is)
     (Says-drop_exception code in_year.number it.code_is (omega (arith, in_year.low)))

@@ -14,3 +14,4 @@ pub mod ExplainedFacts
 pub mod TableFacts
 pub mod SearchFacts
 pub mod ExceptionFacts
+pub mod KeptFacts

@@ -45,7 +45,7 @@ kept_step : (h : ℕ → Bool) (a : ℕ) (ds : List ℕ) (here : Bool) → h a �
 kept_step h a ds true passes rest = rw passes (ap (λ l. a ∷ l) rest)
 kept_step h a ds false passes rest = rest
 
-kept_all : (h f : ℕ → Bool) (a n : ℕ) → ((d : ℕ) → a ≤ d → d < a + n → h d ≡ true) →
+pub kept_all : (h f : ℕ → Bool) (a n : ℕ) → ((d : ℕ) → a ≤ d → d < a + n → h d ≡ true) →
     filter h (filter f (range_with_len a n)) ≡ filter f (range_with_len a n)
 kept_all h f a zero all = refl
 kept_all h f a (suc n) all =
@@ -57,7 +57,7 @@ dropped_step : (h : ℕ → Bool) (a : ℕ) (ds : List ℕ) (here : Bool) → h 
 dropped_step h a ds true fails rest = rw fails rest
 dropped_step h a ds false fails rest = rest
 
-dropped_all : (h f : ℕ → Bool) (a n : ℕ) → ((d : ℕ) → a ≤ d → d < a + n → h d ≡ false) →
+pub dropped_all : (h f : ℕ → Bool) (a n : ℕ) → ((d : ℕ) → a ≤ d → d < a + n → h d ≡ false) →
     filter h (filter f (range_with_len a n)) ≡ []
 dropped_all h f a zero none = refl
 dropped_all h f a (suc n) none =
@@ -106,6 +106,37 @@ filter_within h f high first last low some most inside before behind =
     ∙ ap (λ l. filter f (range_with_len first n) ++ l)
     (dropped_all h f (last + 1) k (λ d from until. behind d (omega arith)))
     ∙ append-nil (filter f (range_with_len first n))
+
+-- the days up to one
+pub filter_until : (h f : ℕ → Bool) (low high : ℕ) → low ≤ high →
+    ((d : ℕ) → d ≤ low → h d ≡ true) → ((d : ℕ) → low < d → h d ≡ false) →
+    filter h (filter f (range_with_len 1 high)) ≡ filter f (range_with_len 1 low)
+filter_until h f low high less inside behind =
+    let k = high - low in
+    let all : low + k ≡ high = omega arith in
+    ap (λ l. filter h (filter f (range_with_len 1 l))) (sym all)
+    ∙ ap (λ l. filter h (filter f l)) (range_split 1 low k)
+    ∙ ap (filter h) (filter-append f (range_with_len 1 low) (range_with_len (1 + low) k))
+    ∙ filter-append h (filter f (range_with_len 1 low)) (filter f (range_with_len (1 + low) k))
+    ∙ ap (λ l. l ++ filter h (filter f (range_with_len (1 + low) k)))
+    (kept_all h f 1 low (λ d from until. inside d (omega arith)))
+    ∙ ap (λ l. filter f (range_with_len 1 low) ++ l)
+    (dropped_all h f (1 + low) k (λ d from until. behind d (omega arith)))
+    ∙ append-nil (filter f (range_with_len 1 low))
+
+-- which are all that pass, where none does behind it
+pub filter_ends : (f : ℕ → Bool) (low high : ℕ) → low ≤ high →
+    ((d : ℕ) → low < d → f d ≡ false) →
+    filter f (range_with_len 1 high) ≡ filter f (range_with_len 1 low)
+filter_ends f low high less behind =
+    let k = high - low in
+    let all : low + k ≡ high = omega arith in
+    ap (λ l. filter f (range_with_len 1 l)) (sym all)
+    ∙ ap (filter f) (range_split 1 low k)
+    ∙ filter-append f (range_with_len 1 low) (range_with_len (1 + low) k)
+    ∙ ap (λ l. filter f (range_with_len 1 low) ++ l)
+    (filter_none f (1 + low) k (λ d from until. behind d (omega arith)))
+    ∙ append-nil (filter f (range_with_len 1 low))
 
 single_step : (here : Bool) (a : ℕ) (ds : List ℕ) → (here ≡ true → ds ≡ []) → length ds ≤ 1 →
     length (if here then a ∷ ds else ds) ≤ 1

@@ -7,3 +7,4 @@ pub mod Exceptions
 pub mod Faults
 pub mod Easters
 pub mod Inside
+pub mod Kept

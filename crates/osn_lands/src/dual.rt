@@ -1,6 +1,6 @@
 ghost use Rattle.std.specs.Prelude.{◌≡◌, ◌<◌, ◌≤◌, IfOk, string_bytes};
 ghost use Rattle.std.specs.Fmt.{decimal};
-ghost use Rattle.osn_days.specs.Profile.{newest_rules};
+ghost use Rattle.osn_days.specs.Profile.{first_rules, newest_rules};
 ghost use Rattle.osn_lands.specs.Dual as dual;
 
 use crate::regime::Regime;
@@ -51,7 +51,10 @@ fn later_part(earlier: u32, later: u32) -> u32
 ///
 /// `AllocError` where there is no memory for the text.
 pub fn dual_text(alloc: Global, regime: Regime, day: Day) -> Result<String, AllocError>
-    ensures { IfOk result (λ s. string_bytes s ≡ dual.dual_text newest_rules regime day) }
+    ensures value { IfOk result (λ s. string_bytes s ≡ dual.dual_text newest_rules regime day) }
+    // as a law: a day of the first rules' line keeps its text
+    ensures kept { day ≤ first_rules.high → IfOk result (λ s.
+        string_bytes s ≡ dual.dual_text first_rules regime day) }
 {
     let (date, year) = date_and_year(regime, day);
     let name = month_name(date.month);

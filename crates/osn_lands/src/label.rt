@@ -1,5 +1,5 @@
 ghost use Rattle.std.specs.Prelude.{◌≡◌, ◌≤◌, length};
-ghost use Rattle.osn_days.specs.Profile.{newest_rules};
+ghost use Rattle.osn_days.specs.Profile.{first_rules, newest_rules};
 ghost use Rattle.osn_lands.specs.Label.{local, days_with_label, first_two};
 
 use crate::label_days::days_of_label;
@@ -8,7 +8,7 @@ use crate::style_year::date_and_year;
 use osn_days::Day;
 
 /// A date as a territory writes it: the style's year, the month and the day of the month. The
-/// numbers may be any; the label of a day of the line has a year from 0 to 3000.
+/// numbers may be any; the label of a day of the line has a year from 0 to 10000.
 #[derive(Clone, Copy, Debug, PartialEq, Eq, Hash)]
 pub struct Label {
     pub year: i32,
@@ -18,7 +18,9 @@ pub struct Label {
 
 /// The label of a day under a regime.
 pub fn label_of(regime: Regime, day: Day) -> Label
-    ensures { result ≡ local newest_rules regime day }
+    ensures value { result ≡ local newest_rules regime day }
+    // as a law: a day of the first rules' line keeps its label
+    ensures kept { day ≤ first_rules.high → result ≡ local first_rules regime day }
 {
     let (date, year) = date_and_year(regime, day);
     Label {

@@ -2,12 +2,13 @@ ghost use Rattle.std.specs.Prelude.{◌≡◌, ◌≤◌, ◌<◌, ◌*◌, Some
 ghost use Rattle.std.specs.Prelude.{length};
 ghost use Rattle.std.specs.List.{HoldsAt};
 ghost use Rattle.std.specs.Option.{option_to_list};
-ghost use Rattle.osn_days.specs.Profile.{newest_rules};
+ghost use Rattle.osn_days.specs.Profile.{first_rules, newest_rules};
 ghost use Rattle.osn_lands.specs.Territory as plain;
 ghost use Rattle.osn_lands.specs.Changes as changes;
 ghost use Rattle.osn_lands.specs.Easters as feast;
 ghost use Rattle.osn_lands.specs.Inside.{easters_in_force};
 ghost use Rattle.osn_lands.specs.Exceptions as exceptions;
+ghost use Rattle.osn_lands.specs.Kept.{KeepsEasters};
 ghost use Rattle.osn_lands.specs.Faults.{IsTestOf, IsFaultOrNoMemory};
 
 mod readings;
@@ -314,7 +315,10 @@ impl Territory {
     ///
     /// `AllocError` where there is no memory for the list.
     pub fn easters(&self, year: Year) -> Result<Vec<Day>, AllocError>
-        ensures { IfOk result (λ days. days.items ≡ feast.easters newest_rules self.now year) }
+        ensures value { IfOk result (λ days.
+            days.items ≡ feast.easters newest_rules self.now year) }
+        // as a law: a year of the first rules keeps its Easters
+        ensures kept { IfOk result (λ days. KeepsEasters first_rules self.now year days.items) }
     {
         let mut days = Vec::new(self.alloc);
         if let Some(day) = self.exception(year) {

@@ -2,5 +2,5 @@ pub mod CoverFacts
 pub mod FoundFacts
 pub mod Kept
 pub mod PeriodCount
-pub mod SameAnswers
+pub mod KeptAnswers
 pub mod TerritoryFacts

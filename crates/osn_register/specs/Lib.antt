@@ -7,3 +7,4 @@ pub mod Answer
 pub mod Inside
 pub mod InsideChange
 pub mod InsideQuery
+pub mod Kept

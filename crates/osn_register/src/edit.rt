@@ -30,7 +30,7 @@ pub enum Edit {
         code: Text,
         day: i64,
     },
-    /// Lists a day as the Easter of a year from 1 to 2999, in place of the rule's. It may be any
+    /// Lists a day as the Easter of a year from 1 to 9999, in place of the rule's. It may be any
     /// day of the line.
     AddException {
         code: Text,

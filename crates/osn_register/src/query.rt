@@ -7,7 +7,7 @@ use std::alloc::AllocError;
 /// A question to the register.
 #[derive(Debug, Drop)]
 pub enum Query {
-    /// Which days a date names in a territory: the year as its documents count it, 0 to 3000, a
+    /// Which days a date names in a territory: the year as its documents count it, 0 to 10000, a
     /// month from 1 to 12 and a day from 1 to 31.
     Read {
         code: Text,
@@ -20,12 +20,12 @@ pub enum Query {
         code: Text,
         day: i64,
     },
-    /// Which days were Easter of a year from 1 to 2999 in a territory.
+    /// Which days were Easter of a year from 1 to 9999 in a territory.
     Easter {
         code: Text,
         year: i64,
     },
-    /// The figures and both Easters of a year from 1 to 2999.
+    /// The figures and both Easters of a year from 1 to 9999.
     YearFigures {
         year: i64,
     },

@@ -11,7 +11,7 @@ use osn_days::{Day, Year};
 use osn_lands::Label;
 
 /// The last year that a label may have.
-const LAST_LABEL_YEAR: i64 = 3000;
+const LAST_LABEL_YEAR: i64 = 10_000;
 
 /// The day of a number, where it is on the line.
 pub(crate) fn day_on_line(number: i64) -> Result<Day, Refusal>

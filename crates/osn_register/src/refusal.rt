@@ -12,7 +12,7 @@ pub enum Refusal {
     UnknownLand,
     /// A territory has the code already.
     LandExists,
-    /// The day is not on the line, 1 to 1095362.
+    /// The day is not on the line, 1 to 3652059.
     DayOffLine,
     /// A period of the territory starts on the day already.
     ChangeExists,

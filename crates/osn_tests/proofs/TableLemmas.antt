@@ -140,7 +140,7 @@ table_some (Some k) m d h =
     ∙ ap (λ (x : ℕ). let r : MonthDay = record { month = m; day = x } in Some r) (ap second h)
 
 pub moved_13 : (r : Option ℕ) (d : ℕ) → (IsSome r ↔ IsOnLine newest_rules (pos d +ℤ pos 13)) →
-    IfSome r (λ e. pos e ≡ pos d +ℤ pos 13) → d + 13 ≤ 1095362 → r ≡ Some (d + 13)
+    IfSome r (λ e. pos e ≡ pos d +ℤ pos 13) → d + 13 ≤ newest_rules.high → r ≡ Some (d + 13)
 moved_13 None d on value high = absurd (false≢true (on.1 (search arith, omega (arith, ints))))
 moved_13 (Some e) d on value high = ap Some (omega (arith, ints, value))
 

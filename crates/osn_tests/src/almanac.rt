@@ -310,6 +310,6 @@ fn a_month_that_begins_twice(rt: HostRuntime) -> Result<(), Fail> {
 
 #[test]
 fn refusals_of_the_almanac(rt: HostRuntime) -> Result<(), Fail> {
-    let rows = [("gb", 0, 1), ("FR", 0, 3), ("GB", 0, 9), ("GB", 3000, 9)];
+    let rows = [("gb", 0, 1), ("FR", 0, 3), ("GB", 0, 9), ("GB", 10_000, 9)];
     refuses(&rt, rt.alloc(), BRITAIN, &rows)
 }

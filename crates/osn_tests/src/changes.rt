@@ -64,7 +64,7 @@ const RETURN: &str = r#"
   "regime":{"calendar":"gregorian","rule":"gregorian","style":"january"}},"edition":1,"reader":1}
 {"op":"day","reader":1,"code":"ZZ","day":577836}
 {"answer":{"first":577836,"found":{"day":577836,"dual":"13 January 1583","gregorian":"1583-01-23",
-  "jdn":2299261,"julian":"1583-01-13","label":"1583-01-13","weekday":"Sunday"},"last":1095362,
+  "jdn":2299261,"julian":"1583-01-13","label":"1583-01-13","weekday":"Sunday"},"last":LAST_DAY,
   "regime":{"calendar":"julian","rule":"julian","style":"january"}},"edition":1,"reader":1}
 "#;
 
@@ -108,11 +108,11 @@ const SKIPPED: &str = r#"
 {"answer":{"days":[{"day":1,"dual":"3 January 1","gregorian":"0001-01-01","jdn":1721426,
   "julian":"0001-01-03","label":"0001-01-03","weekday":"Monday"}],"skipped":[]},"edition":1,
   "reader":1}
-{"op":"read","reader":1,"code":"OW","year":2999,"month":12,"day":31}
-{"answer":{"days":[{"day":1095362,"dual":"31 December 2999","gregorian":"2999-12-31","jdn":2816787,
-  "julian":"2999-12-11","label":"2999-12-31","weekday":"Tuesday"}],"skipped":[]},"edition":1,
+{"op":"read","reader":1,"code":"OW","year":LAST_YEAR,"month":12,"day":31}
+{"answer":{"days":[{"day":LAST_DAY,"dual":"31 December 9999","gregorian":"9999-12-31","jdn":5373484,
+  "julian":"9999-10-19","label":"9999-12-31","weekday":"Friday"}],"skipped":[]},"edition":1,
   "reader":1}
-{"op":"read","reader":1,"code":"OW","year":3000,"month":1,"day":1}
+{"op":"read","reader":1,"code":"OW","year":YEAR_PAST,"month":1,"day":1}
 {"answer":{"days":[],"skipped":[]},"edition":1,"reader":1}
 {"op":"read","reader":1,"code":"OW","year":0,"month":12,"day":31}
 {"answer":{"days":[],"skipped":[]},"edition":1,"reader":1}
@@ -122,7 +122,7 @@ const SKIPPED: &str = r#"
 const EDGES: &str = r#"
 {"op":"add_land","code":"ED","name":"Edges","calendar":"julian","style":"january","rule":"julian"}
 {"ok":"staged","pending":1}
-{"op":"add_change","code":"ED","day":1095362,"calendar":"gregorian","style":"january",
+{"op":"add_change","code":"ED","day":LAST_DAY,"calendar":"gregorian","style":"january",
   "rule":"gregorian"}
 {"ok":"staged","pending":2}
 {"op":"add_change","code":"ED","day":2,"calendar":"gregorian","style":"january","rule":"gregorian"}
@@ -134,8 +134,8 @@ const EDGES: &str = r#"
 {"op":"periods","reader":1,"code":"ED"}
 {"answer":{"periods":[{"calendar":"julian","first":1,"last":1,"rule":"julian","style":"january"},
   {"calendar":"gregorian","first":2,"last":2,"rule":"gregorian","style":"january"},
-  {"calendar":"julian","first":3,"last":1095361,"rule":"julian","style":"january"},
-  {"calendar":"gregorian","first":1095362,"last":1095362,"rule":"gregorian","style":"january"}]},
+  {"calendar":"julian","first":3,"last":3652058,"rule":"julian","style":"january"},
+  {"calendar":"gregorian","first":LAST_DAY,"last":LAST_DAY,"rule":"gregorian","style":"january"}]},
   "edition":1,"reader":1}
 {"op":"day","reader":1,"code":"ED","day":1}
 {"answer":{"first":1,"found":{"day":1,"dual":"3 January 1","gregorian":"0001-01-01","jdn":1721426,
@@ -147,16 +147,16 @@ const EDGES: &str = r#"
   "regime":{"calendar":"gregorian","rule":"gregorian","style":"january"}},"edition":1,"reader":1}
 {"op":"day","reader":1,"code":"ED","day":3}
 {"answer":{"first":3,"found":{"day":3,"dual":"5 January 1","gregorian":"0001-01-03","jdn":1721428,
-  "julian":"0001-01-05","label":"0001-01-05","weekday":"Wednesday"},"last":1095361,
+  "julian":"0001-01-05","label":"0001-01-05","weekday":"Wednesday"},"last":3652058,
   "regime":{"calendar":"julian","rule":"julian","style":"january"}},"edition":1,"reader":1}
-{"op":"day","reader":1,"code":"ED","day":1095361}
-{"answer":{"first":3,"found":{"day":1095361,"dual":"10 December 2999","gregorian":"2999-12-30",
-  "jdn":2816786,"julian":"2999-12-10","label":"2999-12-10","weekday":"Monday"},"last":1095361,
+{"op":"day","reader":1,"code":"ED","day":3652058}
+{"answer":{"first":3,"found":{"day":3652058,"dual":"18 October 9999","gregorian":"9999-12-30",
+  "jdn":5373483,"julian":"9999-10-18","label":"9999-10-18","weekday":"Thursday"},"last":3652058,
   "regime":{"calendar":"julian","rule":"julian","style":"january"}},"edition":1,"reader":1}
-{"op":"day","reader":1,"code":"ED","day":1095362}
-{"answer":{"first":1095362,"found":{"day":1095362,"dual":"31 December 2999",
-  "gregorian":"2999-12-31","jdn":2816787,"julian":"2999-12-11","label":"2999-12-31",
-  "weekday":"Tuesday"},"last":1095362,"regime":{"calendar":"gregorian","rule":"gregorian",
+{"op":"day","reader":1,"code":"ED","day":LAST_DAY}
+{"answer":{"first":LAST_DAY,"found":{"day":LAST_DAY,"dual":"31 December 9999",
+  "gregorian":"9999-12-31","jdn":5373484,"julian":"9999-10-19","label":"9999-12-31",
+  "weekday":"Friday"},"last":LAST_DAY,"regime":{"calendar":"gregorian","rule":"gregorian",
   "style":"january"}},"edition":1,"reader":1}
 {"op":"read","reader":1,"code":"ED","year":1,"month":1,"day":3}
 {"answer":{"days":[{"day":1,"dual":"3 January 1","gregorian":"0001-01-01","jdn":1721426,
@@ -164,23 +164,23 @@ const EDGES: &str = r#"
   "reader":1}
 {"op":"read","reader":1,"code":"ED","year":1,"month":1,"day":2}
 {"answer":{"days":[{"day":2,"dual":"2 January 1","gregorian":"0001-01-02","jdn":1721427,
-  "julian":"0001-01-04","label":"0001-01-02","weekday":"Tuesday"}],"skipped":[1095362]},"edition":1,
-  "reader":1}
+  "julian":"0001-01-04","label":"0001-01-02","weekday":"Tuesday"}],"skipped":[LAST_DAY]},
+  "edition":1,"reader":1}
 {"op":"read","reader":1,"code":"ED","year":1,"month":1,"day":5}
 {"answer":{"days":[{"day":3,"dual":"5 January 1","gregorian":"0001-01-03","jdn":1721428,
   "julian":"0001-01-05","label":"0001-01-05","weekday":"Wednesday"}],"skipped":[]},"edition":1,
   "reader":1}
-{"op":"read","reader":1,"code":"ED","year":2999,"month":12,"day":31}
-{"answer":{"days":[{"day":1095362,"dual":"31 December 2999","gregorian":"2999-12-31","jdn":2816787,
-  "julian":"2999-12-11","label":"2999-12-31","weekday":"Tuesday"}],"skipped":[3]},"edition":1,
+{"op":"read","reader":1,"code":"ED","year":LAST_YEAR,"month":12,"day":31}
+{"answer":{"days":[{"day":LAST_DAY,"dual":"31 December 9999","gregorian":"9999-12-31","jdn":5373484,
+  "julian":"9999-10-19","label":"9999-12-31","weekday":"Friday"}],"skipped":[3]},"edition":1,
   "reader":1}
-{"op":"read","reader":1,"code":"ED","year":2999,"month":12,"day":10}
-{"answer":{"days":[{"day":1095361,"dual":"10 December 2999","gregorian":"2999-12-30","jdn":2816786,
-  "julian":"2999-12-10","label":"2999-12-10","weekday":"Monday"}],"skipped":[]},"edition":1,
+{"op":"read","reader":1,"code":"ED","year":LAST_YEAR,"month":10,"day":18}
+{"answer":{"days":[{"day":3652058,"dual":"18 October 9999","gregorian":"9999-12-30","jdn":5373483,
+  "julian":"9999-10-18","label":"9999-10-18","weekday":"Thursday"}],"skipped":[]},"edition":1,
   "reader":1}
-{"op":"read","reader":1,"code":"ED","year":2999,"month":12,"day":11}
-{"answer":{"days":[],"skipped":[1095362]},"edition":1,"reader":1}
-{"op":"drop_change","code":"ED","day":1095362}
+{"op":"read","reader":1,"code":"ED","year":LAST_YEAR,"month":10,"day":19}
+{"answer":{"days":[],"skipped":[LAST_DAY]},"edition":1,"reader":1}
+{"op":"drop_change","code":"ED","day":LAST_DAY}
 {"ok":"staged","pending":1}
 {"op":"drop_change","code":"ED","day":2}
 {"ok":"staged","pending":2}
@@ -191,11 +191,11 @@ const EDGES: &str = r#"
 {"edition":2,"ok":"published"}
 {"op":"periods","reader":1,"code":"ED"}
 {"answer":{"periods":[{"calendar":"julian","first":1,"last":2,"rule":"julian","style":"january"},
-  {"calendar":"gregorian","first":3,"last":1095362,"rule":"gregorian","style":"january"}]},
+  {"calendar":"gregorian","first":3,"last":LAST_DAY,"rule":"gregorian","style":"january"}]},
   "edition":2,"reader":1}
-{"op":"read","reader":1,"code":"ED","year":2999,"month":12,"day":11}
-{"answer":{"days":[{"day":1095342,"dual":"11 December 2999","gregorian":"2999-12-11","jdn":2816767,
-  "julian":"2999-11-21","label":"2999-12-11","weekday":"Wednesday"}],"skipped":[]},"edition":2,
+{"op":"read","reader":1,"code":"ED","year":LAST_YEAR,"month":10,"day":19}
+{"answer":{"days":[{"day":3651986,"dual":"19 October 9999","gregorian":"9999-10-19","jdn":5373411,
+  "julian":"9999-08-07","label":"9999-10-19","weekday":"Tuesday"}],"skipped":[]},"edition":2,
   "reader":1}
 {"op":"read","reader":1,"code":"ED","year":1,"month":1,"day":4}
 {"answer":{"days":[{"day":2,"dual":"4 January 1","gregorian":"0001-01-02","jdn":1721427,
@@ -215,7 +215,7 @@ const ALTERED: &str = r#"
 {"edition":1,"ok":"published"}
 {"op":"day","reader":1,"code":"RM","day":577735}
 {"answer":{"first":1,"found":{"day":577735,"dual":"14 October 1582","gregorian":"1582-10-14",
-  "jdn":2299160,"julian":"1582-10-04","label":"1582-10-14","weekday":"Thursday"},"last":1095362,
+  "jdn":2299160,"julian":"1582-10-04","label":"1582-10-14","weekday":"Thursday"},"last":LAST_DAY,
   "regime":{"calendar":"gregorian","rule":"gregorian","style":"january"}},"edition":1,"reader":1}
 {"op":"add_change","code":"RM","day":620617,"calendar":"swedish","style":"january","rule":"julian"}
 {"ok":"staged","pending":1}
@@ -226,7 +226,7 @@ const ALTERED: &str = r#"
 {"op":"periods","reader":1,"code":"RM"}
 {"answer":{"periods":[{"calendar":"gregorian","first":1,"last":620616,"rule":"gregorian",
   "style":"january"},{"calendar":"swedish","first":620617,"last":639964,"rule":"julian",
-  "style":"january"},{"calendar":"julian","first":639965,"last":1095362,"rule":"julian",
+  "style":"january"},{"calendar":"julian","first":639965,"last":LAST_DAY,"rule":"julian",
   "style":"january"}]},"edition":2,"reader":1}
 {"op":"alter_change","code":"RM","day":1,"calendar":"julian","style":"january","rule":"julian"}
 {"ok":"staged","pending":1}
@@ -238,7 +238,7 @@ const ALTERED: &str = r#"
 {"op":"periods","reader":1,"code":"RM"}
 {"answer":{"periods":[{"calendar":"julian","first":1,"last":620616,"rule":"julian",
   "style":"january"},{"calendar":"gregorian","first":620617,"last":639964,"rule":"gregorian",
-  "style":"january"},{"calendar":"julian","first":639965,"last":1095362,"rule":"julian",
+  "style":"january"},{"calendar":"julian","first":639965,"last":LAST_DAY,"rule":"julian",
   "style":"january"}]},"edition":3,"reader":1}
 {"op":"day","reader":1,"code":"RM","day":620616}
 {"answer":{"first":1,"found":{"day":620616,"dual":"28 February 1700","gregorian":"1700-03-10",
@@ -254,18 +254,18 @@ const ALTERED: &str = r#"
 {"edition":4,"ok":"published"}
 {"op":"periods","reader":1,"code":"RM"}
 {"answer":{"periods":[{"calendar":"julian","first":1,"last":620616,"rule":"julian",
-  "style":"january"},{"calendar":"gregorian","first":620617,"last":1095362,"rule":"gregorian",
+  "style":"january"},{"calendar":"gregorian","first":620617,"last":LAST_DAY,"rule":"gregorian",
   "style":"january"}]},"edition":4,"reader":1}
 {"op":"day","reader":1,"code":"RM","day":639965}
 {"answer":{"first":620617,"found":{"day":639965,"dual":"1 March 1753","gregorian":"1753-03-01",
-  "jdn":2361390,"julian":"1753-02-18","label":"1753-03-01","weekday":"Thursday"},"last":1095362,
+  "jdn":2361390,"julian":"1753-02-18","label":"1753-03-01","weekday":"Thursday"},"last":LAST_DAY,
   "regime":{"calendar":"gregorian","rule":"gregorian","style":"january"}},"edition":4,"reader":1}
 {"op":"drop_change","code":"RM","day":620617}
 {"ok":"staged","pending":1}
 {"op":"publish"}
 {"edition":5,"ok":"published"}
 {"op":"periods","reader":1,"code":"RM"}
-{"answer":{"periods":[{"calendar":"julian","first":1,"last":1095362,"rule":"julian",
+{"answer":{"periods":[{"calendar":"julian","first":1,"last":LAST_DAY,"rule":"julian",
   "style":"january"}]},"edition":5,"reader":1}
 "#;
 

@@ -15,14 +15,15 @@ fn year(number: i64) -> Result<Year, Fail> {
 }
 
 /// Years with their golden numbers, indictions and Julian epacts.
-const CYCLES: [(i64, u8, u8, u8); 7] = [
+const CYCLES: [(i64, u8, u8, u8); 8] = [
     (1, 2, 4, 11),
     (1752, 5, 15, 14),
     (1900, 1, 13, 0),
     (1954, 17, 7, 26),
     (1961, 5, 14, 14),
     (2000, 6, 8, 25),
-    (2999, 17, 2, 26),
+    (3108, 12, 6, 1),
+    (9999, 6, 12, 25),
 ];
 
 fn has_cycles(rt: &impl Abort, rows: &[(i64, u8, u8, u8)]) -> Result<(), Fail> {
@@ -39,9 +40,9 @@ fn cycles(rt: HostRuntime) -> Result<(), Fail> {
     has_cycles(&rt, &CYCLES)
 }
 
-/// Years with their Gregorian epacts, on both sides of changes of centuries. 0 is the star; 1916
-/// and 1954 have the epact 25 with its prime.
-const EPACTS: [(i64, u8, bool); 12] = [
+/// Years with their Gregorian epacts, on both sides of changes of centuries. 0 is the star; 1916,
+/// 1954 and 3108, the first one of the golden number 12, have the epact 25 with its prime.
+const EPACTS: [(i64, u8, bool); 13] = [
     (1583, 7, false),
     (1596, 1, false),
     (1699, 29, false),
@@ -54,6 +55,7 @@ const EPACTS: [(i64, u8, bool); 12] = [
     (1916, 25, true),
     (1954, 25, true),
     (2199, 3, false),
+    (3108, 25, true),
 ];
 
 fn has_epacts(rt: &impl Abort, rows: &[(i64, u8, bool)]) -> Result<(), Fail> {
@@ -101,7 +103,7 @@ const JULIAN_LETTERS: [(i64, &str, &str); 12] = [
 ];
 
 /// Those that `ncal -s IT` shows, of Italy, and before 1583 Python's `datetime`.
-const GREGORIAN_LETTERS: [(i64, &str, &str); 15] = [
+const GREGORIAN_LETTERS: [(i64, &str, &str); 16] = [
     (1, "G", "G"),
     (4, "D", "C"),
     (400, "B", "A"),
@@ -117,6 +119,7 @@ const GREGORIAN_LETTERS: [(i64, &str, &str); 15] = [
     (2024, "G", "F"),
     (2100, "C", "C"),
     (2999, "F", "F"),
+    (9999, "C", "C"),
 ];
 
 #[test]
@@ -194,7 +197,7 @@ const JULIAN_EASTERS: [(i32, u8, u8); 26] = [
     (2024, 4, 22),
     (2100, 4, 18),
     (2400, 3, 31),
-    (2999, 4, 15),
+    (9999, 4, 15),
 ];
 
 /// The dates that `ncal -s IT -e` prints, and for the first year another algorithm, run in Python.
@@ -224,7 +227,7 @@ const GREGORIAN_EASTERS: [(i32, u8, u8); 26] = [
     (2106, 4, 18),
     (2285, 3, 22),
     (2400, 4, 16),
-    (2999, 3, 24),
+    (9999, 3, 28),
 ];
 
 #[test]

@@ -37,9 +37,9 @@ fn has_no_day(rt: &impl Abort, calendar: Calendar, dates: &[Ymd]) {
 /// Days, what is added to each, and the day that is reached.
 const SUMS: [(i64, i32, Option<Day>); 4] = [
     (1, 0, Some(Day::FIRST)),
-    (1, 1_095_361, Some(Day::LAST)),
+    (1, 3_652_058, Some(Day::LAST)),
     (1, i32::MIN, None),
-    (1_095_362, i32::MAX, None),
+    (3_652_059, i32::MAX, None),
 ];
 
 fn are_sums(rt: &impl Abort, rows: &[(i64, i32, Option<Day>)]) -> Result<(), Fail> {
@@ -53,7 +53,7 @@ fn are_sums(rt: &impl Abort, rows: &[(i64, i32, Option<Day>)]) -> Result<(), Fai
 fn the_ends_of_the_line(rt: HostRuntime) -> Result<(), Fail> {
     are_sums(&rt, &SUMS)?;
     same(&rt, (Day::FIRST.number(), Day::LAST.number()), (1, HIGH));
-    same(&rt, Year::new(2999), Some(Year::LAST));
+    same(&rt, Year::new(9999), Some(Year::LAST));
     Ok(())
 }
 
@@ -89,7 +89,7 @@ const OF_HISTORY: [(i64, u32, Weekday, Ymd); 6] = [
     (620_589, 2_342_014, Weekday::Thursday, (1700, 2, 1)),
     (625_000, 2_346_425, Weekday::Friday, (1712, 2, 29)),
     (632_287, 2_353_712, Weekday::Friday, (1732, 2, 11)),
-    (1_095_362, 2_816_787, Weekday::Tuesday, (2999, 12, 11)),
+    (3_652_059, 5_373_484, Weekday::Friday, (9999, 10, 19)),
 ];
 
 fn are_of_history(rt: &impl Abort, rows: &[(i64, u32, Weekday, Ymd)]) -> Result<(), Fail> {
@@ -150,7 +150,7 @@ const GREGORIAN: [(i64, Ymd); 38] = [
     (728_714, (1996, 2, 25)),
     (744_313, (2038, 11, 10)),
     (764_652, (2094, 7, 18)),
-    (1_095_362, (2999, 12, 31)),
+    (3_652_059, (9999, 12, 31)),
 ];
 
 /// The Julian dates of the same days.
@@ -192,7 +192,7 @@ const JULIAN: [(i64, Ymd); 38] = [
     (728_714, (1996, 2, 12)),
     (744_313, (2038, 10, 28)),
     (764_652, (2094, 7, 5)),
-    (1_095_362, (2999, 12, 11)),
+    (3_652_059, (9999, 10, 19)),
 ];
 
 /// The ends of February.
@@ -238,8 +238,8 @@ const SWEDISH: [(i64, Ymd); 23] = [
     (625_002, (1712, 3, 2)),
     (626_461, (1716, 2, 29)),
     (639_964, (1753, 2, 17)),
-    (1_095_361, (2999, 12, 10)),
-    (1_095_362, (2999, 12, 11)),
+    (3_652_058, (9999, 10, 18)),
+    (3_652_059, (9999, 10, 19)),
 ];
 
 #[test]
@@ -281,6 +281,6 @@ fn leap_days_that_never_were(rt: HostRuntime) {
     has_no_day(
         &rt,
         Calendar::Julian,
-        &[(1712, 2, 30), (1, 1, 2), (2999, 12, 12)],
+        &[(1712, 2, 30), (1, 1, 2), (9999, 10, 20)],
     );
 }

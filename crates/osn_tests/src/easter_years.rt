@@ -5,7 +5,7 @@ use crate::compare::same;
 use crate::labels::{Named, are_named, day_of, label, regime_of};
 use crate::session::serves;
 use osn_computus::Rule;
-use osn_days::{Calendar, Day};
+use osn_days::{Calendar, Day, HIGH};
 use osn_lands::{Regime, Style, day_of_label, label_of};
 use osn_register::Limits;
 use std::alloc::AllocError;
@@ -40,9 +40,9 @@ const NAMED: [Named; 13] = [
     (
         Calendar::Gregorian,
         Style::Pisan,
-        1_095_362,
-        (3000, 12, 31),
-        "31 December 3000",
+        HIGH,
+        (10_000, 12, 31),
+        "31 December 10000",
     ),
     (
         Calendar::Julian,
@@ -82,9 +82,9 @@ const NAMED: [Named; 13] = [
     (
         Calendar::Julian,
         Style::Easter,
-        1_095_362,
-        (2999, 12, 11),
-        "11 December 2999",
+        HIGH,
+        (9999, 10, 19),
+        "19 October 9999",
     ),
     (
         Calendar::Gregorian,
@@ -146,7 +146,7 @@ const DAYS: [Days; 10] = [
     (
         Calendar::Gregorian,
         Style::Pisan,
-        (3000, 3, 24),
+        (10_000, 3, 24),
         [None, None],
     ),
 ];
@@ -207,11 +207,11 @@ const FRANCE: &str = r#"
 {"answer":{"days":[],"skipped":[]},"edition":1,"reader":1}
 {"op":"day","reader":1,"code":"FR","day":563296}
 {"answer":{"first":1,"found":{"day":563296,"dual":"24 March 1542/3","gregorian":"1543-04-03",
-  "jdn":2284721,"julian":"1543-03-24","label":"1542-03-24","weekday":"Saturday"},"last":1095362,
+  "jdn":2284721,"julian":"1543-03-24","label":"1542-03-24","weekday":"Saturday"},"last":LAST_DAY,
   "regime":{"calendar":"julian","rule":"julian","style":"easter"}},"edition":1,"reader":1}
 {"op":"day","reader":1,"code":"FR","day":563297}
 {"answer":{"first":1,"found":{"day":563297,"dual":"25 March 1543","gregorian":"1543-04-04",
-  "jdn":2284722,"julian":"1543-03-25","label":"1543-03-25","weekday":"Sunday"},"last":1095362,
+  "jdn":2284722,"julian":"1543-03-25","label":"1543-03-25","weekday":"Sunday"},"last":LAST_DAY,
   "regime":{"calendar":"julian","rule":"julian","style":"easter"}},"edition":1,"reader":1}
 # A listed Easter begins no year.
 {"op":"add_exception","code":"FR","year":1543,"day":563304}
@@ -317,7 +317,7 @@ const UNTAKEN: &str = r#"
 {"edition":2,"ok":"published"}
 {"op":"periods","reader":1,"code":"FR"}
 {"answer":{"periods":[{"calendar":"julian","first":1,"last":563578,"rule":"julian",
-  "style":"easter"},{"calendar":"julian","first":563579,"last":1095362,"rule":"julian",
+  "style":"easter"},{"calendar":"julian","first":563579,"last":LAST_DAY,"rule":"julian",
   "style":"january"}]},"edition":2,"reader":1}
 "#;
 

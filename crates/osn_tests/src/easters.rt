@@ -107,25 +107,25 @@ const EDGES: &str = r#"
 {"op":"add_land","code":"DE","name":"Sample DE","calendar":"gregorian","style":"january",
   "rule":"gregorian"}
 {"ok":"staged","pending":1}
-{"op":"add_exception","code":"DE","year":2999,"day":1}
+{"op":"add_exception","code":"DE","year":LAST_YEAR,"day":1}
 {"ok":"staged","pending":2}
-{"op":"add_exception","code":"DE","year":1,"day":1095362}
+{"op":"add_exception","code":"DE","year":1,"day":LAST_DAY}
 {"ok":"staged","pending":3}
 {"op":"publish"}
 {"edition":1,"ok":"published"}
 {"op":"easter","reader":1,"code":"DE","year":1}
-{"answer":{"days":[{"day":1095362,"dual":"31 December 2999","gregorian":"2999-12-31","jdn":2816787,
-  "julian":"2999-12-11","label":"2999-12-31","weekday":"Tuesday"}],"listed":true},"edition":1,
+{"answer":{"days":[{"day":LAST_DAY,"dual":"31 December 9999","gregorian":"9999-12-31","jdn":5373484,
+  "julian":"9999-10-19","label":"9999-12-31","weekday":"Friday"}],"listed":true},"edition":1,
   "reader":1}
 {"op":"easter","reader":1,"code":"DE","year":2}
 {"answer":{"days":[{"day":469,"dual":"14 April 2","gregorian":"0002-04-14","jdn":1721894,
   "julian":"0002-04-16","label":"0002-04-14","weekday":"Sunday"}],"listed":false},"edition":1,
   "reader":1}
-{"op":"easter","reader":1,"code":"DE","year":2998}
-{"answer":{"days":[{"day":1094730,"dual":"8 April 2998","gregorian":"2998-04-08","jdn":2816155,
-  "julian":"2998-03-19","label":"2998-04-08","weekday":"Sunday"}],"listed":false},"edition":1,
+{"op":"easter","reader":1,"code":"DE","year":9998}
+{"answer":{"days":[{"day":3651424,"dual":"5 April 9998","gregorian":"9998-04-05","jdn":5372849,
+  "julian":"9998-01-22","label":"9998-04-05","weekday":"Sunday"}],"listed":false},"edition":1,
   "reader":1}
-{"op":"easter","reader":1,"code":"DE","year":2999}
+{"op":"easter","reader":1,"code":"DE","year":LAST_YEAR}
 {"answer":{"days":[{"day":1,"dual":"1 January 1","gregorian":"0001-01-01","jdn":1721426,
   "julian":"0001-01-03","label":"0001-01-01","weekday":"Monday"}],"listed":true},"edition":1,
   "reader":1}
@@ -137,10 +137,10 @@ const EDGES: &str = r#"
 {"op":"publish"}
 {"edition":2,"ok":"published"}
 {"op":"easter","reader":1,"code":"DE","year":1}
-{"answer":{"days":[{"day":1095362,"dual":"11 December 2999","gregorian":"2999-12-31","jdn":2816787,
-  "julian":"2999-12-11","label":"2999-12-11","weekday":"Tuesday"}],"listed":true},"edition":2,
+{"answer":{"days":[{"day":LAST_DAY,"dual":"19 October 9999","gregorian":"9999-12-31","jdn":5373484,
+  "julian":"9999-10-19","label":"9999-10-19","weekday":"Friday"}],"listed":true},"edition":2,
   "reader":1}
-{"op":"easter","reader":1,"code":"DE","year":2999}
+{"op":"easter","reader":1,"code":"DE","year":LAST_YEAR}
 {"answer":{"days":[{"day":1,"dual":"1 January 1","gregorian":"0001-01-01","jdn":1721426,
   "julian":"0001-01-03","label":"0001-01-01","weekday":"Monday"}],"listed":true},"edition":2,
   "reader":1}
@@ -159,7 +159,7 @@ const EDGES: &str = r#"
 {"answer":{"days":[{"day":91,"dual":"1 April 1","gregorian":"0001-04-01","jdn":1721516,
   "julian":"0001-04-03","label":"0001-04-01","weekday":"Sunday"}],"listed":false},"edition":3,
   "reader":1}
-{"op":"easter","reader":1,"code":"DE","year":2999}
+{"op":"easter","reader":1,"code":"DE","year":LAST_YEAR}
 {"answer":{"days":[{"day":1,"dual":"1 January 1","gregorian":"0001-01-01","jdn":1721426,
   "julian":"0001-01-03","label":"0001-01-01","weekday":"Monday"}],"listed":true},"edition":3,
   "reader":1}

@@ -91,7 +91,7 @@ const APART: &str = r#"
 {"op":"periods","reader":1,"code":"GB"}
 {"answer":{"periods":[{"calendar":"julian","first":1,"last":639550,"rule":"julian",
   "style":"annunciation"},{"calendar":"julian","first":639551,"last":639796,"rule":"julian",
-  "style":"january"},{"calendar":"gregorian","first":639797,"last":1095362,"rule":"gregorian",
+  "style":"january"},{"calendar":"gregorian","first":639797,"last":LAST_DAY,"rule":"gregorian",
   "style":"january"}]},"edition":1,"reader":1}
 {"op":"add_exception","code":"GB","year":1724,"day":629412}
 {"ok":"staged","pending":1}
@@ -107,7 +107,7 @@ const APART: &str = r#"
 {"op":"periods","reader":1,"code":"GB"}
 {"answer":{"periods":[{"calendar":"julian","first":1,"last":639550,"rule":"julian",
   "style":"annunciation"},{"calendar":"julian","first":639551,"last":639796,"rule":"julian",
-  "style":"january"},{"calendar":"gregorian","first":639797,"last":1095362,"rule":"gregorian",
+  "style":"january"},{"calendar":"gregorian","first":639797,"last":LAST_DAY,"rule":"gregorian",
   "style":"january"}]},"edition":1,"reader":1}
 {"op":"easter","reader":1,"code":"GB","year":1724}
 {"answer":{"days":[{"day":629419,"dual":"5 April 1724","gregorian":"1724-04-16","jdn":2350844,
@@ -131,7 +131,7 @@ const APART: &str = r#"
 {"op":"periods","reader":1,"code":"GB"}
 {"answer":{"periods":[{"calendar":"julian","first":1,"last":1,"rule":"julian","style":"january"},
   {"calendar":"gregorian","first":2,"last":639796,"rule":"julian","style":"january"},
-  {"calendar":"gregorian","first":639797,"last":1095362,"rule":"gregorian","style":"january"}]},
+  {"calendar":"gregorian","first":639797,"last":LAST_DAY,"rule":"gregorian","style":"january"}]},
   "edition":2,"reader":1}
 {"op":"easter","reader":1,"code":"GB","year":1724}
 {"answer":{"days":[{"day":629412,"dual":"9 April 1724","gregorian":"1724-04-09","jdn":2350837,
@@ -149,7 +149,7 @@ const APART: &str = r#"
 {"answer":{"lands":[{"code":"GB","name":"Great Britain"},{"code":"SE","name":"Sweden"}]},
   "edition":2,"reader":1}
 {"op":"periods","reader":1,"code":"SE"}
-{"answer":{"periods":[{"calendar":"swedish","first":1,"last":1095362,"rule":"julian",
+{"answer":{"periods":[{"calendar":"swedish","first":1,"last":LAST_DAY,"rule":"julian",
   "style":"january"}]},"edition":2,"reader":1}
 # And a third edition, from what both of them made.
 {"op":"drop_exception","code":"GB","year":1724}
@@ -159,7 +159,7 @@ const APART: &str = r#"
 {"op":"periods","reader":1,"code":"GB"}
 {"answer":{"periods":[{"calendar":"julian","first":1,"last":1,"rule":"julian","style":"january"},
   {"calendar":"gregorian","first":2,"last":639796,"rule":"julian","style":"january"},
-  {"calendar":"gregorian","first":639797,"last":1095362,"rule":"gregorian","style":"january"}]},
+  {"calendar":"gregorian","first":639797,"last":LAST_DAY,"rule":"gregorian","style":"january"}]},
   "edition":2,"reader":1}
 {"op":"easter","reader":1,"code":"GB","year":1724}
 {"answer":{"days":[{"day":629412,"dual":"9 April 1724","gregorian":"1724-04-09","jdn":2350837,
@@ -169,7 +169,7 @@ const APART: &str = r#"
 {"edition":3,"ok":"published"}
 {"op":"periods","reader":1,"code":"GB"}
 {"answer":{"periods":[{"calendar":"julian","first":1,"last":639796,"rule":"julian",
-  "style":"january"},{"calendar":"gregorian","first":639797,"last":1095362,"rule":"gregorian",
+  "style":"january"},{"calendar":"gregorian","first":639797,"last":LAST_DAY,"rule":"gregorian",
   "style":"january"}]},"edition":3,"reader":1}
 {"op":"easter","reader":1,"code":"GB","year":1724}
 {"answer":{"days":[{"day":629419,"dual":"5 April 1724","gregorian":"1724-04-16","jdn":2350844,
@@ -201,7 +201,7 @@ const REFUSED_BETWEEN: &str = r#"
 {"fault":6,"name":"ChangeExists"}
 {"op":"add_land","code":"RM","name":"Rome","calendar":"julian","style":"january","rule":"julian"}
 {"ok":"staged","pending":1}
-{"op":"add_exception","code":"GB","year":3000,"day":1}
+{"op":"add_exception","code":"GB","year":YEAR_PAST,"day":1}
 {"fault":9,"name":"YearOffRange"}
 {"op":"drop_exception","code":"GB","year":1724}
 {"fault":11,"name":"NoSuchException"}
@@ -215,10 +215,10 @@ const REFUSED_BETWEEN: &str = r#"
 {"op":"periods","reader":1,"code":"GB"}
 {"answer":{"periods":[{"calendar":"julian","first":1,"last":639550,"rule":"julian",
   "style":"annunciation"},{"calendar":"julian","first":639551,"last":639796,"rule":"julian",
-  "style":"january"},{"calendar":"gregorian","first":639797,"last":1095362,"rule":"gregorian",
+  "style":"january"},{"calendar":"gregorian","first":639797,"last":LAST_DAY,"rule":"gregorian",
   "style":"january"}]},"edition":2,"reader":1}
 {"op":"periods","reader":1,"code":"RM"}
-{"answer":{"periods":[{"calendar":"julian","first":1,"last":1095362,"rule":"julian",
+{"answer":{"periods":[{"calendar":"julian","first":1,"last":LAST_DAY,"rule":"julian",
   "style":"january"}]},"edition":2,"reader":1}
 {"op":"read","reader":1,"code":"GB","year":1752,"month":9,"day":3}
 {"answer":{"days":[],"skipped":[639797]},"edition":2,"reader":1}

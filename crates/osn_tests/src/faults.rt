@@ -316,7 +316,7 @@ const NUMBERS: &str = r#"
 {"fault":34,"field":"day","name":"BadField"}
 {"op":"day","reader":1,"code":"RM","day":1}
 {"answer":{"first":1,"found":{"day":1,"dual":"3 January 1","gregorian":"0001-01-01","jdn":1721426,
-  "julian":"0001-01-03","label":"0001-01-03","weekday":"Monday"},"last":1095362,
+  "julian":"0001-01-03","label":"0001-01-03","weekday":"Monday"},"last":LAST_DAY,
   "regime":{"calendar":"julian","rule":"julian","style":"january"}},"edition":1,"reader":1}
 {"op":"read","reader":1,"code":"RM","year":-9223372036854775808,"month":9223372036854775807,"day":0}
 {"edition":1,"fault":9,"name":"YearOffRange","reader":1}

@@ -126,9 +126,16 @@ const YEARS: &str = r#"
 {"op":"figures","reader":1,"year":2999}
 {"answer":{"golden":17,"gregorian":{"easter":1095080,"epact":"21","letters":"F"},"indiction":2,
   "julian":{"easter":1095122,"epact":26,"letters":"G"},"year":2999},"edition":0,"reader":1}
+# The first year whose epact is 25 while its golden number is 12, and the last year.
+{"op":"figures","reader":1,"year":3108}
+{"answer":{"golden":12,"gregorian":{"easter":1134917,"epact":"25'","letters":"ED"},"indiction":6,
+  "julian":{"easter":1134931,"epact":1,"letters":"DC"},"year":3108},"edition":0,"reader":1}
+{"op":"figures","reader":1,"year":9999}
+{"answer":{"golden":6,"gregorian":{"easter":3651781,"epact":"20","letters":"C"},"indiction":12,
+  "julian":{"easter":3651872,"epact":25,"letters":"G"},"year":9999},"edition":0,"reader":1}
 {"op":"figures","reader":1,"year":0}
 {"edition":0,"fault":9,"name":"YearOffRange","reader":1}
-{"op":"figures","reader":1,"year":3000}
+{"op":"figures","reader":1,"year":YEAR_PAST}
 {"edition":0,"fault":9,"name":"YearOffRange","reader":1}
 {"op":"figures","reader":1,"year":"x"}
 {"fault":34,"field":"year","name":"BadField"}

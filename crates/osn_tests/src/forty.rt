@@ -182,7 +182,7 @@ const FORTY: &str = r#"
   "style":"january"},{"calendar":"gregorian","first":437000,"last":437999,"rule":"gregorian",
   "style":"january"},{"calendar":"julian","first":438000,"last":438999,"rule":"julian",
   "style":"january"},{"calendar":"gregorian","first":439000,"last":439999,"rule":"gregorian",
-  "style":"january"},{"calendar":"julian","first":440000,"last":1095362,"rule":"julian",
+  "style":"january"},{"calendar":"julian","first":440000,"last":LAST_DAY,"rule":"julian",
   "style":"january"}]},"edition":1,"reader":1}
 "#;
 

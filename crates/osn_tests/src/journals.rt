@@ -27,6 +27,12 @@ const BRITAIN: &str = r#"{"journal":2}
 {"code":"GB","day":639797,"op":"drop_change"}
 "#;
 
+/// Rome in version 1.
+const FIRST_ROME: &str = r#"{"journal":1}
+{"calendar":"julian","code":"RM","name":"Rome","op":"add_land","rule":"julian","style":"january"}
+{"op":"publish"}
+"#;
+
 /// Every kind of edit, in two editions and pending.
 const SWEDEN: &str = r#"{"journal":2}
 {"calendar":"swedish","code":"SE","name":"Sverige \"ö\" \\","op":"add_land","rule":"julian",
@@ -34,9 +40,9 @@ const SWEDEN: &str = r#"{"journal":2}
 {"op":"publish"}
 {"calendar":"gregorian","code":"SE","day":1,"op":"alter_change","rule":"gregorian",
   "style":"september"}
-{"code":"SE","day":1095362,"op":"add_exception","year":2999}
+{"code":"SE","day":LAST_DAY,"op":"add_exception","year":LAST_YEAR}
 {"op":"publish"}
-{"code":"SE","op":"drop_exception","year":2999}
+{"code":"SE","op":"drop_exception","year":LAST_YEAR}
 {"code":"SE","day":1,"op":"add_exception","year":1}
 "#;
 
@@ -57,13 +63,7 @@ const KEPT: [&str; 5] = ["{\"journal\":2}\n", ROME, BRITAIN, SWEDEN, FRANCE];
 /// version 2, members in any order, others passed over, the last one of a name taken, and a last
 /// line without its line feed.
 const TAKEN: [(&str, &str); 6] = [
-    (
-        r#"{"journal":1}
-{"calendar":"julian","code":"RM","name":"Rome","op":"add_land","rule":"julian","style":"january"}
-{"op":"publish"}
-"#,
-        ROME,
-    ),
+    (FIRST_ROME, ROME),
     ("{\"journal\":1}\n", "{\"journal\":2}\n"),
     ("{\"x\":[],\"journal\":1}", "{\"journal\":2}\n"),
     (
@@ -302,17 +302,17 @@ fn failing_reads(rt: HostRuntime) -> Result<(), Fail> {
     fail(&rt, rt.alloc(), &FAILURES)
 }
 
-/// What is answered from a journal: the published edits alone, until more are published.
-const ANSWERS: [(&str, &str); 2] = [
-    (
-        ROME,
-        r#"
+const OCTOBER: &str = r#"
 {"op":"read","reader":1,"code":"RM","year":1582,"month":10,"day":4}
 {"answer":{"days":[{"day":577735,"dual":"4 October 1582","gregorian":"1582-10-14","jdn":2299160,
   "julian":"1582-10-04","label":"1582-10-04","weekday":"Thursday"}],"skipped":[]},"edition":1,
   "reader":1}
-"#,
-    ),
+"#;
+
+/// What is answered from a journal: the published edits alone, until more are published.
+const ANSWERS: [(&str, &str); 3] = [
+    (ROME, OCTOBER),
+    (FIRST_ROME, OCTOBER),
     (
         BRITAIN,
         r#"
@@ -323,7 +323,7 @@ const ANSWERS: [(&str, &str); 2] = [
 {"op":"publish"}
 {"edition":2,"ok":"published"}
 {"op":"periods","reader":1,"code":"GB"}
-{"answer":{"periods":[{"calendar":"julian","first":1,"last":1095362,"rule":"julian",
+{"answer":{"periods":[{"calendar":"julian","first":1,"last":LAST_DAY,"rule":"julian",
   "style":"annunciation"}]},"edition":2,"reader":1}
 "#,
     ),

@@ -3,7 +3,7 @@
 //! numbers are Python's `toordinal` and those of the Julian day number's formula.
 use crate::compare::same;
 use osn_computus::Rule;
-use osn_days::{Calendar, Day};
+use osn_days::{Calendar, Day, HIGH};
 use osn_lands::{Label, Regime, Style, day_of_label, dual_text, label_of};
 use std::alloc::{AllocError, Global};
 use std::process::Abort;
@@ -106,9 +106,9 @@ const NAMED: [Named; 39] = [
     (
         Calendar::Gregorian,
         Style::January,
-        1_095_362,
-        (2999, 12, 31),
-        "31 December 2999",
+        HIGH,
+        (9999, 12, 31),
+        "31 December 9999",
     ),
     (
         Calendar::Julian,
@@ -260,9 +260,9 @@ const NAMED: [Named; 39] = [
     (
         Calendar::Julian,
         Style::September,
-        1_095_362,
-        (3000, 12, 11),
-        "11 December 3000",
+        HIGH,
+        (10_000, 10, 19),
+        "19 October 10000",
     ),
     (
         Calendar::Gregorian,
@@ -281,23 +281,23 @@ const NAMED: [Named; 39] = [
     (
         Calendar::Gregorian,
         Style::Nativity,
-        1_095_356,
-        (3000, 12, 25),
-        "25 December 3000",
+        3_652_053,
+        (10_000, 12, 25),
+        "25 December 10000",
     ),
     (
         Calendar::Gregorian,
         Style::Nativity,
-        1_095_362,
-        (3000, 12, 31),
-        "31 December 3000",
+        HIGH,
+        (10_000, 12, 31),
+        "31 December 10000",
     ),
     (
         Calendar::Gregorian,
         Style::September,
-        1_095_241,
-        (3000, 9, 1),
-        "1 September 3000",
+        3_651_938,
+        (10_000, 9, 1),
+        "1 September 10000",
     ),
 ];
 
@@ -331,12 +331,12 @@ fn labels_and_texts(rt: HostRuntime) -> Result<(), AllocError> {
 const OF_NO_DAY: [(Calendar, Style, (i32, u8, u8)); 10] = [
     (Calendar::Julian, Style::Annunciation, (0, 1, 2)),
     (Calendar::Julian, Style::Annunciation, (0, 3, 25)),
-    (Calendar::Gregorian, Style::Annunciation, (2999, 3, 24)),
+    (Calendar::Gregorian, Style::Annunciation, (9999, 3, 24)),
     (Calendar::Julian, Style::Nativity, (1, 12, 25)),
-    (Calendar::Gregorian, Style::Nativity, (3000, 12, 24)),
+    (Calendar::Gregorian, Style::Nativity, (10_000, 12, 24)),
     (Calendar::Julian, Style::September, (1, 9, 1)),
-    (Calendar::Julian, Style::September, (3000, 12, 12)),
-    (Calendar::Gregorian, Style::September, (3000, 8, 31)),
+    (Calendar::Julian, Style::September, (10_000, 10, 20)),
+    (Calendar::Gregorian, Style::September, (10_000, 8, 31)),
     (Calendar::Swedish, Style::January, (1700, 2, 29)),
     (Calendar::Gregorian, Style::January, (1900, 2, 29)),
 ];

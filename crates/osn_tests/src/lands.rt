@@ -5,7 +5,7 @@
 use crate::compare::same;
 use crate::labels::{day_of, label};
 use osn_computus::Rule;
-use osn_days::{Calendar, Day, Year};
+use osn_days::{Calendar, Day, HIGH, Year};
 use osn_lands::{LandFault, Period, Regime, Style, Territory};
 use std::alloc::{AllocError, Global};
 use std::process::Abort;
@@ -83,14 +83,14 @@ const CALLS: [(Call, Result<(), LandFault>); 23] = [
         Call::AlterChange(639_798, UNTAKEN),
         Err(LandFault::NoSuchChange),
     ),
-    (Call::AddChange(1_095_362, JULIAN), Ok(())),
+    (Call::AddChange(HIGH, JULIAN), Ok(())),
     (Call::AddChange(2, GREGORIAN), Ok(())),
     (Call::AlterChange(3, JULIAN), Err(LandFault::NoSuchChange)),
     (Call::AlterChange(2, JULIAN), Ok(())),
     (Call::DropChange(639_796), Err(LandFault::NoSuchChange)),
-    (Call::DropChange(1_095_362), Ok(())),
-    (Call::AddException(2999, 1), Ok(())),
-    (Call::AddException(1, 1_095_362), Ok(())),
+    (Call::DropChange(HIGH), Ok(())),
+    (Call::AddException(9999, 1), Ok(())),
+    (Call::AddException(1, HIGH), Ok(())),
     (Call::AddException(1724, 629_412), Ok(())),
     (
         Call::AddException(1724, 629_412),
@@ -106,7 +106,7 @@ const CALLS: [(Call, Result<(), LandFault>); 23] = [
 const PERIODS: [(u32, u32, Regime); 3] = [
     (1, 1, JULIAN),
     (2, 639_796, JULIAN),
-    (639_797, 1_095_362, GREGORIAN),
+    (639_797, HIGH, GREGORIAN),
 ];
 
 /// A territory after some calls, each of which is answered so.
@@ -159,7 +159,7 @@ fn a_territory_is_changed_and_copied(rt: HostRuntime) -> Result<(), Fail> {
 
 /// A year, the day that is listed for it, and its Easter.
 const EASTERS: [(u32, Option<u32>, u32); 4] = [
-    (2999, Some(1), 1),
+    (9999, Some(1), 1),
     (1, None, 84),
     (1724, Some(629_412), 629_412),
     (1918, None, 700_259),
@@ -196,7 +196,7 @@ const READ: [Read; 5] = [
     ((1752, 9, 3), None, Some(639_797)),
     ((1752, 9, 14), Some(639_797), None),
     ((1712, 2, 30), None, None),
-    ((2999, 12, 31), Some(1_095_362), None),
+    ((9999, 12, 31), Some(HIGH), None),
 ];
 
 /// The first of some days.

@@ -34,18 +34,18 @@ const CHANGES: &str = r#"
 {"ok":"staged","pending":4}
 {"op":"drop_change","code":"RM","day":2}
 {"ok":"staged","pending":5}
-{"op":"add_change","code":"RM","day":1095362,"calendar":"gregorian","style":"january",
+{"op":"add_change","code":"RM","day":LAST_DAY,"calendar":"gregorian","style":"january",
   "rule":"gregorian"}
 {"ok":"staged","pending":6}
 {"op":"publish"}
 {"edition":1,"ok":"published"}
 {"op":"periods","reader":1,"code":"RM"}
-{"answer":{"periods":[{"calendar":"julian","first":1,"last":1095361,"rule":"julian",
-  "style":"january"},{"calendar":"gregorian","first":1095362,"last":1095362,"rule":"gregorian",
+{"answer":{"periods":[{"calendar":"julian","first":1,"last":3652058,"rule":"julian",
+  "style":"january"},{"calendar":"gregorian","first":LAST_DAY,"last":LAST_DAY,"rule":"gregorian",
   "style":"january"}]},"edition":1,"reader":1}
 {"op":"periods","reader":1,"code":"GB"}
 {"answer":{"periods":[{"calendar":"julian","first":1,"last":2,"rule":"julian","style":"january"},
-  {"calendar":"gregorian","first":3,"last":1095362,"rule":"gregorian","style":"january"}]},
+  {"calendar":"gregorian","first":3,"last":LAST_DAY,"rule":"gregorian","style":"january"}]},
   "edition":1,"reader":1}
 "#;
 
@@ -60,7 +60,7 @@ const NO_CHANGES: &str = r#"
 {"op":"publish"}
 {"edition":1,"ok":"published"}
 {"op":"periods","reader":1,"code":"RM"}
-{"answer":{"periods":[{"calendar":"gregorian","first":1,"last":1095362,"rule":"julian",
+{"answer":{"periods":[{"calendar":"gregorian","first":1,"last":LAST_DAY,"rule":"julian",
   "style":"january"}]},"edition":1,"reader":1}
 "#;
 
@@ -70,19 +70,19 @@ const EXCEPTIONS: &str = r#"
 {"ok":"staged","pending":1}
 {"op":"add_exception","code":"RM","year":1,"day":1}
 {"ok":"staged","pending":2}
-{"op":"add_exception","code":"RM","year":2999,"day":1095362}
+{"op":"add_exception","code":"RM","year":LAST_YEAR,"day":LAST_DAY}
 {"fault":14,"name":"TooManyExceptions"}
 {"op":"drop_exception","code":"RM","year":1}
 {"ok":"staged","pending":3}
-{"op":"add_exception","code":"RM","year":2999,"day":1095362}
+{"op":"add_exception","code":"RM","year":LAST_YEAR,"day":LAST_DAY}
 {"ok":"staged","pending":4}
-{"op":"add_exception","code":"RM","year":2999,"day":1}
+{"op":"add_exception","code":"RM","year":LAST_YEAR,"day":1}
 {"fault":10,"name":"ExceptionExists"}
 {"op":"publish"}
 {"edition":1,"ok":"published"}
-{"op":"easter","reader":1,"code":"RM","year":2999}
-{"answer":{"days":[{"day":1095362,"dual":"11 December 2999","gregorian":"2999-12-31","jdn":2816787,
-  "julian":"2999-12-11","label":"2999-12-11","weekday":"Tuesday"}],"listed":true},"edition":1,
+{"op":"easter","reader":1,"code":"RM","year":LAST_YEAR}
+{"answer":{"days":[{"day":LAST_DAY,"dual":"19 October 9999","gregorian":"9999-12-31","jdn":5373484,
+  "julian":"9999-10-19","label":"9999-10-19","weekday":"Friday"}],"listed":true},"edition":1,
   "reader":1}
 {"op":"easter","reader":1,"code":"RM","year":1}
 {"answer":{"days":[{"day":84,"dual":"27 March 1","gregorian":"0001-03-25","jdn":1721509,

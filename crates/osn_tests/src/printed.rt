@@ -71,7 +71,7 @@ const ALMANACS: [Almanac; 7] = [
     ),
     (PENDING, "RM", 1500, (1, "", "oldstyle: 3 UnknownLand\n")),
     (RM, "RM", 0, (1, "", "oldstyle: 9 YearOffRange\n")),
-    (RM, "RM", 3000, (1, "", "oldstyle: 9 YearOffRange\n")),
+    (RM, "RM", 10_000, (1, "", "oldstyle: 9 YearOffRange\n")),
     (RM, "RM", u32::MAX, (1, "", "oldstyle: 9 YearOffRange\n")),
     (RM, "rm", 1500, (1, "", "oldstyle: 1 BadCode\n")),
     (

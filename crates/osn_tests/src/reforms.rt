@@ -49,7 +49,7 @@ const BRITAIN: &str = r#"
 {"answer":{"days":[],"skipped":[]},"edition":1,"reader":1}
 {"op":"read","reader":1,"code":"GB","year":1753,"month":13,"day":1}
 {"edition":1,"fault":18,"name":"BadDate","reader":1}
-{"op":"read","reader":1,"code":"GB","year":3001,"month":1,"day":1}
+{"op":"read","reader":1,"code":"GB","year":LABEL_PAST,"month":1,"day":1}
 {"edition":1,"fault":9,"name":"YearOffRange","reader":1}
 # The first and the last day, and those at the changes.
 {"op":"day","reader":1,"code":"GB","day":0}
@@ -72,18 +72,26 @@ const BRITAIN: &str = r#"
   "regime":{"calendar":"julian","rule":"julian","style":"january"}},"edition":1,"reader":1}
 {"op":"day","reader":1,"code":"GB","day":639797}
 {"answer":{"first":639797,"found":{"day":639797,"dual":"14 September 1752","gregorian":"1752-09-14",
-  "jdn":2361222,"julian":"1752-09-03","label":"1752-09-14","weekday":"Thursday"},"last":1095362,
+  "jdn":2361222,"julian":"1752-09-03","label":"1752-09-14","weekday":"Thursday"},"last":LAST_DAY,
   "regime":{"calendar":"gregorian","rule":"gregorian","style":"january"}},"edition":1,"reader":1}
 {"op":"day","reader":1,"code":"GB","day":1095362}
 {"answer":{"first":639797,"found":{"day":1095362,"dual":"31 December 2999","gregorian":"2999-12-31",
-  "jdn":2816787,"julian":"2999-12-11","label":"2999-12-31","weekday":"Tuesday"},"last":1095362,
+  "jdn":2816787,"julian":"2999-12-11","label":"2999-12-31","weekday":"Tuesday"},"last":LAST_DAY,
   "regime":{"calendar":"gregorian","rule":"gregorian","style":"january"}},"edition":1,"reader":1}
 {"op":"day","reader":1,"code":"GB","day":1095363}
+{"answer":{"first":639797,"found":{"day":1095363,"dual":"1 January 3000","gregorian":"3000-01-01",
+  "jdn":2816788,"julian":"2999-12-12","label":"3000-01-01","weekday":"Wednesday"},"last":LAST_DAY,
+  "regime":{"calendar":"gregorian","rule":"gregorian","style":"january"}},"edition":1,"reader":1}
+{"op":"day","reader":1,"code":"GB","day":LAST_DAY}
+{"answer":{"first":639797,"found":{"day":3652059,"dual":"31 December 9999","gregorian":"9999-12-31",
+  "jdn":5373484,"julian":"9999-10-19","label":"9999-12-31","weekday":"Friday"},"last":LAST_DAY,
+  "regime":{"calendar":"gregorian","rule":"gregorian","style":"january"}},"edition":1,"reader":1}
+{"op":"day","reader":1,"code":"GB","day":DAY_PAST}
 {"edition":1,"fault":5,"name":"DayOffLine","reader":1}
 {"op":"periods","reader":1,"code":"GB"}
 {"answer":{"periods":[{"calendar":"julian","first":1,"last":639550,"rule":"julian",
   "style":"annunciation"},{"calendar":"julian","first":639551,"last":639796,"rule":"julian",
-  "style":"january"},{"calendar":"gregorian","first":639797,"last":1095362,"rule":"gregorian",
+  "style":"january"},{"calendar":"gregorian","first":639797,"last":LAST_DAY,"rule":"gregorian",
   "style":"january"}]},"edition":1,"reader":1}
 "#;
 
@@ -137,7 +145,7 @@ const SWEDEN: &str = r#"
 {"op":"periods","reader":1,"code":"SE"}
 {"answer":{"periods":[{"calendar":"julian","first":1,"last":620616,"rule":"julian",
   "style":"january"},{"calendar":"swedish","first":620617,"last":639964,"rule":"julian",
-  "style":"january"},{"calendar":"gregorian","first":639965,"last":1095362,"rule":"gregorian",
+  "style":"january"},{"calendar":"gregorian","first":639965,"last":LAST_DAY,"rule":"gregorian",
   "style":"january"}]},"edition":1,"reader":1}
 {"op":"day","reader":1,"code":"SE","day":620616}
 {"answer":{"first":1,"found":{"day":620616,"dual":"28 February 1700","gregorian":"1700-03-10",
@@ -161,7 +169,7 @@ const SWEDEN: &str = r#"
   "regime":{"calendar":"swedish","rule":"julian","style":"january"}},"edition":1,"reader":1}
 {"op":"day","reader":1,"code":"SE","day":639965}
 {"answer":{"first":639965,"found":{"day":639965,"dual":"1 March 1753","gregorian":"1753-03-01",
-  "jdn":2361390,"julian":"1753-02-18","label":"1753-03-01","weekday":"Thursday"},"last":1095362,
+  "jdn":2361390,"julian":"1753-02-18","label":"1753-03-01","weekday":"Thursday"},"last":LAST_DAY,
   "regime":{"calendar":"gregorian","rule":"gregorian","style":"january"}},"edition":1,"reader":1}
 "#;
 
@@ -195,11 +203,11 @@ const RUSSIA: &str = r#"
   "regime":{"calendar":"julian","rule":"julian","style":"january"}},"edition":1,"reader":1}
 {"op":"day","reader":1,"code":"RU","day":700214}
 {"answer":{"first":700214,"found":{"day":700214,"dual":"14 February 1918","gregorian":"1918-02-14",
-  "jdn":2421639,"julian":"1918-02-01","label":"1918-02-14","weekday":"Thursday"},"last":1095362,
+  "jdn":2421639,"julian":"1918-02-01","label":"1918-02-14","weekday":"Thursday"},"last":LAST_DAY,
   "regime":{"calendar":"gregorian","rule":"julian","style":"january"}},"edition":1,"reader":1}
 {"op":"periods","reader":1,"code":"RU"}
 {"answer":{"periods":[{"calendar":"julian","first":1,"last":700213,"rule":"julian",
-  "style":"january"},{"calendar":"gregorian","first":700214,"last":1095362,"rule":"julian",
+  "style":"january"},{"calendar":"gregorian","first":700214,"last":LAST_DAY,"rule":"julian",
   "style":"january"}]},"edition":1,"reader":1}
 {"op":"drop_change","code":"RU","day":700214}
 {"ok":"staged","pending":1}
@@ -210,7 +218,7 @@ const RUSSIA: &str = r#"
   "julian":"1918-02-01","label":"1918-02-01","weekday":"Thursday"}],"skipped":[]},"edition":2,
   "reader":1}
 {"op":"periods","reader":1,"code":"RU"}
-{"answer":{"periods":[{"calendar":"julian","first":1,"last":1095362,"rule":"julian",
+{"answer":{"periods":[{"calendar":"julian","first":1,"last":LAST_DAY,"rule":"julian",
   "style":"january"}]},"edition":2,"reader":1}
 "#;
 

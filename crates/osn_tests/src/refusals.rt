@@ -60,7 +60,7 @@ const LONG: &str = r#"
   "name":"éééééééééééééééééééééééééééééééé"},{"code":"ZZZZZZZZ","name":" "}]},"edition":1,
   "reader":1}
 {"op":"periods","reader":1,"code":"ABCDEFG9"}
-{"answer":{"periods":[{"calendar":"julian","first":1,"last":1095362,"rule":"julian",
+{"answer":{"periods":[{"calendar":"julian","first":1,"last":LAST_DAY,"rule":"julian",
   "style":"january"}]},"edition":1,"reader":1}
 {"op":"periods","reader":1,"code":"ABCDEFGH9"}
 {"edition":1,"fault":1,"name":"BadCode","reader":1}
@@ -82,7 +82,7 @@ const OF_CHANGES: &str = r#"
 {"fault":1,"name":"BadCode"}
 {"op":"add_change","code":"FR","day":0,"calendar":"gregorian","style":"january","rule":"gregorian"}
 {"fault":3,"name":"UnknownLand"}
-{"op":"add_change","code":"GB","day":1095363,"calendar":"gregorian","style":"january",
+{"op":"add_change","code":"GB","day":DAY_PAST,"calendar":"gregorian","style":"january",
   "rule":"gregorian"}
 {"fault":5,"name":"DayOffLine"}
 {"op":"add_change","code":"GB","day":0,"calendar":"gregorian","style":"january","rule":"gregorian"}
@@ -108,7 +108,7 @@ const OF_CHANGES: &str = r#"
 {"op":"alter_change","code":"GB","day":0,"calendar":"gregorian","style":"january",
   "rule":"gregorian"}
 {"fault":5,"name":"DayOffLine"}
-{"op":"alter_change","code":"GB","day":1095363,"calendar":"gregorian","style":"january",
+{"op":"alter_change","code":"GB","day":DAY_PAST,"calendar":"gregorian","style":"january",
   "rule":"gregorian"}
 {"fault":5,"name":"DayOffLine"}
 {"op":"alter_change","code":"GB","day":639796,"calendar":"gregorian","style":"january",
@@ -123,19 +123,19 @@ const OF_CHANGES: &str = r#"
 {"fault":3,"name":"UnknownLand"}
 {"op":"drop_change","code":"GB","day":0}
 {"fault":5,"name":"DayOffLine"}
-{"op":"drop_change","code":"GB","day":1095363}
+{"op":"drop_change","code":"GB","day":DAY_PAST}
 {"fault":5,"name":"DayOffLine"}
 {"op":"drop_change","code":"GB","day":1}
 {"fault":8,"name":"OpeningPeriod"}
 {"op":"drop_change","code":"GB","day":639796}
 {"fault":7,"name":"NoSuchChange"}
-{"op":"drop_change","code":"GB","day":1095362}
+{"op":"drop_change","code":"GB","day":LAST_DAY}
 {"fault":7,"name":"NoSuchChange"}
 {"op":"publish"}
 {"fault":15,"name":"NothingPending"}
 {"op":"periods","reader":1,"code":"GB"}
 {"answer":{"periods":[{"calendar":"julian","first":1,"last":639796,"rule":"julian",
-  "style":"january"},{"calendar":"gregorian","first":639797,"last":1095362,"rule":"gregorian",
+  "style":"january"},{"calendar":"gregorian","first":639797,"last":LAST_DAY,"rule":"gregorian",
   "style":"january"}]},"edition":1,"reader":1}
 "#;
 
@@ -154,11 +154,11 @@ const OF_EXCEPTIONS: &str = r#"
 {"fault":3,"name":"UnknownLand"}
 {"op":"add_exception","code":"DE","year":0,"day":0}
 {"fault":5,"name":"DayOffLine"}
-{"op":"add_exception","code":"DE","year":3000,"day":1095363}
+{"op":"add_exception","code":"DE","year":YEAR_PAST,"day":DAY_PAST}
 {"fault":5,"name":"DayOffLine"}
 {"op":"add_exception","code":"DE","year":0,"day":1}
 {"fault":9,"name":"YearOffRange"}
-{"op":"add_exception","code":"DE","year":3000,"day":1095362}
+{"op":"add_exception","code":"DE","year":YEAR_PAST,"day":LAST_DAY}
 {"fault":9,"name":"YearOffRange"}
 {"op":"add_exception","code":"DE","year":1724,"day":1}
 {"fault":10,"name":"ExceptionExists"}
@@ -170,11 +170,11 @@ const OF_EXCEPTIONS: &str = r#"
 {"fault":3,"name":"UnknownLand"}
 {"op":"drop_exception","code":"DE","year":0}
 {"fault":9,"name":"YearOffRange"}
-{"op":"drop_exception","code":"DE","year":3000}
+{"op":"drop_exception","code":"DE","year":YEAR_PAST}
 {"fault":9,"name":"YearOffRange"}
 {"op":"drop_exception","code":"DE","year":1725}
 {"fault":11,"name":"NoSuchException"}
-{"op":"drop_exception","code":"DE","year":2999}
+{"op":"drop_exception","code":"DE","year":LAST_YEAR}
 {"fault":11,"name":"NoSuchException"}
 {"op":"publish"}
 {"fault":15,"name":"NothingPending"}
@@ -190,11 +190,11 @@ const OF_QUERIES: &str = r#"
 {"ok":"staged","pending":1}
 {"op":"publish"}
 {"edition":1,"ok":"published"}
-{"op":"read","reader":1,"code":"rm","year":3001,"month":13,"day":32}
+{"op":"read","reader":1,"code":"rm","year":LABEL_PAST,"month":13,"day":32}
 {"edition":1,"fault":1,"name":"BadCode","reader":1}
-{"op":"read","reader":1,"code":"GB","year":3001,"month":13,"day":32}
+{"op":"read","reader":1,"code":"GB","year":LABEL_PAST,"month":13,"day":32}
 {"edition":1,"fault":3,"name":"UnknownLand","reader":1}
-{"op":"read","reader":1,"code":"RM","year":3001,"month":13,"day":32}
+{"op":"read","reader":1,"code":"RM","year":LABEL_PAST,"month":13,"day":32}
 {"edition":1,"fault":9,"name":"YearOffRange","reader":1}
 {"op":"read","reader":1,"code":"RM","year":-1,"month":13,"day":32}
 {"edition":1,"fault":9,"name":"YearOffRange","reader":1}
@@ -204,11 +204,11 @@ const OF_QUERIES: &str = r#"
 {"edition":1,"fault":18,"name":"BadDate","reader":1}
 {"op":"read","reader":1,"code":"RM","year":0,"month":10,"day":32}
 {"edition":1,"fault":18,"name":"BadDate","reader":1}
-{"op":"read","reader":1,"code":"RM","year":3000,"month":10,"day":0}
+{"op":"read","reader":1,"code":"RM","year":YEAR_PAST,"month":10,"day":0}
 {"edition":1,"fault":18,"name":"BadDate","reader":1}
 {"op":"read","reader":1,"code":"RM","year":0,"month":1,"day":1}
 {"answer":{"days":[],"skipped":[]},"edition":1,"reader":1}
-{"op":"read","reader":1,"code":"RM","year":3000,"month":12,"day":31}
+{"op":"read","reader":1,"code":"RM","year":YEAR_PAST,"month":12,"day":31}
 {"answer":{"days":[],"skipped":[]},"edition":1,"reader":1}
 {"op":"day","reader":1,"code":"rm","day":0}
 {"edition":1,"fault":1,"name":"BadCode","reader":1}
@@ -216,19 +216,19 @@ const OF_QUERIES: &str = r#"
 {"edition":1,"fault":3,"name":"UnknownLand","reader":1}
 {"op":"day","reader":1,"code":"RM","day":0}
 {"edition":1,"fault":5,"name":"DayOffLine","reader":1}
-{"op":"day","reader":1,"code":"RM","day":1095363}
+{"op":"day","reader":1,"code":"RM","day":DAY_PAST}
 {"edition":1,"fault":5,"name":"DayOffLine","reader":1}
 {"op":"easter","reader":1,"code":"rm","year":0}
 {"edition":1,"fault":1,"name":"BadCode","reader":1}
-{"op":"easter","reader":1,"code":"GB","year":3000}
+{"op":"easter","reader":1,"code":"GB","year":YEAR_PAST}
 {"edition":1,"fault":3,"name":"UnknownLand","reader":1}
 {"op":"easter","reader":1,"code":"RM","year":0}
 {"edition":1,"fault":9,"name":"YearOffRange","reader":1}
-{"op":"easter","reader":1,"code":"RM","year":3000}
+{"op":"easter","reader":1,"code":"RM","year":YEAR_PAST}
 {"edition":1,"fault":9,"name":"YearOffRange","reader":1}
 {"op":"figures","reader":1,"year":0}
 {"edition":1,"fault":9,"name":"YearOffRange","reader":1}
-{"op":"figures","reader":1,"year":3000}
+{"op":"figures","reader":1,"year":YEAR_PAST}
 {"edition":1,"fault":9,"name":"YearOffRange","reader":1}
 {"op":"figures","reader":1,"year":-1}
 {"edition":1,"fault":9,"name":"YearOffRange","reader":1}
@@ -237,7 +237,7 @@ const OF_QUERIES: &str = r#"
 {"op":"periods","reader":1,"code":"GB"}
 {"edition":1,"fault":3,"name":"UnknownLand","reader":1}
 {"op":"periods","reader":8,"code":"RM"}
-{"answer":{"periods":[{"calendar":"julian","first":1,"last":1095362,"rule":"julian",
+{"answer":{"periods":[{"calendar":"julian","first":1,"last":LAST_DAY,"rule":"julian",
   "style":"january"}]},"edition":1,"reader":8}
 {"op":"periods","reader":9,"code":"rm"}
 {"fault":36,"name":"UnknownReader"}
@@ -265,7 +265,7 @@ const OF_BRITAIN: &str = r#"
 {"op":"add_land","code":"GB","name":"Great Britain","calendar":"julian","style":"annunciation",
   "rule":"julian"}
 {"fault":4,"name":"LandExists"}
-{"op":"add_change","code":"GB","day":1095363,"calendar":"julian","style":"january","rule":"julian"}
+{"op":"add_change","code":"GB","day":DAY_PAST,"calendar":"julian","style":"january","rule":"julian"}
 {"fault":5,"name":"DayOffLine"}
 {"op":"add_change","code":"GB","day":639797,"calendar":"julian","style":"january","rule":"julian"}
 {"fault":6,"name":"ChangeExists"}
@@ -275,7 +275,7 @@ const OF_BRITAIN: &str = r#"
 {"fault":7,"name":"NoSuchChange"}
 {"op":"drop_change","code":"GB","day":1}
 {"fault":8,"name":"OpeningPeriod"}
-{"op":"add_exception","code":"GB","year":3000,"day":700000}
+{"op":"add_exception","code":"GB","year":YEAR_PAST,"day":700000}
 {"fault":9,"name":"YearOffRange"}
 {"op":"add_exception","code":"GB","year":1724,"day":629412}
 {"ok":"staged","pending":1}
@@ -294,7 +294,7 @@ const OF_BRITAIN: &str = r#"
 {"op":"periods","reader":1,"code":"GB"}
 {"answer":{"periods":[{"calendar":"julian","first":1,"last":639550,"rule":"julian",
   "style":"january"},{"calendar":"julian","first":639551,"last":639796,"rule":"julian",
-  "style":"january"},{"calendar":"gregorian","first":639797,"last":1095362,"rule":"gregorian",
+  "style":"january"},{"calendar":"gregorian","first":639797,"last":LAST_DAY,"rule":"gregorian",
   "style":"january"}]},"edition":2,"reader":1}
 "#;
 

@@ -109,7 +109,7 @@ const BRITAIN: &str = r#"
 {"op":"periods","reader":1,"code":"GB"}
 {"answer":{"periods":[{"calendar":"julian","first":1,"last":639550,"rule":"julian",
   "style":"annunciation"},{"calendar":"julian","first":639551,"last":639796,"rule":"julian",
-  "style":"january"},{"calendar":"gregorian","first":639797,"last":1095362,"rule":"gregorian",
+  "style":"january"},{"calendar":"gregorian","first":639797,"last":LAST_DAY,"rule":"gregorian",
   "style":"january"}]},"edition":0,"reader":1}
 {"op":"lands","reader":1}
 {"answer":{"lands":[{"code":"GB","name":"Great Britain"}]},"edition":0,"reader":1}

@@ -6,9 +6,9 @@ ghost use Rattle.osn_lands.specs.Label.{days_with_label};
 ghost use Rattle.osn_lands.specs.Territory.{reading};
 
 use crate::compare::same;
+use crate::labels::{label, regime_of};
 use crate::lands::of_forty_changes;
 use crate::walk::day_at;
-use osn_computus::Rule;
 use osn_days::{Calendar, Day, HIGH};
 use osn_lands::{Label, Regime, Style, Territory, day_of_label, label_of};
 use std::alloc::{AllocError, Global};
@@ -44,28 +44,7 @@ fn read(alloc: Global, territory: &Territory, label: Label) -> Result<Vec<Day>, 
 }
 
 /// Dates as year, month and day: at the ends of the line, at changes of calendar, and of no day.
-const DATES: [(i32, u8, u8); 12] = [
-    (0, 12, 31),
-    (1, 1, 1),
-    (1, 1, 3),
-    (1153, 8, 25),
-    (1153, 8, 29),
-    (1500, 12, 25),
-    (1582, 2, 30),
-    (1700, 2, 29),
-    (1712, 2, 30),
-    (2999, 12, 11),
-    (2999, 12, 31),
-    (3000, 9, 1),
-];
-
-fn label(ymd: (i32, u8, u8)) -> Label {
-    Label {
-        year: ymd.0,
-        month: ymd.1,
-        day: ymd.2,
-    }
-}
+const DATES: [(i32, u8, u8); 4] = [(0, 12, 31), (1153, 8, 29), (1712, 2, 30), (10_000, 9, 1)];
 
 fn labels_agree(
     rt: &impl Abort,
@@ -82,43 +61,31 @@ fn labels_agree(
     Ok(())
 }
 
+/// Calendars with a style, each calendar twice.
+const CALENDARS: [(Calendar, Style); 6] = [
+    (Calendar::Julian, Style::January),
+    (Calendar::Gregorian, Style::Annunciation),
+    (Calendar::Swedish, Style::Nativity),
+    (Calendar::Julian, Style::September),
+    (Calendar::Gregorian, Style::January),
+    (Calendar::Swedish, Style::Annunciation),
+];
+
 #[test]
 fn days_of_labels_agree(rt: HostRuntime) -> Result<(), AllocError> {
-    for style in [
-        Style::January,
-        Style::Annunciation,
-        Style::Nativity,
-        Style::September,
-    ] {
-        for calendar in [Calendar::Julian, Calendar::Gregorian, Calendar::Swedish] {
-            let rule = Rule::Julian;
-            let regime = Regime {
-                calendar,
-                style,
-                rule,
-            };
-            labels_agree(&rt, rt.alloc(), regime, &DATES)?;
-        }
+    for (calendar, style) in CALENDARS {
+        labels_agree(&rt, rt.alloc(), regime_of(calendar, style), &DATES)?;
     }
     Ok(())
 }
 
-/// Dates that fall twice, once or never, as the calendar and the style have it.
+/// Dates that fall twice, once or never, as the style has it.
 const SPRING: [(i32, u8, u8); 2] = [(1543, 4, 1), (1542, 4, 1)];
 
 #[test]
 fn days_of_labels_in_spring_agree(rt: HostRuntime) -> Result<(), AllocError> {
-    for (calendar, style) in [
-        (Calendar::Julian, Style::Easter),
-        (Calendar::Gregorian, Style::Easter),
-        (Calendar::Julian, Style::Pisan),
-    ] {
-        let rule = Rule::Julian;
-        let regime = Regime {
-            calendar,
-            style,
-            rule,
-        };
+    for style in [Style::Easter, Style::Pisan] {
+        let regime = regime_of(Calendar::Julian, style);
         labels_agree(&rt, rt.alloc(), regime, &SPRING)?;
     }
     Ok(())

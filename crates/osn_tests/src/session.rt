@@ -6,9 +6,24 @@ use std::alloc::{AllocError, Global};
 use std::process::Abort;
 use std::test::Fail;
 
-/// A text with its broken lines whole again: what begins with two spaces goes on the line before.
+/// The words by which texts name the ends of the line of days, of years and of the years of dates.
+/// The year that is past the last one is the last year of dates.
+const ENDS: [(&str, &str); 5] = [
+    ("LAST_DAY", "3652059"),
+    ("DAY_PAST", "3652060"),
+    ("LAST_YEAR", "9999"),
+    ("YEAR_PAST", "10000"),
+    ("LABEL_PAST", "10001"),
+];
+
+/// A text with its broken lines whole again, what begins with two spaces being the rest of the line
+/// before, and with the ends of the line as numbers.
 pub fn joined(alloc: Global, text: &str) -> Result<String, AllocError> {
-    text.replace(alloc, "\n  ", "")
+    let mut whole = text.replace(alloc, "\n  ", "")?;
+    for (word, number) in ENDS {
+        whole = whole.replace(alloc, word, number)?;
+    }
+    Ok(whole)
 }
 
 /// Adds a line and its line feed.

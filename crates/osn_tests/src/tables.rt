@@ -259,8 +259,8 @@ fn sunday_letters(calendar: Calendar, year: Year) -> Option<Letters>
     Some(Letters { january, march })
 }
 
-/// The first and the last years, centuries, and years on both sides of 1582.
-const YEARS: [i64; 12] = [1, 2, 3, 4, 5, 100, 325, 400, 1582, 1583, 1700, 2999];
+/// The first years and the last, centuries, and years around 325 and 1583.
+const YEARS: [i64; 8] = [1, 2, 4, 100, 325, 1583, 1700, 9999];
 
 fn easters_agree_in(rt: &impl Abort, years: &[i64]) -> Result<(), Fail> {
     for number in years {

@@ -1,7 +1,8 @@
 //! The days that a label names, and the changes at which it is skipped.
 ghost use Rattle.std.specs.Prelude.{◌≡◌, ◌≤◌, ◌*◌, IfOk, length};
-ghost use Rattle.osn_days.specs.Profile.{newest_rules};
+ghost use Rattle.osn_days.specs.Profile.{first_rules, newest_rules};
 ghost use Rattle.osn_lands.specs.Territory as plain;
+ghost use Rattle.osn_lands.specs.Kept.{KeepsReading};
 ghost use Rattle.osn_lands.specs.Inside.{most_tested, IsSearchIn};
 
 use crate::label::Label;
@@ -19,7 +20,11 @@ impl Territory {
     ///
     /// `AllocError` where there is no memory for the list.
     pub fn read(&self, label: Label) -> Result<Vec<Day>, AllocError>
-        ensures { IfOk result (λ days. days.items ≡ plain.reading newest_rules self.now label) }
+        ensures value { IfOk result (λ days.
+            days.items ≡ plain.reading newest_rules self.now label) }
+        // as a law: those of them that the first rules' line has are what the first rules read
+        ensures kept { IfOk result (λ days.
+            KeepsReading first_rules self.now label days.items) }
     {
         let (days, _) = self.read_counted(label)?;
         Ok(days)
@@ -109,6 +114,9 @@ impl Territory {
     pub fn read_and_skipped(&self, label: Label) -> Result<(Vec<Day>, Vec<Day>, u32), AllocError>
         ensures read { IfOk result (λ found.
             found.0.items ≡ plain.reading newest_rules self.now label) }
+        // as a law: those of them that the first rules' line has are what the first rules read
+        ensures kept { IfOk result (λ found.
+            KeepsReading first_rules self.now label found.0.items) }
         ensures skipped { IfOk result (λ found.
             found.1.items ≡ plain.skipped newest_rules self.now label) }
         ensures explained { IfOk result (λ found.

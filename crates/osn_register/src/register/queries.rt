@@ -2,6 +2,7 @@
 ghost use Rattle.std.specs.Prelude.{◌≡◌, true, None, IfOk, OnErr, ◌<◌, length, map};
 ghost use Rattle.osn_days.specs.Profile.{first_rules, newest_rules};
 ghost use Rattle.osn_register.specs.Answer as said;
+ghost use Rattle.osn_register.specs.Kept.{KeepsAnswer};
 ghost use Rattle.osn_register.specs.Refusal.{IsTestOf};
 ghost use Rattle.osn_register.specs.Plain.{code_refusal};
 ghost use Rattle.osn_register.specs.InsideQuery.{IsAnswered};
@@ -42,9 +43,8 @@ impl Register {
             (λ a. said.refusal_in a ≡ said.query_refusal newest_rules self.now.lands query.now) }
         ensures memory { OnErr result
             (said.takes_memory (said.answer newest_rules self.now.lands query.now) ≡ true) }
-        // as a law: by the rules of the first version the answer is the same
-        ensures kept { said.answer newest_rules self.now.lands query.now
-            ≡ said.answer first_rules self.now.lands query.now }
+        // as a law: where the first rules have the year or the day, it keeps what they answer
+        ensures kept { IfOk result (KeepsAnswer first_rules self.now.lands query.now) }
     {
         match self.lawful_answer(query) {
             Ok(answer) => Ok(answer),

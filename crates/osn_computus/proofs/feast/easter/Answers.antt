@@ -1,6 +1,8 @@
-use Rattle.std.proofs.Common.{arith}
+use Rattle.std.proofs.Common.{◌≤◌, ◌∙◌, Some, ap, subst, arith}
+use Rattle.osn_days.specs.Profile.{first_rules}
 use Rattle.osn_computus.specs.Easter.{easter_of}
-use Rattle.osn_computus.proofs.MoonFacts.{moon_bounds, season}
+use Rattle.osn_computus.proofs.MoonFacts.{moon_bounds, season, some_same}
+use Rattle.osn_computus.proofs.KeptEasters.{kept_easter}
 use Rattle.osn_computus.proofs.feast.easter.Goals as goal
 
 pub sunday_after-requires : goal.sunday_after-requires
@@ -18,3 +20,9 @@ returns-clause-season c =
     let after = c.sunday_after.ensures.within in
     season c.args.rule c.args.year c.paschal_moon.result _ c.paschal_moon.ensures.in_range
     c.paschal_moon.ensures.value after.0 after.1
+
+pub returns-clause-kept : goal.returns-clause-kept
+returns-clause-kept c year =
+    let kept = kept_easter c.args.rule c.args.year year in
+    let same = some_same _ _ _ kept.newest (returns-clause-value c) in
+    (kept.first ∙ ap Some same, subst (λ d. d ≤ first_rules.high) same kept.within)

@@ -16,7 +16,7 @@ loop-number-preserved c =
     let asked : c.eq.result ≡ test n =
     c.eq.ensures
     ∙ ap (λ l. same_label l c.args.label)
-    (c.label_of.ensures ∙ ap (λ (r : Regime). local newest_rules r day) c.regime_at.ensures
+    (c.label_of.ensures.value ∙ ap (λ (r : Regime). local newest_rules r day) c.regime_at.ensures
     ∙ ap (λ d. local newest_rules (regime_at t d) d) c.day_at-day.ensures) in
     elim c.if-eq.branch [
       | then-eq+in_ok-push w ↦ (

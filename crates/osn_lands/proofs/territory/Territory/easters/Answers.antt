@@ -2,13 +2,18 @@ use Rattle.std.proofs.Common.{◌++◌, sym, ap, ◌∙◌}
 use Rattle.osn_days.specs.Profile.{newest_rules}
 use Rattle.osn_lands.specs.Inside.{days_in_order}
 use Rattle.osn_lands.proofs.EasterFacts.{easters_are}
+use Rattle.osn_lands.proofs.KeptFacts.{kept_easters}
 use Rattle.osn_lands.proofs.territory.Territory.easters.Goals as goal
 
-pub returns : goal.returns
-returns c =
+pub returns-clause-value : goal.returns-clause-value
+returns-clause-value c =
     let one = c.easter_in_force-julian.result in
     let other = c.easter_in_force-gregorian.result in
     c.in_ok-push_in_order.ensures
     ∙ ap (λ ds. ds ++ days_in_order one other) c.new-days.ensures.items
     ∙ easters_are newest_rules c.args.self.now c.args.year one other (sym c.exception.ensures
     ∙ c.in_default.is) c.easter_in_force-julian.ensures c.easter_in_force-gregorian.ensures
+
+pub returns-clause-kept : goal.returns-clause-kept
+returns-clause-kept c year =
+    returns-clause-value c ∙ kept_easters c.args.self.now c.args.year year

@@ -1,4 +1,17 @@
+use Rattle.std.proofs.Common.{subst, sym}
+use Rattle.osn_days.specs.Profile.{first_rules}
+use Rattle.osn_lands.specs.Kept.{KeepsReading}
+use Rattle.osn_lands.proofs.KeptFacts.{kept_reading}
 use Rattle.osn_lands.proofs.territory.Territory.read_and_skipped.Goals as goal
 
 pub returns-clause-skipped : goal.returns-clause-skipped
 returns-clause-skipped c = rw c.search_for-search.ensures.label at c.in_ok-skipped.ensures.value
+
+pub returns-clause-read : goal.returns-clause-read
+returns-clause-read c = rw c.search_for-search.ensures.label at c.in_ok-days.ensures.value
+
+pub returns-clause-kept : goal.returns-clause-kept
+returns-clause-kept c =
+    let t = c.args.self.now in
+    subst (KeepsReading first_rules t c.args.label) (sym (returns-clause-read c))
+    (kept_reading t c.args.label)

@@ -1,0 +1,112 @@
+-- The days of the first rules keep their labels by the newest, so what is read on them is the same,
+-- and so are the Easters of their years.
+use Rattle.std.proofs.Common.{◌≡◌, ℕ, zero, suc, ◌<◌, ◌≤◌, ◌==◌, nat_le, Bool, false, filter}
+use Rattle.std.proofs.Common.{sym, ap, ◌∙◌, arith, ℤ, unsigned_abs}
+use Rattle.std.proofs.lemmas.Bool.{le-leb, lt-leb}
+use Rattle.std.proofs.lemmas.Bool.Decides.{nat_tests}
+use Rattle.std.proofs.lemmas.Int.{ints}
+use Rattle.osn_computus.specs.declared.rule.Rule.{Rule}
+use Rattle.osn_computus.specs.declared.rule.Rule.TheVariants as rules
+use Rattle.osn_computus.proofs.KeptEasters.{kept_easter, same_easter}
+use Rattle.osn_days.specs.Profile.{Profile, first_rules, newest_rules}
+use Rattle.osn_days.specs.Line.{line, IsDay, IsYear, IsYearNumber}
+use Rattle.osn_days.specs.Chain.{date_of}
+use Rattle.osn_days.proofs.KeptYears.{kept_year}
+use Rattle.osn_lands.specs.declared.regime.Regime.{Regime}
+use Rattle.osn_lands.specs.declared.label.Label.{Label}
+use Rattle.osn_lands.specs.Style.{is_before, year_by, style_year}
+use Rattle.osn_lands.specs.Label.{local, same_label}
+use Rattle.osn_lands.specs.Dual.{date_text, dual_text}
+use Rattle.osn_lands.specs.Territory.{PlainTerritory, regime_at, reading}
+use Rattle.osn_lands.specs.Exceptions.{exception_of}
+use Rattle.osn_lands.specs.Easters.{is_on, is_easter, easters_by_rule, unless_listed, easters}
+use Rattle.osn_lands.specs.Kept.{days_of_line, KeepsReading}
+use Rattle.osn_lands.proofs.OrderFacts.{filter_until, filter_ends, filter_same}
+
+-- a year of dates that the first rules have is one of their years
+pub plain_year : (y : ℤ) → IsYearNumber first_rules y → IsYear first_rules (unsigned_abs y)
+plain_year y year = (omega (arith, ints, year.0), omega (arith, ints, year))
+
+-- the years of the dates up to the last day of the first rules, the number 0 taken for day 1
+year_until : (r : Regime) (d : ℕ) → d ≤ first_rules.high
+    → IsYear first_rules (unsigned_abs (date_of r.calendar d).year)
+year_until r zero until =
+    plain_year (date_of r.calendar 1).year (kept_year r.calendar 1 (omega arith, omega arith))
+year_until r (suc n) until =
+    plain_year (date_of r.calendar (suc n)).year
+    (kept_year r.calendar (suc n) (omega arith, until))
+
+-- the style's year of a day
+pub kept_style_year : (r : Regime) (d : ℕ) → d ≤ first_rules.high
+    → style_year first_rules r d ≡ style_year newest_rules r d
+kept_style_year r d until =
+    let date = date_of r.calendar d in
+    ap (λ easter. year_by r.style date (is_before d easter))
+    (same_easter rules.Julian (unsigned_abs date.year) (year_until r d until))
+
+-- so its label
+pub kept_local : (r : Regime) (d : ℕ) → d ≤ first_rules.high
+    → local first_rules r d ≡ local newest_rules r d
+kept_local r d until =
+    let date = date_of r.calendar d in
+    ap (λ (y : ℤ). let l : Label = record { year = y; month = date.month; day = date.day } in l)
+    (kept_style_year r d until)
+
+-- and its text
+pub kept_text : (r : Regime) (d : ℕ) → d ≤ first_rules.high
+    → dual_text first_rules r d ≡ dual_text newest_rules r d
+kept_text r d until =
+    ap (λ y. date_text y (date_of r.calendar d)) (kept_style_year r d until)
+
+-- a filter of a longer line
+within_line : (p q : Profile) (f g : ℕ → Bool) → p.high ≤ q.high
+    → ((d : ℕ) → IsDay p d → f d ≡ g d) → days_of_line p (filter f (line q)) ≡ filter g (line p)
+unfolding line
+within_line p q f g longer same =
+    filter_until (λ d. nat_le d p.high) f p.high q.high longer (λ d until. le-leb d p.high until)
+    (λ d behind. lt-leb d p.high behind)
+    ∙ filter_same f g 1 p.high (λ d low high. same d (low, omega arith))
+
+-- the days of the first rules that are read are those that they read
+pub kept_reading : (t : PlainTerritory) (label : Label)
+    → KeepsReading first_rules t label (reading newest_rules t label)
+unfolding reading
+kept_reading t label =
+    within_line first_rules newest_rules
+    (λ d. same_label (local newest_rules (regime_at t d) d) label)
+    (λ d. same_label (local first_rules (regime_at t d) d) label) (omega arith)
+    (λ d on. ap (λ l. same_label l label) (sym (kept_local (regime_at t d) d on.1)))
+
+-- a filter that passes no day of a longer line alone
+same_on_line : (p q : Profile) (f g : ℕ → Bool) → p.high ≤ q.high
+    → ((d : ℕ) → p.high < d → f d ≡ false) → ((d : ℕ) → IsDay p d → f d ≡ g d)
+    → filter f (line q) ≡ filter g (line p)
+unfolding line
+same_on_line p q f g longer none same =
+    filter_ends f p.high q.high longer none
+    ∙ filter_same f g 1 p.high (λ d low high. same d (low, omega arith))
+
+not_that_day : (e d : ℕ) → e < d → (e == d) ≡ false
+not_that_day e d less = grind (arith, nat_tests)
+
+-- no day behind the first rules' line is Easter of a year that they have
+none_behind : (rule : Rule) (y d : ℕ) → IsYear first_rules y → first_rules.high < d
+    → is_easter newest_rules rule y d ≡ false
+none_behind rule y d year behind =
+    let kept = kept_easter rule y year in
+    ap (λ o. is_on o d) kept.newest ∙ not_that_day kept.day d (omega (arith, kept.within, behind))
+
+kept_by_rule : (t : PlainTerritory) (y : ℕ) → IsYear first_rules y
+    → easters_by_rule newest_rules t y ≡ easters_by_rule first_rules t y
+unfolding easters_by_rule
+kept_by_rule t y year =
+    same_on_line first_rules newest_rules
+    (λ d. is_easter newest_rules (regime_at t d).rule y d)
+    (λ d. is_easter first_rules (regime_at t d).rule y d) (omega arith)
+    (λ d behind. none_behind (regime_at t d).rule y d year behind)
+    (λ d on. ap (λ o. is_on o d) (sym (same_easter (regime_at t d).rule y year)))
+
+-- the Easters of a year that the first rules have
+pub kept_easters : (t : PlainTerritory) (y : ℕ) → IsYear first_rules y
+    → easters newest_rules t y ≡ easters first_rules t y
+kept_easters t y year = ap (unless_listed (exception_of t y)) (kept_by_rule t y year)

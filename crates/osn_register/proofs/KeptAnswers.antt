@@ -1,0 +1,304 @@
+-- What the newest rules answer where the first rules have the year or the day.
+use Rattle.std.proofs.Common.{◌≡◌, ℕ, zero, suc, ◌+◌, ◌-◌, ◌≤◌, Bool, true, false, not, ◌&&◌}
+use Rattle.std.proofs.Common.{nat_le, if◌then◌else◌, List, [], ◌∷◌, map, filter, Option, Some, None}
+use Rattle.std.proofs.Common.{refl, sym, ap, ◌∙◌, arith, ℤ, pos, ◌≤ℤ◌, unsigned_abs, IfSome}
+use Rattle.std.proofs.Common.{negsuc, is_some, option_map}
+use Rattle.std.proofs.lemmas.Bool.{and_from, le-leb, leb-true}
+use Rattle.std.specs.List.{range_with_len}
+use Rattle.std.proofs.lemmas.Int.{ints}
+use Rattle.osn_computus.specs.declared.rule.Rule.TheVariants as rule
+use Rattle.osn_computus.proofs.KeptEasters.{same_easter}
+use Rattle.osn_computus.proofs.KeptLetters.{same_letters}
+use Rattle.osn_days.specs.declared.calendar.Calendar.TheVariants as calendar
+use Rattle.osn_days.specs.Profile.{Profile, first_rules, newest_rules}
+use Rattle.osn_days.specs.Line.{line, IsOnLine, IsYear, IsYearNumber}
+use Rattle.osn_lands.specs.declared.regime.Regime.{Regime}
+use Rattle.osn_lands.specs.declared.label.Label.{Label}
+use Rattle.osn_lands.specs.declared.period.Period.{Period}
+use Rattle.osn_lands.specs.Label.{local}
+use Rattle.osn_lands.specs.Dual.{dual_text}
+use Rattle.osn_lands.specs.Territory.{PlainTerritory, regime_at, periods_of, periods_from, reading}
+use Rattle.osn_lands.specs.Exceptions.{exception_of}
+use Rattle.osn_lands.specs.Easters.{is_easter, easters_by_rule, unless_listed}
+use Rattle.osn_lands.specs.Kept.{days_of_line}
+use Rattle.osn_lands.proofs.KeptFacts.{kept_local, kept_text, kept_reading, kept_easters}
+use Rattle.osn_lands.proofs.KeptFacts.{plain_year}
+use Rattle.osn_lands.proofs.PeriodFacts.{starts_back}
+use Rattle.osn_register.specs.declared.query.Query.{Query}
+use Rattle.osn_register.specs.declared.query.Query.TheVariants as queries
+use Rattle.osn_register.specs.declared.answer.Answer.{Answer}
+use Rattle.osn_register.specs.declared.answer.Answer.TheVariants.{Easters}
+use Rattle.osn_register.specs.declared.answer.Found.{Found}
+use Rattle.osn_register.specs.declared.refusal.Refusal.{Refusal}
+use Rattle.osn_register.specs.declared.refusal.Refusal.TheVariants.{DayOffLine, YearOffRange}
+use Rattle.osn_register.specs.declared.refusal.Refusal.TheVariants.{BadDate}
+use Rattle.osn_register.specs.Refusal.{first_refusal, or_else}
+use Rattle.osn_register.specs.Plain.{PlainLand, territory_of, code_refusal, is_between}
+use Rattle.osn_register.specs.Answer.{answer, unless, found_under, found_on, period_on}
+use Rattle.osn_register.specs.Answer.{on_day, day_answer, reading_answer, easters_answer}
+use Rattle.osn_register.specs.Answer.{figures_of, periods_answer, label_from}
+use Rattle.osn_register.specs.Answer.{read_refusal, day_refusal, year_refusal, easter_refusal}
+use Rattle.osn_register.specs.Answer.{date_refusal}
+use Rattle.osn_register.specs.Kept.{start_of, found_until, IsLabelYear, IsListedUntil, KeepsReading}
+use Rattle.osn_register.specs.Kept.{KeepsDay, KeepsAnswer}
+
+-- both rules test numbers alike
+
+between : (low high : ℕ) (z : ℤ) → pos low ≤ℤ z → z ≤ℤ pos high
+    → is_between (pos low) (pos high) z ≡ true
+between low high (pos n) from until =
+    and_from (nat_le low n) (nat_le n high) (le-leb low n (omega (arith, ints, from)))
+    (le-leb n high (omega (arith, ints, until)))
+between low high (negsuc n) from until = absurd (omega (arith, ints, from))
+
+-- a number within a range is within one that goes on longer
+both_between : (low high more : ℕ) (z : ℤ) → high ≤ more → (pos low ≤ℤ z) × (z ≤ℤ pos high)
+    → is_between (pos low) (pos more) z ≡ is_between (pos low) (pos high) z
+both_between low high more z longer within =
+    between low more z within.0 (omega (arith, ints, within.1))
+    ∙ sym (between low high z within.0 within.1)
+
+same_years : (y : ℤ) → IsYearNumber first_rules y
+    → year_refusal newest_rules y ≡ year_refusal first_rules y
+same_years y year =
+    ap (λ b. first_refusal ((not b, YearOffRange) ∷ []))
+    (both_between 1 first_rules.last_year newest_rules.last_year y (omega arith) year)
+
+same_days : (lands : List PlainLand) (code : List ℕ) (day : ℤ) → IsOnLine first_rules day
+    → day_refusal newest_rules lands code day ≡ day_refusal first_rules lands code day
+same_days lands code day on =
+    ap (λ b. or_else (code_refusal lands code) (first_refusal ((not b, DayOffLine) ∷ [])))
+    (both_between 1 first_rules.high newest_rules.high day (omega arith) on)
+
+same_dates : (y m d : ℤ) → IsLabelYear first_rules y
+    → date_refusal newest_rules y m d ≡ date_refusal first_rules y m d
+same_dates y m d year =
+    ap (λ b. first_refusal (
+    (not b, YearOffRange)
+    ∷ (not (is_between (pos 1) (pos 12) m && is_between (pos 1) (pos 31) d), BadDate)
+    ∷ []))
+    (both_between 0 first_rules.last_label_year newest_rules.last_label_year y (omega arith) year)
+
+-- a day is named alike
+
+kept_found : (r : Regime) (d : ℕ) → d ≤ first_rules.high
+    → found_under newest_rules r d ≡ found_under first_rules r d
+kept_found r d until =
+    ap (λ (l : Label). let f : Found = record {
+      day = d;
+      label = l;
+      dual = dual_text newest_rules r d;
+    } in f) (sym (kept_local r d until))
+    ∙ ap (λ (text : List ℕ). let f : Found = record {
+      day = d;
+      label = local first_rules r d;
+      dual = text;
+    } in f) (sym (kept_text r d until))
+
+kept_step : (t : PlainTerritory) (d : ℕ) (days rest : List ℕ) (here : Bool)
+    → nat_le d first_rules.high ≡ here
+    → found_until first_rules (map (found_on newest_rules t) days)
+    ≡ map (found_on first_rules t) rest
+    → (if here
+    then found_on newest_rules t d ∷ found_until first_rules (map (found_on newest_rules t) days)
+    else found_until first_rules (map (found_on newest_rules t) days))
+    ≡ map (found_on first_rules t) (if here then d ∷ rest else rest)
+kept_step t d days rest true here later =
+    ap (λ fs. found_on newest_rules t d ∷ fs) later
+    ∙ ap (λ f. f ∷ map (found_on first_rules t) rest)
+    (kept_found (regime_at t d) d (leb-true d first_rules.high here))
+kept_step t d days rest false here later = later
+
+kept_days : (t : PlainTerritory) (days : List ℕ)
+    → found_until first_rules (map (found_on newest_rules t) days)
+    ≡ map (found_on first_rules t) (days_of_line first_rules days)
+kept_days t [] = refl
+kept_days t (d ∷ days) =
+    kept_step t d days (days_of_line first_rules days) (nat_le d first_rules.high) refl
+    (kept_days t days)
+
+-- a reading
+
+reading_kept : (t : Option PlainTerritory) (label : Label)
+    → KeepsReading first_rules (reading_answer first_rules t label)
+    (reading_answer newest_rules t label)
+reading_kept None label = (refl, refl)
+reading_kept (Some t) label = (
+  refl,
+  kept_days t (reading newest_rules t label)
+      ∙ ap (map (found_on first_rules t)) (kept_reading t label),
+)
+
+reading_unless : (p : Profile) (now_refused refused : Option Refusal) (now before : Answer)
+    → now_refused ≡ refused → KeepsReading p before now
+    → KeepsReading p (unless refused before) (unless now_refused now)
+reading_unless p None None now before same kept = kept
+reading_unless p (Some f) (Some g) now before same kept = (same, refl)
+reading_unless p None (Some g) now before same kept = absurd cc
+reading_unless p (Some f) None now before same kept = absurd cc
+
+-- a day
+
+alike_step : (here : Bool) (one other : Period) (many others : Option Period)
+    → start_of one ≡ start_of other → option_map start_of many ≡ option_map start_of others
+    → option_map start_of (if here then Some one else many)
+    ≡ option_map start_of (if here then Some other else others)
+alike_step true one other many others same later = ap Some same
+alike_step false one other many others same later = later
+
+-- the period that holds a day of both lines starts on one day, with one regime
+same_period : (high more d : ℕ) (starts : List (ℕ × Regime)) → d ≤ high → d ≤ more
+    → option_map start_of (period_on (periods_from more starts) d)
+    ≡ option_map start_of (period_on (periods_from high starts) d)
+same_period high more d [] until longer = refl
+same_period high more d (s ∷ []) until longer =
+    rw (le-leb d high until, le-leb d more longer)
+    (alike_step (nat_le s.0 d && true) (record { first = s.0; last = more; regime = s.1 })
+    (record { first = s.0; last = high; regime = s.1 }) None None refl refl)
+same_period high more d (s ∷ next ∷ rest) until longer =
+    let one : Period = record { first = s.0; last = next.0 - 1; regime = s.1 } in
+    alike_step (nat_le s.0 d && nat_le d (next.0 - 1)) one one
+    (period_on (periods_from more (next ∷ rest)) d)
+    (period_on (periods_from high (next ∷ rest)) d) refl
+    (same_period high more d (next ∷ rest) until longer)
+
+on_day_kept : (one other : Option Period) (found before : Found)
+    → option_map start_of one ≡ option_map start_of other → found ≡ before
+    → KeepsDay (on_day other before) (on_day one found)
+on_day_kept None None found before same named = (refl, refl, refl)
+on_day_kept (Some p) (Some q) found before same named =
+    let start : start_of p ≡ start_of q = cc in
+    (refl, ap (λ f. f ∷ []) named, ap (λ s. s ∷ []) start)
+on_day_kept None (Some q) found before same named = absurd cc
+on_day_kept (Some p) None found before same named = absurd cc
+
+day_kept : (t : Option PlainTerritory) (d : ℕ) → d ≤ first_rules.high
+    → KeepsDay (day_answer first_rules t d) (day_answer newest_rules t d)
+day_kept None d until = (refl, refl, refl)
+day_kept (Some t) d until =
+    on_day_kept (period_on (periods_of newest_rules t) d) (period_on (periods_of first_rules t) d)
+    (found_on newest_rules t d) (found_on first_rules t d)
+    (same_period first_rules.high newest_rules.high d t.starts until (omega arith))
+    (kept_found (regime_at t d) d until)
+
+day_unless : (now_refused refused : Option Refusal) (now before : Answer) → now_refused ≡ refused
+    → KeepsDay before now → KeepsDay (unless refused before) (unless now_refused now)
+day_unless None None now before same kept = kept
+day_unless (Some f) (Some g) now before same kept = (same, refl, refl)
+day_unless None (Some g) now before same kept = absurd cc
+day_unless (Some f) None now before same kept = absurd cc
+
+periods_kept : (t : Option PlainTerritory)
+    → KeepsDay (periods_answer first_rules t) (periods_answer newest_rules t)
+periods_kept None = (refl, refl, refl)
+periods_kept (Some t) = (
+  refl,
+  refl,
+  starts_back newest_rules.high t.starts ∙ sym (starts_back first_rules.high t.starts),
+)
+
+-- Easters
+
+one_named : (t : PlainTerritory) (d : ℕ) → d ≤ first_rules.high
+    → map (found_on newest_rules t) (d ∷ []) ≡ map (found_on first_rules t) (d ∷ [])
+one_named t d until = ap (λ f. f ∷ []) (kept_found (regime_at t d) d until)
+
+-- the days of a range are named alike where each is a day of the first rules
+step_named : (t : PlainTerritory) (a : ℕ) (here : Bool) (days : List ℕ)
+    → a ≤ first_rules.high
+    → map (found_on newest_rules t) days ≡ map (found_on first_rules t) days
+    → map (found_on newest_rules t) (if here then a ∷ days else days)
+    ≡ map (found_on first_rules t) (if here then a ∷ days else days)
+step_named t a true days until later =
+    ap (λ fs. found_on newest_rules t a ∷ fs) later
+    ∙ ap (λ f. f ∷ map (found_on first_rules t) days) (kept_found (regime_at t a) a until)
+step_named t a false days until later = later
+
+range_named : (t : PlainTerritory) (test : ℕ → Bool) (a n : ℕ) → a + n ≤ first_rules.high + 1
+    → map (found_on newest_rules t) (filter test (range_with_len a n))
+    ≡ map (found_on first_rules t) (filter test (range_with_len a n))
+range_named t test a zero until = refl
+range_named t test a (suc n) until =
+    step_named t a (test a) (filter test (range_with_len (a + 1) n)) (omega arith)
+    (range_named t test (a + 1) n (omega arith))
+
+line_named : (p : Profile) (t : PlainTerritory) (test : ℕ → Bool) → p.high ≤ first_rules.high
+    → map (found_on newest_rules t) (filter test (line p))
+    ≡ map (found_on first_rules t) (filter test (line p))
+unfolding line
+line_named p t test until = range_named t test 1 p.high (omega arith)
+
+rules_named : (t : PlainTerritory) (y : ℕ)
+    → map (found_on newest_rules t) (easters_by_rule first_rules t y)
+    ≡ map (found_on first_rules t) (easters_by_rule first_rules t y)
+unfolding easters_by_rule
+rules_named t y =
+    line_named first_rules t (λ d. is_easter first_rules (regime_at t d).rule y d) (omega arith)
+
+easters_named : (t : PlainTerritory) (y : ℕ) (listed : Option ℕ)
+    → IfSome listed (λ d. d ≤ first_rules.high)
+    → map (found_on newest_rules t) (unless_listed listed (easters_by_rule first_rules t y))
+    ≡ map (found_on first_rules t) (unless_listed listed (easters_by_rule first_rules t y))
+easters_named t y None until = rules_named t y
+easters_named t y (Some d) until = one_named t d until
+
+easters_kept : (t : Option PlainTerritory) (y : ℕ) → IsYear first_rules y
+    → IsListedUntil first_rules y t
+    → easters_answer newest_rules t y ≡ easters_answer first_rules t y
+easters_kept None y year listed = refl
+easters_kept (Some t) y year listed =
+    ap (λ days. Easters (map (found_on newest_rules t) days) (is_some (exception_of t y)))
+    (kept_easters t y year)
+    ∙ ap (λ found. Easters found (is_some (exception_of t y)))
+    (easters_named t y (exception_of t y) listed)
+
+-- figures
+
+figures_kept : (y : ℕ) → IsYear first_rules y → figures_of newest_rules y ≡ figures_of first_rules y
+figures_kept y year =
+    rw (
+      same_letters calendar.Julian y year,
+      same_letters calendar.Gregorian y year,
+      same_easter rule.Julian y year,
+      same_easter rule.Gregorian y year,
+    ) refl
+
+same_unless : (now_refused refused : Option Refusal) (now before : Answer) → now_refused ≡ refused
+    → now ≡ before → unless now_refused now ≡ unless refused before
+same_unless now_refused refused now before same kept = ap (λ r. unless r now) same
+    ∙ ap (unless refused) kept
+
+-- what is answered to a query keeps what the first rules answer
+pub kept_answer : (lands : List PlainLand) (q : Query)
+    → KeepsAnswer first_rules lands q (answer newest_rules lands q)
+kept_answer lands (queries.Read code year month day) =
+    λ within. reading_unless first_rules (read_refusal newest_rules lands code year month day)
+    (read_refusal first_rules lands code year month day)
+    (reading_answer newest_rules (territory_of code lands) (label_from year month day))
+    (reading_answer first_rules (territory_of code lands) (label_from year month day))
+    (ap (or_else (code_refusal lands code)) (same_dates year month day within))
+    (reading_kept (territory_of code lands) (label_from year month day))
+kept_answer lands (queries.DayIn code day) =
+    λ on. day_unless (day_refusal newest_rules lands code day)
+    (day_refusal first_rules lands code day)
+    (day_answer newest_rules (territory_of code lands) (unsigned_abs day))
+    (day_answer first_rules (territory_of code lands) (unsigned_abs day))
+    (same_days lands code day on)
+    (day_kept (territory_of code lands) (unsigned_abs day) (omega (arith, ints, on)))
+kept_answer lands (queries.Easter code year) =
+    λ within listed. same_unless (easter_refusal newest_rules lands code year)
+    (easter_refusal first_rules lands code year)
+    (easters_answer newest_rules (territory_of code lands) (unsigned_abs year))
+    (easters_answer first_rules (territory_of code lands) (unsigned_abs year))
+    (ap (or_else (code_refusal lands code)) (same_years year within))
+    (easters_kept (territory_of code lands) (unsigned_abs year) (plain_year year within) listed)
+kept_answer lands (queries.YearFigures year) =
+    λ within. same_unless (year_refusal newest_rules year) (year_refusal first_rules year)
+    (figures_of newest_rules (unsigned_abs year)) (figures_of first_rules (unsigned_abs year))
+    (same_years year within) (figures_kept (unsigned_abs year) (plain_year year within))
+kept_answer lands queries.Lands = refl
+kept_answer lands (queries.Periods code) =
+    day_unless (code_refusal lands code) (code_refusal lands code)
+    (periods_answer newest_rules (territory_of code lands))
+    (periods_answer first_rules (territory_of code lands)) refl
+    (periods_kept (territory_of code lands))

@@ -1,0 +1,76 @@
+-- How what the newest rules answer goes with what earlier rules answer, whose line is shorter.
+use Rattle.std.specs.Prelude.{◌≡◌, ℕ, ◌≤◌, nat_le, ℤ, pos, ◌≤ℤ◌, unsigned_abs, List, [], ◌∷◌}
+use Rattle.std.specs.Prelude.{map, filter, Option, IfSome}
+use Rattle.osn_days.specs.Profile.{Profile}
+use Rattle.osn_days.specs.Line.{IsOnLine, IsYearNumber}
+use Rattle.osn_lands.specs.declared.regime.Regime.{Regime}
+use Rattle.osn_lands.specs.declared.period.Period.{Period}
+use Rattle.osn_lands.specs.Territory.{PlainTerritory}
+use Rattle.osn_lands.specs.Exceptions.{exception_of}
+use Rattle.osn_register.specs.declared.query.Query.{Query}
+use Rattle.osn_register.specs.declared.query.Query.TheVariants as queries
+use Rattle.osn_register.specs.declared.answer.Answer.{Answer}
+use Rattle.osn_register.specs.declared.answer.Answer.TheVariants.{Reading, OnDay, Easters, Periods}
+use Rattle.osn_register.specs.declared.answer.Found.{Found}
+use Rattle.osn_register.specs.Plain.{PlainLand, territory_of}
+use Rattle.osn_register.specs.Answer.{answer, refusal_in}
+
+-- the days that an answer has found, each as it is named
+abbrev pub found_in : Answer → List Found
+found_in (Reading found skipped) = found
+found_in (OnDay found period) = found ∷ []
+found_in (Easters found listed) = found
+found_in answer = []
+
+-- a period without its last day
+abbrev pub start_of : Period → ℕ × Regime
+start_of period = (period.first, period.regime)
+
+-- the first days of an answer's periods, each with its regime
+abbrev pub starts_in : Answer → List (ℕ × Regime)
+starts_in (OnDay found period) = start_of period ∷ []
+starts_in (Periods periods) = map start_of periods
+starts_in answer = []
+
+-- of the days that were found, those that the line of the rules has
+abbrev pub found_until : Profile → List Found → List Found
+found_until p found = filter (λ f. nat_le f.day p.high) found
+
+-- a year of a label that the rules have
+abbrev pub IsLabelYear : Profile → ℤ → Type 0
+IsLabelYear p y = (pos 0 ≤ℤ y) × (y ≤ℤ pos p.last_label_year)
+
+-- a day that is listed as the Easter of the year is one that the rules have
+abbrev pub IsListedUntil : Profile → ℕ → Option PlainTerritory → Type 0
+IsListedUntil p y t = IfSome t (λ t. IfSome (exception_of t y) (λ d. d ≤ p.high))
+
+-- refused alike, and of the days found now, those that the line of the rules has are those of
+-- before. Nothing is said of skipped dates
+abbrev pub KeepsReading : Profile → Answer → Answer → Type 0
+KeepsReading p before now =
+    (refusal_in now ≡ refusal_in before) × (found_until p (found_in now) ≡ found_in before)
+
+-- refused alike, and the day is named alike, in a period of the same regime from the same day on.
+-- Nothing is said of the period's last day
+abbrev pub KeepsDay : Answer → Answer → Type 0
+KeepsDay before now =
+    (refusal_in now ≡ refusal_in before) × (found_in now ≡ found_in before)
+    × (starts_in now ≡ starts_in before)
+
+-- what an answer keeps of the answer of these rules to the same query, where they have its year or
+-- its day: the Easters and the figures of a year and the territories are the same; a reading and a
+-- day keep what the rules' own line has; and periods, their starts
+abbrev pub KeepsAnswer : Profile → List PlainLand → Query → Answer → Type 0
+KeepsAnswer p lands (queries.Read code year month day) now =
+    IsLabelYear p year
+    → KeepsReading p (answer p lands (queries.Read code year month day)) now
+KeepsAnswer p lands (queries.DayIn code day) now =
+    IsOnLine p day → KeepsDay (answer p lands (queries.DayIn code day)) now
+KeepsAnswer p lands (queries.Easter code year) now =
+    IsYearNumber p year → IsListedUntil p (unsigned_abs year) (territory_of code lands)
+    → now ≡ answer p lands (queries.Easter code year)
+KeepsAnswer p lands (queries.YearFigures year) now =
+    IsYearNumber p year → now ≡ answer p lands (queries.YearFigures year)
+KeepsAnswer p lands queries.Lands now = now ≡ answer p lands queries.Lands
+KeepsAnswer p lands (queries.Periods code) now =
+    KeepsDay (answer p lands (queries.Periods code)) now
