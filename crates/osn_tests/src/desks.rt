@@ -51,9 +51,10 @@ fn questions(alloc: Global, lists: u32, each: u32) -> Result<Vec<Vec<Query>>, Fa
 /// The script of one edition, which passes over what is refused.
 const SCRIPT: [&str; 3] = [ROME, r#"{"op":"publish"}"#, r#"{"op":"publish"}"#];
 
-type Told = Result<Vec<Vec<Reply>>, DeskFault>;
+pub type Told = Result<Vec<Vec<Reply>>, DeskFault>;
 
-fn desk<R: Threads + Wait, G: Gate + Sync>(
+/// What a desk of so many readers is told, who ask so many questions each.
+pub fn desk<R: Threads + Wait, G: Gate + Sync>(
     rt: &R,
     alloc: Global,
     gate: &G,

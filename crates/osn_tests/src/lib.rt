@@ -31,13 +31,21 @@ mod easters;
 #[cfg(test)]
 mod editions;
 #[cfg(test)]
+mod failing;
+#[cfg(test)]
+mod failures;
+#[cfg(test)]
 mod faults;
 #[cfg(test)]
 mod figures;
 #[cfg(test)]
+mod file_failures;
+#[cfg(test)]
 mod files;
 #[cfg(test)]
 mod forty;
+#[cfg(test)]
+mod gates;
 #[cfg(test)]
 mod journals;
 #[cfg(test)]

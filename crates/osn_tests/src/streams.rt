@@ -94,11 +94,21 @@ impl Write for Bounded {
 
 /// How the service ended, with the number of lines that it gave.
 #[derive(Clone, Copy, Debug, PartialEq, Eq)]
-enum End {
+pub enum End {
     Answered(u64),
     NoMemory(u64),
     ReadFault(u64),
     WriteFault(u64),
+}
+
+/// How what the service answered ends.
+pub fn end_of(answered: Result<u64, ServeFault>) -> End {
+    match answered {
+        Ok(lines) => End::Answered(lines),
+        Err(ServeFault::NoMemory { lines }) => End::NoMemory(lines),
+        Err(ServeFault::ReadFault { lines }) => End::ReadFault(lines),
+        Err(ServeFault::WriteFault { lines }) => End::WriteFault(lines),
+    }
 }
 
 /// What came of a try.
@@ -154,15 +164,9 @@ fn tried(alloc: Global, input: &[u8], plan: Plan) -> Result<Outcome, AllocError>
         notes: notes.clone()?,
     });
     let answered = serve(alloc, Limits::standard(), 8, &mut source, &mut sink);
-    let end = match answered {
-        Ok(lines) => End::Answered(lines),
-        Err(ServeFault::NoMemory { lines }) => End::NoMemory(lines),
-        Err(ServeFault::ReadFault { lines }) => End::ReadFault(lines),
-        Err(ServeFault::WriteFault { lines }) => End::WriteFault(lines),
-    };
     Ok(Outcome {
         text: sink.into_inner().bytes,
-        end,
+        end: end_of(answered),
         writes: notes.writes.get(),
         longest: notes.longest.get(),
         seen: notes.seen.get(),
@@ -170,7 +174,7 @@ fn tried(alloc: Global, input: &[u8], plan: Plan) -> Result<Outcome, AllocError>
 }
 
 /// A session of Rome. Its lines end behind 98, 115 and 141 bytes.
-const READ: &str = concat!(
+pub const READ: &str = concat!(
     r#"{"op":"add_land","code":"RM","name":"Rome","calendar":"julian","#,
     r#""style":"january","rule":"julian"}
 {"op":"publish"}
@@ -179,7 +183,7 @@ const READ: &str = concat!(
 );
 
 /// What is written for it. The replies end behind 28, 59 and 133 bytes.
-const WRITTEN: &str = r#"{"ok":"staged","pending":1}
+pub const WRITTEN: &str = r#"{"ok":"staged","pending":1}
 {"edition":1,"ok":"published"}
 {"answer":{"lands":[{"code":"RM","name":"Rome"}]},"edition":1,"reader":1}
 "#;

@@ -1,0 +1,162 @@
+//! A source and a sink of the tests' own. Nobody knows their bytes beforehand, they give and take
+//! few bytes a call, and a call that is chosen fails, and each call behind it.
+ghost use Rattle.std.specs.Prelude.{None};
+
+use osn_wire::{ReadFailed, Sink, Source, WriteFailed};
+use std::alloc::Global;
+
+/// How a stream goes: how many bytes a call gives or takes at most, and how many calls go well.
+#[derive(Clone, Copy, Debug, PartialEq, Eq)]
+pub struct Course {
+    pub step: usize,
+    pub sound: usize,
+}
+
+impl Course {
+    /// One on which every call goes well.
+    pub fn sound(step: usize) -> Course {
+        Course {
+            step,
+            sound: usize::MAX,
+        }
+    }
+
+    /// How many of so many bytes are given before a call fails.
+    pub fn given(self, length: usize) -> usize {
+        self.step.saturating_mul(self.sound).min(length)
+    }
+
+    /// Whether a further call goes well. It counts as one of those that do.
+    fn goes_on(&mut self) -> bool {
+        match self.sound.checked_sub(1) {
+            Some(sound) => {
+                self.sound = sound;
+                true
+            }
+            None => false,
+        }
+    }
+}
+
+/// How many reads it takes to the end of so many bytes, that of the end too.
+pub fn reads_of(length: usize, step: usize) -> usize {
+    length.div_ceil(step.max(1)).saturating_add(1)
+}
+
+/// Gives bytes.
+#[derive(Drop)]
+pub struct FailingSource<'a> {
+    left: &'a [u8],
+    course: Course,
+    calls: usize,
+    failed: bool,
+}
+
+impl<'a> FailingSource<'a> {
+    pub fn new(bytes: &'a [u8], course: Course) -> FailingSource<'a> {
+        FailingSource {
+            left: bytes,
+            course,
+            calls: 0,
+            failed: false,
+        }
+    }
+
+    /// How many reads there were, the failed ones too.
+    pub fn calls(&self) -> usize {
+        self.calls
+    }
+}
+
+impl<'a> Source for FailingSource<'a> {
+    ghost remaining = { λ _. None };
+
+    ghost has_failed = { λ s. s.failed };
+
+    fn read(&mut self, buffer: &mut [u8]) -> Result<usize, ReadFailed> {
+        self.calls = self.calls.saturating_add(1);
+        if !self.course.goes_on() {
+            self.failed = true;
+            return Err(ReadFailed);
+        }
+        let count = self.course.step.min(self.left.len()).min(buffer.len());
+        buffer[..count].copy_from_slice(&self.left[..count]);
+        self.left = &self.left[count..];
+        Ok(count)
+    }
+
+    fn failed(&self) -> bool {
+        self.failed
+    }
+}
+
+/// Takes bytes, and notes how many of them it was told to pass on.
+#[derive(Drop)]
+pub struct FailingSink {
+    taken: Vec<u8>,
+    passed: usize,
+    course: Course,
+    calls: usize,
+    failed: bool,
+}
+
+impl FailingSink {
+    pub fn new(alloc: Global, course: Course) -> FailingSink {
+        FailingSink {
+            taken: Vec::new(alloc),
+            passed: 0,
+            course,
+            calls: 0,
+            failed: false,
+        }
+    }
+
+    /// How many writes and flushes there were, the failed ones too.
+    pub fn calls(&self) -> usize {
+        self.calls
+    }
+
+    /// What was taken.
+    pub fn taken(&self) -> &[u8] {
+        &self.taken
+    }
+
+    /// How many of the bytes that were taken were passed on.
+    pub fn passed(&self) -> usize {
+        self.passed
+    }
+}
+
+impl Sink for FailingSink {
+    ghost contents = { λ _. None };
+
+    ghost has_failed = { λ s. s.failed };
+
+    fn write(&mut self, bytes: &[u8]) -> Result<usize, WriteFailed> {
+        self.calls = self.calls.saturating_add(1);
+        let count = self.course.step.min(bytes.len());
+        let takes_nothing = count == 0 && !bytes.is_empty();
+        if takes_nothing
+            || !self.course.goes_on()
+            || self.taken.extend_from_slice(&bytes[..count]).is_err()
+        {
+            self.failed = true;
+            return Err(WriteFailed);
+        }
+        Ok(count)
+    }
+
+    fn flush(&mut self) -> Result<(), WriteFailed> {
+        self.calls = self.calls.saturating_add(1);
+        if !self.course.goes_on() {
+            self.failed = true;
+            return Err(WriteFailed);
+        }
+        self.passed = self.taken.len();
+        Ok(())
+    }
+
+    fn failed(&self) -> bool {
+        self.failed
+    }
+}

@@ -1,0 +1,163 @@
+//! The service over streams of which each call fails in turn: how it ends, what it has written and
+//! passed on then, and where the object stands.
+use crate::compare::same;
+use crate::failing::{Course, FailingSink, FailingSource, reads_of};
+use crate::streams::{End, READ, WRITTEN, end_of};
+use osn_core::Object;
+use osn_register::Limits;
+use osn_wire::{Sink, Source, serve, serve_from};
+use std::alloc::Global;
+use std::process::Abort;
+
+/// How many bytes are read, or written, at a time at most.
+const STEPS: [usize; 3] = [1, 50, usize::MAX];
+
+/// Where the lines of the session end, how many bytes of replies there are then, and how many
+/// batches and pending edits.
+const LINES: [(usize, usize, (usize, usize)); 4] = [
+    (0, 0, (0, 0)),
+    (98, 28, (0, 1)),
+    (115, 59, (1, 0)),
+    (141, 133, (1, 0)),
+];
+
+/// What came of a session: how it ended, how many batches and pending edits there are where the
+/// object is kept, and which side had failed.
+#[derive(Clone, Copy, Debug, PartialEq, Eq)]
+struct Came {
+    end: End,
+    stands: Option<(usize, usize)>,
+    input_failed: bool,
+    output_failed: bool,
+}
+
+/// What comes of the session over these streams, from an object that is kept, or from none.
+fn session(alloc: Global, keeps: bool, source: &mut FailingSource, sink: &mut FailingSink) -> Came {
+    let mut object = Object::new(alloc, Limits::standard());
+    let answered = if keeps {
+        serve_from(alloc, &mut object, 8, source, sink)
+    } else {
+        serve(alloc, Limits::standard(), 8, source, sink)
+    };
+    let stands = (object.batches().len(), object.pending().len());
+    Came {
+        end: end_of(answered),
+        stands: keeps.then_some(stands),
+        input_failed: source.failed(),
+        output_failed: sink.failed(),
+    }
+}
+
+/// What there is behind so many lines.
+fn behind(lines: usize) -> (usize, usize, (usize, usize)) {
+    *LINES.get(lines).unwrap_or(&LINES[3])
+}
+
+/// How many lines are whole in so many bytes of the input.
+fn lines_in(given: usize) -> usize {
+    LINES[1..].iter().filter(|line| line.0 <= given).count()
+}
+
+/// How many replies are whole in so many bytes of them.
+fn replies_in(taken: usize) -> usize {
+    LINES[1..].iter().filter(|line| line.1 <= taken).count()
+}
+
+/// That reading fails behind so many reads, and the lines before that are answered whole: their
+/// replies are written, and passed on before the read.
+fn fails_in_reading(rt: &impl Abort, alloc: Global, keeps: bool, course: Course, step: usize) {
+    let mut source = FailingSource::new(READ.as_bytes(), course);
+    let mut sink = FailingSink::new(alloc, Course::sound(step));
+    let came = session(alloc, keeps, &mut source, &mut sink);
+    let lines = lines_in(course.given(READ.len()));
+    let (_end, replies, stands) = behind(lines);
+    let wanted = Came {
+        end: End::ReadFault(lines as u64),
+        stands: keeps.then_some(stands),
+        input_failed: true,
+        output_failed: false,
+    };
+    same(rt, (course, came), (course, wanted));
+    same(rt, Some(sink.taken()), WRITTEN.as_bytes().get(..replies));
+    same(
+        rt,
+        (source.calls(), sink.passed()),
+        (course.sound.saturating_add(1), replies),
+    );
+}
+
+fn fail_at_each_read(rt: &impl Abort, alloc: Global, keeps: bool) {
+    for step in STEPS {
+        for sound in 0..reads_of(READ.len(), step) {
+            fails_in_reading(rt, alloc, keeps, Course { step, sound }, step);
+        }
+    }
+}
+
+#[test]
+fn each_read_fails_in_turn(rt: HostRuntime) {
+    fail_at_each_read(&rt, rt.alloc(), true);
+    fail_at_each_read(&rt, rt.alloc(), false);
+}
+
+/// That a session goes well, and everything is passed on. Answers how often the sink was called.
+fn goes_well(rt: &impl Abort, alloc: Global, keeps: bool, read_step: usize, step: usize) -> usize {
+    let mut source = FailingSource::new(READ.as_bytes(), Course::sound(read_step));
+    let mut sink = FailingSink::new(alloc, Course::sound(step));
+    let came = session(alloc, keeps, &mut source, &mut sink);
+    let wanted = Came {
+        end: End::Answered(3),
+        stands: keeps.then_some((1, 0)),
+        input_failed: false,
+        output_failed: false,
+    };
+    same(rt, came, wanted);
+    same(
+        rt,
+        (sink.taken(), sink.passed()),
+        (WRITTEN.as_bytes(), WRITTEN.len()),
+    );
+    same(rt, source.calls(), reads_of(READ.len(), read_step));
+    sink.calls()
+}
+
+/// That writing or passing on fails behind so many calls of the sink, after which there is none:
+/// the replies are counted that were taken whole, and the object is at most one line further.
+fn fails_in_writing(rt: &impl Abort, alloc: Global, keeps: bool, read_step: usize, course: Course) {
+    let mut source = FailingSource::new(READ.as_bytes(), Course::sound(read_step));
+    let mut sink = FailingSink::new(alloc, course);
+    let came = session(alloc, keeps, &mut source, &mut sink);
+    let lines = replies_in(sink.taken().len());
+    let failed = (came.end, came.input_failed, came.output_failed);
+    same(
+        rt,
+        (course, failed),
+        (course, (End::WriteFault(lines as u64), false, true)),
+    );
+    same(
+        rt,
+        Some(sink.taken()),
+        WRITTEN.as_bytes().get(..sink.taken().len()),
+    );
+    same(rt, sink.calls(), course.sound.saturating_add(1));
+    let near = [behind(lines).2, behind(lines.saturating_add(1)).2];
+    same(rt, came.stands.is_some(), keeps);
+    assert!(rt; came.stands.is_none_or(|stands| near.contains(&stands)));
+}
+
+fn fail_at_each_write(rt: &impl Abort, alloc: Global, keeps: bool, read_step: usize) {
+    for step in STEPS {
+        let calls = goes_well(rt, alloc, keeps, read_step, step);
+        for sound in 0..calls {
+            fails_in_writing(rt, alloc, keeps, read_step, Course { step, sound });
+        }
+    }
+}
+
+#[test]
+fn each_write_and_flush_fails_in_turn(rt: HostRuntime) {
+    for read_step in STEPS {
+        fail_at_each_write(&rt, rt.alloc(), true, read_step);
+        fail_at_each_write(&rt, rt.alloc(), false, read_step);
+    }
+}

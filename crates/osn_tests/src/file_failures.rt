@@ -1,0 +1,163 @@
+//! Files of which each read fails in turn: none is taken for a shorter file.
+use crate::compare::same;
+use crate::failing::{Course, FailingSource, reads_of};
+use osn_register::Limits;
+use osn_wire::{
+    FileFault, Role, Source, audit, load_journal, read_questions, read_schedule, read_script,
+};
+use std::alloc::Global;
+use std::process::Abort;
+
+/// How many bytes are read at a time at most.
+const STEPS: [usize; 3] = [1, 50, usize::MAX];
+
+/// How reading a file ends.
+#[derive(Clone, Copy, Debug, PartialEq, Eq)]
+enum End {
+    Read,
+    NoMemory,
+    ReadFault,
+    BadLine(Role, u64, u8),
+}
+
+fn end_of<T: Drop>(answered: Result<T, FileFault>) -> End {
+    match answered {
+        Ok(_) => End::Read,
+        Err(FileFault::NoMemory) => End::NoMemory,
+        Err(FileFault::ReadFault) => End::ReadFault,
+        Err(FileFault::BadLine { role, line, fault }) => End::BadLine(role, line, fault.number()),
+    }
+}
+
+fn end_as(alloc: Global, role: Role, source: &mut FailingSource) -> End {
+    match role {
+        Role::Journal => end_of(load_journal(alloc, Limits::standard(), source)),
+        Role::Script => end_of(read_script(alloc, source)),
+        Role::Questions => end_of(read_questions(alloc, source)),
+        Role::Schedule => end_of(read_schedule(alloc, 1, source)),
+        Role::Transcript => {
+            let journal = &mut FailingSource::new(JOURNAL.as_bytes(), Course::sound(1));
+            end_of(audit(alloc, Limits::standard(), journal, source))
+        }
+    }
+}
+
+/// A journal of one edition, which is a script too.
+const JOURNAL: &str = r#"{"journal":1}
+{"calendar":"julian","code":"RM","name":"Rome","op":"add_land","rule":"julian","style":"january"}
+{"op":"publish"}
+"#;
+
+const QUESTIONS: &str = r#"{"op":"lands","reader":1}
+{"op":"lands","reader":2}
+"#;
+
+const SCHEDULE: &str = r#"{"step":"publish"}
+{"step":"look","op":"lands","reader":1}
+{"step":"claim"}
+"#;
+
+const TRANSCRIPT: &str = concat!(
+    r#"{"ask":{"op":"lands","reader":1},"#,
+    r#""reply":{"answer":{"lands":[]},"edition":0,"reader":1}}
+{"ask":{"op":"lands","reader":1},"#,
+    r#""reply":{"answer":{"lands":[{"code":"RM","name":"Rome"}]},"edition":1,"reader":1}}
+"#
+);
+
+/// Files, each by its role, how it ends where no read fails, and how many bytes are to come before
+/// it ends so: a file that is read has to end, and one that is refused needs its first bad line.
+const FILES: [(Role, &str, End, usize); 9] = [
+    (Role::Journal, JOURNAL, End::Read, usize::MAX),
+    (Role::Script, JOURNAL, End::Read, usize::MAX),
+    (Role::Questions, QUESTIONS, End::Read, usize::MAX),
+    (Role::Schedule, SCHEDULE, End::Read, usize::MAX),
+    (Role::Transcript, TRANSCRIPT, End::Read, usize::MAX),
+    (
+        Role::Journal,
+        "{\"journal\":2}\n{\"op\":\"fly\"}\n\n",
+        End::BadLine(Role::Journal, 2, 35),
+        27,
+    ),
+    (
+        Role::Script,
+        "{\"journal\":2}\n[1]\n\n",
+        End::BadLine(Role::Script, 2, 33),
+        18,
+    ),
+    (
+        Role::Questions,
+        "{\"op\":\"publish\"}\n\n",
+        End::BadLine(Role::Questions, 1, 41),
+        17,
+    ),
+    (
+        Role::Schedule,
+        "{\"step\":\"fly\"}\n\n",
+        End::BadLine(Role::Schedule, 1, 38),
+        15,
+    ),
+];
+
+/// That the file ends so where so many reads go well.
+fn ends(rt: &impl Abort, alloc: Global, file: (Role, &str), course: Course, wanted: End) {
+    let (role, text) = file;
+    let mut source = FailingSource::new(text.as_bytes(), course);
+    let end = end_as(alloc, role, &mut source);
+    let failed = wanted == End::ReadFault;
+    same(
+        rt,
+        (file, course, end, source.failed()),
+        (file, course, wanted, failed),
+    );
+}
+
+/// That a read that fails is told, wherever it comes before the file ends by itself.
+fn fail_at_each_read(rt: &impl Abort, alloc: Global, rows: &[(Role, &str, End, usize)]) {
+    for (role, text, end, needed) in rows {
+        for step in STEPS {
+            let reads = reads_of(text.len(), step);
+            for sound in 0..reads {
+                let course = Course { step, sound };
+                let comes = course.given(text.len()) >= *needed;
+                let wanted = if comes { *end } else { End::ReadFault };
+                ends(rt, alloc, (*role, text), course, wanted);
+            }
+            ends(
+                rt,
+                alloc,
+                (*role, text),
+                Course { step, sound: reads },
+                *end,
+            );
+        }
+    }
+}
+
+#[test]
+fn each_read_of_a_file_fails_in_turn(rt: HostRuntime) {
+    fail_at_each_read(&rt, rt.alloc(), &FILES);
+}
+
+/// That an audit whose journal fails behind so many reads says so, and reads nothing of the
+/// transcript.
+fn audit_fails(rt: &impl Abort, alloc: Global, course: Course) {
+    let mut journal = FailingSource::new(JOURNAL.as_bytes(), course);
+    let mut transcript = FailingSource::new(TRANSCRIPT.as_bytes(), Course::sound(1));
+    let end = end_of(audit(alloc, Limits::standard(), &mut journal, &mut transcript));
+    same(
+        rt,
+        (course, end, journal.failed()),
+        (course, End::ReadFault, true),
+    );
+    same(rt, (transcript.calls(), transcript.failed()), (0, false));
+}
+
+#[test]
+fn each_read_of_the_journal_of_an_audit_fails_in_turn(rt: HostRuntime) {
+    for step in STEPS {
+        for sound in 0..reads_of(JOURNAL.len(), step) {
+            audit_fails(&rt, rt.alloc(), Course { step, sound });
+        }
+    }
+}
