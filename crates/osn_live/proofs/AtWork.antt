@@ -1,7 +1,7 @@
 -- What is started, and what comes back, one by one.
 use Rattle.std.proofs.Common.{◌≡◌, ◌∙◌, ◌⊎◌, ℕ, ◌≤◌, ◌+◌, List, [], ◌∷◌, ◌++◌, length, Option, None}
 use Rattle.std.proofs.Common.{Some, refl, ap, sym, subst, arith, add-one, append_assoc, append-nil}
-use Rattle.std.proofs.Common.{inl, inr, suc, Iter, Bor, Vec}
+use Rattle.std.proofs.Common.{inl, inr, suc, Iter, Bor, Vec, Bool, Result, IfErr}
 use Rattle.std.proofs.iter.Yields.{fronts}
 use Rattle.std.proofs.lemmas.Iterator.{zips}
 use Rattle.std.proofs.lemmas.List.{nil_from_length}
@@ -13,10 +13,15 @@ use Rattle.std.specs.declared.iter.Zip.{Zip}
 use Rattle.std.specs.declared.vec.IntoIter.{IntoIter}
 use Rattle.core.specs.declared.thread.PromisedHandle.{PromisedHandle}
 use Rattle.osn_register.specs.declared.query.Query.{Query}
+use Rattle.osn_core.specs.declared.step.Reply.{Reply}
 use Rattle.osn_live.specs.declared.rule.Origin.{Origin}
 use Rattle.osn_live.specs.declared.work.Worked.{Worked}
 use Rattle.osn_live.specs.declared.work.Works.{Works}
-use Rattle.osn_live.specs.InsideDesk.{AreStarted}
+use Rattle.osn_live.specs.declared.faults.DeskFault.{DeskFault}
+use Rattle.osn_live.specs.declared.faults.DeskFault.TheVariants as Desk
+use Rattle.osn_live.specs.Faults.{IsOfGate}
+use Rattle.osn_live.specs.InsideDesk.{AreStarted, IsFaultAt, IsFaultOf}
+use Rattle.osn_live.specs.InsideWork.{IsPlain}
 
 -- ---- lists, and beside them as many values of a vector
 module _ {A B Z : Type 0} where
@@ -47,6 +52,14 @@ pub few_left : {X : Type 0} (who : ℕ) (ls : List X) (x : X) (xs : List X) → 
     who + length ls ≤ 64 → who + 1 + length xs ≤ 64
 few_left who ls x xs e few = omega (arith, one_longer ls xs x e, few)
 
+pub lists_left : {X : Type 0} (who : ℕ) (ls : List X) (x : X) (xs : List X) (n : ℕ) → ls ≡ x ∷ xs →
+    who + length ls ≡ n → who + 1 + length xs ≡ n
+lists_left who ls x xs n e all = omega (arith, one_longer ls xs x e, all)
+
+pub is_one_of : {X : Type 0} (who : ℕ) (ls : List X) (x : X) (xs : List X) (n : ℕ) → ls ≡ x ∷ xs →
+    who + length ls ≡ n → who + 1 ≤ n
+is_one_of who ls x xs n e all = omega (arith, one_longer ls xs x e, all)
+
 pub count_left : {X : Type 0} (n m : ℕ) (ls : List X) (x : X) (xs : List X) → ls ≡ x ∷ xs →
     m + 1 ≡ n → n ≡ length ls → m ≡ length xs
 count_left n m ls x xs e less count = omega (arith, one_longer ls xs x e, less, count)
@@ -67,16 +80,41 @@ module _ {A B : Type 0} (R : List A → List B → Type 0) (all : List A) where
       subst (R all) (append-nil done) (so_far [] (subst (λ l. R l []) (sym e) none))
 
 -- ---- readers at work
-pub started_rest : (o : Origin) (hs more : List (PromisedHandle Worked Works))
-    (ls next : List (Vec Query Global)) (h : PromisedHandle Worked Works) (l : Vec Query Global) →
-    hs ≡ h ∷ more → ls ≡ l ∷ next → AreStarted o hs ls → AreStarted o more next
-started_rest o hs more ls next h l e f a =
-    (subst (λ (x : List (Vec Query Global)). AreStarted o (h ∷ more) x) f
-    (subst (λ (x : List (PromisedHandle Worked Works)). AreStarted o x ls) e a)).1
+module _ {G : Type 0} where
+  pub started_rest : (o : Origin) (hs more : List (PromisedHandle Worked (Works G)))
+      (ls next : List (Vec Query Global)) (h : PromisedHandle Worked (Works G))
+      (l : Vec Query Global) →
+      hs ≡ h ∷ more → ls ≡ l ∷ next → AreStarted o hs ls → AreStarted o more next
+  started_rest o hs more ls next h l e f a =
+      (subst (λ (x : List (Vec Query Global)). AreStarted o (h ∷ more) x) f
+      (subst (λ (x : List (PromisedHandle Worked (Works G))). AreStarted o x ls) e a)).1
 
-pub started_count : (o : Origin) (hs : List (PromisedHandle Worked Works))
-    (ls : List (Vec Query Global)) → AreStarted o hs ls → length hs ≡ length ls
-started_count o [] [] a = refl
-started_count o (h ∷ hs) (l ∷ ls) a = ap suc (started_count o hs ls a.1)
-started_count o [] (l ∷ ls) a = absurd a
-started_count o (h ∷ hs) [] a = absurd a
+  pub started_count : (o : Origin) (hs : List (PromisedHandle Worked (Works G)))
+      (ls : List (Vec Query Global)) → AreStarted o hs ls → length hs ≡ length ls
+  started_count o [] [] a = refl
+  started_count o (h ∷ hs) (l ∷ ls) a = ap suc (started_count o hs ls a.1)
+  started_count o [] (l ∷ ls) a = absurd a
+  started_count o (h ∷ hs) [] a = absurd a
+
+-- ---- what is told of a reader that has worked
+plain_at : (lists published : ℕ) (f : DeskFault) → IsPlain f → IsFaultAt lists published f
+plain_at lists published Desk.NoMemory plain = tt
+plain_at lists published (Desk.HistoryBroken reader last editions) plain = absurd plain
+plain_at lists published Desk.BadCount plain = absurd plain
+plain_at lists published Desk.NoPlace plain = tt
+plain_at lists published Desk.GateClosed plain = tt
+
+pub fault_at : (who seen published lists : ℕ) (replies : Result (Vec Reply Global) DeskFault)
+    (f : DeskFault) → 1 ≤ who → who ≤ lists → IfErr replies IsPlain →
+    IsFaultOf who seen published replies f → IsFaultAt lists published f
+fault_at who seen published lists replies f one few plain (inl e) =
+    plain_at lists published f (subst (λ r. IfErr r IsPlain) e plain)
+fault_at who seen published lists replies f one few plain (inr e) =
+    subst (IsFaultAt lists published) (sym e.0) (one, few, refl, e.1)
+
+pub gate_at : (passes : Bool) (who seen published : ℕ)
+    (replies : Result (Vec Reply Global) DeskFault) (f : DeskFault) →
+    IfErr replies (IsOfGate passes) → IsFaultOf who seen published replies f → IsOfGate passes f
+gate_at passes who seen published replies f told (inl e) =
+    subst (λ r. IfErr r (IsOfGate passes)) e told
+gate_at passes who seen published replies f told (inr e) = subst (IsOfGate passes) (sym e.0) tt

@@ -1,5 +1,5 @@
 -- The faults of the running register, by number and name: this project's profile.
-use Rattle.std.specs.Prelude.{◌≡◌, ◌⊎◌, ℕ, ◌<◌, List, codes}
+use Rattle.std.specs.Prelude.{◌≡◌, ◌⊎◌, ℕ, ◌<◌, ◌≤◌, Bool, false, List, codes}
 use Rattle.osn_register.specs.declared.refusal.Refusal.{Refusal}
 use Rattle.osn_register.specs.declared.refusal.Refusal.TheVariants as Refused
 use Rattle.osn_live.specs.declared.faults.PublishFault.{PublishFault}
@@ -35,7 +35,15 @@ desk_fault_name Desk.GateClosed = codes "GateClosed"
 abbrev pub IsDeskFault : ℕ → ℕ → DeskFault → Type 0
 IsDeskFault lists published Desk.NoMemory = Unit {0}
 IsDeskFault lists published (Desk.HistoryBroken reader last editions) =
-    (editions ≡ published) × (published < last)
+    (1 ≤ reader) × (reader ≤ lists) × (editions ≡ published) × (published < last)
 IsDeskFault lists published Desk.BadCount = IsBadCount lists
 IsDeskFault lists published Desk.NoPlace = Unit {0}
 IsDeskFault lists published Desk.GateClosed = Unit {0}
+
+-- a gate that is known to let every item pass was closed to none
+abbrev pub IsOfGate : Bool → DeskFault → Type 0
+IsOfGate passes Desk.NoMemory = Unit {0}
+IsOfGate passes (Desk.HistoryBroken reader last editions) = Unit {0}
+IsOfGate passes Desk.BadCount = Unit {0}
+IsOfGate passes Desk.NoPlace = Unit {0}
+IsOfGate passes Desk.GateClosed = passes ≡ false

@@ -1,33 +1,53 @@
 -- What readers at work give back, and what was started.
-use Rattle.std.specs.Prelude.{◌≡◌, ℕ, ◌<◌, List, [], ◌∷◌, Vec}
+use Rattle.std.specs.Prelude.{◌≡◌, ◌⊎◌, ℕ, ◌<◌, ◌≤◌, Bool, List, [], ◌∷◌, Vec, Result, Err}
+use Rattle.std.specs.List.{All}
 use Rattle.std.specs.declared.alloc.Global.{Global}
 use Rattle.core.specs.declared.thread.PromisedHandle.{PromisedHandle}
 use Rattle.osn_register.specs.declared.query.Query.{Query}
+use Rattle.osn_core.specs.declared.step.Reply.{Reply}
 use Rattle.osn_live.specs.declared.faults.DeskFault.{DeskFault}
 use Rattle.osn_live.specs.declared.faults.DeskFault.TheVariants as Desk
 use Rattle.osn_live.specs.declared.rule.Origin.{Origin}
+use Rattle.osn_live.specs.Faults.{IsOfGate}
 use Rattle.osn_live.specs.declared.work.Worked.{Worked}
 use Rattle.osn_live.specs.declared.work.Works.{Works}
 
--- once the count of lists was found good
-abbrev pub IsFaultAt : ℕ → DeskFault → Type 0
-IsFaultAt published Desk.NoMemory = Unit {0}
-IsFaultAt published (Desk.HistoryBroken reader last editions) =
-    (editions ≡ published) × (published < last)
-IsFaultAt published Desk.BadCount = ⊥
-IsFaultAt published Desk.NoPlace = Unit {0}
-IsFaultAt published Desk.GateClosed = Unit {0}
+-- once the count of lists was found good: one of so many readers has another history than that of
+-- so many editions
+abbrev pub IsFaultAt : ℕ → ℕ → DeskFault → Type 0
+IsFaultAt lists published Desk.NoMemory = Unit {0}
+IsFaultAt lists published (Desk.HistoryBroken reader last editions) =
+    (1 ≤ reader) × (reader ≤ lists) × (editions ≡ published) × (published < last)
+IsFaultAt lists published Desk.BadCount = ⊥
+IsFaultAt lists published Desk.NoPlace = Unit {0}
+IsFaultAt lists published Desk.GateClosed = Unit {0}
+
+-- what is told of a reader that has worked: its own fault, or its last edition is above those that
+-- were published
+abbrev pub IsFaultOf : ℕ → ℕ → ℕ → Result (Vec Reply Global) DeskFault → DeskFault → Type 0
+IsFaultOf who seen published replies fault =
+    (replies ≡ Err fault)
+    ⊎ ((fault ≡ Desk.HistoryBroken who seen published) × (published < seen))
 
 -- a reader of this origin at work on this list
-pub record IsStarted (o : Origin) (h : PromisedHandle Worked Works) (list : Vec Query Global) :
-    Type 0 where
+pub record IsStarted {G : Type 0} (o : Origin) (h : PromisedHandle Worked (Works G))
+    (list : Vec Query Global) : Type 0 where
   pub reader : h.promise.0.value.origin ≡ o
   pub list_is : h.promise.1.value ≡ list
 
 -- one for each list, in its place
-abbrev pub AreStarted : Origin → List (PromisedHandle Worked Works) → List (Vec Query Global) →
-    Type 0
+abbrev pub AreStarted : {G : Type 0} → Origin → List (PromisedHandle Worked (Works G)) →
+    List (Vec Query Global) → Type 0
 AreStarted o [] [] = Unit {0}
 AreStarted o (h ∷ hs) (l ∷ ls) = IsStarted o h l × AreStarted o hs ls
 AreStarted o [] (l ∷ ls) = ⊥
 AreStarted o (h ∷ hs) [] = ⊥
+
+-- each works at this gate
+abbrev pub AreAt : {G : Type 0} → G → List (PromisedHandle Worked (Works G)) → Type 0
+AreAt gate handles = All (λ h. h.promise.2.value ≡ gate) handles
+
+-- a fault of what works at one gate: one that is known to let every item pass was closed to none
+pub record IsOfTheirGate {G : Type 0} (is_open : G → Bool)
+    (handles : List (PromisedHandle Worked (Works G))) (f : DeskFault) : Type 0 where
+  pub of : (gate : G) → AreAt gate handles → IsOfGate (is_open gate) f

@@ -5,8 +5,8 @@ ghost use Rattle.osn_days.specs.Profile.{newest_rules};
 ghost use Rattle.osn_core.specs.Script.{script_after, editions_of};
 ghost use Rattle.osn_live.specs.declared.rule.Origin.{Origin};
 ghost use Rattle.osn_live.specs.Desk.{AreReplies, AreAll};
-ghost use Rattle.osn_live.specs.Faults.{IsBadCount, IsDeskFault};
-ghost use Rattle.osn_live.specs.InsideDesk.{IsFaultAt, AreStarted};
+ghost use Rattle.osn_live.specs.Faults.{IsBadCount, IsDeskFault, IsOfGate};
+ghost use Rattle.osn_live.specs.InsideDesk.{IsFaultAt, IsFaultOf, IsOfTheirGate, AreStarted, AreAt};
 ghost use Rattle.osn_live.specs.InsideWork.{IsPlain};
 ghost use Rattle.osn_live.specs.Running.{IsNew};
 
@@ -24,7 +24,7 @@ use std::sync::Wait;
 use std::thread;
 use std::thread::{PromisedHandle, Scope, Threads};
 
-type Handle = PromisedHandle<Worked, Works>;
+type Handle<G> = PromisedHandle<Worked, Works<G>>;
 
 /// Starts one reader at work for each list.
 fn start_all<'s, E, G: Gate + Sync>(
@@ -33,18 +33,20 @@ fn start_all<'s, E, G: Gate + Sync>(
     gate: &'s G,
     readers: Vec<Reader>,
     lists: &'s [Vec<Query>],
-) -> Result<Vec<Handle>, DeskFault>
+) -> Result<Vec<Handle<G>>, DeskFault>
     requires few { length lists.now ≤ 64 }
     requires count { vec_len readers ≡ length lists.now }
     ensures started { IfOk result (λ hs. (o : Origin) → All (λ r. r.origin ≡ o) readers.items →
         AreStarted o hs.items lists.now) }
+    ensures at { IfOk result (λ hs. AreAt gate.now hs.items) }
     ensures fault { IfErr result IsPlain }
+    ensures gate { IfErr result (IsOfGate (G.is_open gate.now)) }
 {
     let mut handles = Vec::new(alloc);
     let mut who = 0u32;
     for (list, reader) in lists.iter().zip(readers) {
         who += 1;
-        let promise = Works::of(&reader, list);
+        let promise = Works::of(&reader, list, gate);
         let Ok(handle) = scope.spawn_with(promise, move || {
             work(alloc, gate, who, reader, list.as_slice())
         }) else {
@@ -68,6 +70,7 @@ fn edit_all<R: Wait, G: Gate>(
     ensures ok { OnOk result
         (editor.new.object ≡ script_after newest_rules editor.old.object commands.now) }
     ensures fault { IfErr result IsPlain }
+    ensures gate { IfErr result (IsOfGate (G.is_open gate.now)) }
 {
     let mut index = 0usize;
     for command in commands {
@@ -93,10 +96,10 @@ fn settle(
     requires origin { worked.reader.origin ≡ note.origin }
     requires replies { IfOk worked.replies (λ rs. AreReplies newest_rules note.origin.limits
         worked.reader.seen 0 questions.now rs.items) }
-    requires fault { IfErr worked.replies IsPlain }
     ensures replies { IfOk result (λ rs.
         AreReplies newest_rules note.origin.limits note.batches 0 questions.now rs.items) }
-    ensures fault { IfErr result (IsFaultAt (length note.batches)) }
+    ensures fault { IfErr result
+        (IsFaultOf who (length worked.reader.seen) (length note.batches) worked.replies) }
 {
     let Worked { reader, replies } = worked;
     let mut reader = reader;
@@ -113,18 +116,20 @@ fn settle(
 }
 
 /// What all readers were told, once each has ended.
-fn collect<R: Threads>(
+fn collect<R: Threads, G: Gate>(
     rt: &R,
     alloc: Global,
     editor: &Editor,
-    handles: Vec<Handle>,
+    handles: Vec<Handle<G>>,
     lists: &[Vec<Query>],
 ) -> Result<Vec<Vec<Reply>>, DeskFault>
     requires few { length lists.now ≤ 64 }
     requires started { AreStarted editor.now.origin handles.items lists.now }
     ensures replies { IfOk result (λ all. AreAll newest_rules editor.now.origin.limits
         editor.now.object.batches lists.now all.items) }
-    ensures fault { IfErr result (IsFaultAt (length editor.now.object.batches)) }
+    ensures fault { IfErr result
+        (IsFaultAt (length lists.now) (length editor.now.object.batches)) }
+    ensures gate { IfErr result (IsOfTheirGate G.is_open handles.items) }
 {
     let mut all = Vec::new(alloc);
     let mut who = 0u32;
@@ -155,8 +160,9 @@ fn at_desk<'s, E, R: Threads + Wait, G: Gate + Sync>(
     requires new { All (λ r. IsNew editor.old r) readers.items }
     ensures replies { IfOk result (λ all. AreAll newest_rules editor.old.origin.limits
         (script_after newest_rules editor.old.object commands.now).batches lists.now all.items) }
-    ensures fault { IfErr result (IsFaultAt
+    ensures fault { IfErr result (IsFaultAt (length lists.now)
         (length (script_after newest_rules editor.old.object commands.now).batches)) }
+    ensures gate { IfErr result (IsOfGate (G.is_open gate.now)) }
 {
     let handles = start_all(scope, alloc, gate, readers, lists)?;
     edit_all(rt, gate, editor, commands)?;
@@ -189,6 +195,7 @@ pub fn run_desk<R: Threads + Wait, G: Gate + Sync>(
         (editions_of newest_rules limits commands.now) lists.now all.items) }
     ensures fault { IfErr result
         (IsDeskFault (length lists.now) (length (editions_of newest_rules limits commands.now))) }
+    ensures gate { IfErr result (IsOfGate (G.is_open gate.now)) }
 {
     let Ok(count) = u32::try_from(lists.len()) else {
         return Err(DeskFault::BadCount);
@@ -210,8 +217,9 @@ pub fn run_desk<R: Threads + Wait, G: Gate + Sync>(
             ensures replies { IfOk result (λ all. AreAll newest_rules held.entry.now.origin.limits
                 (script_after newest_rules held.entry.now.object commands.entry.now).batches
                 lists.entry.now all.items) }
-            ensures fault { IfErr result (IsFaultAt (length
+            ensures fault { IfErr result (IsFaultAt (length lists.entry.now) (length
                 (script_after newest_rules held.entry.now.object commands.entry.now).batches)) }
+            ensures gate { IfErr result (IsOfGate (G.is_open gate.entry.now)) }
         { at_desk(rt, scope, alloc, gate, held, readers, commands, lists) },
     );
     editor.close(rt);

@@ -1,10 +1,14 @@
-ghost use Rattle.std.specs.Prelude.{◌≡◌, true};
+ghost use Rattle.std.specs.Prelude.{◌≡◌, Bool, true, false};
 
 /// What the threads of a desk call around each item. `who` is 0 for the editor and 1 upward for the
 /// readers, and `index` the item's place in its list, from 0.
 pub trait Gate {
+    // Whether it is known to let every item pass.
+    ghost is_open: { Self → Bool } = { λ _. false };
+
     /// Called ahead of an item. If it answers false, the desk ends.
-    fn before(&self, who: u32, index: usize) -> bool;
+    fn before(&self, who: u32, index: usize) -> bool
+        ensures { is_open self.now ≡ true → result ≡ true };
 
     /// Called behind an item.
     fn after(&self, who: u32, index: usize);
@@ -15,9 +19,9 @@ pub trait Gate {
 pub struct OpenGate;
 
 impl Gate for OpenGate {
-    fn before(&self, _who: u32, _index: usize) -> bool
-        ensures { result ≡ true }
-    {
+    ghost is_open = { λ _. true };
+
+    fn before(&self, _who: u32, _index: usize) -> bool {
         true
     }
 

@@ -1,9 +1,10 @@
 //! A reader at work through a list of questions.
-ghost use Rattle.std.specs.Prelude.{◌≡◌, IfOk, IfErr};
+ghost use Rattle.std.specs.Prelude.{◌≡◌, Bool, IfOk, IfErr};
 ghost use Rattle.osn_days.specs.Profile.{newest_rules};
 ghost use Rattle.osn_core.specs.Sequential.{reply_at};
 ghost use Rattle.osn_live.specs.Batches.{Begins};
 ghost use Rattle.osn_live.specs.Desk.{AreReplies};
+ghost use Rattle.osn_live.specs.Faults.{IsOfGate};
 ghost use Rattle.osn_live.specs.InsideWork.{IsPlain, IsWork};
 
 use crate::faults::{AskFault, DeskFault};
@@ -24,20 +25,25 @@ pub struct Worked {
 
 /// What a reader is started with, in proofs alone: what it gives back is its work on that.
 #[derive(Drop)]
-pub struct Works(Snapshot<Reader>, Snapshot<Vec<Query>>);
+pub struct Works<G>(Snapshot<Reader>, Snapshot<Vec<Query>>, Snapshot<G>);
 
-impl Promise<Worked> for Works {
+impl<G: Gate> Promise<Worked> for Works<G> {
     ghost use Rattle.osn_live.specs.InsideWork.{IsWork};
 
-    ghost kept_by = { λ p w. IsWork p.0.value p.1.value.items w };
+    ghost kept_by = { λ p w. IsWork (G.is_open p.2.value) p.0.value p.1.value.items w };
 }
 
-impl Works {
-    pub fn of(reader: &Reader, questions: &Vec<Query>) -> Works
+impl<G> Works<G> {
+    pub fn of(reader: &Reader, questions: &Vec<Query>, gate: &G) -> Works<G>
         ensures reader { result.0.value ≡ reader.now }
         ensures questions { result.1.value ≡ questions.now }
+        ensures gate { result.2.value ≡ gate.now }
     {
-        Works(Snapshot::of(reader), Snapshot::of(questions))
+        Works(
+            Snapshot::of(reader),
+            Snapshot::of(questions),
+            Snapshot::of(gate),
+        )
     }
 }
 
@@ -47,6 +53,7 @@ fn answer_one(reader: &mut Reader, question: &Query) -> Result<Reply, DeskFault>
     ensures value { IfOk result
         (λ r. r ≡ reply_at newest_rules reader.new.origin.limits reader.new.seen question.now) }
     ensures fault { IfErr result IsPlain }
+    ensures gate { IfErr result (λ f. (passes : Bool) → IsOfGate passes f) }
 {
     match reader.ask(question) {
         Ok(reply) => Ok(reply),
@@ -66,6 +73,7 @@ fn answer_all<G: Gate>(
     ensures replies { IfOk result (λ rs.
         AreReplies newest_rules reader.old.origin.limits reader.new.seen 0 questions.now rs.items) }
     ensures fault { IfErr result IsPlain }
+    ensures gate { IfErr result (IsOfGate (G.is_open gate.now)) }
 {
     let mut replies = Vec::new(alloc);
     let mut index = 0usize;
@@ -91,7 +99,7 @@ pub fn work<G: Gate>(
     reader: Reader,
     questions: &[Query],
 ) -> Worked
-    ensures { IsWork reader questions.now result }
+    ensures { IsWork (G.is_open gate.now) reader questions.now result }
 {
     let mut reader = reader;
     let replies = answer_all(alloc, gate, who, &mut reader, questions);

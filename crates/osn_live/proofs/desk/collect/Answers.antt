@@ -1,8 +1,12 @@
-use Rattle.std.proofs.Common.{rules}
+use Rattle.std.proofs.Common.{◌≡◌, length, rules, arith, subst, IfErr}
+use Rattle.std.proofs.lemmas.List.Elements.{All-head, All-tail}
+use Rattle.osn_live.specs.Faults.{IsOfGate}
+use Rattle.osn_live.specs.InsideDesk.{AreAt, IsOfTheirGate}
 use Rattle.osn_days.specs.Profile.{newest_rules}
 use Rattle.osn_live.specs.Desk.{AreReplies, AreAll}
 use Rattle.osn_live.proofs.AtWork.{next_pair, no_pair, few_left, count_left, one_done, all_done}
-use Rattle.osn_live.proofs.AtWork.{started_rest, started_count}
+use Rattle.osn_live.proofs.AtWork.{started_rest, started_count, lists_left, is_one_of}
+use Rattle.osn_live.proofs.AtWork.{fault_at, gate_at}
 use Rattle.osn_live.proofs.desk.collect.Goals as goal
 
 pub loop-list-init : goal.loop-list-init
@@ -26,6 +30,9 @@ loop-list-preserved g c =
     record {
       few = few_left loop.who _ list.now _ step.0 loop.invariant.few;
       count = count_left _ _ _ list.now _ step.0 step.2 loop.invariant.count;
+      lists = lists_left loop.who _ list.now _ _ step.0 loop.invariant.lists;
+      gates = λ gate all. All-tail (λ h. h.promise.2.value ≡ gate) c.in-Some.handle _
+          (subst (AreAt gate) step.1 (loop.invariant.gates gate all));
       started = started_rest origin _ _ _ _ c.in-Some.handle list.now step.1 step.0
           loop.invariant.started;
       replies = rw c.in-Ok.ensures.items (one_done (AreAll newest_rules origin.limits batches)
@@ -40,3 +47,31 @@ returns-clause-replies g c =
     loop.invariant.count in
     all_done (AreAll newest_rules c.args.editor.now.origin.limits c.args.editor.now.object.batches)
     c.args.lists.now _ loop.all.items none tt loop.invariant.replies
+
+pub returns-in_err-replies-clause-fault : goal.returns-in_err-replies-clause-fault
+returns-in_err-replies-clause-fault g c =
+    let loop = c.loop-list in
+    let list = c.in-Some.list in
+    let step = next_pair loop.list-iterator c.next.new.self _ (list, c.in-Some.handle)
+    c.in-Some.is c.next.ensures.steps in
+    let few = is_one_of loop.who _ list.now _ _ step.0 loop.invariant.lists in
+    let told = fault_at _ _ _ (length c.args.lists.now) _ _ (omega arith) few
+    c.join-worked.ensures.fault c.in_err-replies.ensures.fault in
+    search (rules, told)
+
+pub returns-in_err-replies-clause-gate : goal.returns-in_err-replies-clause-gate
+returns-in_err-replies-clause-gate g c =
+    let loop = c.loop-list in
+    let handle = c.in-Some.handle in
+    let step = next_pair loop.list-iterator c.next.new.self _ (c.in-Some.list, handle)
+    c.in-Some.is c.next.ensures.steps in
+    let told : IsOfTheirGate g.G.Gate.is_open c.args.handles.items c.in_err-replies.field-0.0 =
+    record {
+      of = λ gate all.
+          let at = All-head (λ h. h.promise.2.value ≡ gate) handle _
+              (subst (AreAt gate) step.1 (loop.invariant.gates gate all)) in
+          gate_at (g.G.Gate.is_open gate) _ _ _ _ _
+          (subst (λ x. IfErr c.join-worked.result.replies (IsOfGate (g.G.Gate.is_open x))) at
+          c.join-worked.ensures.gate) c.in_err-replies.ensures.fault;
+    } in
+    search (rules, told)

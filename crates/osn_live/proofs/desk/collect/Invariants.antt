@@ -6,7 +6,7 @@ use Rattle.std.specs.declared.alloc.Global.{Global}
 use Rattle.osn_days.specs.Profile.{newest_rules}
 use Rattle.osn_core.specs.declared.step.Reply.{Reply}
 use Rattle.osn_live.specs.Desk.{AreAll}
-use Rattle.osn_live.specs.InsideDesk.{AreStarted}
+use Rattle.osn_live.specs.InsideDesk.{AreStarted, AreAt}
 use Rattle.osn_live.proofs.desk.collect.Given as goal
 
 -- what is told, and behind it what is told to the lists that are left
@@ -15,6 +15,9 @@ invariant-loop-list g l = record {
   few : l.who + length (iter_rest (zip_first l.list-iterator)) ≤ 64;
   count : into_iter_len (zip_second l.list-iterator)
       ≡ length (iter_rest (zip_first l.list-iterator));
+  lists : l.who + length (iter_rest (zip_first l.list-iterator)) ≡ length l.lists;
+  gates : (gate : g.row.G.Denot) → AreAt gate l.fn.handles.items →
+      AreAt gate (into_iter_items (zip_second l.list-iterator));
   started : AreStarted l.fn.editor.origin (into_iter_items (zip_second l.list-iterator))
       (iter_rest (zip_first l.list-iterator));
   replies : (more : List (Vec Reply Global)) →

@@ -1,6 +1,6 @@
 use Rattle.std.proofs.Common.{◌≡◌, ◌∙◌, ◌∷◌, ap, subst}
 use Rattle.std.specs.List.{All}
-use Rattle.std.proofs.lemmas.List.Elements.{All-head, All-tail}
+use Rattle.std.proofs.lemmas.List.Elements.{All-head, All-tail, All-push}
 use Rattle.osn_live.specs.declared.work.Works.{Works}
 use Rattle.osn_live.specs.Running.{ReaderState}
 use Rattle.osn_live.specs.InsideDesk.{IsStarted, AreStarted}
@@ -22,10 +22,10 @@ loop-list-preserved g c =
           let P : ReaderState → Type 0 = λ r. r.origin ≡ o in
           let left : All P (reader ∷ _) = subst (All P) step.1 inv.0 in
           let one : IsStarted o c.in-Ok.handle list.now = record {
-            reader = ap (λ (p : Works). p.0.value.origin) c.in-Ok.ensures.ok
+            reader = ap (λ (p : Works g.row.G.Denot). p.0.value.origin) c.in-Ok.ensures.ok
                 ∙ ap (λ (r : ReaderState). r.origin) c.of-promise.ensures.reader
                 ∙ All-head P reader _ left;
-            list_is = ap (λ (p : Works). p.1.value) c.in-Ok.ensures.ok
+            list_is = ap (λ (p : Works g.row.G.Denot). p.1.value) c.in-Ok.ensures.ok
                 ∙ c.of-promise.ensures.questions;
           } in (
             All-tail P reader _ left,
@@ -33,6 +33,10 @@ loop-list-preserved g c =
                 _ _ list.now loop.handles.items c.in-Ok.handle step.0 (λ hs rest. (one, rest))
                 inv.1),
           );
+      gates = rw c.in-Ok-push.ensures.items (All-push (λ h. h.promise.2.value ≡ c.args.gate.now)
+          loop.handles.items c.in-Ok.handle loop.invariant.gates
+          (ap (λ (p : Works g.row.G.Denot). p.2.value) c.in-Ok.ensures.ok
+          ∙ c.of-promise.ensures.gate));
     }
 
 pub returns-clause-started : goal.returns-clause-started

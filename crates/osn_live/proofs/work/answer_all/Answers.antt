@@ -37,3 +37,8 @@ loop-question-preserved g c =
           (replies_more newest_rules l now 0 before loop.replies.items q zero-le later);
       index = search rules;
     }
+
+pub returns-in_err-reply-clause-gate : goal.returns-in_err-reply-clause-gate
+returns-in_err-reply-clause-gate g c =
+    let told = c.in_err-reply.ensures.gate (g.G.Gate.is_open c.args.gate.now) in
+    search (rules, told)
