@@ -9,5 +9,6 @@ pub mod InsideRule
 pub mod InsideEdition
 pub mod InsideReader
 pub mod InsideEditor
+pub mod InsideTurns
 pub mod InsideWork
 pub mod InsideDesk

@@ -7,6 +7,7 @@ ghost use Rattle.osn_live.specs.declared.rule.Origin.{Origin};
 ghost use Rattle.osn_live.specs.Desk.{AreReplies, AreAll};
 ghost use Rattle.osn_live.specs.Faults.{IsBadCount, IsDeskFault, IsOfGate};
 ghost use Rattle.osn_live.specs.InsideDesk.{IsFaultAt, IsFaultOf, IsOfTheirGate, AreStarted, AreAt};
+ghost use Rattle.osn_live.specs.InsideTurns.{HasTold};
 ghost use Rattle.osn_live.specs.InsideWork.{IsPlain};
 ghost use Rattle.osn_live.specs.Running.{IsNew};
 
@@ -16,6 +17,7 @@ use crate::gate::Gate;
 use crate::note::Note;
 use crate::opening::open;
 use crate::reader::Reader;
+use crate::turns::Turns;
 use crate::work::{Worked, Works, work};
 use osn_core::{Command, Reply};
 use osn_register::{Limits, Query};
@@ -59,29 +61,29 @@ fn start_all<'s, E, G: Gate + Sync>(
     Ok(handles)
 }
 
-/// The editor at work. What is refused is passed over.
+/// The editor at work, each command between the two calls of its turn. What is refused is passed
+/// over.
 fn edit_all<R: Wait, G: Gate>(
     rt: &R,
-    gate: &G,
+    turns: &mut Turns<'_, G>,
     editor: &mut Editor,
     commands: &[Command],
 ) -> Result<(), DeskFault>
+    requires begun { turns.old.begun ≡ 0 }
+    requires ended { turns.old.ended ≡ 0 }
+    ensures told { OnOk result (HasTold turns.old turns.new (length commands.now)) }
     ensures origin { editor.new.origin ≡ editor.old.origin }
     ensures ok { OnOk result
         (editor.new.object ≡ script_after newest_rules editor.old.object commands.now) }
     ensures fault { IfErr result IsPlain }
-    ensures gate { IfErr result (IsOfGate (G.is_open gate.now)) }
+    ensures gate { IfErr result (IsOfGate (G.is_open turns.old.gate.now)) }
 {
-    let mut index = 0usize;
     for command in commands {
-        if !gate.before(0, index) {
-            return Err(DeskFault::GateClosed);
-        }
+        turns.begin()?;
         let Ok(()) = editor.carry_out(rt, command) else {
             return Err(DeskFault::NoMemory);
         };
-        gate.after(0, index);
-        index += 1;
+        turns.end();
     }
     Ok(())
 }
@@ -165,7 +167,7 @@ fn at_desk<'s, E, R: Threads + Wait, G: Gate + Sync>(
     ensures gate { IfErr result (IsOfGate (G.is_open gate.now)) }
 {
     let handles = start_all(scope, alloc, gate, readers, lists)?;
-    edit_all(rt, gate, editor, commands)?;
+    edit_all(rt, &mut Turns::new(gate, 0), editor, commands)?;
     collect(rt, alloc, editor, handles, lists)
 }
 

@@ -13,6 +13,7 @@ mod note;
 mod opening;
 mod reader;
 mod rule;
+mod turns;
 mod work;
 
 pub use desk::run_desk;

@@ -1,15 +1,17 @@
 //! A reader at work through a list of questions.
-ghost use Rattle.std.specs.Prelude.{◌≡◌, Bool, IfOk, IfErr};
+ghost use Rattle.std.specs.Prelude.{◌≡◌, Bool, length, IfOk, IfErr, OnOk};
 ghost use Rattle.osn_days.specs.Profile.{newest_rules};
 ghost use Rattle.osn_core.specs.Sequential.{reply_at};
 ghost use Rattle.osn_live.specs.Batches.{Begins};
 ghost use Rattle.osn_live.specs.Desk.{AreReplies};
 ghost use Rattle.osn_live.specs.Faults.{IsOfGate};
 ghost use Rattle.osn_live.specs.InsideWork.{IsPlain, IsWork};
+ghost use Rattle.osn_live.specs.InsideTurns.{HasTold};
 
 use crate::faults::{AskFault, DeskFault};
 use crate::gate::Gate;
 use crate::reader::Reader;
+use crate::turns::Turns;
 use osn_core::Reply;
 use osn_register::Query;
 use std::alloc::Global;
@@ -62,31 +64,30 @@ fn answer_one(reader: &mut Reader, question: &Query) -> Result<Reply, DeskFault>
     }
 }
 
+/// Asks all questions in order, each between the two calls of its turn.
 fn answer_all<G: Gate>(
     alloc: Global,
-    gate: &G,
-    who: u32,
+    turns: &mut Turns<'_, G>,
     reader: &mut Reader,
     questions: &[Query],
 ) -> Result<Vec<Reply>, DeskFault>
+    requires begun { turns.old.begun ≡ 0 }
+    requires ended { turns.old.ended ≡ 0 }
+    ensures told { OnOk result (HasTold turns.old turns.new (length questions.now)) }
     ensures origin { reader.new.origin ≡ reader.old.origin }
     ensures replies { IfOk result (λ rs.
         AreReplies newest_rules reader.old.origin.limits reader.new.seen 0 questions.now rs.items) }
     ensures fault { IfErr result IsPlain }
-    ensures gate { IfErr result (IsOfGate (G.is_open gate.now)) }
+    ensures gate { IfErr result (IsOfGate (G.is_open turns.old.gate.now)) }
 {
     let mut replies = Vec::new(alloc);
-    let mut index = 0usize;
     for question in questions {
-        if !gate.before(who, index) {
-            return Err(DeskFault::GateClosed);
-        }
+        turns.begin()?;
         let reply = answer_one(reader, question)?;
         let Ok(()) = replies.push(reply) else {
             return Err(DeskFault::NoMemory);
         };
-        gate.after(who, index);
-        index += 1;
+        turns.end();
     }
     Ok(replies)
 }
@@ -102,6 +103,7 @@ pub fn work<G: Gate>(
     ensures { IsWork (G.is_open gate.now) reader questions.now result }
 {
     let mut reader = reader;
-    let replies = answer_all(alloc, gate, who, &mut reader, questions);
+    let mut turns = Turns::new(gate, who);
+    let replies = answer_all(alloc, &mut turns, &mut reader, questions);
     Worked { reader, replies }
 }

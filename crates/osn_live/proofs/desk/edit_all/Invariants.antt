@@ -8,5 +8,8 @@ invariant-loop-command g l = record {
   origin : l.editor.origin ≡ l.fn.editor.origin;
   object : l.editor.object
       ≡ script_after newest_rules l.fn.editor.object (take l.command-index l.commands);
-  index : l.index ≡ l.command-index;
+  gate : l.turns.gate ≡ l.fn.turns.gate;
+  who : l.turns.who ≡ l.fn.turns.who;
+  begun : l.turns.begun ≡ l.command-index;
+  ended : l.turns.ended ≡ l.command-index;
 }

@@ -35,10 +35,13 @@ loop-question-preserved g c =
       origin = search rules;
       replies = rw (more, pushed, one)
           (replies_more newest_rules l now 0 before loop.replies.items q zero-le later);
-      index = search rules;
+      gate = search rules;
+      who = search rules;
+      begun = search rules;
+      ended = search rules;
     }
 
 pub returns-in_err-reply-clause-gate : goal.returns-in_err-reply-clause-gate
 returns-in_err-reply-clause-gate g c =
-    let told = c.in_err-reply.ensures.gate (g.G.Gate.is_open c.args.gate.now) in
+    let told = c.in_err-reply.ensures.gate (g.G.Gate.is_open c.args.turns.now.gate.now) in
     search (rules, told)

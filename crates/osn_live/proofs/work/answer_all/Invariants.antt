@@ -8,5 +8,8 @@ invariant-loop-question g l = record {
   origin : l.reader.origin ≡ l.fn.reader.origin;
   replies : AreReplies newest_rules l.fn.reader.origin.limits l.reader.seen 0
       (take l.question-index l.questions) l.replies.items;
-  index : l.index ≡ l.question-index;
+  gate : l.turns.gate ≡ l.fn.turns.gate;
+  who : l.turns.who ≡ l.fn.turns.who;
+  begun : l.turns.begun ≡ l.question-index;
+  ended : l.turns.ended ≡ l.question-index;
 }

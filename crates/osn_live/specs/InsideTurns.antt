@@ -1,0 +1,10 @@
+-- What a gate was told of a list.
+use Rattle.std.specs.Prelude.{◌≡◌, ℕ}
+use Rattle.osn_live.specs.declared.turns.Turns.{Turns}
+
+-- of so many items, each ahead of it and then behind it, in order, by the same one
+pub record HasTold {G : Type 0} (old new : Turns G) (items : ℕ) : Type 0 where
+  pub gate : new.gate ≡ old.gate
+  pub who : new.who ≡ old.who
+  pub begun : new.begun ≡ items
+  pub ended : new.ended ≡ items

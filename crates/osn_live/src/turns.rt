@@ -1,0 +1,60 @@
+//! The calls of a gate around the items of one list.
+ghost use Rattle.std.specs.Prelude.{◌≡◌, ◌+◌, ◌^◌, ◌<◌, IfErr, OnOk};
+ghost use Rattle.osn_live.specs.Faults.{IsOfGate};
+ghost use Rattle.osn_live.specs.InsideWork.{IsPlain};
+
+use crate::faults::DeskFault;
+use crate::gate::Gate;
+
+/// How far one who works through a list is with telling a gate of it: how many items it was told of
+/// ahead of them, and how many behind them.
+#[derive(Drop)]
+pub struct Turns<'a, G> {
+    pub gate: &'a G,
+    pub who: u32,
+    pub begun: usize,
+    pub ended: usize,
+}
+
+impl<'a, G: Gate> Turns<'a, G> {
+    /// With no item begun.
+    pub fn new(gate: &'a G, who: u32) -> Turns<'a, G>
+        ensures gate { result.gate.now ≡ gate.now }
+        ensures who { result.who ≡ who }
+        ensures begun { result.begun ≡ 0 }
+        ensures ended { result.ended ≡ 0 }
+    {
+        Turns {
+            gate,
+            who,
+            begun: 0,
+            ended: 0,
+        }
+    }
+
+    /// Tells the gate of the next item, ahead of it.
+    pub fn begin(&mut self) -> Result<(), DeskFault>
+        requires between { self.old.begun ≡ self.old.ended }
+        requires few { self.old.begun + 1 < 2 ^ 64 }
+        ensures ok { OnOk result
+            (self.new ≡ record self.old { begun = self.old.begun + 1 }) }
+        ensures fault { IfErr result IsPlain }
+        ensures gate { IfErr result (IsOfGate (G.is_open self.old.gate.now)) }
+    {
+        if !self.gate.before(self.who, self.begun) {
+            return Err(DeskFault::GateClosed);
+        }
+        self.begun += 1;
+        Ok(())
+    }
+
+    /// Tells the gate of the item that was begun, behind it.
+    pub fn end(&mut self)
+        requires { self.old.begun ≡ self.old.ended + 1 }
+        ensures { self.new ≡ record self.old { ended = self.old.ended + 1 } }
+    {
+        let _most = self.begun;
+        self.gate.after(self.who, self.ended);
+        self.ended += 1;
+    }
+}
