@@ -1,6 +1,6 @@
 //! Where bytes go.
-ghost use Rattle.std.specs.Prelude.{◌≡◌, ◌<◌, ◌≤◌, ℕ, List, Option, Bool, true, is_ok, length};
-ghost use Rattle.std.specs.Prelude.{take, IfOk, IfErr, OnOk, OnErr, if◌then◌else◌};
+ghost use Rattle.std.specs.Prelude.{◌≡◌, ◌<◌, ◌≤◌, ℕ, List, Option, Bool, true, false, is_ok};
+ghost use Rattle.std.specs.Prelude.{length, take, IfOk, IfErr, OnOk, OnErr, if◌then◌else◌};
 ghost use Rattle.std.specs.Io.{WritesAtMost};
 ghost use Rattle.std.specs.Io.KnownBytes.{Appends, Keeps, WriteAppends};
 ghost use Rattle.osn_lines.specs.Faults.{WriteFails};
@@ -17,6 +17,9 @@ pub trait Sink {
     // Whether a write has ever failed.
     ghost has_failed: { Self → Bool };
 
+    // Whether some of the bytes that have been written are known to be held back.
+    ghost holds_back: { Self → Bool } = { λ _. false };
+
     /// Writes once: `Ok(n)` where the first n bytes were taken, of some bytes at least one. A write
     /// that takes none of them fails. A write that fails marks the sink as failed for good, and
     /// nothing else does.
@@ -31,6 +34,7 @@ pub trait Sink {
     /// good.
     fn flush(&mut self) -> Result<(), WriteFailed>
         ensures bytes { Keeps (contents self.old) (contents self.new) }
+        ensures passed { OnOk result (holds_back self.new ≡ false) }
         ensures failed { has_failed self.new
             ≡ (if is_ok result then has_failed self.old else true) };
 
@@ -47,6 +51,7 @@ pub trait Sink {
 /// did not do.
 pub fn write_all<W: Sink>(sink: &mut W, bytes: &[u8]) -> Result<(), usize>
     ensures ok { OnOk result (Appends (W.contents sink.old) (W.contents sink.new) bytes.now) }
+    ensures passed { OnOk result (W.holds_back sink.new ≡ false) }
     ensures err { IfErr result (λ n. (n ≤ length bytes.now)
         × Appends (W.contents sink.old) (W.contents sink.new) (take n bytes.now)) }
     ensures sound { OnOk result (W.has_failed sink.new ≡ W.has_failed sink.old) }

@@ -69,7 +69,7 @@ returns-in_err-replies-clause-gate g c =
     record {
       of = λ gate all.
           let at = All-head (λ h. h.promise.2.value ≡ gate) handle _
-              (subst (AreAt gate) step.1 (loop.invariant.gates gate all)) in
+          (subst (AreAt gate) step.1 (loop.invariant.gates gate all)) in
           gate_at (g.G.Gate.is_open gate) _ _ _ _ _
           (subst (λ x. IfErr c.join-worked.result.replies (IsOfGate (g.G.Gate.is_open x))) at
           c.join-worked.ensures.gate) c.in_err-replies.ensures.fault;
