@@ -1,6 +1,6 @@
 //! The service: every request line of a source is answered, in order.
 ghost use Rattle.std.specs.Prelude.{◌≡◌, ◌≤◌, ◌+◌, ⊤, [], ℕ, length, IfOk, IfErr, IfSome, OnOk};
-ghost use Rattle.std.specs.Prelude.{OnErr};
+ghost use Rattle.std.specs.Prelude.{OnErr, false};
 ghost use Rattle.std.specs.Io.KnownBytes.{Appends, IsAtEnd};
 ghost use Rattle.osn_days.specs.Profile.{newest_rules};
 ghost use Rattle.osn_lines.specs.Faults.{IsReadFault, WriteFails};
@@ -29,6 +29,7 @@ fn write_rest<W: Sink>(session: &mut Session<'_, W>, lines: u64) -> Result<(), S
     ensures kept { session.new.object.now ≡ session.old.object.now }
     ensures ok { OnOk result (Writes (W.contents session.old.sink.now)
         (W.contents session.new.sink.now) session.old.waiting.now session.new.waiting.now) }
+    ensures passed { OnOk result (W.holds_back session.new.sink.now ≡ false) }
     ensures sound { OnOk result
         (W.has_failed session.new.sink.now ≡ W.has_failed session.old.sink.now) }
     ensures err { IfErr result (λ fault. MatchFault fault (λ _. ⊥) (λ _. ⊥)
@@ -65,6 +66,11 @@ fn run<R: Source, W: Sink>(session: &mut Session<'_, W>, source: &mut R) -> Resu
     ensures source_sound { OnOk result (R.has_failed source.new ≡ R.has_failed source.old) }
     ensures sink_sound { OnOk result
         (W.has_failed session.new.sink.now ≡ W.has_failed session.old.sink.now) }
+    ensures passed { OnOk result (W.holds_back session.new.sink.now ≡ false) }
+    ensures passed_first { IfErr result (λ fault. MatchFault fault
+        (λ _. W.holds_back session.new.sink.now ≡ false)
+        (λ _. W.holds_back session.new.sink.now ≡ false)
+        (λ _. ⊤)) }
     ensures source_reason { IfErr result (λ fault. MatchFault fault
         (λ _. R.has_failed source.new ≡ R.has_failed source.old)
         (λ _. IsReadFault (R.has_failed source.new) (R.remaining source.old))
@@ -147,6 +153,11 @@ fn answer_lines<R: Source, W: Sink>(
         (lines input)))) }
     ensures read { IfErr result (λ fault. MatchFault fault (λ _. ⊤)
         (HasRead (R.remaining source.old) (R.remaining source.new)) (λ _. ⊤)) }
+    ensures passed { OnOk result (W.holds_back session.new.sink.now ≡ false) }
+    ensures passed_first { IfErr result (λ fault. MatchFault fault
+        (λ _. W.holds_back session.new.sink.now ≡ false)
+        (λ _. W.holds_back session.new.sink.now ≡ false)
+        (λ _. ⊤)) }
     ensures source_reason { IfErr result (λ fault. MatchFault fault
         (λ _. R.has_failed source.new ≡ R.has_failed source.old)
         (λ _. IsReadFault (R.has_failed source.new) (R.remaining source.old))
@@ -209,6 +220,13 @@ pub fn serve_from<R: Source, W: Sink>(
         (StandsAt newest_rules readers object.old object.new (lines input))
         (StandsAt newest_rules readers object.old object.new (lines input))
         (StandsNear newest_rules readers object.old object.new (lines input)))) }
+
+    // What is written is passed on, but after a failed write.
+    ensures passed { OnOk result (W.holds_back sink.new ≡ false) }
+    ensures passed_first { IfErr result (λ fault. MatchFault fault
+        (λ _. W.holds_back sink.new ≡ false)
+        (λ _. W.holds_back sink.new ≡ false)
+        (λ _. ⊤)) }
 
     // Of the line that a failed read cut short nothing is answered.
     ensures read { IfErr result (λ fault. MatchFault fault (λ _. ⊤)
@@ -273,6 +291,13 @@ pub fn serve<R: Source, W: Sink>(
         (WritesInPart newest_rules readers (opened limits) (W.contents sink.old)
         (W.contents sink.new)
         (lines input)))) }
+
+    // What is written is passed on, but after a failed write.
+    ensures passed { OnOk result (W.holds_back sink.new ≡ false) }
+    ensures passed_first { IfErr result (λ fault. MatchFault fault
+        (λ _. W.holds_back sink.new ≡ false)
+        (λ _. W.holds_back sink.new ≡ false)
+        (λ _. ⊤)) }
 
     // Of the line that a failed read cut short nothing is answered.
     ensures read { IfErr result (λ fault. MatchFault fault (λ _. ⊤)

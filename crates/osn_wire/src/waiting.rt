@@ -1,5 +1,5 @@
 //! Replies that wait to be written.
-ghost use Rattle.std.specs.Prelude.{◌≡◌, [], length, nat_le, IfErr, OnOk, OnErr};
+ghost use Rattle.std.specs.Prelude.{◌≡◌, [], false, length, nat_le, IfErr, OnOk, OnErr};
 ghost use Rattle.osn_lines.specs.Faults.{WriteFails};
 ghost use Rattle.osn_reply.specs.ReplyText.{reply_line};
 ghost use Rattle.osn_wire.specs.ServiceInside.{full, Pushes, Writes, WritesSome};
@@ -63,6 +63,7 @@ impl Waiting {
     pub(crate) fn write<W: Sink>(&mut self, sink: &mut W) -> Result<(), Unfinished>
         ensures ok { OnOk result
             (Writes (W.contents sink.old) (W.contents sink.new) self.old self.new) }
+        ensures passed { OnOk result (W.holds_back sink.new ≡ false) }
         ensures sound { OnOk result (W.has_failed sink.new ≡ W.has_failed sink.old) }
         ensures err { IfErr result (λ failed. WritesSome (W.contents sink.old)
             (W.contents sink.new) self.old failed.unwritten) }

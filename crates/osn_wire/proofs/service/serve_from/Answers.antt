@@ -15,3 +15,9 @@ returns-clause-stands g c = search rules
 
 pub returns-clause-sink_reason : goal.returns-clause-sink_reason
 returns-clause-sink_reason g c = search rules
+
+pub returns-clause-passed : goal.returns-clause-passed
+returns-clause-passed g c = search rules
+
+pub returns-clause-passed_first : goal.returns-clause-passed_first
+returns-clause-passed_first g c = search rules
