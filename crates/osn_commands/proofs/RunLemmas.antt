@@ -32,49 +32,52 @@ mapped f (Some x) = refl
 -- how a run of the service ended, behind the journal that was saved or not
 pub served_ends : {E J : Type 0} (contents : E → Option (List ℕ)) (has_failed : E → Bool)
     (old : Option (List ℕ)) (mid new : E) (was is : Status) (served : Option CommandFault)
-    (journal : Option J)
+    (journal : Option J) (saves : Bool)
     → EndsBy old (contents mid) (has_failed mid) served was
     → (served ≡ None) ⊎ (journal ≡ None)
     → ((is ≡ was) × (new ≡ mid))
-    ⊎ ((is_some journal ≡ true) × Finishes (contents mid) (contents new) (has_failed new) is)
+    ⊎ ((is_some journal ≡ true) × (saves ≡ true)
+    × Finishes (contents mid) (contents new) (has_failed new) is)
     → (ending : Option CommandFault) × EndsBy old (contents new) (has_failed new) ending is
-    × IsSavedBy served ending
-served_ends contents has_failed old mid new was is served journal h left (inl same) = (
+    × IsSavedBy saves served ending
+served_ends contents has_failed old mid new was is served journal saves h left (inl same) = (
   served,
   subst (λ s. EndsBy old (contents new) (has_failed new) served s) (sym same.0)
       (subst (λ e. EndsBy old (contents e) (has_failed e) served was) (sym same.1) h),
   inl refl,
 )
-served_ends contents has_failed old mid new was is served journal h (inl none) (inr told) =
+served_ends contents has_failed old mid new was is served journal saves h (inl none) (inr told) =
     let all = subst (λ s. EndsBy old (contents mid) (has_failed mid) s was) none h in
-    let fault = told.1 in (
+    let fault = told.2 in (
       Some fault.0,
       subst (λ c. EndsBy c (contents new) (has_failed new) (Some fault.0) is) all.1 fault.2,
-      inr (none, fault.0, refl, fault.1),
+      inr (told.1, none, fault.0, refl, fault.1),
     )
-served_ends contents has_failed old mid new was is served journal h (inr none) (inr told) =
+served_ends contents has_failed old mid new was is served journal saves h (inr none) (inr told) =
     absurd (kept_none journal none told.0)
   where
     kept_none : {J : Type 0} (journal : Option J) → journal ≡ None → is_some journal ≡ true → ⊥
     kept_none journal none kept = cc
 
 -- the service was run with these files
-pub service_ran : (begins saves kept : Bool) (readers : ℕ) (bytes : Option (List ℕ)) (unread : Bool)
-    (old new : Option (List ℕ)) (unwritten : Bool) (journal : Option (Option (List ℕ)))
+pub service_ran : (begins saves kept failed : Bool) (readers : ℕ) (bytes : Option (List ℕ))
+    (unread : Bool) (old new : Option (List ℕ)) (unwritten : Bool)
+    (journal : Option (Option (List ℕ)))
     (left : Option (List ℕ)) (served ending : Option CommandFault)
     → is_some journal ≡ begins → kept ≡ saves
-    → IfSome bytes (λ input. Serves newest_rules standard_limits readers journal kept
+    → IfSome bytes (λ input. Serves newest_rules standard_limits readers journal failed kept
     old new unwritten input unread left served)
-    → IsSavedBy served ending
+    → IsSavedBy saves served ending
     → RunsService begins saves readers (record { bytes = bytes; unread = unread })
     (record { old = old; new = new; unwritten = unwritten }) ending
-service_ran begins saves kept readers bytes unread old new w journal left served ending is same h
-    saved = (
+service_ran begins saves kept failed readers bytes unread old new w journal left served ending is
+    same h saved = (
       journal,
       is,
+      failed,
       left,
       served,
-      subst (λ s. IfSome bytes (λ input. Serves newest_rules standard_limits readers journal s
+      subst (λ s. IfSome bytes (λ input. Serves newest_rules standard_limits readers journal failed s
           old new w input unread left served)) same h,
       saved,
     )

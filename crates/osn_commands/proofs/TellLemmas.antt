@@ -49,45 +49,45 @@ memory_is_no_refusal e = cc
 
 -- no object may be told as want of memory
 no_object_told : (p : Profile) (limits : Limits) (begun : Option (Option (List ℕ)))
-    (fault : CommandFault)
-    → HasNoObject p limits begun fault → HasNoObject p limits begun NoMemory
-no_object_told p limits None fault h = h
-no_object_told p limits (Some journal) fault h = tt
+    (failed : Bool) (fault : CommandFault)
+    → HasNoObject p limits begun failed fault → HasNoObject p limits begun failed NoMemory
+no_object_told p limits None failed fault h = h
+no_object_told p limits (Some journal) failed fault h = tt
 
 -- the service of a journal that was refused
 pub serves_told : (p : Profile) (limits : Limits) (readers : ℕ) (begun : Option (Option (List ℕ)))
-    (saves : Bool) (old new : Option (List ℕ)) (unwritten : Bool) (input : List ℕ) (unread : Bool)
-    (journal : Option (List ℕ)) (fault told : CommandFault)
+    (failed saves : Bool) (old new : Option (List ℕ)) (unwritten : Bool) (input : List ℕ)
+    (unread : Bool) (journal : Option (List ℕ)) (fault told : CommandFault)
     → IsToldAs fault told
-    → Serves p limits readers begun saves old new unwritten input unread journal (Some fault)
-    → Serves p limits readers begun saves old new unwritten input unread journal (Some told)
-serves_told p l n b saves old new w input r j fault told (inl e) h =
-    subst (λ f. Serves p l n b saves old new w input r j (Some f)) (sym e) h
-serves_told p l n b saves old new w input r j fault told (inr k) (none, inl h) =
-    subst (λ f. Serves p l n b saves old new w input r j (Some f)) (sym k.1)
-    (none, inl (no_object_told p l b fault h.0, h.1))
-serves_told p l n b saves old new w input r j (BadLine role line why) told (inr k) (none, inr h) =
+    → Serves p limits readers begun failed saves old new unwritten input unread journal (Some fault)
+    → Serves p limits readers begun failed saves old new unwritten input unread journal (Some told)
+serves_told p l n b u v old new w input r j fault told (inl e) h =
+    subst (λ f. Serves p l n b u v old new w input r j (Some f)) (sym e) h
+serves_told p l n b u v old new w input r j fault told (inr k) (none, inl h) =
+    subst (λ f. Serves p l n b u v old new w input r j (Some f)) (sym k.1)
+    (none, inl (no_object_told p l b u fault h.0, h.1))
+serves_told p l n b u v old new w input r j (BadLine role line why) told (inr k) (none, inr h) =
     absurd h.2
-serves_told p l n b saves old new w input r j (Refused refusal) told (inr k) (none, inr h) =
+serves_told p l n b u v old new w input r j (Refused refusal) told (inr k) (none, inr h) =
     absurd h.2
-serves_told p l n b saves old new w input r j (Desk desk) told (inr k) (none, inr h) =
+serves_told p l n b u v old new w input r j (Desk desk) told (inr k) (none, inr h) =
     absurd h.2
-serves_told p l n b saves old new w input r j ReadFault told (inr k) (none, inr h) =
+serves_told p l n b u v old new w input r j ReadFault told (inr k) (none, inr h) =
     absurd (read_is_no_refusal k.0)
-serves_told p l n b saves old new w input r j WriteFault told (inr k) (none, inr h) =
+serves_told p l n b u v old new w input r j WriteFault told (inr k) (none, inr h) =
     absurd (write_is_no_refusal k.0)
-serves_told p l n b saves old new w input r j NoMemory told (inr k) (none, inr h) =
+serves_told p l n b u v old new w input r j NoMemory told (inr k) (none, inr h) =
     absurd (memory_is_no_refusal k.0)
 
 -- the same for an input that may be known
 pub serves_known : (p : Profile) (limits : Limits) (readers : ℕ) (begun : Option (Option (List ℕ)))
-    (saves : Bool) (old new : Option (List ℕ)) (unwritten : Bool) (input : Option (List ℕ))
+    (failed saves : Bool) (old new : Option (List ℕ)) (unwritten : Bool) (input : Option (List ℕ))
     (unread : Bool) (journal : Option (List ℕ)) (fault told : CommandFault)
     → IsToldAs fault told
     → IfSome input (λ bytes.
-    Serves p limits readers begun saves old new unwritten bytes unread journal (Some fault))
+    Serves p limits readers begun failed saves old new unwritten bytes unread journal (Some fault))
     → IfSome input (λ bytes.
-    Serves p limits readers begun saves old new unwritten bytes unread journal (Some told))
-serves_known p limits readers begun saves old new w None r journal fault told k h = tt
-serves_known p limits readers begun saves old new w (Some bytes) r journal fault told k h =
-    serves_told p limits readers begun saves old new w bytes r journal fault told k h
+    Serves p limits readers begun failed saves old new unwritten bytes unread journal (Some told))
+serves_known p limits readers begun failed saves old new w None r journal fault told k h = tt
+serves_known p limits readers begun failed saves old new w (Some bytes) r journal fault told k h =
+    serves_told p limits readers begun failed saves old new w bytes r journal fault told k h

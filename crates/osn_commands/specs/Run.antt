@@ -1,7 +1,7 @@
 -- What a run of the program does. No clause can say what a file holds, so a command is run for some
 -- contents of the files that its words name.
 use Rattle.std.specs.Prelude.{◌≡◌, ◌≢◌, ◌⊎◌, ⊤, ℕ, pos, Bool, List, [], Option, Some, None, IfSome}
-use Rattle.std.specs.Prelude.{is_some}
+use Rattle.std.specs.Prelude.{is_some, true}
 use Rattle.clap.specs.Words.{fault_of, IsAmong}
 use Rattle.clap.specs.declared.error.kind.ErrorKind.{ErrorKind}
 use Rattle.clap.specs.declared.error.kind.ErrorKind.TheVariants.{OutOfMemory, DisplayHelp}
@@ -33,11 +33,13 @@ IsSaveFault ReadFault = ⊥
 IsSaveFault WriteFault = ⊤
 IsSaveFault NoMemory = ⊤
 
--- a run whose service ended so ended in the same way, or with a journal that could not be saved
-abbrev pub IsSavedBy : Option CommandFault → Option CommandFault → Type 0
-IsSavedBy served ending =
+-- a run whose service ended so ended in the same way, or with a journal that was to be saved and
+-- could not be
+abbrev pub IsSavedBy : Bool → Option CommandFault → Option CommandFault → Type 0
+IsSavedBy saves served ending =
     (ending ≡ served)
-    ⊎ ((served ≡ None) × (fault : CommandFault) × (ending ≡ Some fault) × IsSaveFault fault)
+    ⊎ ((saves ≡ true) × (served ≡ None) × (fault : CommandFault) × (ending ≡ Some fault)
+    × IsSaveFault fault)
 
 -- a journal could not be saved, and standard error was told it
 abbrev pub Finishes : Option (List ℕ) → Option (List ℕ) → Bool → Status → Type 0
@@ -59,10 +61,10 @@ pub record Output : Type 0 where
 abbrev pub RunsService : Bool → Bool → ℕ → Input → Output → Option CommandFault → Type 0
 RunsService begins saves readers i o ending =
     (journal : Option (Option (List ℕ))) × (is_some journal ≡ begins)
-    × (left : Option (List ℕ)) × (served : Option CommandFault)
-    × IfSome i.bytes (λ bytes. Serves newest_rules standard_limits readers journal saves
+    × (failed : Bool) × (left : Option (List ℕ)) × (served : Option CommandFault)
+    × IfSome i.bytes (λ bytes. Serves newest_rules standard_limits readers journal failed saves
     o.old o.new o.unwritten bytes i.unread left served)
-    × IsSavedBy served ending
+    × IsSavedBy saves served ending
 
 -- the command that is asked for was run
 abbrev pub Runs : Asked → Input → Output → Option CommandFault → Type 0

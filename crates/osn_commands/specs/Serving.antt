@@ -44,13 +44,14 @@ AnswersUntil p readers s old new unwritten input unread NoMemory =
     (n : ℕ) × WritesFirst p readers s old new (lines input) n
 
 -- what the service did that ended by this fault, if any: where there was no object to begin with,
--- it wrote nothing
-abbrev pub Serves : Profile → Limits → ℕ → Option (Option (List ℕ)) → Bool → Option (List ℕ)
-    → Option (List ℕ) → Bool → List ℕ → Bool → Option (List ℕ) → Option CommandFault → Type 0
-Serves p limits readers begun saves old new unwritten input unread journal None =
+-- it wrote nothing. A read of the journal failed or not
+abbrev pub Serves : Profile → Limits → ℕ → Option (Option (List ℕ)) → Bool → Bool
+    → Option (List ℕ) → Option (List ℕ) → Bool → List ℕ → Bool → Option (List ℕ)
+    → Option CommandFault → Type 0
+Serves p limits readers begun failed saves old new unwritten input unread journal None =
     (s : ObjectState) × Begins p limits begun s × AnswersAll p readers s saves old new input journal
-Serves p limits readers begun saves old new unwritten input unread journal (Some fault) =
+Serves p limits readers begun failed saves old new unwritten input unread journal (Some fault) =
     (journal ≡ None)
-    × ((HasNoObject p limits begun fault × (new ≡ old))
+    × ((HasNoObject p limits begun failed fault × (new ≡ old))
     ⊎ ((s : ObjectState) × Begins p limits begun s
     × AnswersUntil p readers s old new unwritten input unread fault))

@@ -143,9 +143,9 @@ fn serve<F: Files + AllocGlobal, R: Source, W: Sink, E: Sink>(
         save,
         readers,
     } = words;
-    let source = opened_if(rt, journal)?;
+    let mut source = opened_if(rt, journal)?;
     let saves = save.is_some();
-    let served = serve_command(rt.alloc(), source, readers, saves, input, output, errors);
+    let served = serve_command(rt.alloc(), &mut source, readers, saves, input, output, errors);
     Ok(finish(rt, served, save, errors))
 }
 
@@ -181,7 +181,7 @@ fn finish<F: Files + AllocGlobal, E: Sink>(
     errors: &mut E,
 ) -> Status
     ensures { ((result ≡ served.status) × (errors.new ≡ errors.old))
-        ⊎ ((is_some served.journal ≡ true)
+        ⊎ ((is_some served.journal ≡ true) × (is_some save.entry ≡ true)
         × Finishes (E.contents errors.old) (E.contents errors.new) (E.has_failed errors.new)
         result) }
 {

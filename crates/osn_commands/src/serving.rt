@@ -1,6 +1,7 @@
 //! The command `serve`.
 ghost use Rattle.std.specs.Prelude.{◌≡◌, ◌⊎◌, ℕ, List, Option, Some, None, IfOk, IfErr, IfSome};
-ghost use Rattle.std.specs.Prelude.{MatchResult, option_map, string_bytes};
+ghost use Rattle.std.specs.Prelude.{MatchResult, false, option_map, string_bytes};
+ghost use Rattle.std.specs.Option.{option_map_or};
 ghost use Rattle.osn_days.specs.Profile.{newest_rules};
 ghost use Rattle.osn_register.specs.Limits.{standard_limits};
 ghost use Rattle.osn_commands.specs.Journal.{Begins, HasNoObject};
@@ -27,14 +28,15 @@ pub struct Served {
 }
 
 /// The object of the journal, where there is one, or else an empty one.
-fn begun<J: Source + Drop>(alloc: Global, journal: Option<J>) -> Result<Object, CommandFault>
+fn begun<J: Source>(alloc: Global, journal: &mut Option<J>) -> Result<Object, CommandFault>
     ensures ok { IfOk result
-        (Begins newest_rules standard_limits (option_map J.remaining journal)) }
+        (Begins newest_rules standard_limits (option_map J.remaining journal.old)) }
     ensures err { IfErr result
-        (HasNoObject newest_rules standard_limits (option_map J.remaining journal)) }
+        (HasNoObject newest_rules standard_limits (option_map J.remaining journal.old)
+        (option_map_or J.has_failed journal.new false)) }
 {
     match journal {
-        Some(mut source) => journal_object(alloc, &mut source),
+        Some(source) => journal_object(alloc, source),
         None => Ok(Object::new(alloc, Limits::standard())),
     }
 }
@@ -63,20 +65,22 @@ fn answer<R: Source, W: Sink>(
     Ok(Some(journal_text(alloc, object)?))
 }
 
-fn serve_lines<J: Source + Drop, R: Source, W: Sink>(
+fn serve_lines<J: Source, R: Source, W: Sink>(
     alloc: Global,
-    journal: Option<J>,
+    journal: &mut Option<J>,
     readers: u32,
     saves: bool,
     input: &mut R,
     output: &mut W,
 ) -> Result<Option<String>, CommandFault>
     ensures ok { IfOk result (λ text. IfSome (R.remaining input.old) (λ bytes.
-        Serves newest_rules standard_limits readers (option_map J.remaining journal) saves
+        Serves newest_rules standard_limits readers (option_map J.remaining journal.old)
+        (option_map_or J.has_failed journal.new false) saves
         (W.contents output.old) (W.contents output.new) (W.has_failed output.new) bytes
         (R.has_failed input.new) (option_map string_bytes text) None)) }
     ensures err { IfErr result (λ fault. IfSome (R.remaining input.old) (λ bytes.
-        Serves newest_rules standard_limits readers (option_map J.remaining journal) saves
+        Serves newest_rules standard_limits readers (option_map J.remaining journal.old)
+        (option_map_or J.has_failed journal.new false) saves
         (W.contents output.old) (W.contents output.new) (W.has_failed output.new) bytes
         (R.has_failed input.new) None (Some fault))) }
 {
@@ -90,9 +94,9 @@ fn serve_lines<J: Source + Drop, R: Source, W: Sink>(
 /// answered too.
 ///
 /// Where the service ends early, standard error is told in a line why, and the status says it.
-pub fn serve_command<J: Source + Drop, R: Source, W: Sink, E: Sink>(
+pub fn serve_command<J: Source, R: Source, W: Sink, E: Sink>(
     alloc: Global,
-    journal: Option<J>,
+    journal: &mut Option<J>,
     readers: u32,
     saves: bool,
     input: &mut R,
@@ -104,7 +108,8 @@ pub fn serve_command<J: Source + Drop, R: Source, W: Sink, E: Sink>(
         ending result.status
         × ((ending ≡ None) ⊎ (result.journal ≡ None))
         × IfSome (R.remaining input.old) (λ bytes.
-        Serves newest_rules standard_limits readers (option_map J.remaining journal) saves
+        Serves newest_rules standard_limits readers (option_map J.remaining journal.old)
+        (option_map_or J.has_failed journal.new false) saves
         (W.contents output.old) (W.contents output.new) (W.has_failed output.new) bytes
         (R.has_failed input.new) (option_map string_bytes result.journal) ending) }
 {

@@ -86,10 +86,10 @@ const SERVED: [Row; 6] = [
 fn served(alloc: Global, journal: Option<&str>, requests: &str) -> (Left, Option<String>) {
     let (mut output, mut errors) = (sink(alloc), sink(alloc));
     let mut input = Plain::new(requests.as_bytes());
-    let source = journal.map(|text| Plain::new(text.as_bytes()));
+    let mut source = journal.map(|text| Plain::new(text.as_bytes()));
     let Served { status, journal } = serve_command(
         alloc,
-        source,
+        &mut source,
         8,
         true,
         &mut input,
@@ -159,11 +159,11 @@ impl Write for Failing {
 fn streams_that_fail(rt: HostRuntime) -> Result<(), Fail> {
     let alloc = rt.alloc();
     let mut errors = sink(alloc);
-    let failing = Some(Plain::new(Failing));
+    let mut failing = Some(Plain::new(Failing));
     let mut input = Plain::new(LANDS.as_bytes());
     let left = serve_command(
         alloc,
-        failing,
+        &mut failing,
         8,
         true,
         &mut input,
@@ -178,9 +178,9 @@ fn streams_that_fail(rt: HostRuntime) -> Result<(), Fail> {
         "oldstyle: read fault\n",
     );
     let mut errors = sink(alloc);
-    let none: Option<Plain<Failing>> = None;
+    let mut none: Option<Plain<Failing>> = None;
     let mut output = Plain::new(Failing);
-    let left = serve_command(alloc, none, 8, true, &mut input, &mut output, &mut errors);
+    let left = serve_command(alloc, &mut none, 8, true, &mut input, &mut output, &mut errors);
     same(&rt, left.status, Status::WriteFault);
     same(
         &rt,
