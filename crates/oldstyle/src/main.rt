@@ -1,7 +1,7 @@
 //! The calendar change register, as a program over files and the standard streams.
 #![tactic(auto)]
 
-use osn_commands::{run, tell_no_words};
+use osn_commands::{Disk, run, tell_no_words};
 use osn_wire::Plain;
 use std::io::IsTerminal;
 use std::process::ExitCode;
@@ -18,8 +18,17 @@ fn main(rt: HostRuntime) -> ExitCode {
     let mut output = Plain::new(io::writer(&rt));
     let mut errors = Plain::new(rt.stderr());
     let terminal = rt.stderr().is_terminal().then(|| Plain::new(rt.stderr()));
+    let mut disk = Disk::new(&rt);
     let status = match given_words(&rt) {
-        Ok(words) => run(&rt, &words, &mut input, &mut output, &mut errors, terminal),
+        Ok(words) => run(
+            &rt,
+            &mut disk,
+            &words,
+            &mut input,
+            &mut output,
+            &mut errors,
+            terminal,
+        ),
         Err(why) => tell_no_words(&why, &mut errors),
     };
     ExitCode::from(status.code())

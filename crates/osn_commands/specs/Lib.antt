@@ -3,6 +3,7 @@ pub mod Fault
 pub mod Told
 pub mod Printing
 pub mod Files
+pub mod Folder
 pub mod Refused
 pub mod Journal
 pub mod Serving

@@ -6,6 +6,7 @@ ghost use Rattle.osn_commands.specs.Fault.{by_file, by_desk};
 ghost use Rattle.osn_commands.specs.Told.{WritesLine, EndsBy, Tells};
 ghost use Rattle.osn_commands.specs.declared.fault.CommandFault.{CommandFault};
 
+use crate::folder::OpenFailed;
 use crate::status::Status;
 use osn_files::{FileFault, LineFault, Role};
 use osn_live::DeskFault;
@@ -103,6 +104,14 @@ impl From<DeskFault> for CommandFault {
             | DeskFault::NoPlace
             | DeskFault::GateClosed => CommandFault::Desk(fault),
         }
+    }
+}
+
+impl From<OpenFailed> for CommandFault {
+    ghost from_gives = { λ _ given. given ≡ CommandFault.ReadFault };
+
+    fn from(_error: OpenFailed) -> CommandFault {
+        CommandFault::ReadFault
     }
 }
 

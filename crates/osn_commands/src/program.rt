@@ -1,8 +1,11 @@
 //! The program: the words are read, files are opened, and the command is called.
-ghost use Rattle.std.specs.Prelude.{◌≡◌, ◌⊎◌, Option, true, is_some, map, IfErr, IfOk};
+ghost use Rattle.std.specs.Prelude.{◌≡◌, ◌⊎◌, ◌&&◌, Option, false, is_some, map, option_map};
+ghost use Rattle.std.specs.Prelude.{IfErr, IfOk, IfSome, string_bytes};
 ghost use Rattle.std.specs.IoError.{error_kind};
 ghost use Rattle.clap.specs.Words.{kind_of};
+ghost use Rattle.osn_commands.specs.Folder.{Changes, CannotOpen, MayFail, Saves, Leaves};
 ghost use Rattle.osn_commands.specs.Run.{Ran, RunsService, RunsWords, ShowsOrEnds, Finishes};
+ghost use Rattle.osn_commands.specs.Run.{files_of, path_if};
 ghost use Rattle.osn_commands.specs.Told.{EndsBy, TellsNoWords};
 ghost use Rattle.osn_commands.specs.Words.{asks};
 ghost use Rattle.osn_commands.specs.declared.fault.CommandFault.{CommandFault};
@@ -11,6 +14,8 @@ use crate::almanac::almanac_command;
 use crate::audited::audit_command;
 use crate::desk::desk_command;
 use crate::fault::{CommandFault, tell, tell_no_memory, write_line};
+use crate::folder::Folder;
+use crate::opening::{opened, opened_both, opened_if};
 use crate::printing::print;
 use crate::progress::Watched;
 use crate::replay::replay_command;
@@ -20,21 +25,21 @@ use crate::status::Status;
 use crate::words::{ServeWords, Words, read_words};
 use clap::Error;
 use clap::error::ErrorKind;
-use osn_wire::{Plain, Sink, Source};
+use osn_wire::{Sink, Source};
 use std::alloc::Global;
 use std::convert::AsStr;
-use std::rt::Files;
+use std::io;
 use std::sync::Wait;
 use std::thread::Threads;
-use std::{fs, io};
 
 /// Does what the words of the command line ask for, of which the first is the program's name, and
 /// answers how that ended. Files that are read are opened before the command begins, in the order
 /// of the words. The journal is saved where the service ended well, and nowhere else.
 ///
 /// A terminal, where there is one, is told how far a long audit is.
-pub fn run<F, S: AsStr, R: Source, W: Sink, E: Sink, T: Sink + Drop>(
+pub fn run<F, D: Folder, S: AsStr, R: Source, W: Sink, E: Sink, T: Sink + Drop>(
     rt: &F,
+    folder: &mut D,
     words: &[S],
     input: &mut R,
     output: &mut W,
@@ -42,8 +47,9 @@ pub fn run<F, S: AsStr, R: Source, W: Sink, E: Sink, T: Sink + Drop>(
     terminal: Option<T>,
 ) -> Status
 where
-    F: Files + Threads + Wait + AllocGlobal,
-    ensures { RunsWords (map S.text words.now)
+    F: Threads + Wait + AllocGlobal,
+    ensures { RunsWords (map S.text words.now) (MayFail D.File.has_failed)
+        (record { before = D.known folder.old; after = D.known folder.new })
         (record { bytes = R.remaining input.old; unread = R.has_failed input.new })
         (record {
           old = W.contents output.old;
@@ -54,7 +60,7 @@ where
 {
     let alloc = rt.alloc();
     match read_words(alloc, words) {
-        Ok(words) => match carry_out(rt, words, input, output, errors, terminal) {
+        Ok(words) => match carry_out(rt, folder, words, input, output, errors, terminal) {
             Ok(status) => status,
             Err(fault) => tell(alloc, errors, fault),
         },
@@ -64,8 +70,9 @@ where
 
 /// Opens the files that are read, and calls the command. A file that could not be opened has not
 /// been told, and nothing was done then.
-fn carry_out<F, R: Source, W: Sink, E: Sink, T: Sink + Drop>(
+fn carry_out<F, D: Folder, R: Source, W: Sink, E: Sink, T: Sink + Drop>(
     rt: &F,
+    folder: &mut D,
     words: Words,
     input: &mut R,
     output: &mut W,
@@ -73,8 +80,9 @@ fn carry_out<F, R: Source, W: Sink, E: Sink, T: Sink + Drop>(
     terminal: Option<T>,
 ) -> Result<Status, CommandFault>
 where
-    F: Files + Threads + Wait + AllocGlobal,
-    ensures ok { IfOk result (Ran (asks words.entry)
+    F: Threads + Wait + AllocGlobal,
+    ensures ok { IfOk result (Ran (asks words.entry) (MayFail D.File.has_failed)
+        (record { before = D.known folder.old; after = D.known folder.new })
         (record { bytes = R.remaining input.old; unread = R.has_failed input.new })
         (record {
           old = W.contents output.old;
@@ -83,18 +91,18 @@ where
         })
         (E.contents errors.old) (E.contents errors.new) (E.has_failed errors.new)) }
     ensures err { IfErr result (λ fault. (fault ≡ CommandFault.ReadFault)
+        × CannotOpen (files_of (asks words.entry)) (D.known folder.old) (D.known folder.new)
         × (output.new ≡ output.old) × (errors.new ≡ errors.old)) }
 {
     let alloc = rt.alloc();
     match words {
-        Words::Serve(words) => serve(rt, words, input, output, errors),
+        Words::Serve(words) => serve(alloc, folder, words, input, output, errors),
         Words::Replay { readers, schedule } => {
-            let mut schedule = opened(rt, schedule)?;
+            let mut schedule = opened(folder, schedule)?;
             Ok(replay_command(alloc, readers, &mut schedule, output, errors))
         }
         Words::Desk { script, questions } => {
-            let mut script = opened(rt, script)?;
-            let mut questions = opened(rt, questions)?;
+            let (mut script, mut questions) = opened_both(folder, script, questions)?;
             Ok(desk_command(rt, &mut script, &mut questions, output, errors))
         }
         Words::Almanac {
@@ -102,23 +110,24 @@ where
             code,
             year,
         } => {
-            let mut journal = opened(rt, journal)?;
+            let mut journal = opened(folder, journal)?;
             Ok(almanac_command(alloc, &mut journal, code, year, output, errors))
         }
         Words::Audit {
             journal,
             transcript,
         } => {
-            let mut journal = opened(rt, journal)?;
-            let mut transcript = Watched::new(alloc, opened(rt, transcript)?, terminal);
+            let (mut journal, told) = opened_both(folder, journal, transcript)?;
+            let mut transcript = Watched::new(alloc, told, terminal);
             Ok(audit_command(alloc, &mut journal, &mut transcript, output, errors))
         }
     }
 }
 
 /// Opens the journal, if any, answers the request lines, and saves the journal that is left.
-fn serve<F: Files + AllocGlobal, R: Source, W: Sink, E: Sink>(
-    rt: &F,
+fn serve<D: Folder, R: Source, W: Sink, E: Sink>(
+    alloc: Global,
+    folder: &mut D,
     words: ServeWords,
     input: &mut R,
     output: &mut W,
@@ -127,7 +136,10 @@ fn serve<F: Files + AllocGlobal, R: Source, W: Sink, E: Sink>(
     ensures ok { IfOk result (λ status. (ending : Option CommandFault)
         × EndsBy (E.contents errors.old) (E.contents errors.new) (E.has_failed errors.new)
         ending status
-        × RunsService (is_some words.entry.journal) (is_some words.entry.save) words.entry.readers
+        × RunsService (option_map (λ path. path.now) words.entry.journal)
+        (option_map (λ path. path.now) words.entry.save) words.entry.readers
+        (MayFail D.File.has_failed)
+        (record { before = D.known folder.old; after = D.known folder.new })
         (record { bytes = R.remaining input.old; unread = R.has_failed input.new })
         (record {
           old = W.contents output.old;
@@ -136,6 +148,8 @@ fn serve<F: Files + AllocGlobal, R: Source, W: Sink, E: Sink>(
         })
         ending) }
     ensures err { IfErr result (λ fault. (fault ≡ CommandFault.ReadFault)
+        × CannotOpen (path_if (option_map (λ path. path.now) words.entry.journal))
+        (D.known folder.old) (D.known folder.new)
         × (output.new ≡ output.old) × (errors.new ≡ errors.old)) }
 {
     let ServeWords {
@@ -143,54 +157,35 @@ fn serve<F: Files + AllocGlobal, R: Source, W: Sink, E: Sink>(
         save,
         readers,
     } = words;
-    let mut source = opened_if(rt, journal)?;
+    let mut source = opened_if(folder, journal)?;
     let saves = save.is_some();
-    let served = serve_command(rt.alloc(), &mut source, readers, saves, input, output, errors);
-    Ok(finish(rt, served, save, errors))
-}
-
-/// The file of a path as a source.
-fn opened<F: Files>(files: &F, path: &str) -> Result<Plain<F::File>, CommandFault>
-    ensures { IfErr result (λ fault. fault ≡ CommandFault.ReadFault) }
-{
-    match fs::open(files, path) {
-        Ok(file) => Ok(Plain::new(file)),
-        Err(_) => Err(CommandFault::ReadFault),
-    }
-}
-
-/// The file of a path as a source, where there is a path.
-fn opened_if<F: Files>(
-    files: &F,
-    path: Option<&str>,
-) -> Result<Option<Plain<F::File>>, CommandFault>
-    ensures ok { IfOk result (λ file. is_some file ≡ is_some path.entry) }
-    ensures err { IfErr result (λ fault. fault ≡ CommandFault.ReadFault) }
-{
-    match path {
-        Some(path) => Ok(Some(opened(files, path)?)),
-        None => Ok(None),
-    }
+    let served = serve_command(alloc, &mut source, readers, saves, input, output, errors);
+    Ok(finish(alloc, folder, served, save, errors))
 }
 
 /// Saves the journal that the service left, if any, or tells standard error why it could not.
-fn finish<F: Files + AllocGlobal, E: Sink>(
-    rt: &F,
+fn finish<D: Folder, E: Sink>(
+    alloc: Global,
+    folder: &mut D,
     served: Served,
     save: Option<&str>,
     errors: &mut E,
 ) -> Status
-    ensures { ((result ≡ served.status) × (errors.new ≡ errors.old))
-        ⊎ ((is_some served.journal ≡ true) × (is_some save.entry ≡ true)
+    ensures unsaved { is_some save.entry && is_some served.journal ≡ false
+        → (result ≡ served.status) × (errors.new ≡ errors.old) × (folder.new ≡ folder.old) }
+    ensures saved { IfSome save.entry (λ path. IfSome served.journal (λ text.
+        ((result ≡ served.status) × (errors.new ≡ errors.old)
+        × Changes (Saves path.now (string_bytes text)) (D.known folder.old) (D.known folder.new))
+        ⊎ (Changes (Leaves path.now) (D.known folder.old) (D.known folder.new)
         × Finishes (E.contents errors.old) (E.contents errors.new) (E.has_failed errors.new)
-        result) }
+        result))) }
 {
     let (Some(path), Some(journal)) = (save, served.journal) else {
         return served.status;
     };
-    match save_journal(rt, path, journal.as_str()) {
+    match save_journal(folder, alloc, path, journal.as_str()) {
         Ok(()) => served.status,
-        Err(fault) => tell(rt.alloc(), errors, fault),
+        Err(fault) => tell(alloc, errors, fault),
     }
 }
 

@@ -1,14 +1,13 @@
 //! Saves a journal, whole or not at all.
-ghost use Rattle.std.specs.Prelude.{IfErr};
+ghost use Rattle.std.specs.Prelude.{◌≡◌, ◌≢◌, ℕ, List, Option, true, false, IfErr, IfOk, IfSome};
+ghost use Rattle.std.specs.Prelude.{OnOk, OnErr, string_bytes};
+ghost use Rattle.osn_commands.specs.Folder.{Changes, Becomes, Moves, beside, SavesAt, LeavesAt};
+ghost use Rattle.osn_commands.specs.Folder.{Saves, Leaves};
 ghost use Rattle.osn_commands.specs.Run.{IsSaveFault};
 
 use crate::fault::CommandFault;
-use std::alloc::AllocError;
-use std::fs::OpenFile;
-use std::io::Write;
-use std::path::PathBuf;
-use std::rt::Files;
-use std::{fs, io};
+use crate::folder::{ChangeFailed, Folder};
+use std::alloc::{AllocError, Global};
 
 /// Puts a text in place of a file, which a reader finds as it was or as it is then, and never in
 /// part. The text is written to a file beside it first, of the same name and `.unfinished`, with
@@ -17,37 +16,89 @@ use std::{fs, io};
 ///
 /// # Errors
 ///
-/// `NoMemory` where memory ran out, `WriteFault` where a step failed; the file is as it was then.
-pub(crate) fn save_journal<R: Files + AllocGlobal>(
-    rt: &R,
+/// `NoMemory` where memory ran out, `WriteFault` where a step failed; the file is as it was then,
+/// and nothing is left beside it.
+pub(crate) fn save_journal<D: Folder>(
+    folder: &mut D,
+    alloc: Global,
     path: &str,
     text: &str,
 ) -> Result<(), CommandFault>
-    ensures { IfErr result IsSaveFault }
+    ensures ok { OnOk result
+        (Changes (Saves path.now text.now) (D.known folder.old) (D.known folder.new)) }
+    ensures err { OnErr result
+        (Changes (Leaves path.now) (D.known folder.old) (D.known folder.new)) }
+    ensures fault { IfErr result IsSaveFault }
 {
-    let place = match fs::canonicalize(rt, path) {
-        Ok(place) => place,
-        Err(_) => PathBuf::from_str(rt.alloc(), path)?,
+    let place = folder.place(alloc, path)?;
+    save_at(folder, alloc, place.as_str(), text)
+}
+
+/// The path of what is not finished yet.
+fn beside_of(alloc: Global, place: &str) -> Result<String, AllocError>
+    ensures { IfOk result (λ path. string_bytes path ≡ beside place.now) }
+{
+    format!(in alloc; "{place}.unfinished")
+}
+
+/// Puts a text in place of what stands at a path that is no link.
+fn save_at<D: Folder>(
+    folder: &mut D,
+    alloc: Global,
+    place: &str,
+    text: &str,
+) -> Result<(), CommandFault>
+    ensures ok { OnOk result
+        (Changes (SavesAt place.now text.now) (D.known folder.old) (D.known folder.new)) }
+    ensures err { OnErr result
+        (Changes (LeavesAt place.now) (D.known folder.old) (D.known folder.new)) }
+    ensures fault { IfErr result IsSaveFault }
+{
+    let saved = if folder.is_stream(place) {
+        folder.write_stream(place, text)
+    } else {
+        let beside = beside_of(alloc, place)?;
+        replace(folder, place, beside.as_str(), text)
     };
-    let place = place.as_str();
-    if fs::metadata(rt, place).is_ok_and(|found| !found.is_file()) {
-        return fs::write(rt, place, text).map_err(|_| CommandFault::WriteFault);
+    match saved {
+        Ok(()) => Ok(()),
+        Err(_) => Err(CommandFault::WriteFault),
     }
-    let beside = format!(in rt.alloc(); "{place}.unfinished")?;
-    if replace(rt, place, beside.as_str(), text).is_err() {
-        let _ = fs::remove_file(rt, beside.as_str());
-        return Err(CommandFault::WriteFault);
+}
+
+/// Puts a text in place of a file, by one beside it.
+fn replace<D: Folder>(
+    folder: &mut D,
+    place: &str,
+    path: &str,
+    text: &str,
+) -> Result<(), ChangeFailed>
+    requires { path.now ≡ beside place.now }
+    ensures ok { OnOk result
+        (Changes (SavesAt place.now text.now) (D.known folder.old) (D.known folder.new)) }
+    ensures err { OnErr result
+        (Changes (LeavesAt place.now) (D.known folder.old) (D.known folder.new)) }
+{
+    let moved = write_and_move(folder, place, path, text);
+    if moved.is_err() {
+        folder.remove(path);
     }
-    Ok(())
+    moved
 }
 
 /// Writes the text beside a file, and moves it there.
-fn replace(files: &impl Files, place: &str, beside: &str, text: &str) -> io::Result<()> {
-    let mut file = fs::create(files, beside)?;
-    if let Ok(old) = fs::metadata(files, place) {
-        file.set_permissions(old.permissions())?;
-    }
-    file.write_all(text.as_bytes())?;
-    file.sync_all()?;
-    fs::rename(files, beside, place)
+fn write_and_move<D: Folder>(
+    folder: &mut D,
+    place: &str,
+    path: &str,
+    text: &str,
+) -> Result<(), ChangeFailed>
+    requires { path.now ≡ beside place.now }
+    ensures ok { OnOk result
+        (Changes (SavesAt place.now text.now) (D.known folder.old) (D.known folder.new)) }
+    ensures err { OnErr result ((left : Option (List ℕ))
+        × Changes (Becomes path.now left) (D.known folder.old) (D.known folder.new)) }
+{
+    folder.write(path, place, text)?;
+    folder.rename(path, place)
 }

