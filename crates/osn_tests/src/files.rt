@@ -15,7 +15,7 @@ use std::{env, fs, process};
 type File = (&'static str, &'static str);
 
 /// Makes a folder for a test, with these files, and goes there.
-fn entered(rt: &HostRuntime, test: &str, files: &[File]) -> Result<PathBuf, Fail> {
+pub fn entered(rt: &HostRuntime, test: &str, files: &[File]) -> Result<PathBuf, Fail> {
     let alloc = rt.alloc();
     let id = process::id(rt.process());
     let name = format!(in alloc; "oldstyle_{test}_{id}")?;
@@ -203,7 +203,11 @@ const SAVED: &str = r#"{"journal":2}
 "#;
 
 /// That a file has this text, and that none is left beside it.
-fn has_text<R: Files + AllocGlobal + Abort>(rt: &R, path: &str, text: &str) -> Result<(), Fail> {
+pub fn has_text<R: Files + AllocGlobal + Abort>(
+    rt: &R,
+    path: &str,
+    text: &str,
+) -> Result<(), Fail> {
     same(rt, fs::read_to_string(rt, path)?.as_str(), text);
     let beside = format!(in rt.alloc(); "{path}.unfinished")?;
     same(rt, fs::exists(rt, beside.as_str())?, false);

@@ -29,6 +29,8 @@ mod easter_years;
 #[cfg(test)]
 mod easters;
 #[cfg(test)]
+mod edge;
+#[cfg(test)]
 mod editions;
 #[cfg(test)]
 mod failing;
@@ -56,6 +58,8 @@ mod lands;
 mod limits;
 #[cfg(test)]
 mod live;
+#[cfg(test)]
+mod mistakes;
 #[cfg(test)]
 mod names;
 #[cfg(test)]

@@ -1,0 +1,168 @@
+//! Where the program meets files: what is saved where, and what stands there where it can't be; and
+//! what a terminal is told. Each test works in a folder of its own.
+use crate::commands::{RunRow, are_run, left_over};
+use crate::compare::same;
+use crate::files::{entered, has_text};
+use crate::printed::{left_by, sink};
+use osn_commands::{Disk, Status, run};
+use osn_wire::Plain;
+use std::fs;
+use std::fs::Permissions;
+use std::io::{Read, Write};
+use std::os::fd::AsRawFd;
+use std::os::unix::fs::{PermissionsExt, symlink};
+use std::process::Abort;
+use std::rt::Files;
+use std::sync::Wait;
+use std::test::Fail;
+use std::thread::Threads;
+
+/// The name of a file, and its text.
+type File = (&'static str, &'static str);
+
+const OLD: &str = "{\"journal\":1}\n";
+
+const EMPTY: &str = "{\"journal\":2}\n";
+
+const HELD: [File; 2] = [("a.journal", OLD), ("kept.journal", OLD)];
+
+const NOTHING: &str = "{\"op\":\"publish\"}\n";
+
+const REFUSED: &str = "{\"fault\":15,\"name\":\"NothingPending\"}\n";
+
+/// What takes no journal: a full device, a folder, a path in no folder, one whose unfinished file
+/// can't be made. And a service that ends early saves nothing.
+const UNSAVED: [RunRow; 5] = [
+    (
+        "oldstyle serve --save /dev/full",
+        NOTHING,
+        (3, REFUSED, "oldstyle: write fault\n"),
+    ),
+    (
+        "oldstyle serve --save folder",
+        NOTHING,
+        (3, REFUSED, "oldstyle: write fault\n"),
+    ),
+    (
+        "oldstyle serve --save nowhere/b.journal",
+        NOTHING,
+        (3, REFUSED, "oldstyle: write fault\n"),
+    ),
+    (
+        "oldstyle serve --journal a.journal --save kept.journal",
+        NOTHING,
+        (3, REFUSED, "oldstyle: write fault\n"),
+    ),
+    (
+        "oldstyle serve --journal gone.journal --save a.journal",
+        NOTHING,
+        (3, "", "oldstyle: read fault\n"),
+    ),
+];
+
+#[test]
+fn what_cannot_be_saved(rt: HostRuntime) -> Result<(), Fail> {
+    let folder = entered(&rt, "unsaved", &HELD)?;
+    fs::create_dir(&rt, "folder")?;
+    fs::create_dir(&rt, "kept.journal.unfinished")?;
+    are_run(&rt, &UNSAVED)?;
+    has_text(&rt, "a.journal", OLD)?;
+    same(&rt, fs::read_to_string(&rt, "kept.journal")?.as_str(), OLD);
+    same(&rt, fs::read_dir(&rt, ".")?.count(), 4);
+    fs::remove_dir_all(&rt, folder.as_path())?;
+    Ok(())
+}
+
+const SAVED: [RunRow; 2] = [
+    ("oldstyle serve --save link.journal", "", (0, "", "")),
+    (
+        "oldstyle serve --journal a.journal --save a.journal",
+        "",
+        (0, "", ""),
+    ),
+];
+
+/// Through a link the file that it leads to is replaced, and keeps its permissions.
+#[test]
+fn a_link_and_permissions_stay(rt: HostRuntime) -> Result<(), Fail> {
+    let folder = entered(&rt, "links", &HELD)?;
+    symlink(&rt, "kept.journal", "link.journal")?;
+    fs::set_permissions(&rt, "kept.journal", Permissions::from_mode(0o640))?;
+    are_run(&rt, &SAVED)?;
+    has_text(&rt, "a.journal", EMPTY)?;
+    has_text(&rt, "kept.journal", EMPTY)?;
+    let link = fs::symlink_metadata(&rt, "link.journal")?.is_symlink();
+    let mode = fs::metadata(&rt, "kept.journal")?.permissions().mode();
+    let files = fs::read_dir(&rt, ".")?.count();
+    same(&rt, (link, mode & 0o777, files), (true, 0o640, 3));
+    fs::remove_dir_all(&rt, folder.as_path())?;
+    Ok(())
+}
+
+/// A pipe is written as it is.
+#[test]
+fn a_pipe_takes_a_journal(rt: HostRuntime) -> Result<(), Fail> {
+    let (mut reader, writer) = rt.pipe()?;
+    let number = writer.as_raw_fd();
+    let line = format!(in rt.alloc(); "oldstyle serve --save /dev/fd/{number}")?;
+    let left = left_over(&rt, line.as_str(), "")?;
+    same(&rt, (left.status.code(), left.told.len()), (0, 0));
+    let mut bytes = [0; 64];
+    let read = reader.read(&mut bytes)?;
+    same(&rt, str::from_utf8(&bytes[..read])?, EMPTY);
+    Ok(())
+}
+
+const HEAD: [File; 1] = [("a.journal", OLD)];
+
+/// A reply that agrees, but for its end.
+const AGREES: &str = "{\"ask\":{\"op\":\"lands\",\"reader\":1},\"reply\":{\"answer\":\
+{\"lands\":[]},\"edition\":0,\"reader\":1}";
+
+/// Writes a transcript of so many lines, each of 65,536 bytes with its line feed.
+fn write_transcript<R: Files + AllocGlobal>(rt: &R, path: &str, lines: u32) -> Result<(), Fail> {
+    let spaces = " ".repeat(rt.alloc(), 65_534usize.saturating_sub(AGREES.len()))?;
+    let mut file = fs::create(rt, path)?;
+    for _line in 0..lines {
+        file.write_all(AGREES.as_bytes())?;
+        file.write_all(spaces.as_bytes())?;
+        file.write_all(b"}\n")?;
+    }
+    Ok(())
+}
+
+/// What a terminal is told of an audit that agrees.
+fn told_of_an_audit<R: Files + Threads + Wait + AllocGlobal + Abort>(
+    rt: &R,
+) -> Result<Vec<u8>, Fail> {
+    let (mut output, mut errors) = (sink(rt.alloc()), sink(rt.alloc()));
+    let mut told = Vec::new(rt.alloc());
+    let words = ["oldstyle", "audit", "a.journal", "a.transcript"];
+    let mut disk = Disk::new(rt);
+    let status = run(
+        rt,
+        &mut disk,
+        &words,
+        &mut Plain::new(b"".as_slice()),
+        &mut output,
+        &mut errors,
+        Some(Plain::new(&mut told)),
+    );
+    let left = left_by(status, output, errors);
+    same(rt, (left.status, left.told.len()), (Status::Done, 0));
+    Ok(told)
+}
+
+/// A terminal is told each 64 MiB, and nothing of a shorter transcript.
+#[test]
+fn a_terminal_is_told_how_far_an_audit_is(rt: HostRuntime) -> Result<(), Fail> {
+    let folder = entered(&rt, "long", &HEAD)?;
+    write_transcript(&rt, "a.transcript", 1023)?;
+    same(&rt, told_of_an_audit(&rt)?.len(), 0);
+    write_transcript(&rt, "a.transcript", 1025)?;
+    let told = told_of_an_audit(&rt)?;
+    let line = "oldstyle: 64 MiB of the transcript read\n";
+    same(&rt, str::from_utf8(&told)?, line);
+    fs::remove_dir_all(&rt, folder.as_path())?;
+    Ok(())
+}
