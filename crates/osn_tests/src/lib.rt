@@ -49,6 +49,8 @@ mod forty;
 #[cfg(test)]
 mod gates;
 #[cfg(test)]
+mod hostile;
+#[cfg(test)]
 mod journals;
 #[cfg(test)]
 mod labels;

@@ -1,0 +1,161 @@
+//! One worked session, cut anywhere, with reads that fail inside a line, and over a writer that
+//! takes one byte a call; and lines of deep lists.
+use crate::compare::same;
+use crate::session::served;
+use osn_register::Limits;
+use osn_wire::{Plain, serve};
+use std::alloc::{AllocError, Global};
+use std::io;
+use std::io::{ErrorKind, Read, Write};
+use std::process::Abort;
+use std::test::Fail;
+
+/// How deep a line's lists are, and what it is told.
+const DEEP: [(usize, &str); 2] = [
+    (100, "{\"fault\":33,\"name\":\"NotObject\"}\n"),
+    (200, NOT_JSON),
+];
+
+const NOT_JSON: &str = "{\"fault\":32,\"name\":\"NotJson\"}\n";
+
+fn are_deep(rt: &impl Abort, alloc: Global, rows: &[(usize, &str)]) -> Result<(), Fail> {
+    for (levels, want) in rows {
+        let mut line = vec![in alloc; b'['; *levels]?;
+        line.extend_from_slice(&vec![in alloc; b']'; *levels]?)?;
+        let (written, lines) = served(alloc, Limits::standard(), 8, &line)?;
+        same(rt, (str::from_utf8(&written)?, lines), (*want, 1));
+    }
+    Ok(())
+}
+
+#[test]
+fn lines_of_deep_lists(rt: HostRuntime) -> Result<(), Fail> {
+    are_deep(&rt, rt.alloc(), &DEEP)
+}
+
+/// The lines end behind 98, 115 and 183 bytes.
+const READ: &str = concat!(
+    r#"{"op":"add_land","code":"RM","name":"Rome","calendar":"julian","#,
+    r#""style":"january","rule":"julian"}
+{"op":"publish"}
+{"op":"read","reader":1,"code":"RM","year":1582,"month":10,"day":4}
+"#
+);
+
+/// The replies end behind 28, 59 and 259 bytes.
+const WRITTEN: &str = concat!(
+    r#"{"ok":"staged","pending":1}
+{"edition":1,"ok":"published"}
+{"answer":{"days":[{"day":577735,"dual":"4 October 1582","gregorian":"1582-10-14","jdn":2299160,"#,
+    r#""julian":"1582-10-04","label":"1582-10-04","weekday":"Thursday"}],"skipped":[]},"#,
+    r#""edition":1,"reader":1}
+"#
+);
+
+/// How many bytes of the input are read, from a number up to another one; how many bytes of the
+/// replies are written then, and whether a line that was cut is told of behind them.
+const CUTS: [(usize, usize, usize, bool); 7] = [
+    (0, 1, 0, false),
+    (1, 97, 0, true),
+    (97, 99, 28, false),
+    (99, 114, 28, true),
+    (114, 116, 59, false),
+    (116, 182, 59, true),
+    (182, 184, 259, false),
+];
+
+/// So many bytes of the replies, and what is told of a line that was cut.
+fn replies(alloc: Global, count: usize, is_cut: bool) -> Result<Vec<u8>, AllocError> {
+    let whole = WRITTEN.as_bytes().get(..count).unwrap_or_default();
+    let mut replies = Vec::from_slice(alloc, whole)?;
+    if is_cut {
+        replies.extend_from_slice(NOT_JSON.as_bytes())?;
+    }
+    Ok(replies)
+}
+
+fn are_cut(
+    rt: &impl Abort,
+    alloc: Global,
+    rows: &[(usize, usize, usize, bool)],
+) -> Result<(), Fail> {
+    for (from, to, count, is_cut) in rows {
+        let wanted = replies(alloc, *count, *is_cut)?;
+        for length in *from..*to {
+            let input = READ.as_bytes().get(..length).unwrap_or_default();
+            let (written, _) = served(alloc, Limits::standard(), 8, input)?;
+            same(rt, (length, written.as_slice()), (length, wanted.as_slice()));
+        }
+    }
+    Ok(())
+}
+
+#[test]
+fn each_cut_of_a_session(rt: HostRuntime) -> Result<(), Fail> {
+    are_cut(&rt, rt.alloc(), &CUTS)
+}
+
+/// Gives some bytes, and then ends or fails.
+#[derive(Drop)]
+struct Short {
+    left: &'static [u8],
+    fails: bool,
+}
+
+impl Read for Short {
+    fn read(&mut self, buffer: &mut [u8]) -> io::Result<usize> {
+        if self.left.is_empty() && self.fails {
+            return Err(io::Error::from(ErrorKind::TimedOut));
+        }
+        let count = self.left.len().min(buffer.len());
+        buffer[..count].copy_from_slice(&self.left[..count]);
+        self.left = &self.left[count..];
+        Ok(count)
+    }
+}
+
+/// Takes one byte a call.
+#[derive(Drop)]
+struct Narrow(Vec<u8>);
+
+impl Write for Narrow {
+    fn write(&mut self, bytes: &[u8]) -> io::Result<usize> {
+        let count = bytes.len().min(1);
+        self.0.extend_from_slice(&bytes[..count])?;
+        Ok(count)
+    }
+
+    fn flush(&mut self) -> io::Result<()> {
+        Ok(())
+    }
+}
+
+/// How many bytes of the input are read, and whether reading fails behind them; how the session
+/// ends, and how many bytes of the replies are written.
+const ENDINGS: [(usize, bool, &str, usize); 3] = [
+    (116, true, "Err(ReadFault { lines: 2 })", 59),
+    (182, true, "Err(ReadFault { lines: 2 })", 59),
+    (183, false, "Ok(3)", 259),
+];
+
+fn end_so(
+    rt: &impl Abort,
+    alloc: Global,
+    rows: &[(usize, bool, &str, usize)],
+) -> Result<(), AllocError> {
+    for (length, fails, wanted, count) in rows {
+        let left = READ.as_bytes().get(..*length).unwrap_or_default();
+        let mut source = Plain::new(Short { left, fails: *fails });
+        let mut sink = Plain::new(Narrow(Vec::new(alloc)));
+        let ended = serve(alloc, Limits::standard(), 8, &mut source, &mut sink);
+        let ended = format!(in alloc; "{ended:?}")?;
+        same(rt, (length, ended.as_str()), (length, *wanted));
+        same(rt, sink.into_inner().0, replies(alloc, *count, false)?);
+    }
+    Ok(())
+}
+
+#[test]
+fn reads_that_fail_inside_a_line_and_narrow_writes(rt: HostRuntime) -> Result<(), AllocError> {
+    end_so(&rt, rt.alloc(), &ENDINGS)
+}
