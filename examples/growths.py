@@ -1,85 +1,275 @@
 #!/usr/bin/env python3
-"""Refuses each growth of memory in turn to a program over the running register.
+"""Refuses each growth of memory in turn to the calls of the libraries and to the program.
 
-    examples/growths.py [SOURCE]     the program is growths.rattle where none is given
+    examples/growths.py [PROGRAM]     the program is crates/oldstyle/out/oldstyle by default
 
-growths.rattle opens a desk of one reader and makes three editions: it stages, publishes, learns the
-note and asks. A call that finds no memory is made again, and between a refused publish and the next
-one it stages a further edit. After each refused growth all editions have to come, every staged edit
-has to be in the last one exactly once, the reader's edition has to be the number of publishes that
-were answered Ok, and no less than that of the note which it learnt.
+A call that is refused a growth answers that it wants memory, or what it answers with ample memory;
+and made again with memory, it answers as if the refused one had never been. Each growth of a call
+is refused in a run of its own. A row is written for each call: how many growths it made, at how
+many of them it was refused, at how many it answered the same as with ample memory, and how many
+calls that were made again answered right. The status is 1 where a run did anything else, which is
+told above the rows.
 
-What is committed is cloned, and the program is proved and built there, which takes some two minutes
-where the libraries were built before; then it is run once for each growth, which takes a second.
-growths.c refuses them, and wants a C compiler: `cc`, or what CC names.
+The calls are made by the programs in growths/, of which each says how it is run: `requests` makes
+those of a register, of the sequential object and of the running register, `steps` those of the
+machine of two copies, `streams` those over a whole input. `editions` makes three editions of the
+running register, with a further edit between a refused publish and the next one: all editions have
+to come, and every staged edit once. Then come the commands of the program, from its first growth to
+its last: of a refused one nothing is saved, and of a service the replies to whole lines stand.
+
+What is committed is cloned, and the programs are proved and built there, which takes some five
+minutes where the libraries were built before; the runs take some two minutes, two at a time.
+growths/growths.c refuses the growths, and wants a C compiler: `cc`, or what CC names.
 """
+import json
 import os
+import re
 import subprocess
 import sys
 import tempfile
+from collections import namedtuple
+from concurrent.futures import ThreadPoolExecutor
 
 HERE = os.path.dirname(os.path.abspath(__file__))
+PROGRAMS = os.path.join(HERE, "growths")
 sys.path.append(os.path.join(HERE, "..", "bench"))
 
+from asked import BEGUN, COMMANDS, EDITS, LEFT, PROGRAM, PUBLISH, QUERIES, QUESTIONS, SCRIPT
+from asked import SESSION, SETUP, STEPS, TRANSCRIPT, filled, held, is_transcript, text_of
 from clone import add_program, built_program, cloned
 
-LIBRARIES = ["osn_days", "osn_computus", "osn_lands", "osn_register", "osn_core", "osn_live"]
+LIBRARIES = {
+    "requests": ["osn_core", "osn_live", "osn_register", "osn_request", "anyhow"],
+    "steps": ["osn_core", "osn_files", "osn_lines", "osn_register", "anyhow"],
+    "streams": ["osn_almanac", "osn_audit", "osn_core", "osn_files", "osn_lines", "osn_live",
+                "osn_register", "osn_reply", "osn_wire", "anyhow"],
+    "editions": ["osn_days", "osn_computus", "osn_lands", "osn_register", "osn_core", "osn_live"],
+}
+AT_ONCE = 2
+ROOM = tempfile.TemporaryDirectory()
+LIBRARY = os.path.join(ROOM.name, "growths.so")
+
+# ---- runs, of which one growth is refused
+
+MARK = "called\nanswered\n"
+WANTS = {"NoMemory\n", "NoPlace\n", "Err(NoMemory)\n", "Err(NoPlace)\n", "Err(AllocError)\n"}
+WANTS_BEHIND = re.compile(r"Err\(NoMemory \{ lines: (\d+) \}\)\n")
+
+Run = namedtuple("Run", "status told errors growths")
+Row = namedtuple("Row", "growths same again wrong")
+
+
+def build_library():
+    """Builds the library that refuses one growth."""
+    compiler = [os.environ.get("CC", "cc"), "-O2", "-shared", "-fPIC", "-o", LIBRARY]
+    subprocess.run([*compiler, os.path.join(PROGRAMS, "growths.c")], check=True)
+
+
+def run(command, given, refused, folder=None, **names):
+    """A run of a command in a folder, in which the growth of that number is refused, 0 for none.
+    The last line on standard error is the number of growths."""
+    names = {**os.environ, "LD_PRELOAD": LIBRARY, "REFUSED": str(refused), **names}
+    done = subprocess.run(command, input=given, env=names, cwd=folder, capture_output=True,
+                          text=True, timeout=60)
+    *errors, growths = done.stderr.splitlines(True) or [""]
+    if not growths.strip().isdigit():
+        return Run(done.returncode, done.stdout, done.stderr, 0)
+    return Run(done.returncode, done.stdout, "".join(errors), int(growths))
+
+
+def each_refused(count, outcome):
+    """The row of that many growths, of which each has an outcome: `same`, `again` where it was
+    refused and made again, or what was wrong."""
+    with ThreadPoolExecutor(AT_ONCE) as pool:
+        outcomes = list(pool.map(outcome, range(1, count + 1)))
+    wrong = [f"growth {number}: {outcome}" for number, outcome in enumerate(outcomes, 1)
+             if outcome not in ("same", "again")]
+    return Row(count, outcomes.count("same"), outcomes.count("again"), wrong)
+
+
+# ---- calls of the libraries
+
+
+def wants_memory(told, right):
+    """Whether what a call answered is that it wants memory; of a service with the replies to the
+    lines that it names."""
+    if behind := WANTS_BEHIND.match(told):
+        replies = right.splitlines(True)[1:]
+        return told[behind.end():] == text_of(replies[: int(behind.group(1))])
+    return told in WANTS
+
+
+def call_row(command, lines, is_right=None):
+    """The row of a call that a program makes."""
+    given = text_of(lines)
+    ample = run(command, given, 0, WATCHED="1")
+    right = (ample.told.split(MARK)[1:] or [""])[0]
+    is_right = is_right or right.__eq__
+
+    def outcome(number):
+        got = run(command, given, number, WATCHED="1")
+        first, *later = got.told.split(MARK)[1:] or [""]
+        if got.status == 0 and all(map(is_right, later)):
+            if is_right(first):
+                return "same"
+            if later and wants_memory(first, right):
+                return "again"
+        return got
+
+    if ample.status != 0 or not is_right(right):
+        return Row(ample.growths, 0, 0, [f"with ample memory: {ample}"])
+    return each_refused(ample.growths, outcome)
+
+
+def request_calls():
+    """The calls of the layers that hold a register: a name, words and lines."""
+    behind = str(len(SETUP) + 1)
+    for edit in EDITS:
+        yield "`Register::apply`", ["register", behind], [*SETUP, edit, *LEFT]
+        yield "`Object::stage`", ["object", behind], [*SETUP, edit, *LEFT]
+        yield "`Editor::stage`", ["running", behind], [*SETUP, edit, *LEFT]
+    lines = [*SETUP, *EDITS, *LEFT]
+    yield "`Object::publish`", ["object", str(len(SETUP + EDITS) + 1)], lines
+    yield "`Editor::publish`", ["running", str(len(SETUP + EDITS) + 1)], lines
+    for query in QUERIES:
+        yield "`Object::ask`", ["object", behind], [*SETUP, query, *LEFT]
+        yield "`Reader::ask`", ["running", behind], [*SETUP, query, *LEFT]
+    yield "`open`", ["running", "0"], [*SETUP, *LEFT]
+
+
+def step_calls():
+    """The steps that take memory: a name, a word and lines."""
+    for place, line in enumerate(STEPS, 1):
+        if (step := json.loads(line)["step"]) in ("stage", "look", "publish", "answer", "absorb"):
+            yield f"`Core::step`, {step}", [str(place)], STEPS
+
+
+def stream_calls():
+    """The calls over a whole input: a name, words and lines."""
+    yield "`serve`", ["serve", ""], SESSION
+    yield "`serve_from`", ["serve_from", text_of(BEGUN)], [*EDITS[1:], *QUERIES, PUBLISH]
+    yield "`load_journal`", ["load_journal", text_of(BEGUN)], []
+    yield "`journal_text`", ["journal_text", text_of(BEGUN)], []
+    yield "`almanac_text`", ["almanac_text", text_of(BEGUN)], []
+    yield "`audit`", ["audit", text_of(BEGUN)], TRANSCRIPT
+    yield "`read_script`", ["read_script", text_of(BEGUN)], []
+    yield "`read_questions`", ["read_questions", ""], QUESTIONS
+    yield "`read_schedule`", ["read_schedule", ""], STEPS
+
+
+def call_rows(built):
+    """The rows of all calls, those of one name together."""
+    for program, calls in [("requests", request_calls()), ("steps", step_calls()),
+                           ("streams", stream_calls())]:
+        for name, words, lines in calls:
+            yield name, call_row([built[program], *words], lines)
+    command = [built["streams"], "run_desk", text_of(SCRIPT)]
+    yield "`run_desk`", call_row(command, QUESTIONS, is_transcript)
+
+
+# ---- the course of three editions
+
 CODES = ["AA", "AB", "AC", "AD", "AE", "AF", "AG", "AH", "AI"]
-EDITIONS, EDITS = 3, 2
-
-
-def refusing_library(room):
-    """The library that refuses one growth, built."""
-    library = os.path.join(room, "growths.so")
-    compiler = [os.environ.get("CC", "cc"), "-O2", "-shared", "-fPIC", "-o", library]
-    subprocess.run([*compiler, os.path.join(HERE, "growths.c")], check=True)
-    return library
-
-
-def run(program, library, refused):
-    """What the program writes where the growth of that number is refused, and how many it had."""
-    environment = {**os.environ, "LD_PRELOAD": library, "REFUSED": str(refused)}
-    done = subprocess.run([program], env=environment, capture_output=True, text=True, timeout=60)
-    if done.returncode != 0:
-        return f"status {done.returncode}: {done.stderr}", 0
-    return done.stdout, int(done.stderr)
+EDITIONS, STAGED = 3, 2
 
 
 def lost(told):
-    """What was lost in a run, by what the program wrote, or None."""
+    """What was lost in a course of editions, by what the program wrote, or None. Of each edition it
+    writes the number and the territories; at last what was counted."""
     lines = [line.split() for line in told.splitlines()]
     if len(lines) != EDITIONS + 1:
         return "not all editions came"
     *editions, (_, refused, _, staged, _, published) = lines
-    if int(published) != EDITIONS or int(staged) < EDITIONS * EDITS or int(refused) > 1:
+    if int(published) != EDITIONS or int(staged) < EDITIONS * STAGED or int(refused) > 1:
         return "a call was refused again"
     for place, (_, noted, _, edition, *codes) in enumerate(editions, 1):
         if int(noted) != place or int(edition) != place:
             return f"publish {place} has the note of {noted}, and the reader was told of {edition}"
-        if codes != CODES[: len(codes)] or len(codes) < place * EDITS:
+        if codes != CODES[: len(codes)] or len(codes) < place * STAGED:
             return f"edition {place} has {codes}"
     return None if len(codes) == int(staged) else f"{staged} edits were staged, and {codes} came"
 
 
-def refuse_each(program, library):
-    """Refuses each growth of the program in turn: how many, and how many runs lost something."""
-    told, count = run(program, library, 0)
-    losses = 0
-    for refused in range(count + 1):
-        told, _ = run(program, library, refused)
-        if loss := lost(told):
-            print(f"growth {refused}: {loss}\n{told}")
-            losses += 1
-    return count, losses
+def editions_row(program):
+    """The row of three editions, in which a call that is refused is made again."""
+    ample = run([program], "", 0)
+
+    def outcome(number):
+        got = run([program], "", number)
+        if got.status != 0 or lost(got.told):
+            return f"{lost(got.told)}: {got}"
+        return "again" if "refused 1" in got.told else "same"
+
+    return each_refused(ample.growths, outcome)
+
+
+# ---- commands of the program
+
+NO_MEMORY = (4, "oldstyle: no memory\n")
+
+
+def command_row(words, lines):
+    """The row of a command. Made again is the command in the folder that the refused one left."""
+    command, given = [PROGRAM, *words.split()], text_of(lines)
+    with filled() as folder:
+        before = held(folder)
+        ample = run(command, given, 0, folder)
+        after = held(folder)
+
+    def is_right(got, folder):
+        told = is_transcript(got.told) if words.startswith("desk") else got.told == ample.told
+        return told and got[::2] == ample[::2] and held(folder) == after
+
+    def is_front(told):
+        lines = told.splitlines(True) if given else []
+        return told == "".join(ample.told.splitlines(True)[: len(lines)])
+
+    def outcome(number):
+        with filled() as folder:
+            got = run(command, given, number, folder)
+            if is_right(got, folder):
+                return "same"
+            if got[::2] == NO_MEMORY and is_front(got.told) and held(folder) == before:
+                return "again" if is_right(run(command, given, 0, folder), folder) else "lost"
+            return got
+
+    return each_refused(ample.growths, outcome)
+
+
+# ---- all rows
+
+
+def all_rows(built):
+    yield from call_rows(built)
+    yield "three editions of the running register", editions_row(built["editions"])
+    for words, lines in COMMANDS:
+        yield f"`oldstyle {words}`".replace(" `", "`"), command_row(words, lines)
+
+
+def joined(rows):
+    """The rows of one name as one."""
+    sums = {}
+    for name, row in rows:
+        old = sums.get(name, Row(0, 0, 0, []))
+        sums[name] = Row(*(had + has for had, has in zip(old, row)))
+        for wrong in row.wrong:
+            print(f"{name}: {wrong}", flush=True)
+    return sums
 
 
 def main():
-    source = sys.argv[1] if len(sys.argv) > 1 else os.path.join(HERE, "growths.rattle")
-    with cloned() as clone, tempfile.TemporaryDirectory() as room:
-        program = built_program(add_program(clone, source, LIBRARIES))
-        count, losses = refuse_each(program, refusing_library(room))
-    print(f"{count} growths refused, each in a run of its own: {losses} runs lost something")
-    return 1 if losses or not count else 0
+    build_library()
+    with cloned() as clone:
+        built = {}
+        for name, libraries in LIBRARIES.items():
+            source = os.path.join(PROGRAMS, f"{name}.rattle")
+            built[name] = built_program(add_program(clone, source, libraries))
+        rows = joined(all_rows(built))
+    print("| Call | Growths | Refused | The same | Right when made again |")
+    print("|---|---|---|---|---|")
+    for name, (growths, same, again, _) in rows.items():
+        print(f"| {name} | {growths} | {growths - same} | {same} | {again} |")
+    return 1 if any(row.wrong or not row.growths for row in rows.values()) else 0
 
 
 if __name__ == "__main__":

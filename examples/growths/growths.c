@@ -1,18 +1,23 @@
 /* Refuses one growth of memory: the one whose number, counted from 1, the environment gives as
-   REFUSED. At the end it tells on standard error how many there were. growths.py preloads it. */
+   REFUSED. With WATCHED=1 those between the lines `called` and `answered` that the program writes
+   are counted, the first time that it does, and else all. At the end it tells on standard error how
+   many there were. growths.py preloads it. */
 #include <stdatomic.h>
-#include <stddef.h>
 #include <stdio.h>
 #include <stdlib.h>
+#include <string.h>
+#include <unistd.h>
 
 void *__libc_malloc(size_t size);
 void *__libc_realloc(void *block, size_t size);
+ssize_t __write(int file, const void *bytes, size_t size);
 
 static long refused;
 static atomic_long growths;
+static atomic_int counts = 0;
 
 static int is_refused(void) {
-    return atomic_fetch_add(&growths, 1) + 1 == refused;
+    return counts && atomic_fetch_add(&growths, 1) + 1 == refused;
 }
 
 void *malloc(size_t size) {
@@ -23,10 +28,28 @@ void *realloc(void *block, size_t size) {
     return is_refused() ? NULL : __libc_realloc(block, size);
 }
 
+static int is_line(const void *bytes, size_t size, const char *line) {
+    return size >= strlen(line) && memcmp(bytes, line, strlen(line)) == 0;
+}
+
+/* What is written before the call, and behind it. */
+ssize_t write(int file, const void *bytes, size_t size) {
+    static atomic_int called = 0;
+    if (is_line(bytes, size, "answered\n")) {
+        counts = 0;
+    }
+    ssize_t written = __write(file, bytes, size);
+    if (is_line(bytes, size, "called\n") && !called) {
+        called = 1;
+        counts = 1;
+    }
+    return written;
+}
+
 __attribute__((constructor)) static void begin(void) {
     const char *number = getenv("REFUSED");
-    growths = 0;
     refused = number ? atol(number) : 0;
+    counts = !getenv("WATCHED");
 }
 
 __attribute__((destructor)) static void end(void) {

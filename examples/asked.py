@@ -1,0 +1,142 @@
+"""What growths.py and hard_conditions.py ask the program for, and the files that they give it."""
+import json
+import os
+import stat
+import subprocess
+import sys
+import tempfile
+from contextlib import contextmanager
+
+HERE = os.path.dirname(os.path.abspath(__file__))
+PROGRAM = os.path.abspath(sys.argv[1] if len(sys.argv) > 1 else
+                          os.path.join(HERE, "..", "crates", "oldstyle", "out", "oldstyle"))
+
+REGIME = '"calendar":"julian","style":"january","rule":"julian"'
+GREGORIAN = '"calendar":"gregorian","style":"january","rule":"gregorian"'
+PUBLISH = '{"op":"publish"}'
+ADD_ROME = f'{{"op":"add_land","code":"RM","name":"Rome",{REGIME}}}'
+BRITAIN = [
+    '{"op":"add_land","code":"GB","name":"Great Britain","calendar":"julian",'
+    '"style":"annunciation","rule":"julian"}',
+    f'{{"op":"add_change","code":"GB","day":639551,{REGIME}}}',
+    f'{{"op":"add_change","code":"GB","day":639797,{GREGORIAN}}}',
+    '{"op":"add_exception","code":"GB","year":1753,"day":640010}',
+]
+FRANCE = ['{"op":"add_land","code":"FR","name":"France","calendar":"julian","style":"easter",'
+          '"rule":"julian"}']
+SETUP = [*BRITAIN, *FRANCE, PUBLISH]
+EDITS = [
+    ADD_ROME,
+    f'{{"op":"add_change","code":"GB","day":577736,{GREGORIAN}}}',
+    f'{{"op":"alter_change","code":"GB","day":639551,{GREGORIAN}}}',
+    '{"op":"drop_change","code":"GB","day":639551}',
+    '{"op":"add_exception","code":"GB","year":1724,"day":629412}',
+    '{"op":"drop_exception","code":"GB","year":1753}',
+]
+READ_TWO_DAYS = '{"op":"read","reader":1,"code":"FR","year":1543,"month":4,"day":1}'
+QUERIES = [
+    '{"op":"read","reader":1,"code":"GB","year":1731,"month":2,"day":11}',
+    READ_TWO_DAYS,
+    '{"op":"read","reader":1,"code":"GB","year":1752,"month":9,"day":3}',
+    '{"op":"day","reader":1,"code":"GB","day":639797}',
+    '{"op":"easter","reader":1,"code":"GB","year":1753}',
+    '{"op":"figures","reader":1,"year":1954}',
+    '{"op":"lands","reader":1}',
+    '{"op":"periods","reader":1,"code":"GB"}',
+]
+LEFT = [PUBLISH, '{"op":"lands","reader":1}', '{"op":"periods","reader":1,"code":"GB"}',
+        '{"op":"easter","reader":1,"code":"GB","year":1724}',
+        '{"op":"easter","reader":1,"code":"GB","year":1753}']
+BEGUN = ['{"journal":2}', *SETUP, ADD_ROME]
+SCRIPT = [*BEGUN, PUBLISH]
+SESSION = [*SETUP, *EDITS, *QUERIES, "no request", PUBLISH, PUBLISH, READ_TWO_DAYS]
+QUESTIONS = [query.replace('"reader":1', f'"reader":{1 + place % 2}')
+             for place, query in enumerate(QUERIES)]
+TRANSCRIPT = [
+    '{"ask":{"op":"lands","reader":1},"reply":{"answer":{"lands":[]},"edition":0,"reader":1}}',
+    '{"ask":{"code":"ZZ","op":"periods","reader":1},'
+    '"reply":{"edition":1,"fault":3,"name":"UnknownLand","reader":1}}',
+]
+STEPS = [
+    '{"step":"stage",' + ADD_ROME[1:],
+    '{"step":"publish"}',
+    '{"step":"look","op":"periods","reader":1,"code":"RM"}',
+    '{"step":"pin","reader":1}',
+    '{"step":"check","reader":1}',
+    '{"step":"answer","reader":1}',
+    '{"step":"leave","reader":1}',
+    '{"step":"claim"}',
+    '{"step":"absorb"}',
+    '{"step":"absorb"}',
+    '{"step":"stage",' + BRITAIN[0][1:],
+    '{"step":"publish"}',
+    '{"step":"look","op":"lands","reader":1}',
+    '{"step":"pin","reader":1}',
+    '{"step":"check","reader":1}',
+    '{"step":"answer","reader":1}',
+]
+# Files by their names, and commands over them, each with the lines of its standard input.
+FILES = {"a.journal": BEGUN, "a.script": SCRIPT, "a.questions": QUESTIONS, "a.schedule": STEPS,
+         "a.transcript": TRANSCRIPT, "saved.journal": BEGUN[:2]}
+COMMANDS = [
+    ("", SESSION),
+    ("serve --journal a.journal --save saved.journal", SESSION[:-1]),
+    ("serve --journal a.journal --save a.journal --readers 1", EDITS[1:]),
+    ("serve --save a.link", SESSION[:-1]),
+    ("serve --save a.pipe", SESSION[:-1]),
+    ("serve --save a.new", SESSION[:-1]),
+    ("almanac a.journal GB 1752", []),
+    ("almanac a.journal ZZ 1752", []),
+    ("replay --readers 1 a.schedule", []),
+    ("desk a.script a.questions", []),
+    ("audit a.journal a.transcript", []),
+    ("audit a.journal a.questions", []),
+    ("almanac a.gone GB 1752", []),
+    ("--help", []),
+    ("help serve", []),
+    ("--version", []),
+    ("fly", []),
+]
+
+
+def text_of(lines):
+    return "".join(line + "\n" for line in lines)
+
+
+@contextmanager
+def filled(files=None):
+    """A folder with the files, and beside them an empty folder, a link and an open pipe."""
+    with tempfile.TemporaryDirectory() as folder:
+        for name, lines in {**FILES, **(files or {})}.items():
+            with open(os.path.join(folder, name), "w", encoding="utf-8") as file:
+                file.write(text_of(lines))
+        os.chmod(os.path.join(folder, "saved.journal"), 0o640)
+        os.symlink("saved.journal", os.path.join(folder, "a.link"))
+        os.mkdir(os.path.join(folder, "a.folder"))
+        os.mkfifo(os.path.join(folder, "a.pipe"))
+        pipe = os.open(os.path.join(folder, "a.pipe"), os.O_RDWR | os.O_NONBLOCK)
+        yield folder
+        os.close(pipe)
+
+
+def held(folder):
+    """What a folder holds: of each name the kind and the permissions, and of a file its text."""
+    found = {}
+    for entry in os.scandir(folder):
+        text = None
+        if entry.is_file(follow_symlinks=False):
+            with open(entry.path, encoding="utf-8") as file:
+                text = file.read()
+        found[entry.name] = (stat.filemode(entry.stat(follow_symlinks=False).st_mode), text)
+    return found
+
+
+def is_transcript(told):
+    """Whether a desk told each question its reply, at an edition of the script."""
+    asked = sorted(map(json.loads, QUESTIONS), key=lambda ask: ask["reader"])
+    if [json.loads(line)["ask"] for line in told.splitlines()] != asked:
+        return False
+    with filled({"a.transcript": told.splitlines()}) as folder:
+        command = [PROGRAM, "audit", "a.script", "a.transcript"]
+        audit = subprocess.run(command, cwd=folder, capture_output=True, text=True, timeout=60)
+    return audit.stdout == f"audit: {len(asked)} replies agree\n"

@@ -1,0 +1,363 @@
+#!/usr/bin/env python3
+"""Runs the program where output, files, the disk or memory fail it.
+
+    examples/hard_conditions.py [PROGRAM]   the program is crates/oldstyle/out/oldstyle by default
+
+The conditions are: standard output that is full, closed or a pipe that nobody reads, and standard
+error full as well; standard input that is closed or a folder; a folder in the place of each file
+that is read or saved; a file that grows shorter while it is read; a full disk behind `--save`, and
+a limit on the length of files; and 6 MB of addresses. Under each one every command that it concerns
+is run. Held against what docs/FORMATS.md says are the status, what is written, and that the files
+of the folder are as they were, their permissions too, with none beside them; and once the condition
+is over, the same command saves what it should. A row is written for each condition. The status is
+1 where a run went otherwise, which is told above the rows; what could not be tried is told as well.
+
+A disk that is full is one in memory, which only root may mount.
+"""
+import os
+import resource
+import signal
+import subprocess
+import sys
+import time
+from contextlib import contextmanager
+
+from asked import ADD_ROME, BEGUN, COMMANDS, GREGORIAN, PROGRAM, PUBLISH, REGIME, SESSION
+from asked import filled, held, is_transcript, text_of
+
+ADDRESSES = 6_000_000
+NO_MEMORY, NO_PLACE = (4, "oldstyle: no memory\n"), (1, "oldstyle: 93 NoPlace\n")
+READ_FAULT = (3, "", "oldstyle: read fault\n")
+WRITE_FAULT = (3, "oldstyle: write fault\n")
+SAVING = "serve --journal a.journal --save saved.journal"
+GIVEN = text_of(SESSION[:-1])
+
+counts, untried = {}, []
+
+
+def hold(condition, words, got, wanted):
+    """Counts a run under its condition, and tells where it went otherwise than wanted."""
+    tried, right = counts.get(condition, (0, 0))
+    counts[condition] = (tried + 1, right + (got == wanted))
+    if got != wanted:
+        print(f"{condition}: oldstyle {words}\n  wanted {wanted}\n  got    {got}", flush=True)
+
+
+def run(folder, words, given="", **streams):
+    """The status of a run in a folder, with what it wrote on the standard streams that are read."""
+    if "stdin" not in streams:
+        streams["input"] = given
+    streams = {"stdout": subprocess.PIPE, "stderr": subprocess.PIPE, **streams}
+    done = subprocess.run([PROGRAM, *words.split()], cwd=folder, text=True, timeout=60, **streams)
+    return done.returncode, done.stdout, done.stderr
+
+
+# ---- standard streams
+
+
+def closed_pipe():
+    """The end for writing of a pipe that nobody reads."""
+    near, far = os.pipe()
+    os.close(near)
+    return far
+
+
+def full():
+    return os.open("/dev/full", os.O_RDWR)
+
+
+def try_output(condition, words, lines, **streams):
+    """A command whose output goes nowhere: nothing is saved."""
+    with filled() as folder:
+        before = held(folder)
+        status, _, errors = run(folder, words, text_of(lines), **streams)
+        told = (status, errors or WRITE_FAULT[1], held(folder))
+        hold(condition, words, told, (*WRITE_FAULT, before))
+
+
+def try_outputs():
+    """Each command that writes anything."""
+    for words, lines in COMMANDS:
+        with filled() as folder:
+            if not run(folder, words, text_of(lines))[1]:
+                continue
+        for condition, opened in [("output full", full), ("output a closed pipe", closed_pipe)]:
+            output = opened()
+            try_output(condition, words, lines, stdout=output)
+            os.close(output)
+        output = full()
+        try_output("output and errors full", words, lines, stdout=output, stderr=output)
+        os.close(output)
+        try_output("output closed", words, lines, stdout=None, preexec_fn=lambda: os.close(1))
+
+
+def try_input():
+    """Standard input that fails: nothing is saved."""
+    for words in ["", SAVING]:
+        with filled() as folder:
+            before = held(folder)
+            input_folder = os.open(folder, os.O_RDONLY)
+            told = run(folder, words, stdin=input_folder)
+            hold("input a folder", words, (told, held(folder)), (READ_FAULT, before))
+            told = run(folder, words, stdin=None, preexec_fn=lambda: os.close(0))
+            hold("input closed", words, (told, held(folder)), (READ_FAULT, before))
+            os.close(input_folder)
+
+
+# ---- files
+
+READING = [
+    "serve --journal a.journal --save saved.journal",
+    "almanac a.journal GB 1752",
+    "replay --readers 1 a.schedule",
+    "desk a.script a.questions",
+    "audit a.journal a.transcript",
+]
+
+
+def try_folders():
+    """A folder, and nothing at all, in the place of each file that is read; a folder, and a file in
+    no folder, in that of the file that is saved."""
+    for words in READING:
+        for name in [word for word in words.split() if word.startswith("a.")]:
+            for condition, place in [("a folder as a file", "a.folder"), ("no file", "a.gone")]:
+                with filled() as folder:
+                    before = held(folder)
+                    changed = words.replace(name, place)
+                    told = run(folder, changed, GIVEN)
+                    hold(condition, changed, (told, held(folder)), (READ_FAULT, before))
+    for condition, place in [("a folder to save in", "a.folder"), ("no folder", "none/saved")]:
+        with filled() as folder:
+            before, words = held(folder), f"serve --save {place}"
+            status, told, errors = run(folder, words, GIVEN)
+            got = (status, errors, told, held(folder))
+            hold(condition, words, got, (*WRITE_FAULT, run(folder, "", GIVEN)[1], before))
+
+
+def padded(line):
+    """A line with a member that is passed over, so that a file of few lines is long."""
+    return f'{line[:-1]},"x":"{"a" * 30_000}"}}'
+
+
+ALTERED = [f'{{"op":"alter_change","code":"RM","day":1,{regime}}}'
+           for regime in (REGIME, GREGORIAN)]
+LOOK = '{"step":"look","op":"lands","reader":1}'
+ASKED = '{"op":"lands","reader":1}'
+LONG_JOURNAL = ['{"journal":2}', ADD_ROME, PUBLISH, *map(padded, ALTERED * 500)]
+TOLD = '{"ask":{"op":"lands","reader":1},"reply":{"answer":{"lands":[]},"edition":0,"reader":1}}'
+LONG_FILES = {
+    "long.journal": LONG_JOURNAL,
+    "long.schedule": [padded(LOOK)] * 1_000,
+    "long.questions": [padded(ASKED)] * 1_000,
+    "long.transcript": [padded(TOLD)] * 1_000,
+    "empty.script": LONG_JOURNAL[:2],
+}
+TRIES = 20
+SHORTENED = [
+    ("serve --journal long.journal --save saved.journal", "long.journal"),
+    ("serve --journal long.journal --save long.journal", "long.journal"),
+    ("almanac long.journal RM 1500", "long.journal"),
+    ("replay --readers 1 long.schedule", "long.schedule"),
+    ("desk long.journal a.questions", "long.journal"),
+    ("desk empty.script long.questions", "long.questions"),
+    ("audit long.journal a.transcript", "long.journal"),
+    ("audit a.journal long.transcript", "long.transcript"),
+]
+
+
+def read_so_far(process, path):
+    """How many bytes of a file a process has read, None where it has not opened the file."""
+    folder = f"/proc/{process.pid}"
+    for number in os.listdir(f"{folder}/fd"):
+        if os.path.realpath(f"{folder}/fd/{number}") == path:
+            with open(f"{folder}/fdinfo/{number}", encoding="utf-8") as facts:
+                return int(facts.readline().split()[1])
+    return None
+
+
+def stopped_in_reading(process, path):
+    """Stops a process that reads a file, and says how far it is, or None where it was quicker."""
+    try:
+        while process.poll() is None and not read_so_far(process, path):
+            pass
+        process.send_signal(signal.SIGSTOP)
+        os.waitid(os.P_PID, process.pid, os.WSTOPPED | os.WEXITED | os.WNOWAIT)
+        return read_so_far(process, path)
+    except (FileNotFoundError, PermissionError):
+        return None
+
+
+def shorten(folder, words, name, size_of):
+    """What a command tells whose file is made shorter while it reads, the size that the file has
+    then, and how many bytes of it there were to read. None where the command was too quick."""
+    path, pipe = os.path.join(os.path.realpath(folder), name), subprocess.PIPE
+    command = [PROGRAM, *words.split()]
+    streams = {"stdin": pipe, "stdout": pipe, "stderr": pipe}
+    with subprocess.Popen(command, cwd=folder, text=True, **streams) as process:
+        place = stopped_in_reading(process, path)
+        size = size_of(place or 0)
+        is_within = place is not None and max(place, size) < os.path.getsize(path)
+        if is_within:
+            os.truncate(path, size)
+        process.send_signal(signal.SIGCONT)
+        told, errors = process.communicate(ASKED + "\n", timeout=60)
+    return ((process.returncode, told, errors), size, max(place, size)) if is_within else None
+
+
+def others(folder, name):
+    """What a folder holds beside a file, and the length of that one."""
+    length = os.path.getsize(os.path.join(folder, name))
+    os.truncate(os.path.join(folder, name), 0)
+    return held(folder), length
+
+
+def try_shortened(words, name, size_of):
+    """Whether a command whose file grows shorter does what it does with the bytes that it found."""
+    for _ in range(TRIES):
+        with filled(LONG_FILES) as folder:
+            if (found := shorten(folder, words, name, size_of)) is None:
+                continue
+            told, size, read = found
+            left, length = others(folder, name)
+        with filled(LONG_FILES) as folder:
+            os.truncate(os.path.join(folder, name), read)
+            wanted = run(folder, words, ASKED + "\n")
+            hold("a file that grows shorter", words, (told, left, length),
+                 (wanted, others(folder, name)[0], size))
+        return
+    untried.append(f"a file that grows shorter: oldstyle {words}")
+
+
+# ---- the disk
+
+
+@contextmanager
+def mounted(folder):
+    """A disk of 64 KiB at a folder, or None where it may not be mounted."""
+    mount = ["mount", "-t", "tmpfs", "-o", "size=64k", "tmpfs", folder]
+    if os.getuid() != 0 or subprocess.run(mount, stderr=subprocess.DEVNULL).returncode != 0:
+        yield None
+        return
+    try:
+        yield folder
+    finally:
+        subprocess.run(["umount", folder], check=True)
+
+
+def fill(path):
+    """Writes a file until the disk is full."""
+    try:
+        with open(path, "wb", buffering=0) as file:
+            while file.write(b"a" * 4_096):
+                pass
+    except OSError:
+        pass
+
+
+def try_full_disk():
+    """A journal that a full disk doesn't take, and takes once there is room again."""
+    with filled() as folder, mounted(os.path.join(folder, "a.folder")) as disk:
+        if disk is None:
+            untried.append("a full disk: only root may mount one")
+            return
+        old, words = text_of(BEGUN[:2]), "serve --journal a.journal --save a.folder/saved.journal"
+        with open(os.path.join(disk, "saved.journal"), "w", encoding="utf-8") as file:
+            file.write(old)
+        fill(os.path.join(disk, "other"))
+        told = run(folder, "serve --journal a.journal", GIVEN)[1]
+        status, replies, errors = run(folder, words, GIVEN)
+        texts = {name: text for name, (_, text) in held(disk).items() if name != "other"}
+        wanted = (*WRITE_FAULT, told, {"saved.journal": old})
+        hold("a full disk", words, (status, errors, replies, texts), wanted)
+        os.remove(os.path.join(disk, "other"))
+        hold("a full disk", words, run(folder, words, GIVEN), (0, told, ""))
+
+
+def limited(length):
+    """Limits the length of the files that a process writes; a write behind it fails."""
+    signal.signal(signal.SIGXFSZ, signal.SIG_IGN)
+    resource.setrlimit(resource.RLIMIT_FSIZE, (length, length))
+
+
+def try_long_files():
+    """A journal that a limit on the length of files cuts off, anywhere."""
+    with filled() as folder:
+        told = run(folder, SAVING, GIVEN)[1]
+        whole = os.path.getsize(os.path.join(folder, "saved.journal"))
+    for length in range(0, whole, 50):
+        with filled() as folder:
+            before = held(folder)
+            status, replies, errors = run(folder, SAVING, GIVEN, preexec_fn=lambda: limited(length))
+            got = (status, errors, replies, held(folder))
+            hold("a limit on the length of files", SAVING, got, (*WRITE_FAULT, told, before))
+
+
+# ---- memory
+
+
+def short_of_addresses():
+    resource.setrlimit(resource.RLIMIT_AS, (ADDRESSES, ADDRESSES))
+
+
+LARGE = [
+    f'{{"op":"add_land","code":"L{place}","name":"{"a" * 64}",{REGIME}}}' for place in range(500)
+] + [
+    f'{{"op":"add_change","code":"L{place}","day":{600_000 + 10 * day},{REGIME}}}'
+    for place in range(500) for day in range(38)
+]
+
+
+def is_front(told, lines):
+    """Whether whole lines are a front of those that are wanted."""
+    told = told.splitlines(True)
+    return told == lines.splitlines(True)[: len(told)]
+
+
+def try_addresses(words, given, files):
+    """A command that is short of addresses: it does what it does with ample memory, or tells that
+    it wants memory, a desk that it finds no thread; then nothing is saved, and it is run again."""
+    with filled(files) as folder:
+        before = held(folder)
+        ample, after = run(folder, words, given), held(folder)
+    is_desk = words.startswith("desk")
+    with filled(files) as folder:
+        got = run(folder, words, given, preexec_fn=short_of_addresses)
+        left = held(folder)
+        status, told, errors = got
+        refused = [NO_MEMORY, NO_PLACE] if is_desk else [NO_MEMORY]
+        if (status, errors) in refused and is_front(told, ample[1] if given else ""):
+            again = run(folder, words, given)
+            got, left = (again, held(folder)) if left == before else (got, left)
+    if is_desk and got[0] == 0 and is_transcript(got[1]):
+        ample = got
+    hold("6 MB of addresses", words, (got, left), (ample, after))
+
+
+def try_all_addresses():
+    """Each command over short files, and over a journal that wants more than there is."""
+    for words, lines in COMMANDS:
+        try_addresses(words, text_of(lines), {})
+    for words in READING:
+        try_addresses(words, "", {"a.journal": ['{"journal":2}', *LARGE, PUBLISH]})
+
+
+def main():
+    try_outputs()
+    try_input()
+    try_folders()
+    for words, name in SHORTENED:
+        try_shortened(words, name, lambda place: place // 2)
+        try_shortened(words, name, lambda place: place + 10_000)
+    try_full_disk()
+    try_long_files()
+    try_all_addresses()
+    print("| Condition | Runs | As they should be |\n|---|---|---|")
+    for condition, (tried, right) in counts.items():
+        print(f"| {condition} | {tried} | {right} |")
+    for what in untried:
+        print(f"not tried: {what}")
+    return 1 if any(tried != right for tried, right in counts.values()) else 0
+
+
+if __name__ == "__main__":
+    sys.exit(main())
