@@ -27,10 +27,10 @@ FRANCE = ['{"op":"add_land","code":"FR","name":"France","calendar":"julian","sty
 SETUP = [*BRITAIN, *FRANCE, PUBLISH]
 EDITS = [
     ADD_ROME,
-    f'{{"op":"add_change","code":"GB","day":577736,{GREGORIAN}}}',
+    f'{{"op":"add_change","code":"FR","day":577736,{GREGORIAN}}}',
     f'{{"op":"alter_change","code":"GB","day":639551,{GREGORIAN}}}',
     '{"op":"drop_change","code":"GB","day":639551}',
-    '{"op":"add_exception","code":"GB","year":1724,"day":629412}',
+    '{"op":"add_exception","code":"FR","year":1724,"day":629412}',
     '{"op":"drop_exception","code":"GB","year":1753}',
 ]
 READ_TWO_DAYS = '{"op":"read","reader":1,"code":"FR","year":1543,"month":4,"day":1}'
@@ -44,9 +44,14 @@ QUERIES = [
     '{"op":"lands","reader":1}',
     '{"op":"periods","reader":1,"code":"GB"}',
 ]
-LEFT = [PUBLISH, '{"op":"lands","reader":1}', '{"op":"periods","reader":1,"code":"GB"}',
-        '{"op":"easter","reader":1,"code":"GB","year":1724}',
-        '{"op":"easter","reader":1,"code":"GB","year":1753}']
+LEFT = [
+    PUBLISH,
+    '{"op":"lands","reader":1}',
+    '{"op":"periods","reader":1,"code":"GB"}',
+    '{"op":"periods","reader":1,"code":"FR"}',
+    '{"op":"easter","reader":1,"code":"GB","year":1753}',
+    '{"op":"easter","reader":1,"code":"FR","year":1724}',
+]
 BEGUN = ['{"journal":2}', *SETUP, ADD_ROME]
 SCRIPT = [*BEGUN, PUBLISH]
 SESSION = [*SETUP, *EDITS, *QUERIES, "no request", PUBLISH, PUBLISH, READ_TWO_DAYS]
@@ -98,6 +103,9 @@ COMMANDS = [
     ("fly", []),
 ]
 
+# How a command ends that found no memory; a desk may tell of a thread that could not be started.
+NO_MEMORY, NO_PLACE = (4, "oldstyle: no memory\n"), (1, "oldstyle: 93 NoPlace\n")
+
 
 def text_of(lines):
     return "".join(line + "\n" for line in lines)
@@ -131,10 +139,18 @@ def held(folder):
     return found
 
 
+def is_refused(words, status, errors):
+    """Whether a command says that it found no memory."""
+    return (status, errors) in ([NO_MEMORY, NO_PLACE] if words.startswith("desk") else [NO_MEMORY])
+
+
 def is_transcript(told):
     """Whether a desk told each question its reply, at an edition of the script."""
     asked = sorted(map(json.loads, QUESTIONS), key=lambda ask: ask["reader"])
-    if [json.loads(line)["ask"] for line in told.splitlines()] != asked:
+    try:
+        if [json.loads(line)["ask"] for line in told.splitlines()] != asked:
+            return False
+    except ValueError:
         return False
     with filled({"a.transcript": told.splitlines()}) as folder:
         command = [PROGRAM, "audit", "a.script", "a.transcript"]

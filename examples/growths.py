@@ -35,7 +35,8 @@ PROGRAMS = os.path.join(HERE, "growths")
 sys.path.append(os.path.join(HERE, "..", "bench"))
 
 from asked import BEGUN, COMMANDS, EDITS, LEFT, PROGRAM, PUBLISH, QUERIES, QUESTIONS, SCRIPT
-from asked import SESSION, SETUP, STEPS, TRANSCRIPT, filled, held, is_transcript, text_of
+from asked import SESSION, SETUP, STEPS, TRANSCRIPT, filled, held, is_refused, is_transcript
+from asked import text_of
 from clone import add_program, built_program, cloned
 
 LIBRARIES = {
@@ -95,7 +96,7 @@ def wants_memory(told, right):
     lines that it names."""
     if behind := WANTS_BEHIND.match(told):
         replies = right.splitlines(True)[1:]
-        return told[behind.end():] == text_of(replies[: int(behind.group(1))])
+        return told[behind.end():] == "".join(replies[: int(behind.group(1))])
     return told in WANTS
 
 
@@ -124,13 +125,13 @@ def call_row(command, lines, is_right=None):
 def request_calls():
     """The calls of the layers that hold a register: a name, words and lines."""
     behind = str(len(SETUP) + 1)
-    for edit in EDITS:
-        yield "`Register::apply`", ["register", behind], [*SETUP, edit, *LEFT]
-        yield "`Object::stage`", ["object", behind], [*SETUP, edit, *LEFT]
-        yield "`Editor::stage`", ["running", behind], [*SETUP, edit, *LEFT]
-    lines = [*SETUP, *EDITS, *LEFT]
-    yield "`Object::publish`", ["object", str(len(SETUP + EDITS) + 1)], lines
-    yield "`Editor::publish`", ["running", str(len(SETUP + EDITS) + 1)], lines
+    for line, lines in [("1", EDITS), *((behind, [*SETUP, edit, *LEFT]) for edit in EDITS)]:
+        yield "`Register::apply`", ["register", line], lines
+        yield "`Object::stage`", ["object", line], lines
+        yield "`Editor::stage`", ["running", line], lines
+    for place in (len(SETUP), len(SETUP + EDITS) + 1):
+        yield "`Object::publish`", ["object", str(place)], [*SETUP, *EDITS, *LEFT]
+        yield "`Editor::publish`", ["running", str(place)], [*SETUP, *EDITS, *LEFT]
     for query in QUERIES:
         yield "`Object::ask`", ["object", behind], [*SETUP, query, *LEFT]
         yield "`Reader::ask`", ["running", behind], [*SETUP, query, *LEFT]
@@ -205,8 +206,6 @@ def editions_row(program):
 
 # ---- commands of the program
 
-NO_MEMORY = (4, "oldstyle: no memory\n")
-
 
 def command_row(words, lines):
     """The row of a command. Made again is the command in the folder that the refused one left."""
@@ -229,7 +228,7 @@ def command_row(words, lines):
             got = run(command, given, number, folder)
             if is_right(got, folder):
                 return "same"
-            if got[::2] == NO_MEMORY and is_front(got.told) and held(folder) == before:
+            if is_refused(words, *got[::2]) and is_front(got.told) and held(folder) == before:
                 return "again" if is_right(run(command, given, 0, folder), folder) else "lost"
             return got
 

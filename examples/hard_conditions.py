@@ -23,10 +23,9 @@ import time
 from contextlib import contextmanager
 
 from asked import ADD_ROME, BEGUN, COMMANDS, GREGORIAN, PROGRAM, PUBLISH, REGIME, SESSION
-from asked import filled, held, is_transcript, text_of
+from asked import filled, held, is_refused, is_transcript, text_of
 
 ADDRESSES = 6_000_000
-NO_MEMORY, NO_PLACE = (4, "oldstyle: no memory\n"), (1, "oldstyle: 93 NoPlace\n")
 READ_FAULT = (3, "", "oldstyle: read fault\n")
 WRITE_FAULT = (3, "oldstyle: write fault\n")
 SAVING = "serve --journal a.journal --save saved.journal"
@@ -324,13 +323,13 @@ def try_addresses(words, given, files):
         got = run(folder, words, given, preexec_fn=short_of_addresses)
         left = held(folder)
         status, told, errors = got
-        refused = [NO_MEMORY, NO_PLACE] if is_desk else [NO_MEMORY]
-        if (status, errors) in refused and is_front(told, ample[1] if given else ""):
-            again = run(folder, words, given)
-            got, left = (again, held(folder)) if left == before else (got, left)
+        is_short = is_refused(words, status, errors)
+        if is_short and left == before and is_front(told, ample[1] if given else ""):
+            got, left = run(folder, words, given), held(folder)
     if is_desk and got[0] == 0 and is_transcript(got[1]):
         ample = got
-    hold("6 MB of addresses", words, (got, left), (ample, after))
+    condition = "6 MB of addresses, which are too few" if is_short else "6 MB of addresses"
+    hold(condition, words, (got, left), (ample, after))
 
 
 def try_all_addresses():
