@@ -84,7 +84,11 @@ fn are_cut(
         for length in *from..*to {
             let input = READ.as_bytes().get(..length).unwrap_or_default();
             let (written, _) = served(alloc, Limits::standard(), 8, input)?;
-            same(rt, (length, written.as_slice()), (length, wanted.as_slice()));
+            same(
+                rt,
+                (length, written.as_slice()),
+                (length, wanted.as_slice()),
+            );
         }
     }
     Ok(())
@@ -145,7 +149,10 @@ fn end_so(
 ) -> Result<(), AllocError> {
     for (length, fails, wanted, count) in rows {
         let left = READ.as_bytes().get(..*length).unwrap_or_default();
-        let mut source = Plain::new(Short { left, fails: *fails });
+        let mut source = Plain::new(Short {
+            left,
+            fails: *fails,
+        });
         let mut sink = Plain::new(Narrow(Vec::new(alloc)));
         let ended = serve(alloc, Limits::standard(), 8, &mut source, &mut sink);
         let ended = format!(in alloc; "{ended:?}")?;
