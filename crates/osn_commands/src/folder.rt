@@ -1,13 +1,15 @@
 //! Files by their paths: those that are read, and the one that a text is saved to.
 ghost use Rattle.std.specs.Prelude.{◌≡◌, ◌∷◌, [], ℕ, List, Option, Some, None, IfOk, IfSome};
-ghost use Rattle.std.specs.Prelude.{OnOk, OnErr, string_bytes};
+ghost use Rattle.std.specs.Prelude.{OnOk, OnErr, IfErr, string_bytes};
 ghost use Rattle.osn_commands.specs.Folder.{Known, Changes, IsFileOf, HasNoFile, Opens, Becomes};
 ghost use Rattle.osn_commands.specs.Folder.{Moves};
+ghost use Rattle.osn_commands.specs.Run.{IsSaveFault};
 
+use crate::fault::CommandFault;
 use osn_wire::{Plain, Source};
-use std::alloc::{AllocError, Global};
+use std::alloc::Global;
 use std::fs::OpenFile;
-use std::io::Write;
+use std::io::{ErrorKind, Write};
 use std::rt::Files;
 use std::{fs, io};
 
@@ -35,9 +37,14 @@ pub trait Folder {
         ensures none { OnErr result (HasNoFile (known self.old) path.now) };
 
     /// Where a path leads, through links; the path itself where nothing is there.
-    fn place(&self, alloc: Global, path: &str) -> Result<String, AllocError>
-        ensures { IfOk result (λ place. IfSome (known self.now)
-            (λ k. string_bytes place ≡ k.place path.now)) };
+    ///
+    /// # Errors
+    ///
+    /// `NoMemory` where memory ran out; `WriteFault` where it isn't known, or a link leads nowhere.
+    fn place(&self, alloc: Global, path: &str) -> Result<String, CommandFault>
+        ensures place { IfOk result (λ place. IfSome (known self.now)
+            (λ k. string_bytes place ≡ k.place path.now)) }
+        ensures fault { IfErr result IsSaveFault };
 
     /// Whether something is there that is no file, as a pipe.
     fn is_stream(&self, path: &str) -> bool
@@ -94,10 +101,14 @@ impl<R: Files + AllocGlobal> Folder for Disk<'_, R> {
         }
     }
 
-    fn place(&self, alloc: Global, path: &str) -> Result<String, AllocError> {
+    fn place(&self, alloc: Global, path: &str) -> Result<String, CommandFault> {
         match fs::canonicalize(self.files, path) {
             Ok(place) => Ok(place.into_string()),
-            Err(_) => String::from_str(alloc, path),
+            Err(error) if error.kind() == ErrorKind::NotFound => {
+                is_new(self.files, path)?;
+                Ok(String::from_str(alloc, path)?)
+            }
+            Err(error) => Err(place_fault(&error)),
         }
     }
 
@@ -128,6 +139,27 @@ impl<R: Files + AllocGlobal> Folder for Disk<'_, R> {
 
     fn remove(&mut self, path: &str) {
         let _ = fs::remove_file(self.files, path);
+    }
+}
+
+/// Why it is not known where a path leads.
+fn place_fault(error: &io::Error) -> CommandFault
+    ensures { IsSaveFault result }
+{
+    match error.kind() {
+        ErrorKind::OutOfMemory => CommandFault::NoMemory,
+        _ => CommandFault::WriteFault,
+    }
+}
+
+/// That nothing is at a path which leads to no file: no link either.
+fn is_new(files: &impl Files, path: &str) -> Result<(), CommandFault>
+    ensures { IfErr result IsSaveFault }
+{
+    match fs::symlink_metadata(files, path) {
+        Ok(_) => Err(CommandFault::WriteFault),
+        Err(error) if error.kind() == ErrorKind::NotFound => Ok(()),
+        Err(error) => Err(place_fault(&error)),
     }
 }
 

@@ -11,8 +11,8 @@ use std::alloc::{AllocError, Global};
 
 /// Puts a text in place of a file, which a reader finds as it was or as it is then, and never in
 /// part. The text is written to a file beside it first, of the same name and `.unfinished`, with
-/// the permissions of the one that it replaces. A link stays one. What is no file, as a pipe, is
-/// written as it is.
+/// the permissions of the one that it replaces. A link stays one, and one that leads nowhere takes
+/// nothing. What is no file, as a pipe, is written as it is.
 ///
 /// # Errors
 ///

@@ -82,6 +82,35 @@ const SAVED: [RunRow; 2] = [
     ),
 ];
 
+/// Links that lead nowhere.
+const ASTRAY: [RunRow; 2] = [
+    (
+        "oldstyle serve --save astray.journal",
+        "",
+        (3, "", "oldstyle: write fault\n"),
+    ),
+    (
+        "oldstyle serve --save round.journal",
+        "",
+        (3, "", "oldstyle: write fault\n"),
+    ),
+];
+
+/// A link to nothing, or to itself, stays one, and nothing is saved.
+#[test]
+fn links_that_lead_nowhere_stay(rt: HostRuntime) -> Result<(), Fail> {
+    let folder = entered(&rt, "astray", &HELD)?;
+    symlink(&rt, "gone.journal", "astray.journal")?;
+    symlink(&rt, "round.journal", "round.journal")?;
+    are_run(&rt, &ASTRAY)?;
+    let astray = fs::symlink_metadata(&rt, "astray.journal")?.is_symlink();
+    let round = fs::symlink_metadata(&rt, "round.journal")?.is_symlink();
+    let files = fs::read_dir(&rt, ".")?.count();
+    same(&rt, (astray, round, files), (true, true, 4));
+    fs::remove_dir_all(&rt, folder.as_path())?;
+    Ok(())
+}
+
 /// Through a link the file that it leads to is replaced, and keeps its permissions.
 #[test]
 fn a_link_and_permissions_stay(rt: HostRuntime) -> Result<(), Fail> {
