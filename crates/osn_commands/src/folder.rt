@@ -105,7 +105,7 @@ impl<R: Files + AllocGlobal> Folder for Disk<'_, R> {
         match fs::canonicalize(self.files, path) {
             Ok(place) => Ok(place.into_string()),
             Err(error) if error.kind() == ErrorKind::NotFound => {
-                is_new(self.files, path)?;
+                leads_somewhere(self.files, path)?;
                 Ok(String::from_str(alloc, path)?)
             }
             Err(error) => Err(place_fault(&error)),
@@ -152,13 +152,18 @@ fn place_fault(error: &io::Error) -> CommandFault
     }
 }
 
-/// That nothing is at a path which leads to no file: no link either.
-fn is_new(files: &impl Files, path: &str) -> Result<(), CommandFault>
+/// That a path which has no place of its own, as that of an open pipe, is no link that leads
+/// nowhere.
+fn leads_somewhere(files: &impl Files, path: &str) -> Result<(), CommandFault>
     ensures { IfErr result IsSaveFault }
 {
-    match fs::symlink_metadata(files, path) {
-        Ok(_) => Err(CommandFault::WriteFault),
-        Err(error) if error.kind() == ErrorKind::NotFound => Ok(()),
+    let found = match fs::symlink_metadata(files, path) {
+        Ok(_) => fs::metadata(files, path),
+        Err(error) if error.kind() == ErrorKind::NotFound => return Ok(()),
+        Err(error) => Err(error),
+    };
+    match found {
+        Ok(_) => Ok(()),
         Err(error) => Err(place_fault(&error)),
     }
 }
