@@ -3,7 +3,7 @@
 use crate::compare::same;
 use crate::printed::{Left, Wanted, is_left, left_by, sink};
 use crate::session::joined;
-use osn_commands::{Disk, Served, Status, run, serve_command, tell_no_words};
+use osn_commands::{Disk, Folder, Served, Status, run, serve_command, tell_no_words};
 use osn_wire::Plain;
 use std::alloc::Global;
 use std::io;
@@ -206,9 +206,10 @@ const LINES: [(&str, u8); 4] = [
     ("oldstyle replay --readers 65 none", 2),
 ];
 
-/// What a command line leaves over this input.
-pub fn left_over<R: Files + Threads + Wait + AllocGlobal>(
+/// What a command line leaves over this input and the files of a folder.
+pub fn left_in<R: Threads + Wait + AllocGlobal, D: Folder>(
     rt: &R,
+    folder: &mut D,
     line: &str,
     read: &str,
 ) -> Result<Left, Fail> {
@@ -217,10 +218,9 @@ pub fn left_over<R: Files + Threads + Wait + AllocGlobal>(
     let mut errors = sink(rt.alloc());
     let mut input = Plain::new(read.as_bytes());
     let terminal = Some(sink(rt.alloc()));
-    let mut disk = Disk::new(rt);
     let status = run(
         rt,
-        &mut disk,
+        folder,
         &words,
         &mut input,
         &mut output,
@@ -228,6 +228,15 @@ pub fn left_over<R: Files + Threads + Wait + AllocGlobal>(
         terminal,
     );
     Ok(left_by(status, output, errors))
+}
+
+/// The same over the files of the system.
+pub fn left_over<R: Files + Threads + Wait + AllocGlobal>(
+    rt: &R,
+    line: &str,
+    read: &str,
+) -> Result<Left, Fail> {
+    left_in(rt, &mut Disk::new(rt), line, read)
 }
 
 /// That standard error is told something where the status is not 0, and nothing else.

@@ -12,7 +12,7 @@ use std::thread::Threads;
 use std::{env, fs, process};
 
 /// The name of a file, and its text.
-type File = (&'static str, &'static str);
+pub type File = (&'static str, &'static str);
 
 /// Makes a folder for a test, with these files, and goes there.
 pub fn entered(rt: &HostRuntime, test: &str, files: &[File]) -> Result<PathBuf, Fail> {
@@ -58,7 +58,7 @@ const TRANSCRIPT: &str = r#"{"ask":{"op":"lands","reader":1},
   "reply":{"answer":{"lands":[{"code":"RM","name":"Rome"}]},"edition":1,"reader":1}}
 "#;
 
-const NAMED: [File; 5] = [
+pub const NAMED: [File; 5] = [
     ("a.journal", PUBLISHED),
     ("a.script", PENDING),
     ("a.questions", QUESTIONS),
@@ -107,7 +107,7 @@ const TOLD: &str = r#"{"ask":{"code":"RM","op":"periods","reader":1},"reply":{"e
 "#;
 
 /// Each command, and then those of two files with the files the other way round.
-const RUNS: [RunRow; 8] = [
+pub const RUNS: [RunRow; 8] = [
     ("oldstyle almanac a.journal RM 1500", "", (0, ROME_1500, "")),
     ("oldstyle replay --readers 2 a.schedule", "", (0, OUTS, "")),
     ("oldstyle desk a.script a.questions", "", (0, TOLD, "")),
@@ -154,11 +154,11 @@ const ROME: &str = r#"{"answer":{"lands":[{"code":"RM","name":"Rome"}]},"edition
 const LATER: &str = r#"{"answer":{"lands":[{"code":"RM","name":"Rome"}]},"edition":2,"reader":1}
 "#;
 
-const ADDED: &str = r#"{"op":"add_exception","code":"RM","year":1582,"day":577736}
+pub const ADDED: &str = r#"{"op":"add_exception","code":"RM","year":1582,"day":577736}
 {"op":"publish"}
 "#;
 
-const NOTED: &str = r#"{"ok":"staged","pending":1}
+pub const NOTED: &str = r#"{"ok":"staged","pending":1}
 {"edition":2,"ok":"published"}
 "#;
 
@@ -195,7 +195,7 @@ const KEPT: [RunRow; 5] = [
     ),
 ];
 
-const SAVED: &str = r#"{"journal":2}
+pub const SAVED: &str = r#"{"journal":2}
 {"calendar":"julian","code":"RM","name":"Rome","op":"add_land","rule":"julian","style":"january"}
 {"op":"publish"}
 {"code":"RM","day":577736,"op":"add_exception","year":1582}

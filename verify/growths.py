@@ -1,7 +1,7 @@
 #!/usr/bin/env python3
 """Refuses each growth of memory in turn to the calls of the libraries and to the program.
 
-    examples/growths.py [PROGRAM]     the program is crates/oldstyle/out/oldstyle by default
+    verify/growths.py [PROGRAM]     the program is crates/oldstyle/out/oldstyle by default
 
 A call that is refused a growth answers that it wants memory, or what it answers with ample memory;
 and made again with memory, it answers as if the refused one had never been. Each growth of a call
@@ -32,7 +32,7 @@ from concurrent.futures import ThreadPoolExecutor
 
 HERE = os.path.dirname(os.path.abspath(__file__))
 PROGRAMS = os.path.join(HERE, "growths")
-sys.path.append(os.path.join(HERE, "..", "bench"))
+sys.path.append(os.path.join(HERE, "..", "tools"))
 
 from asked import BEGUN, COMMANDS, EDITS, LEFT, PROGRAM, PUBLISH, QUERIES, QUESTIONS, SCRIPT
 from asked import SESSION, SETUP, STEPS, TRANSCRIPT, filled, held, is_refused, is_transcript
@@ -46,6 +46,9 @@ LIBRARIES = {
                 "osn_register", "osn_reply", "osn_wire", "anyhow"],
     "editions": ["osn_days", "osn_computus", "osn_lands", "osn_register", "osn_core", "osn_live"],
 }
+
+# The words with which each is run once it is built.
+WORDS = {"requests": ("register", "1"), "steps": ("1",), "streams": ("serve", ""), "editions": ()}
 AT_ONCE = 2
 ROOM = tempfile.TemporaryDirectory()
 LIBRARY = os.path.join(ROOM.name, "growths.so")
@@ -262,7 +265,7 @@ def main():
         built = {}
         for name, libraries in LIBRARIES.items():
             source = os.path.join(PROGRAMS, f"{name}.rattle")
-            built[name] = built_program(add_program(clone, source, libraries))
+            built[name] = built_program(add_program(clone, source, libraries), WORDS[name])
         rows = joined(all_rows(built))
     print("| Call | Growths | Refused | The same | Right when made again |")
     print("|---|---|---|---|---|")

@@ -1,7 +1,7 @@
 #!/usr/bin/env python3
 """Holds what random territories answer against a search through every day.
 
-    examples/random_lands.py [SEED [PROGRAM [COUNT]]]
+    verify/random_lands.py [SEED [PROGRAM [COUNT]]]
         seed 1, ../oldstyle and 100 territories where none is given
 
 The search shares no rule of conversion with the service. The calendars are laid out month by month
@@ -14,16 +14,13 @@ Each 30 territories are a run of their own. It takes two minutes, and the time o
 10,000 readings and all years' Easters.
 """
 import json
-import os
 import random
-import subprocess
 import sys
 from array import array
 
-SEED = int(sys.argv[1]) if len(sys.argv) > 1 else 1
-HERE = os.path.dirname(os.path.abspath(__file__))
-PROGRAM = sys.argv[2] if len(sys.argv) > 2 else os.path.join(HERE, "..", "oldstyle")
-COUNT = int(sys.argv[3]) if len(sys.argv) > 3 else 100
+import common
+
+SEED, PROGRAM, COUNT = common.argument(1, 1), common.program(2), common.argument(3, 100)
 LANDS, READINGS = 30, 100
 HIGH, LAST_YEAR, LAST_LABEL_YEAR = 3_652_059, 9_999, 10_000
 CALENDARS = ["julian", "gregorian", "swedish"]
@@ -227,9 +224,7 @@ def edits(code, starts, exceptions):
 
 
 def replies(requests):
-    text = "".join(json.dumps(request) + "\n" for request in requests)
-    done = subprocess.run([PROGRAM], input=text, stdout=subprocess.PIPE, text=True, check=True)
-    lines = done.stdout.splitlines()
+    lines = common.run(PROGRAM, lines=map(json.dumps, requests)).stdout.splitlines()
     if len(lines) != len(requests):
         sys.exit(f"{len(lines)} replies to {len(requests)} lines")
     return [json.loads(line) for line in lines]

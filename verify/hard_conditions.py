@@ -1,7 +1,7 @@
 #!/usr/bin/env python3
 """Runs the program where output, files, the disk or memory fail it.
 
-    examples/hard_conditions.py [PROGRAM]   the program is crates/oldstyle/out/oldstyle by default
+    verify/hard_conditions.py [PROGRAM]   the program is crates/oldstyle/out/oldstyle by default
 
 The conditions are: standard output that is full, closed or a pipe that nobody reads, and standard
 error full as well; standard input that is closed or a folder; a folder in the place of each file
@@ -91,16 +91,23 @@ def try_outputs():
 
 
 def try_input():
-    """Standard input that fails: nothing is saved."""
+    """Standard input that fails: nothing is saved. Where it is closed, the first file that is
+    opened takes its number, and once that is read the input has ended."""
     for words in ["", SAVING]:
         with filled() as folder:
             before = held(folder)
             input_folder = os.open(folder, os.O_RDONLY)
             told = run(folder, words, stdin=input_folder)
             hold("input a folder", words, (told, held(folder)), (READ_FAULT, before))
-            told = run(folder, words, stdin=None, preexec_fn=lambda: os.close(0))
-            hold("input closed", words, (told, held(folder)), (READ_FAULT, before))
             os.close(input_folder)
+    with filled() as folder:
+        before = held(folder)
+        told = run(folder, "", stdin=None, preexec_fn=lambda: os.close(0))
+        hold("input closed", "", (told, held(folder)), (READ_FAULT, before))
+        told = run(folder, SAVING, stdin=None, preexec_fn=lambda: os.close(0))
+        closed = held(folder)
+        empty = run(folder, SAVING, stdin=subprocess.DEVNULL)
+        hold("input closed", SAVING, (told, closed), (empty, held(folder)))
 
 
 # ---- files

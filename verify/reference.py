@@ -1,5 +1,5 @@
 #!/usr/bin/env python3
-"""The service written apart, slowly: examples/apart.py < examples/rome.jsonl
+"""The service written apart, slowly: verify/reference.py < examples/rome.jsonl
 
 It answers request lines as the program does, from docs/FORMATS.md and docs/DEFINITIONS.md alone,
 for eight readers and the standard limits. Calendars are walks along every day of the line, a

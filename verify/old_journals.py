@@ -1,14 +1,15 @@
 #!/usr/bin/env python3
 """Holds what an older program and a newer one make of random journals of version 1.
 
-    examples/old_journals.py OLD NEW [COUNT [SEED]]      1,000 journals and seed 1 if none is given
+    verify/old_journals.py OLD NEW [COUNT [SEED]]      1,000 journals and seed 1 if none is given
 
 OLD and NEW are the words of a command, as in 'path/to/oldstyle', to which `serve` and its options
 are added. Each journal has edits of all six kinds and publishes, in any spelling that is allowed,
 and mostly edits that are pending. Some have a line that is refused or no request, so that nothing
 is loaded. Both programs load each journal, answer queries of all six kinds, make some further
 edits, and save. What they have to agree in: their statuses and messages, their replies, and what
-they save, but that the older one writes the head {"journal":1} and the newer one {"journal":2}.
+they save, but for the head: the newer one writes {"journal":2}, and the older one may write
+{"journal":1}.
 
 By the older program's rules the line ends on 31 December 2999, and by the newer one's on that of
 9999; the journals and queries are of days and years that both have, or neither. In a reply of the
@@ -249,7 +250,7 @@ def difference(old, new):
     one, other = old[3], new[3]
     if (one is None) != (other is None):
         return f"saved: {one!r}\n  and {other!r}"
-    if one is not None and not (one.startswith(HEAD) and other.startswith(NEXT_HEAD)):
+    if one is not None and not (one.startswith((HEAD, NEXT_HEAD)) and other.startswith(NEXT_HEAD)):
         return f"saved heads: {one[:40]!r}\n  and {other[:40]!r}"
     if one is not None and one[len(HEAD) :] != other[len(NEXT_HEAD) :]:
         return f"saved: {one!r}\n  and {other!r}"

@@ -1,7 +1,7 @@
 #!/usr/bin/env python3
 """Holds the figures of all 9,999 years against formulas written apart.
 
-    examples/all_years.py [PROGRAM]
+    verify/all_years.py [PROGRAM]
 
 Easter by the anonymous algorithm of *Nature* (1876) for the Gregorian rule and by Meeus,
 *Astronomical Algorithms*, for the Julian one; Sunday letters from the weekday of 1 January, which
@@ -9,12 +9,10 @@ Easter by the anonymous algorithm of *Nature* (1876) for the Gregorian rule and 
 """
 import datetime
 import json
-import os
-import subprocess
 import sys
 
-HERE = os.path.dirname(os.path.abspath(__file__))
-PROGRAM = sys.argv[1] if len(sys.argv) > 1 else os.path.join(HERE, "..", "oldstyle")
+from common import program, run
+
 YEARS = range(1, 10_000)
 
 
@@ -67,9 +65,9 @@ def figures(year):
     }
 
 
-requests = "".join('{"op":"figures","reader":1,"year":%d}\n' % year for year in YEARS)
-run = subprocess.run([PROGRAM], input=requests, stdout=subprocess.PIPE, text=True, check=True)
-answers = [json.loads(line)["answer"] for line in run.stdout.splitlines()]
+requests = ['{"op":"figures","reader":1,"year":%d}' % year for year in YEARS]
+replies = run(program(1), lines=requests).stdout.splitlines()
+answers = [json.loads(line)["answer"] for line in replies]
 apart = [year for year, answer in zip(YEARS, answers, strict=True) if answer != figures(year)]
 print(f"{len(answers)} years, {len(apart)} differ")
 sys.exit(1 if apart else 0)

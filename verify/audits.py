@@ -1,7 +1,7 @@
 #!/usr/bin/env python3
 """Audits transcripts of random journals, as they are and with one digit of a reply changed.
 
-    examples/audits.py [COUNT [SEED [PROGRAM]]]
+    verify/audits.py [COUNT [SEED [PROGRAM]]]
         1,000 transcripts, seed 1 and ../oldstyle where none is given
 
 A journal of random edits is served, edition by edition, to readers who ask in between; each query
@@ -10,28 +10,16 @@ transcript is taken. The audit has to agree to all replies. Then one digit withi
 changed, and the audit has to name that line. In the end a transcript of over 128 MiB is audited,
 which has to say on a terminal how far it is, and nowhere else.
 """
-import json
 import os
 import pty
 import random
 import re
 import subprocess
-import sys
 import tempfile
 
-HERE = os.path.dirname(os.path.abspath(__file__))
-JULIAN = {"calendar": "julian", "style": "january", "rule": "julian"}
+from common import JULIAN, argument, compact, program, run
+
 CODES = ["RM", "GB", "FR", "DE"]
-
-
-def compact(value):
-    return json.dumps(value, separators=(",", ":"), sort_keys=True, ensure_ascii=False)
-
-
-def run(program, words, lines=()):
-    text = "".join(line + "\n" for line in lines)
-    command = [program, *words]
-    return subprocess.run(command, input=text, capture_output=True, text=True, check=False)
 
 
 def edit(chance):
@@ -53,30 +41,30 @@ def query(chance):
                           {"op": "read", "code": code, "year": 1543, "month": 4, "day": 1}])
 
 
-def served(program, chance, journal):
+def served(oldstyle, chance, journal):
     """The transcript of readers who ask while an editor works, and the journal that is left."""
     lines = []
     for _ in range(chance.randrange(5, 60)):
         ask = {**query(chance), "reader": chance.randint(1, 8)}
         requests = [edit(chance), edit(chance), {"op": "publish"}, ask, ask, ask]
         lines.append(compact(chance.choice(requests)))
-    replies = run(program, ["serve", "--save", journal], lines).stdout.splitlines()
+    replies = run(oldstyle, ["serve", "--save", journal], lines).stdout.splitlines()
     told = [(line, reply) for line, reply in zip(lines, replies) if '"reader"' in line]
     return [f'{{"ask":{line},"reply":{reply}}}' for line, reply in told]
 
 
-def at_desk(program, chance, journal, questions):
+def at_desk(oldstyle, chance, journal, questions):
     """The transcript of a desk that works through a journal."""
     with open(questions, "w", encoding="utf-8") as file:
         for _ in range(chance.randrange(1, 40)):
             file.write(compact({**query(chance), "reader": chance.randint(1, 4)}) + "\n")
-    return run(program, ["desk", journal, questions]).stdout.splitlines()
+    return run(oldstyle, ["desk", journal, questions]).stdout.splitlines()
 
 
-def audited(program, journal, transcript, lines):
+def audited(oldstyle, journal, transcript, lines):
     with open(transcript, "w", encoding="utf-8") as file:
         file.write("".join(line + "\n" for line in lines))
-    done = run(program, ["audit", journal, transcript])
+    done = run(oldstyle, ["audit", journal, transcript])
     return done.returncode, done.stdout + done.stderr
 
 
@@ -92,13 +80,13 @@ def spoilt(chance, line):
     return line[:place] + digit + line[place + 1:]
 
 
-def long_audit(program, journal, transcript, line):
+def long_audit(oldstyle, journal, transcript, line):
     """What an audit of over 128 MiB says on standard error that is a terminal, and elsewhere."""
     text = (line + "\n").encode()
     with open(transcript, "wb") as file:
         for _ in range((128 << 20) // len(text) + 1):
             file.write(text)
-    command = [program, "audit", journal, transcript]
+    command = [oldstyle, "audit", journal, transcript]
     terminal, ours = pty.openpty()
     shown = subprocess.run(command, stdout=subprocess.PIPE, stderr=ours, check=True).stdout
     os.close(ours)
@@ -110,30 +98,28 @@ def long_audit(program, journal, transcript, line):
 
 
 def main():
-    count = int(sys.argv[1]) if len(sys.argv) > 1 else 1_000
-    chance = random.Random(int(sys.argv[2]) if len(sys.argv) > 2 else 1)
-    program = sys.argv[3] if len(sys.argv) > 3 else os.path.join(HERE, "..", "oldstyle")
+    count, chance, oldstyle = argument(1, 1_000), random.Random(argument(2, 1)), program(3)
     agreed = refused = 0
     with tempfile.TemporaryDirectory() as room:
         names = ("journal", "questions", "transcript")
         journal, questions, transcript = (os.path.join(room, name) for name in names)
         for place in range(count):
-            lines = served(program, chance, journal)
+            lines = served(oldstyle, chance, journal)
             if place % 2:
-                lines = at_desk(program, chance, journal, questions)
-            status, told = audited(program, journal, transcript, lines)
+                lines = at_desk(oldstyle, chance, journal, questions)
+            status, told = audited(oldstyle, journal, transcript, lines)
             wanted = f"audit: {len(lines)} replies agree\n"
             assert (status, told) == (0, wanted), (status, told, lines)
             agreed += len(lines)
             if lines:
                 bad = chance.randrange(len(lines))
                 changed = lines[:bad] + [spoilt(chance, lines[bad])] + lines[bad + 1:]
-                status, told = audited(program, journal, transcript, changed)
+                status, told = audited(oldstyle, journal, transcript, changed)
                 wanted = f"oldstyle: transcript line {bad + 1}: 42 WrongReply\n"
                 assert (status, told) == (1, wanted), (status, told, changed[bad])
                 refused += 1
-        line = at_desk(program, chance, journal, questions)[0]
-        told = long_audit(program, journal, transcript, line)
+        line = at_desk(oldstyle, chance, journal, questions)[0]
+        told = long_audit(oldstyle, journal, transcript, line)
         wanted = [f"oldstyle: {place} MiB of the transcript read" for place in (64, 128)]
         assert told == (wanted, []), told
     print(f"{count} transcripts: {agreed} replies agreed to, {refused} changed ones refused")

@@ -1,7 +1,7 @@
 #!/usr/bin/env python3
 """Holds what desks write against what the service answers, edition by edition.
 
-    examples/desk_runs.py [RUNS [QUESTIONS [PROGRAM]]]    200 runs of 100,000 questions, ../oldstyle
+    verify/desk_runs.py [RUNS [QUESTIONS [PROGRAM]]]    200 runs of 100,000 questions, ../oldstyle
 
 An editor works through a script while 64 readers ask, each in a thread of its own. Which edition a
 question meets is the schedule's affair, but the reply has to be that of `serve` at the edition that
@@ -12,19 +12,12 @@ is looked up there. Run it on a busy machine too: that moves the threads about.
 import json
 import os
 import random
-import subprocess
-import sys
 import tempfile
 
-HERE = os.path.dirname(os.path.abspath(__file__))
+from common import GREGORIAN, JULIAN, argument, compact, program, run
+
 READERS, EDITIONS, LANDS = 64, 40, 12
-JULIAN = {"calendar": "julian", "style": "january", "rule": "julian"}
-GREGORIAN = {"calendar": "gregorian", "style": "january", "rule": "gregorian"}
 STYLES = ["january", "annunciation", "nativity", "september", "pisan", "easter"]
-
-
-def compact(value):
-    return json.dumps(value, separators=(",", ":"), sort_keys=True, ensure_ascii=False)
 
 
 def editions(chance):
@@ -60,20 +53,13 @@ def queries(chance):
     return asked
 
 
-def run(program, words, lines):
-    text = "".join(line + "\n" for line in lines)
-    command = [program, *words]
-    done = subprocess.run(command, input=text, capture_output=True, text=True, check=True)
-    return done.stdout.splitlines()
-
-
-def told_by_service(program, batches, asked):
+def told_by_service(oldstyle, batches, asked):
     """What the service tells reader 1 of each query at each edition."""
     lines, ask = [], [compact({**query, "reader": 1}) for query in asked]
     for batch in [[], *batches]:
         publish = [compact({"op": "publish"})] if batch else []
         lines += [compact(edit) for edit in batch] + publish + ask
-    told = [json.loads(line) for line in run(program, ["serve"], lines)]
+    told = [json.loads(line) for line in run(oldstyle, ["serve"], lines).stdout.splitlines()]
     told = [reply for reply in told if "reader" in reply]
     pairs = zip(told, asked * (len(batches) + 1))
     return {(reply["edition"], compact(query)): reply for reply, query in pairs}
@@ -97,12 +83,10 @@ def check(transcript, questions, told):
 
 
 def main():
-    runs = int(sys.argv[1]) if len(sys.argv) > 1 else 200
-    count = int(sys.argv[2]) if len(sys.argv) > 2 else 100_000
-    program = sys.argv[3] if len(sys.argv) > 3 else os.path.join(HERE, "..", "oldstyle")
+    runs, count, oldstyle = argument(1, 200), argument(2, 100_000), program(3)
     chance, met = random.Random(1), set()
     batches, asked = editions(chance), queries(chance)
-    told = told_by_service(program, batches, asked)
+    told = told_by_service(oldstyle, batches, asked)
     script = [compact({"journal": 2})]
     for batch in batches:
         script += [compact(edit) for edit in batch] + [compact({"op": "publish"})]
@@ -115,7 +99,8 @@ def main():
                 with open(path, "w", encoding="utf-8") as file:
                     file.write("".join(line + "\n" for line in text))
             by_reader = sorted(questions, key=lambda question: question[0])
-            met |= check(run(program, ["desk", *paths], []), by_reader, told)
+            transcript = run(oldstyle, ["desk", *paths]).stdout.splitlines()
+            met |= check(transcript, by_reader, told)
     print(f"{runs} desks of {READERS} readers and {count} questions: "
           f"every reply as the service gives it, {len(met)} of {EDITIONS + 1} editions met")
 

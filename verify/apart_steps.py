@@ -1,25 +1,23 @@
 #!/usr/bin/env python3
 """Holds what schedules of the nine steps give against a model written apart.
 
-    examples/apart_steps.py [COUNT [SEED [PROGRAM]]]
+    verify/apart_steps.py [COUNT [SEED [PROGRAM]]]
         1,000 schedules, seed 1 and ../oldstyle where none is given
-    examples/apart_steps.py --replay READERS < SCHEDULE
+    verify/apart_steps.py --replay READERS < SCHEDULE
         what the model gives at the steps of one schedule
 
 The model has two copies of the territories, each with its edits made one by one, and a list of the
 edits that the standby lacks. It was written from docs/DEFINITIONS.md alone, and shares the rules of
-edits and queries with apart.py.
+edits and queries with reference.py.
 """
 import json
-import os
 import random
-import subprocess
 import sys
 import tempfile
 
-from apart import Fault, Service, refuse, request_of
+from common import JULIAN, argument, program, run
+from reference import Fault, Service, refuse, request_of
 
-HERE = os.path.dirname(os.path.abspath(__file__))
 EDITIONS = 5_000
 
 
@@ -135,7 +133,6 @@ NEXT = {"idle": "look", "noted": "pin", "marked": "check", "entered": "answer", 
 WORK = {"ready": ["stage", "stage", "publish"], "draining": ["claim"], "claimed": ["absorb"]}
 READER, EDITOR = list(NEXT.values()), ["stage", "publish", "claim", "absorb"]
 CODES = ["RM", "GB", "FR", "DE", "rm"]
-JULIAN = {"calendar": "julian", "style": "january", "rule": "julian"}
 
 
 def query(chance):
@@ -182,13 +179,13 @@ def schedule(chance, machine):
     return lines, outs
 
 
-def given(program, readers, lines):
+def given(oldstyle, readers, lines):
     """What the program gives at a schedule."""
     with tempfile.NamedTemporaryFile("w", suffix=".jsonl") as file:
         file.write("".join(line + "\n" for line in lines))
         file.flush()
-        words = [program, "replay", "--readers", str(readers), file.name]
-        return subprocess.run(words, capture_output=True, text=True, check=True).stdout.splitlines()
+        words = ["replay", "--readers", str(readers), file.name]
+        return run(oldstyle, words).stdout.splitlines()
 
 
 def main():
@@ -197,14 +194,12 @@ def main():
         for line in sys.stdin:
             print(machine.out(line))
         return
-    count = int(sys.argv[1]) if len(sys.argv) > 1 else 1_000
-    seed = int(sys.argv[2]) if len(sys.argv) > 2 else 1
-    program = sys.argv[3] if len(sys.argv) > 3 else os.path.join(HERE, "..", "oldstyle")
+    count, seed, oldstyle = argument(1, 1_000), argument(2, 1), program(3)
     chance, steps = random.Random(seed), 0
     for place in range(count):
         readers = chance.randint(1, 4)
         lines, wanted = schedule(chance, Machine(readers))
-        got = given(program, readers, lines)
+        got = given(oldstyle, readers, lines)
         if got != wanted:
             print(f"schedule {place} of seed {seed}, {readers} readers:")
             for line, one, other in zip(lines, wanted, got + [""] * len(lines)):
