@@ -43,7 +43,7 @@ LIBRARIES = {
     "requests": ["osn_core", "osn_live", "osn_register", "osn_request", "anyhow"],
     "steps": ["osn_core", "osn_files", "osn_lines", "osn_register", "anyhow"],
     "streams": ["osn_almanac", "osn_audit", "osn_core", "osn_files", "osn_lines", "osn_live",
-                "osn_register", "osn_reply", "osn_wire", "anyhow"],
+                "osn_register", "osn_reply", "osn_service", "anyhow"],
     "editions": ["osn_days", "osn_computus", "osn_lands", "osn_register", "osn_core", "osn_live"],
 }
 

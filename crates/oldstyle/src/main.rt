@@ -1,15 +1,16 @@
 //! The calendar change register, as a program over files and the standard streams.
 #![tactic(auto)]
 
-use osn_commands::{Disk, run, tell_no_words};
-use osn_wire::Plain;
+use osn_commands::{run, tell_no_words};
+use osn_folder::Disk;
+use osn_lines::Plain;
 use std::io::IsTerminal;
 use std::process::ExitCode;
 use std::rt::Env;
 use std::{env, io};
 
-/// The words of the command line, of which the first is the program's name.
-fn given_words(rt: &(impl Env + AllocGlobal)) -> io::Result<Vec<String>> {
+/// The arguments of the command line, of which the first is the program's name.
+fn given_args(rt: &(impl Env + AllocGlobal)) -> io::Result<Vec<String>> {
     Ok(env::args(rt)?.collect(rt.alloc())?)
 }
 
@@ -19,11 +20,11 @@ fn main(rt: HostRuntime) -> ExitCode {
     let mut errors = Plain::new(rt.stderr());
     let terminal = rt.stderr().is_terminal().then(|| Plain::new(rt.stderr()));
     let mut disk = Disk::new(&rt);
-    let status = match given_words(&rt) {
-        Ok(words) => run(
+    let status = match given_args(&rt) {
+        Ok(args) => run(
             &rt,
             &mut disk,
-            &words,
+            &args,
             &mut input,
             &mut output,
             &mut errors,

@@ -14,14 +14,15 @@ use Rattle.osn_computus.specs.declared.letter.Letter.{Letter}
 use Rattle.osn_computus.specs.declared.letter.Letter.TheVariants as letter
 use Rattle.osn_computus.specs.declared.letters.Letters.{Letters}
 use Rattle.osn_computus.specs.Letters.{letter_name, letter_number}
+use Rattle.osn_computus.specs.FigureTexts.{letters_text, epact_text}
 use Rattle.osn_days.specs.declared.date.Date.{Date}
 use Rattle.osn_days.specs.Chain.{date_of}
 use Rattle.osn_lands.specs.declared.regime.Regime.{Regime}
 use Rattle.osn_lands.specs.Dual.{from_difference, later_digits, year_text, dual_text, month_name}
 use Rattle.osn_lands.specs.Style.{style_year}
-use Rattle.osn_words.specs.Texts.{at_least, date_text, text_of_date, letters_text}
 use Rattle.osn_days.specs.Profile.{Profile}
 use Rattle.osn_days.specs.declared.calendar.Calendar.TheVariants.{Gregorian}
+use Rattle.osn_days.specs.DateText.{at_least, date_text, text_of_date}
 use Rattle.osn_lands.specs.declared.period.Period.{Period}
 use Rattle.osn_register.specs.declared.answer.Answer.{Answer}
 use Rattle.osn_register.specs.declared.answer.Answer.TheVariants as answers
@@ -32,7 +33,6 @@ use Rattle.osn_register.specs.Answer.{answer, unless, listed, day_refusal, day_a
 use Rattle.osn_register.specs.Answer.{period_on, found_under}
 use Rattle.osn_register.specs.Plain.{PlainLand, territory_of}
 use Rattle.osn_lands.specs.Territory.{PlainTerritory, periods_of, regime_at}
-use Rattle.osn_words.specs.Texts.{epact_text}
 use Rattle.osn_almanac.specs.declared.feast.Feast.{Feast}
 use Rattle.osn_almanac.specs.Almanac.{heading, heading_of, heading_lines, cycles_line, julian_line}
 use Rattle.osn_almanac.specs.Almanac.{gregorian_line, figures_lines, is_change_in, change_text}

@@ -8,11 +8,16 @@ use Rattle.std.specs.Ordering.{int_eq}
 use Rattle.std.specs.Str.{bytes_eq}
 use Rattle.osn_computus.specs.declared.epact.Epact.{Epact}
 use Rattle.osn_computus.specs.declared.letters.Letters.{Letters}
+use Rattle.osn_computus.specs.FigureTexts.{epact_text, letters_text}
+use Rattle.osn_computus.specs.RuleWords.{rule_word}
 use Rattle.osn_days.specs.declared.calendar.Calendar.TheVariants.{Gregorian}
 use Rattle.osn_days.specs.Profile.{Profile}
 use Rattle.osn_days.specs.Chain.{date_of}
+use Rattle.osn_days.specs.DateText.{text_of_date}
+use Rattle.osn_days.specs.CalendarWords.{calendar_word}
 use Rattle.osn_lands.specs.declared.period.Period.{Period}
 use Rattle.osn_lands.specs.Dual.{dual_text, month_name}
+use Rattle.osn_lands.specs.StyleWords.{style_word}
 use Rattle.osn_register.specs.declared.answer.Answer.{Answer}
 use Rattle.osn_register.specs.declared.answer.Answer.TheVariants as answers
 use Rattle.osn_register.specs.declared.answer.Found.{Found}
@@ -22,8 +27,6 @@ use Rattle.osn_register.specs.declared.query.Query.TheVariants.{Lands, Periods}
 use Rattle.osn_register.specs.declared.refusal.Refusal.{Refusal}
 use Rattle.osn_register.specs.Answer.{answer, easter_refusal}
 use Rattle.osn_register.specs.Plain.{PlainLand}
-use Rattle.osn_words.specs.Texts.{text_of_date, epact_text, letters_text}
-use Rattle.osn_words.specs.Words.{calendar_word, style_word, rule_word}
 use Rattle.osn_almanac.specs.declared.feast.Feast.{Feast}
 use Rattle.osn_almanac.specs.Columns.{day_line, absent_line}
 use Rattle.osn_almanac.specs.Feast.{feast_name, days_after_easter, feasts}

@@ -2,8 +2,7 @@
 use Rattle.std.specs.Prelude.{ℕ, ◌-◌, List, ◌++◌, length, replicate, codes}
 use Rattle.std.specs.Fmt.{char_count, decimal}
 use Rattle.osn_days.specs.Line.{weekday}
-use Rattle.osn_days.specs.Weekday.{weekday_name}
-use Rattle.osn_words.specs.Texts.{weekday_numbered}
+use Rattle.osn_days.specs.Weekday.{weekday_name, weekday_numbered}
 
 -- a text, and as many spaces as bring it to the width
 abbrev pub left_in : ℕ → List ℕ → List ℕ

@@ -6,10 +6,9 @@ ghost use Rattle.osn_register.specs.declared.query.Query.TheVariants.{Periods};
 ghost use Rattle.osn_almanac.specs.Almanac as said;
 
 use crate::columns::push_line;
-use osn_days::{Calendar, Day, date_of};
+use osn_days::{Calendar, Day, Keyword, date_of};
 use osn_lands::{Period, dual_text};
 use osn_register::{Answer, Query, Register, Text};
-use osn_words::Word;
 use std::alloc::{AllocError, Global};
 
 /// Whether the period begins with a change, on a day that has a Gregorian date in the year.

@@ -1,11 +1,11 @@
-//! Lines about a day, in columns: 13 places for a name, as long as `Ash Wednesday`, 9 for a weekday,
-//! as long as `Wednesday`, and 7 for the number of a day, of which the line has no more digits.
+//! Lines about a day, in columns: 13 places for a name, as long as `Ash Wednesday`, 9 for a
+//! weekday, as long as `Wednesday`, and 7 for the number of a day, of which the line has no more
+//! digits.
 ghost use Rattle.std.specs.Prelude.{◌≡◌, [], ◌∷◌, ◌++◌, OnOk, string_bytes};
 ghost use Rattle.osn_almanac.specs.Columns as said;
 ghost use Rattle.osn_almanac.specs.Almanac.{lines_text};
 
 use osn_days::Day;
-use osn_words::weekday_of;
 use std::alloc::{AllocError, Global};
 
 /// Appends a line and its line feed.
@@ -31,7 +31,7 @@ pub(crate) fn push_day(
     let line = format!(in alloc;
         "{:<13} {:<9} {:>7} {}",
         name,
-        weekday_of(day),
+        day.weekday().name(),
         day.number(),
         date
     )?;

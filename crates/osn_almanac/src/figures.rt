@@ -1,29 +1,13 @@
-ghost use Rattle.std.specs.Prelude.{◌≡◌, [], ◌∷◌, ◌++◌, IfOk, OnOk, string_bytes};
+ghost use Rattle.std.specs.Prelude.{◌≡◌, [], ◌∷◌, ◌++◌, OnOk, string_bytes};
 ghost use Rattle.osn_days.specs.Profile.{newest_rules};
 ghost use Rattle.osn_register.specs.Answer.{answer};
 ghost use Rattle.osn_register.specs.declared.query.Query.TheVariants.{YearFigures};
-ghost use Rattle.osn_words.specs.Texts as texts;
 ghost use Rattle.osn_almanac.specs.Almanac as said;
 
 use crate::columns::push_line;
-use osn_computus::{Epact, Letters};
+use osn_computus::{Epact, Letters, epact_text, letters_text};
 use osn_register::{Answer, Query, Register};
-use osn_words::letters_text;
 use std::alloc::{AllocError, Global};
-
-/// An epact of the Gregorian reckoning as the canons write it: `*`, `25'` or its number.
-#[tactic(auto, unfolding(osn_words::specs::Texts::epact_text))]
-fn epact_text(alloc: Global, epact: Epact) -> Result<String, AllocError>
-    ensures { IfOk result (λ s. string_bytes s ≡ texts.epact_text epact) }
-{
-    if epact.number == 0 {
-        String::from_str(alloc, "*")
-    } else if epact.number == 25 && epact.prime {
-        String::from_str(alloc, "25'")
-    } else {
-        format!(in alloc; "{}", epact.number)
-    }
-}
 
 /// Appends the line of the cycles.
 #[tactic(auto, unfolding(crate::specs::Almanac::cycles_line))]

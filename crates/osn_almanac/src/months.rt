@@ -3,14 +3,13 @@ ghost use Rattle.std.specs.List.{flat_map};
 ghost use Rattle.osn_days.specs.Profile.{newest_rules};
 ghost use Rattle.osn_days.specs.declared.calendar.Calendar.TheVariants.{Gregorian};
 ghost use Rattle.osn_days.specs.Chain as chain;
-ghost use Rattle.osn_words.specs.Texts.{text_of_date};
+ghost use Rattle.osn_days.specs.DateText.{text_of_date};
 ghost use Rattle.osn_almanac.specs.Almanac as said;
 
 use crate::columns::{push_absent, push_day};
-use osn_days::{Calendar, Day, date_of};
+use osn_days::{Calendar, Day, date_of, date_text};
 use osn_lands::month_name;
 use osn_register::{Answer, Found, Query, Register, Text};
-use osn_words::date_text;
 use std::alloc::{AllocError, Global};
 
 /// The months of a year.

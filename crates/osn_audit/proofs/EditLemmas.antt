@@ -6,7 +6,7 @@ use Rattle.std.proofs.lemmas.List.{drop_more, drop-take, take-take, take-append-
 use Rattle.osn_days.specs.Profile.{newest_rules}
 use Rattle.osn_register.specs.declared.edit.Edit.{Edit}
 use Rattle.osn_register.specs.declared.limits.Limits.{Limits}
-use Rattle.osn_register.specs.Plain.{PlainLand, applied, applied_all}
+use Rattle.osn_register.specs.Plain.{PlainLand, applied_all}
 use Rattle.osn_core.specs.Sequential.{joined}
 use Rattle.osn_core.proofs.Lawful.{applied_all-append}
 
@@ -14,17 +14,6 @@ use Rattle.osn_core.proofs.Lawful.{applied_all-append}
 pub left_from : {A : Type 0} (xs : List A) (i : ℕ) (x : A) → i < length xs → x ≡ get_or xs i x
     → drop i xs ≡ x ∷ drop (i + 1) xs
 left_from xs i x within is = drop_more xs i x within ∙ ap (λ y. y ∷ drop (i + 1) xs) (sym is)
-
--- one edit more is applied
-pub edit_more : (limits now : Limits) (old new all : List PlainLand) (es : List Edit) (i : ℕ)
-    (e : Edit) → i < length es → e ≡ get_or es i e → now ≡ limits
-    → new ≡ applied newest_rules now old e
-    → applied_all newest_rules limits old (drop i es) ≡ all
-    → applied_all newest_rules limits new (drop (i + 1) es) ≡ all
-edit_more limits now old new all es i e within is same one so_far =
-    ap (λ ls. applied_all newest_rules limits ls (drop (i + 1) es))
-    (one ∙ ap (λ m. applied newest_rules m old e) same)
-    ∙ (sym (ap (applied_all newest_rules limits old) (left_from es i e within is)) ∙ so_far)
 
 -- one batch more is applied
 pub batch_more : (limits now : Limits) (old new all : List PlainLand) (bs : List (List Edit))

@@ -5,12 +5,12 @@ use Rattle.std.proofs.lemmas.Bool.{leb-true}
 use Rattle.std.specs.Prelude.{nat_le, ◌&&◌, if◌then◌else◌}
 use Rattle.serde_json.specs.Data.{Data}
 use Rattle.osn_register.specs.declared.query.Query.{Query}
-use Rattle.osn_request.specs.declared.member.Member.TheVariants as members
+use Rattle.osn_format.specs.declared.member.Member.TheVariants as members
 use Rattle.osn_request.specs.declared.request.op.Op.{Op}
 use Rattle.osn_request.specs.declared.request.op.Op.TheVariants as ops
 use Rattle.osn_request.specs.declared.request.op.QueryOp.{QueryOp}
-use Rattle.osn_request.specs.declared.wire_fault.WireFault.{WireFault}
-use Rattle.osn_request.specs.declared.wire_fault.WireFault.TheVariants.{UnknownReader}
+use Rattle.osn_format.specs.declared.wire_fault.WireFault.{WireFault}
+use Rattle.osn_format.specs.declared.wire_fault.WireFault.TheVariants.{UnknownReader}
 use Rattle.osn_request.specs.Field.{◌>>=◌, whole_at}
 use Rattle.osn_request.specs.QueryRequest.{query_of, query_by, reader_in}
 use Rattle.osn_request.specs.Op.{op_of}

@@ -8,21 +8,25 @@ use Rattle.std.specs.Str.{bytes_eq}
 use Rattle.std.proofs.lemmas.Bool.{ltb-false, eqb-true}
 use Rattle.std.proofs.lemmas.List.{length-set, get_or-set_same}
 use Rattle.std.proofs.lemmas.Slice.Eq.{bytes_eq-Decides}
+use Rattle.serde_json.specs.Data.{Data}
 use Rattle.serde_json.specs.Written.{has_float}
 use Rattle.osn_days.specs.Profile.{Profile, newest_rules}
 use Rattle.osn_register.specs.declared.limits.Limits.{Limits}
 use Rattle.osn_lines.specs.Lines.{lines}
 use Rattle.osn_core.specs.History.{NeverFalls}
 use Rattle.osn_core.specs.Sequential.{ObjectState}
-use Rattle.osn_request.specs.declared.wire_fault.WireFault.{WireFault}
-use Rattle.osn_request.specs.declared.wire_fault.WireFault.TheVariants.{WrongReply}
-use Rattle.osn_request.specs.declared.wire_fault.WireFault.TheVariants.{UnknownEdition, EditionFell}
+use Rattle.osn_format.specs.declared.wire_fault.WireFault.{WireFault}
+use Rattle.osn_format.specs.declared.wire_fault.WireFault.TheVariants.{WrongReply}
+use Rattle.osn_format.specs.declared.wire_fault.WireFault.TheVariants.{UnknownEdition, EditionFell}
 use Rattle.osn_request.specs.Field.{◌>>=◌}
+use Rattle.osn_request.specs.Request.{object_of}
+use Rattle.osn_format.specs.Version.{newest_version}
 use Rattle.osn_reply.specs.ReplyText.{line_of}
 use Rattle.osn_files.specs.Journal.{load}
-use Rattle.osn_files.specs.Turns.{go_on, in_turn}
-use Rattle.osn_audit.specs.Audit.{Entry, line_due, has_line, last_of, after_entry, after_line}
-use Rattle.osn_audit.specs.Audit.{after_lines, no_replies, counted}
+use Rattle.osn_files.specs.declared.fault.LineFault.{LineFault}
+use Rattle.osn_files.specs.Turns.{on_read, go_on, in_turn}
+use Rattle.osn_audit.specs.Audit.{Entry, line_due, has_line, last_of, after_entry, entry_in}
+use Rattle.osn_audit.specs.Audit.{after_object, after_lines, no_replies, counted, agreed_lines}
 use Rattle.osn_audit.specs.Law.{Agrees, entry_of, IsAnswered, edition_told, editions_told}
 use Rattle.osn_audit.proofs.EntryLemmas.{CountedEntry, entry_counted}
 
@@ -133,12 +137,23 @@ with_entry p s last next line ls e count says holds rest =
           (sym holds.next_is) (rest.1 reader))),
     )
 
+-- lines that agree from here on, where the first has this number
+abbrev agree_from : Profile → ObjectState → ℕ → List ℕ → List (List ℕ)
+    → Result (List ℕ) (ℕ × LineFault)
+agree_from p s k last ls = in_turn (after_object p s) k (Some newest_version) last ls
+
+entry_made : (p : Profile) (s : ObjectState) (last : List ℕ) (r : Result Data WireFault)
+    → on_read r (after_object p s newest_version last)
+    ≡ on_read (r >>= entry_in >>= after_entry p s last) Ok
+entry_made p s last (Ok d) = refl
+entry_made p s last (Err f) = refl
+
 by_next : (p : Profile) (s : ObjectState) (k : ℕ) (last final line : List ℕ) (ls : List (List ℕ))
     (e : Entry) → length last ≡ 64 → entry_of line ≡ Ok e
     → ((next : List ℕ) → length next ≡ 64
-    → in_turn (after_line p s) (k + 1) next ls ≡ Ok final → Follows p s next ls)
+    → agree_from p s (k + 1) next ls ≡ Ok final → Follows p s next ls)
     → (r : Result (List ℕ) WireFault) → after_entry p s last e ≡ r
-    → go_on k r (λ t. in_turn (after_line p s) (k + 1) t ls) ≡ Ok final
+    → go_on k (on_read r Ok) (λ t. agree_from p s (k + 1) t ls) ≡ Ok final
     → Follows p s last (line ∷ ls)
 by_next p s k last final line ls e count says rest (Err f) is h = absurd (cc)
 by_next p s k last final line ls e count says rest (Ok next) is h =
@@ -150,9 +165,10 @@ by_next p s k last final line ls e count says rest (Ok next) is h =
 by_entry : (p : Profile) (s : ObjectState) (k : ℕ) (last final line : List ℕ) (ls : List (List ℕ))
     → length last ≡ 64
     → ((next : List ℕ) → length next ≡ 64
-    → in_turn (after_line p s) (k + 1) next ls ≡ Ok final → Follows p s next ls)
+    → agree_from p s (k + 1) next ls ≡ Ok final → Follows p s next ls)
     → (r : Result Entry WireFault) → entry_of line ≡ r
-    → go_on k (r >>= after_entry p s last) (λ t. in_turn (after_line p s) (k + 1) t ls) ≡ Ok final
+    → go_on k (on_read (r >>= after_entry p s last) Ok) (λ t. agree_from p s (k + 1) t ls)
+    ≡ Ok final
     → Follows p s last (line ∷ ls)
 by_entry p s k last final line ls count rest (Err f) is h = absurd (cc)
 by_entry p s k last final line ls count rest (Ok e) is h =
@@ -163,14 +179,16 @@ none_follow : (p : Profile) (s : ObjectState) (i : ℕ) (d : List ℕ) → i < 0
 none_follow p s i d within = absurd (omega (arith, within))
 
 pub follows : (p : Profile) (s : ObjectState) (k : ℕ) (last final : List ℕ) (ls : List (List ℕ))
-    → length last ≡ 64 → in_turn (after_line p s) k last ls ≡ Ok final → Follows p s last ls
+    → length last ≡ 64 → agree_from p s k last ls ≡ Ok final → Follows p s last ls
 follows p s k last final [] count h = (λ i d within. none_follow p s i d within, λ reader. tt)
 follows p s k last final (line ∷ ls) count h =
     by_entry p s k last final line ls count
-    (λ next counted go. follows p s (k + 1) next final ls counted go) (entry_of line) refl h
+    (λ next counted go. follows p s (k + 1) next final ls counted go) (entry_of line) refl
+    (sym (ap (λ r. go_on k r (λ t. agree_from p s (k + 1) t ls))
+    (entry_made p s last (object_of line))) ∙ h)
 
 agrees_by : (p : Profile) (s : ObjectState) (ls : List (List ℕ)) (n : ℕ)
-    (r : Result (List ℕ) (ℕ × WireFault)) → after_lines p s ls ≡ r
+    (r : Result (List ℕ) (ℕ × LineFault)) → after_lines p s ls ≡ r
     → counted (length ls) r ≡ Ok n → (n ≡ length ls) × Agrees p s ls
 agrees_by p s ls n (Err f) is h = absurd (cc)
 agrees_by p s ls n (Ok final) is h =
@@ -186,8 +204,7 @@ agrees_by p s ls n (Ok final) is h =
 -- what an audit's yes says, where both inputs are known
 pub agreed_on : (limits : Limits) (journal transcript : Option (List ℕ)) (s : ObjectState) (n : ℕ)
     → IfSome journal (λ edits. load newest_rules limits (lines edits) ≡ Ok s)
-    → IfSome transcript (λ told.
-    counted (length (lines told)) (after_lines newest_rules s (lines told)) ≡ Ok n)
+    → IfSome transcript (λ told. agreed_lines newest_rules s (lines told) ≡ Ok n)
     → IfSome journal (λ edits. IfSome transcript (λ told. (n ≡ length (lines told))
     × (object : ObjectState) × (load newest_rules limits (lines edits) ≡ Ok object)
     × Agrees newest_rules object (lines told)))

@@ -1,5 +1,5 @@
 pub mod EditLemmas
 pub mod EntryLemmas
 pub mod FollowLemmas
-pub mod AuditLemmas
 pub mod LawLemmas
+mod ReadLemmas

@@ -11,21 +11,21 @@ use Rattle.osn_days.specs.Profile.{Profile}
 use Rattle.osn_register.specs.declared.limits.Limits.{Limits}
 use Rattle.osn_register.specs.declared.query.Query.{Query}
 use Rattle.osn_core.specs.Sequential.{ObjectState, reply_at}
-use Rattle.osn_request.specs.declared.member.Member.{Member}
-use Rattle.osn_request.specs.declared.member.Member.TheVariants.{Ask, Reply, Edition}
-use Rattle.osn_request.specs.declared.wire_fault.WireFault.{WireFault}
-use Rattle.osn_request.specs.declared.wire_fault.WireFault.TheVariants.{BadField, WrongReply}
-use Rattle.osn_request.specs.declared.wire_fault.WireFault.TheVariants.{UnknownEdition, EditionFell}
+use Rattle.osn_format.specs.declared.member.Member.{Member}
+use Rattle.osn_format.specs.declared.member.Member.TheVariants.{Ask, Reply, Edition}
+use Rattle.osn_format.specs.declared.wire_fault.WireFault.{WireFault}
+use Rattle.osn_format.specs.declared.wire_fault.WireFault.TheVariants.{BadField, WrongReply}
+use Rattle.osn_format.specs.declared.wire_fault.WireFault.TheVariants.{UnknownEdition, EditionFell}
 use Rattle.osn_request.specs.Field.{◌>>=◌, or_fault, whole_at}
-use Rattle.osn_request.specs.Member.{member_name}
-use Rattle.osn_request.specs.Request.{object_of}
+use Rattle.osn_format.specs.Member.{member_name}
+use Rattle.osn_format.specs.declared.version.Version.{Version}
+use Rattle.osn_format.specs.Version.{newest_version}
 use Rattle.osn_files.specs.declared.fault.LineFault.{LineFault}
-use Rattle.osn_files.specs.declared.fault.LineFault.TheVariants.{Wire}
 use Rattle.osn_files.specs.declared.fault.Role.{Role}
 use Rattle.osn_files.specs.declared.fault.Role.TheVariants.{Journal, Transcript}
 use Rattle.osn_files.specs.Journal.{load}
 use Rattle.osn_files.specs.Questions.{most_readers, question_in}
-use Rattle.osn_files.specs.Turns.{in_turn}
+use Rattle.osn_files.specs.Turns.{on_read, in_turn}
 use Rattle.osn_reply.specs.declared.outcome.Outcome.TheVariants.{Replied}
 use Rattle.osn_reply.specs.ReplyText.{line_of, reply_line}
 
@@ -91,9 +91,10 @@ after_entry p s last e =
     >>= λ edition. agreed e.reply (line_due p s e)
     >>= λ reply. Ok (slice_set last (e.reader - 1) e.edition)
 
--- the same for a line
-abbrev pub after_line : Profile → ObjectState → List ℕ → List ℕ → Result (List ℕ) WireFault
-after_line p s last line = object_of line >>= entry_in >>= after_entry p s last
+-- the same for the object of a line
+abbrev pub after_object : Profile → ObjectState → Version → List ℕ → Data
+    → Result (List ℕ) LineFault
+after_object p s version last d = on_read (entry_in d >>= after_entry p s last) Ok
 
 -- no reader has a reply
 abbrev pub no_replies : List ℕ
@@ -101,16 +102,24 @@ no_replies = replicate most_readers 0
 
 -- the editions of the readers' last replies after the lines of a transcript, or the first fault and
 -- the number of its line, counted from 1
-abbrev pub after_lines : Profile → ObjectState → List (List ℕ) → Result (List ℕ) (ℕ × WireFault)
-after_lines p s = in_turn (after_line p s) 1 no_replies
+abbrev pub after_lines : Profile → ObjectState → List (List ℕ) → Result (List ℕ) (ℕ × LineFault)
+after_lines p s = in_turn (after_object p s) 1 (Some newest_version) no_replies
 
-abbrev pub counted : ℕ → Result (List ℕ) (ℕ × WireFault) → Result ℕ (Role × ℕ × LineFault)
+abbrev pub counted : ℕ → Result (List ℕ) (ℕ × LineFault) → Result ℕ (ℕ × LineFault)
 counted n (Ok last) = Ok n
-counted n (Err f) = Err (Transcript, f.0, Wire f.1)
+counted n (Err f) = Err f
+
+-- how many lines of a transcript agree, which is all of them, or the first fault
+abbrev pub agreed_lines : Profile → ObjectState → List (List ℕ) → Result ℕ (ℕ × LineFault)
+agreed_lines p s transcript = counted (length transcript) (after_lines p s transcript)
+
+abbrev pub in_transcript : Result ℕ (ℕ × LineFault) → Result ℕ (Role × ℕ × LineFault)
+in_transcript (Ok n) = Ok n
+in_transcript (Err f) = Err (Transcript, f.0, f.1)
 
 abbrev pub audited : Profile → List (List ℕ) → Result ObjectState (ℕ × LineFault)
     → Result ℕ (Role × ℕ × LineFault)
-audited p transcript (Ok s) = counted (length transcript) (after_lines p s transcript)
+audited p transcript (Ok s) = in_transcript (agreed_lines p s transcript)
 audited p transcript (Err f) = Err (Journal, f.0, f.1)
 
 -- how many lines agree, which is all of them; or the first fault, with the file and the number of

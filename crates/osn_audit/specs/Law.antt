@@ -7,7 +7,7 @@ use Rattle.serde_json.specs.Written.{has_float}
 use Rattle.osn_days.specs.Profile.{Profile}
 use Rattle.osn_core.specs.History.{NeverFalls}
 use Rattle.osn_core.specs.Sequential.{ObjectState}
-use Rattle.osn_request.specs.declared.wire_fault.WireFault.{WireFault}
+use Rattle.osn_format.specs.declared.wire_fault.WireFault.{WireFault}
 use Rattle.osn_request.specs.Field.{◌>>=◌}
 use Rattle.osn_request.specs.Request.{object_of}
 use Rattle.osn_reply.specs.ReplyText.{line_of}

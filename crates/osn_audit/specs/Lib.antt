@@ -1,8 +1,8 @@
 pub mod Audit
 pub mod Law
+pub mod Files
 pub mod Reasons
 pub mod Standing
 pub mod Inside
 pub mod InsideFollower
 pub mod InsideFollowers
-pub mod InsideAuditing

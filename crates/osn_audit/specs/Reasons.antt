@@ -1,14 +1,9 @@
--- Which source of an audit failed, and of which file a line is told.
-use Rattle.std.specs.Prelude.{◌≡◌, ◌⊎◌, ℕ, Bool, Result, Ok, Err}
+-- Of which file an audit tells a line.
+use Rattle.std.specs.Prelude.{◌≡◌, ◌⊎◌, ℕ, Result, Ok, Err}
 use Rattle.osn_core.specs.Sequential.{ObjectState}
 use Rattle.osn_files.specs.declared.fault.LineFault.{LineFault}
 use Rattle.osn_files.specs.declared.fault.Role.{Role}
 use Rattle.osn_files.specs.declared.fault.Role.TheVariants.{Journal, Transcript}
-
--- neither of two sources failed
-abbrev pub FailsNowhere : Bool → Bool → Bool → Bool → Type 0
-FailsNowhere journal_old journal_new transcript_old transcript_new =
-    (journal_new ≡ journal_old) × (transcript_new ≡ transcript_old)
 
 -- one of the two files that are read
 abbrev pub IsEither : Role → Type 0

@@ -1,5 +1,6 @@
-//! A transcript that is being audited, line by line.
-ghost use Rattle.std.specs.Prelude.{◌≡◌, ◌<◌, ◌≤◌, ◌-◌, Ok, IfOk, IfErr, OnOk, length, slice_set};
+//! The lines of a transcript, held against the journal.
+ghost use Rattle.std.specs.Prelude.{◌≡◌, ◌<◌, ◌≤◌, ◌-◌, Ok, IfOk, IfErr, OnOk};
+ghost use Rattle.std.specs.Prelude.{length, slice_set};
 ghost use Rattle.serde_json.specs.View.{view};
 ghost use Rattle.osn_days.specs.Profile.{newest_rules};
 ghost use Rattle.osn_request.specs.Request.{Fails};
@@ -10,9 +11,10 @@ use crate::entry::{Entry, entry_in};
 use crate::float::has_float;
 use crate::followers::Followers;
 use osn_core::MOST_READERS;
-use osn_lines::LineTaker;
+use osn_files::{LineFold, LineStop};
+use osn_format::{Version, WireFault};
 use osn_reply::{Outcome, push_reply};
-use osn_request::{RequestError, WireFault, object_of};
+use osn_request::RequestError;
 use serde_json::Value;
 use std::alloc::{AllocError, Global};
 
@@ -69,36 +71,25 @@ fn take_entry(alloc: Global, followers: &mut Followers, entry: &Entry) -> Result
     Ok(())
 }
 
-/// Holds a line against the journal.
-fn take_line(alloc: Global, followers: &mut Followers, line: &[u8]) -> Result<(), RequestError>
-    ensures ok { OnOk result (said.after_line newest_rules followers.old.object followers.old.last
-        line.now ≡ Ok followers.new.last) }
-    ensures err { IfErr result (λ e. Fails e (said.after_line newest_rules followers.old.object
-        followers.old.last line.now)) }
-    ensures object { OnOk result (followers.new.object ≡ followers.old.object) }
-{
-    let value = object_of(alloc, line)?;
-    let entry = entry_in(alloc, &value)?;
-    take_entry(alloc, followers, &entry)
-}
+impl LineFold for Followers {
+    ghost use Rattle.std.specs.Prelude.{ℕ, List};
+    ghost use Rattle.osn_days.specs.Profile.{newest_rules};
+    ghost use Rattle.osn_audit.specs.Audit.{after_object};
 
-/// A transcript that is being audited: what its lines are held against.
-#[derive(Drop)]
-pub(crate) struct Auditing {
-    pub(crate) alloc: Global,
-    pub(crate) followers: Followers,
-}
+    ghost State = { List ℕ };
 
-impl LineTaker for Auditing {
-    ghost use Rattle.osn_audit.specs.InsideAuditing.{Audits, StopsAuditing};
+    ghost state = { λ followers. followers.last };
 
-    type Stop = RequestError;
+    ghost step = { λ followers. after_object newest_rules followers.object };
 
-    ghost after = { Audits };
-
-    ghost stopped = { λ begun lines at _ why. StopsAuditing begun lines at why };
-
-    fn take(&mut self, line: &[u8]) -> Result<(), RequestError> {
-        take_line(self.alloc, &mut self.followers, line)
+    fn take_object(
+        &mut self,
+        alloc: Global,
+        _version: Version,
+        object: &Value,
+    ) -> Result<(), LineStop> {
+        let entry = entry_in(alloc, object)?;
+        take_entry(alloc, self, &entry)?;
+        Ok(())
     }
 }

@@ -7,8 +7,9 @@ ghost use Rattle.osn_audit.specs.Inside.{entry_shown};
 
 use osn_core::MOST_READERS;
 use osn_files::question_in;
+use osn_format::{Member, WireFault};
 use osn_register::Query;
-use osn_request::{Member, RequestError, WireFault, whole_at};
+use osn_request::{RequestError, whole_at};
 use serde_json::Value;
 use std::alloc::Global;
 

@@ -7,20 +7,8 @@ ghost use Rattle.osn_core.specs.Sequential.{joined};
 ghost use Rattle.osn_audit.specs.InsideFollower.{IsAt};
 
 use osn_core::Batch;
-use osn_register::{Edit, Limits, Register};
+use osn_register::{Limits, Register};
 use std::alloc::{AllocError, Global};
-
-/// Applies edits in turn, and passes over those that are refused.
-fn apply_edits(register: &mut Register, edits: &[Edit]) -> Result<(), AllocError>
-    ensures { OnOk result (register.new ≡ record register.old {
-      lands = applied_all newest_rules register.old.limits register.old.lands edits.now;
-    }) }
-{
-    for edit in edits {
-        register.apply_if_lawful(edit)?;
-    }
-    Ok(())
-}
 
 /// Applies the edits of batches in turn.
 fn apply_batches(register: &mut Register, batches: &[Batch]) -> Result<(), AllocError>
@@ -29,7 +17,7 @@ fn apply_batches(register: &mut Register, batches: &[Batch]) -> Result<(), Alloc
     }) }
 {
     for batch in batches {
-        apply_edits(register, batch.edits())?;
+        register.apply_all(batch.edits())?;
     }
     Ok(())
 }

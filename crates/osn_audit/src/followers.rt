@@ -9,8 +9,8 @@ ghost use Rattle.osn_audit.specs.Audit.{known_edition, last_of, no_replies};
 
 use crate::follower::Follower;
 use osn_core::{MOST_READERS, Object, Reply};
+use osn_format::WireFault;
 use osn_register::Query;
-use osn_request::WireFault;
 use std::alloc::{AllocError, Global};
 use std::marker::Model;
 use std::mem;

@@ -1,18 +1,16 @@
 -- What a command makes of a file is what the file's reader says.
-use Rattle.std.specs.Prelude.{⊤}
-use Rattle.std.proofs.Common.{◌≡◌, ℕ, List, Option, Some, None, Result, Ok, Err}
-use Rattle.std.proofs.Common.{IfErr, IfSome, subst, sym}
+use Rattle.std.proofs.Common.{◌≡◌, ℕ, Bool, List, Option, Result, Err, IfErr, subst, sym}
 use Rattle.std.specs.Result.{IsErrAnd}
 use Rattle.std.proofs.lemmas.Result.{err_from_is_err_and}
-use Rattle.osn_lines.specs.Lines.{lines}
-use Rattle.osn_files.specs.Faults.{MatchFileFault}
+use Rattle.osn_files.specs.Files.{ReadsFile}
 use Rattle.osn_files.specs.declared.fault.FileFault.{FileFault}
 use Rattle.osn_files.specs.declared.fault.FileFault.TheVariants as file_faults
 use Rattle.osn_files.specs.declared.fault.LineFault.{LineFault}
 use Rattle.osn_files.specs.declared.fault.Role.{Role}
 use Rattle.osn_commands.specs.declared.fault.CommandFault.{CommandFault}
 use Rattle.osn_commands.specs.Fault.{by_file}
-use Rattle.osn_commands.specs.Files.{Makes, IsFileFault}
+use Rattle.osn_commands.specs.Files.{IsFileFault}
+use Rattle.osn_commands.specs.Streams.{input_of}
 
 -- what a `?` answers, where the error that it makes has the property
 pub if_err_made : {T E : Type 0} {P Q : E → Type 0} (r : Result T E)
@@ -21,40 +19,25 @@ if_err_made {P = P} r made goes =
     let err = err_from_is_err_and r made in
     subst (λ s. IfErr s P) (sym err.1) (goes err.0 err.2)
 
--- what was made of the lines
-pub makes : {S : Type 0} (rule : List (List ℕ) → Result S (ℕ × LineFault))
-    (bytes : Option (List ℕ)) (s : S)
-    → IfSome bytes (λ input. rule (lines input) ≡ Ok s)
-    → Makes rule bytes s
-makes rule None s h = tt
-makes rule (Some input) s h = h
+-- the fault of a file
+pub file_fault : {A T S : Type 0} {role : Role} {rule : List (List ℕ) → Result A (ℕ × LineFault)}
+    {view : T → A} {remaining : S → Option (List ℕ)} {has_failed : S → Bool} {old new : S}
+    (fault : FileFault)
+    → ReadsFile role rule view (Err fault) remaining has_failed old new
+    → IsFileFault role rule (input_of remaining has_failed old new) (by_file fault)
+file_fault file_faults.NoMemory h = tt
+file_fault file_faults.ReadFault h = h.reason
+file_fault (file_faults.BadLine named line why) h = h.fault
 
--- the fault of the file
-pub file_fault : {S : Type 0} (A shown : Type 0) (C : Role → ℕ → LineFault → Type 0)
-    (role : Role) (rule : List (List ℕ) → Result S (ℕ × LineFault))
-    (bytes : Option (List ℕ)) (fault : FileFault)
-    → IfSome bytes (λ input. MatchFileFault fault ⊤ ⊤ (λ named line why.
-    (named ≡ role) × (rule (lines input) ≡ Err (line, why))))
-    → MatchFileFault fault ⊤ ⊤ (λ named _ _. named ≡ role)
-    → MatchFileFault fault A shown C
-    → IsFileFault role rule bytes shown (by_file fault)
-file_fault A shown C role rule bytes file_faults.NoMemory h named reason = tt
-file_fault A shown C role rule bytes file_faults.ReadFault h named reason = reason
-file_fault A shown C role rule None (file_faults.BadLine r line why) h named reason = named
-file_fault A shown C role rule (Some input) (file_faults.BadLine r line why) h named reason = h
-
--- the fault of the file, where the error that a `?` makes is the same one
-pub made_fault : {S T : Type 0} (A shown : Type 0) (C : Role → ℕ → LineFault → Type 0)
-    (role : Role) (said rule : List (List ℕ) → Result S (ℕ × LineFault))
-    (bytes : Option (List ℕ)) (fault : FileFault) (r : Result T CommandFault)
-    → said ≡ rule
+-- the fault of a file, where the error that a `?` makes is the same one
+pub made_fault : {A T U S : Type 0} {role : Role} {rule : List (List ℕ) → Result A (ℕ × LineFault)}
+    {view : T → A} {remaining : S → Option (List ℕ)} {has_failed : S → Bool} {old new : S}
+    {fault : FileFault} (r : Result U CommandFault)
     → IsErrAnd r (λ made. made ≡ by_file fault)
-    → IfSome bytes (λ input. MatchFileFault fault ⊤ ⊤ (λ named line why.
-    (named ≡ role) × (said (lines input) ≡ Err (line, why))))
-    → MatchFileFault fault ⊤ ⊤ (λ named _ _. named ≡ role)
-    → MatchFileFault fault A shown C
-    → IfErr r (IsFileFault role rule bytes shown)
-made_fault A shown C role said rule bytes fault r same made h named reason =
-    subst (λ f. IfErr r (IsFileFault role f bytes shown)) same
-    (if_err_made r made (λ e is. subst (λ f. IsFileFault role said bytes shown f) (sym is)
-    (file_fault A shown C role said bytes fault h named reason)))
+    → ReadsFile role rule view (Err fault) remaining has_failed old new
+    → IfErr r (IsFileFault role rule (input_of remaining has_failed old new))
+made_fault {role = role} {rule = rule} {remaining = remaining} {has_failed = has_failed}
+    {old = old} {new = new} {fault = fault} r made h =
+    if_err_made r made (λ e is.
+    subst (IsFileFault role rule (input_of remaining has_failed old new)) (sym is)
+    (file_fault fault h))

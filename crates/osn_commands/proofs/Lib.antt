@@ -1,6 +1,3 @@
-pub mod NumberLemmas
-pub mod WordLemmas
-pub mod GrammarLemmas
 pub mod TellLemmas
 pub mod FileLemmas
 pub mod PrintLemmas

@@ -4,8 +4,9 @@ use Rattle.std.proofs.Common.{Err, IfOk, IfErr, length, take, sym, subst, inl, i
 use Rattle.std.specs.Io.KnownBytes.{Appends}
 use Rattle.osn_commands.proofs.TellLemmas.{write_is_no_refusal}
 use Rattle.osn_lines.specs.Faults.{IsWriteFault}
-use Rattle.osn_commands.specs.Printing.{Prints}
-use Rattle.osn_commands.specs.Told.{IsToldAs, EndsBy, Tells}
+use Rattle.osn_commands.specs.Printing.{Prints, EndsPrinting}
+use Rattle.osn_commands.specs.Streams.{Output}
+use Rattle.osn_commands.specs.Told.{IsToldAs, Tells}
 use Rattle.osn_commands.specs.declared.fault.CommandFault.{CommandFault}
 use Rattle.osn_commands.specs.declared.fault.CommandFault.TheVariants.{WriteFault, NoMemory}
 use Rattle.osn_commands.specs.declared.status.Status.{Status}
@@ -18,53 +19,48 @@ unwritable old new bytes (inl failed) = inl failed
 unwritable old new bytes (inr long) = inr long.1
 
 -- a write that failed, whatever is told of it, wrote a front of the text
-pub in_part : (old new : Option (List ℕ)) (failed failed_now : Bool) (told : CommandFault)
-    (text bytes : List ℕ) (n : ℕ)
+pub in_part : (o : Output) (failed : Bool) (told : CommandFault) (text bytes : List ℕ) (n : ℕ)
     → IsToldAs WriteFault told → bytes ≡ text
-    → (failed_now ≡ true) ⊎ ((failed_now ≡ failed) × (4294967295 ≤ length bytes))
-    → Appends old new (take n bytes)
-    → Prints (λ written. written ≡ text) (λ fault. ⊥) old new failed_now (Some told)
-in_part old new failed now told text bytes n (inl e) same why h =
-    inr (e, bytes, same, unwritable failed now bytes why, n, h)
-in_part old new failed now told text bytes n (inr k) same why h =
-    absurd (write_is_no_refusal k.0)
+    → (o.unwritten ≡ true) ⊎ ((o.unwritten ≡ failed) × (4294967295 ≤ length bytes))
+    → Appends o.old o.new (take n bytes)
+    → Prints (λ written. written ≡ text) (λ fault. ⊥) o (Some told)
+in_part o failed told text bytes n (inl e) same why h =
+    inr (e, bytes, same, unwritable failed o.unwritten bytes why, n, h)
+in_part o failed told text bytes n (inr k) same why h = absurd (write_is_no_refusal k.0)
 
 -- what is printed of this text, by a property that it has
 pub has_it : (text : List ℕ) (Has : List ℕ → Type 0) (HasNone : CommandFault → Type 0)
-    (old new : Option (List ℕ)) (failed : Bool) (ending : Option CommandFault)
+    (o : Output) (ending : Option CommandFault)
     → Has text
-    → Prints (λ written. written ≡ text) (λ fault. ⊥) old new failed ending
-    → Prints Has HasNone old new failed ending
-has_it text Has HasNone old new failed None has (written, same, all) =
+    → Prints (λ written. written ≡ text) (λ fault. ⊥) o ending
+    → Prints Has HasNone o ending
+has_it text Has HasNone o None has (written, same, all) =
     (written, subst Has (sym same) has, all)
-has_it text Has HasNone old new failed (Some fault) has (inl h) = absurd h.0
-has_it text Has HasNone old new failed (Some fault) has (inr (is, written, same, why, n, part)) =
+has_it text Has HasNone o (Some fault) has (inl h) = absurd h.0
+has_it text Has HasNone o (Some fault) has (inr (is, written, same, why, n, part)) =
     inr (is, written, subst Has (sym same) has, why, n, part)
 
 -- what is told where there is no text
-none_told : (Has : List ℕ → Type 0) (HasNone : CommandFault → Type 0) (old new : Option (List ℕ))
-    (failed : Bool) (fault told : CommandFault)
-    → IsToldAs fault told → HasNone NoMemory → HasNone fault → new ≡ old
-    → Prints Has HasNone old new failed (Some told)
-none_told Has HasNone old new failed fault told (inl e) memory none same =
+none_told : (Has : List ℕ → Type 0) (HasNone : CommandFault → Type 0) (o : Output)
+    (fault told : CommandFault)
+    → IsToldAs fault told → HasNone NoMemory → HasNone fault → o.new ≡ o.old
+    → Prints Has HasNone o (Some told)
+none_told Has HasNone o fault told (inl e) memory none same =
     inl (subst HasNone (sym e) none, same)
-none_told Has HasNone old new failed fault told (inr k) memory none same =
+none_told Has HasNone o fault told (inr k) memory none same =
     inl (subst HasNone (sym k.1) memory, same)
 
 -- what is printed of a text, or of the fault by which there is none
 pub printed : {S : Type 0} (bytes : S → List ℕ) (Has : List ℕ → Type 0)
-    (HasNone : CommandFault → Type 0) (made : Result S CommandFault)
-    (out_old out_new : Option (List ℕ)) (out_failed : Bool) (old new : Option (List ℕ))
-    (failed : Bool) (status : Status)
+    (HasNone : CommandFault → Type 0) (made : Result S CommandFault) (o e : Output)
+    (status : Status)
     → IfOk made (λ s. Has (bytes s))
     → IfErr made HasNone
     → HasNone NoMemory
-    → IfOk made (λ s. (ending : Option CommandFault) × EndsBy old new failed ending status
-    × Prints (λ written. written ≡ bytes s) (λ fault. ⊥) out_old out_new out_failed ending)
-    → IfErr made (λ fault. Tells old new failed fault status × (out_new ≡ out_old))
-    → (ending : Option CommandFault) × EndsBy old new failed ending status
-    × Prints Has HasNone out_old out_new out_failed ending
-printed bytes Has HasNone (Ok s) o n w old new failed status has none memory p q =
-    (p.0, p.1, has_it (bytes s) Has HasNone o n w p.0 has p.2)
-printed bytes Has HasNone (Err f) o n w old new failed status has none memory p q =
-    (Some q.0.0, q.0.2, none_told Has HasNone o n w f q.0.0 q.0.1 memory none q.1)
+    → IfOk made (λ s. EndsPrinting (λ written. written ≡ bytes s) (λ fault. ⊥) o e status)
+    → IfErr made (λ fault. Tells e fault status × (o.new ≡ o.old))
+    → EndsPrinting Has HasNone o e status
+printed bytes Has HasNone (Ok s) o e status has none memory p q =
+    (p.0, p.1, has_it (bytes s) Has HasNone o p.0 has p.2)
+printed bytes Has HasNone (Err f) o e status has none memory p q =
+    (Some q.0.0, q.0.2, none_told Has HasNone o f q.0.0 q.0.1 memory none q.1)

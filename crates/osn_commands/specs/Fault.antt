@@ -2,6 +2,8 @@
 -- project's profile.
 use Rattle.std.specs.Prelude.{ℕ, List, ◌++◌, codes}
 use Rattle.std.specs.Fmt.{decimal}
+use Rattle.osn_folder.specs.declared.fault.SaveFault.{SaveFault}
+use Rattle.osn_folder.specs.declared.fault.SaveFault.TheVariants as save_faults
 use Rattle.osn_register.specs.Refusal.{refusal_number, refusal_name}
 use Rattle.osn_files.specs.Faults.{line_fault_number, line_fault_name}
 use Rattle.osn_files.specs.declared.fault.FileFault.{FileFault}
@@ -12,8 +14,8 @@ use Rattle.osn_files.specs.declared.fault.Role.TheVariants.{Transcript}
 use Rattle.osn_live.specs.Faults.{desk_fault_number, desk_fault_name}
 use Rattle.osn_live.specs.declared.faults.DeskFault.{DeskFault}
 use Rattle.osn_live.specs.declared.faults.DeskFault.TheVariants as desk_faults
-use Rattle.osn_wire.specs.declared.fault.ServeFault.{ServeFault}
-use Rattle.osn_wire.specs.declared.fault.ServeFault.TheVariants as serve_faults
+use Rattle.osn_service.specs.declared.fault.ServeFault.{ServeFault}
+use Rattle.osn_service.specs.declared.fault.ServeFault.TheVariants as serve_faults
 use Rattle.osn_commands.specs.declared.fault.CommandFault.{CommandFault}
 use Rattle.osn_commands.specs.declared.fault.CommandFault.TheVariants.{BadLine, Refused, Desk}
 use Rattle.osn_commands.specs.declared.fault.CommandFault.TheVariants.{ReadFault, WriteFault}
@@ -54,11 +56,11 @@ fault_line ReadFault = codes "oldstyle: read fault\n"
 fault_line WriteFault = codes "oldstyle: write fault\n"
 fault_line NoMemory = codes "oldstyle: no memory\n"
 
--- the fault of a service is the same one, without its count
+-- the fault of a service is the same one
 abbrev pub by_service : ServeFault → CommandFault
-by_service (serve_faults.NoMemory n) = NoMemory
-by_service (serve_faults.ReadFault n) = ReadFault
-by_service (serve_faults.WriteFault n) = WriteFault
+by_service serve_faults.NoMemory = NoMemory
+by_service serve_faults.ReadFault = ReadFault
+by_service serve_faults.WriteFault = WriteFault
 
 -- the fault of a file is the same one
 abbrev pub by_file : FileFault → CommandFault
@@ -74,3 +76,8 @@ by_desk (desk_faults.HistoryBroken reader last editions) =
 by_desk desk_faults.BadCount = Desk desk_faults.BadCount
 by_desk desk_faults.NoPlace = Desk desk_faults.NoPlace
 by_desk desk_faults.GateClosed = Desk desk_faults.GateClosed
+
+-- the fault of a journal that could not be saved is the same one
+abbrev pub by_save : SaveFault → CommandFault
+by_save save_faults.WriteFault = WriteFault
+by_save save_faults.NoMemory = NoMemory

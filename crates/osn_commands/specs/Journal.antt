@@ -5,7 +5,6 @@ use Rattle.osn_register.specs.declared.limits.Limits.{Limits}
 use Rattle.osn_core.specs.Sequential.{ObjectState, opened}
 use Rattle.osn_files.specs.Journal.{load}
 use Rattle.osn_files.specs.declared.fault.Role.TheVariants.{Journal}
-use Rattle.osn_lines.specs.Faults.{IsReadFault}
 use Rattle.osn_commands.specs.declared.fault.CommandFault.{CommandFault}
 use Rattle.osn_commands.specs.Files.{Makes, IsFileFault}
 
@@ -18,4 +17,4 @@ Begins p limits (Some journal) s = Makes (load p limits) journal s
 abbrev pub HasNoObject : Profile → Limits → Option (Option (List ℕ)) → Bool → CommandFault → Type 0
 HasNoObject p limits None failed fault = ⊥
 HasNoObject p limits (Some journal) failed fault =
-    IsFileFault Journal (load p limits) journal (IsReadFault failed journal) fault
+    IsFileFault Journal (load p limits) (record { bytes = journal; unread = failed }) fault

@@ -1,9 +1,9 @@
 pub mod Status
 pub mod Fault
+pub mod Streams
 pub mod Told
 pub mod Printing
 pub mod Files
-pub mod Folder
 pub mod Refused
 pub mod Journal
 pub mod Serving
@@ -12,5 +12,4 @@ pub mod Replay
 pub mod Transcript
 pub mod Audited
 pub mod Watched
-pub mod Words
 pub mod Run

@@ -7,13 +7,14 @@ use Rattle.osn_core.specs.Sequential.{ObjectState}
 use Rattle.osn_register.specs.declared.limits.Limits.{Limits}
 use Rattle.osn_lines.specs.Lines.{lines}
 use Rattle.osn_files.specs.JournalText.{journal_text}
-use Rattle.osn_wire.specs.Served.{outputs, after_lines, WritesFirst, WritesInPart}
+use Rattle.osn_service.specs.Served.{outputs, after_lines, WritesFirst, WritesInPart}
 use Rattle.osn_commands.specs.declared.fault.CommandFault.{CommandFault}
 use Rattle.osn_commands.specs.declared.fault.CommandFault.TheVariants.{BadLine, Refused, Desk}
 use Rattle.osn_commands.specs.declared.fault.CommandFault.TheVariants.{ReadFault, WriteFault}
 use Rattle.osn_commands.specs.declared.fault.CommandFault.TheVariants.{NoMemory}
 use Rattle.osn_lines.specs.Faults.{IsReadFault, IsWriteFault}
 use Rattle.osn_commands.specs.Journal.{Begins, HasNoObject}
+use Rattle.osn_commands.specs.Streams.{Output}
 
 -- the journal of an object, where it is to be saved
 abbrev pub journal_to_save : Bool → ObjectState → Option (List ℕ)
@@ -21,37 +22,36 @@ journal_to_save saves s = if saves then Some (journal_text s) else None
 
 -- all lines were answered from this object, and the journal of the object behind them is there to
 -- be saved
-pub record AnswersAll (p : Profile) (readers : ℕ) (s : ObjectState) (saves : Bool)
-    (old new : Option (List ℕ)) (input : List ℕ) (journal : Option (List ℕ)) : Type 0 where
-  pub written : Appends old new (outputs p readers s (lines input))
+pub record AnswersAll (p : Profile) (readers : ℕ) (s : ObjectState) (saves : Bool) (o : Output)
+    (input : List ℕ) (journal : Option (List ℕ)) : Type 0 where
+  pub written : Appends o.old o.new (outputs p readers s (lines input))
   pub saved : journal ≡ journal_to_save saves (after_lines p readers s (lines input))
 
 -- what was answered from this object by the time of a fault: the first lines, where the input could
 -- not be read on or memory ran out, and a part of the next reply too, where the replies could not
 -- be written
-abbrev pub AnswersUntil : Profile → ℕ → ObjectState → Option (List ℕ) → Option (List ℕ) → Bool
-    → List ℕ → Bool → CommandFault → Type 0
-AnswersUntil p readers s old new unwritten input unread (BadLine role line why) = ⊥
-AnswersUntil p readers s old new unwritten input unread (Refused refusal) = ⊥
-AnswersUntil p readers s old new unwritten input unread (Desk fault) = ⊥
-AnswersUntil p readers s old new unwritten input unread ReadFault =
+abbrev pub AnswersUntil : Profile → ℕ → ObjectState → Output → List ℕ → Bool → CommandFault
+    → Type 0
+AnswersUntil p readers s o input unread (BadLine role line why) = ⊥
+AnswersUntil p readers s o input unread (Refused refusal) = ⊥
+AnswersUntil p readers s o input unread (Desk fault) = ⊥
+AnswersUntil p readers s o input unread ReadFault =
     IsReadFault unread (Some input)
-    × (n : ℕ) × WritesFirst p readers s old new (lines input) n
-AnswersUntil p readers s old new unwritten input unread WriteFault =
-    IsWriteFault unwritten (outputs p readers s (lines input))
-    × (n : ℕ) × WritesInPart p readers s old new (lines input) n
-AnswersUntil p readers s old new unwritten input unread NoMemory =
-    (n : ℕ) × WritesFirst p readers s old new (lines input) n
+    × (n : ℕ) × WritesFirst p readers s o.old o.new (lines input) n
+AnswersUntil p readers s o input unread WriteFault =
+    IsWriteFault o.unwritten (outputs p readers s (lines input))
+    × (n : ℕ) × WritesInPart p readers s o.old o.new (lines input) n
+AnswersUntil p readers s o input unread NoMemory =
+    (n : ℕ) × WritesFirst p readers s o.old o.new (lines input) n
 
 -- what the service did that ended by this fault, if any: where there was no object to begin with,
 -- it wrote nothing. A read of the journal failed or not
-abbrev pub Serves : Profile → Limits → ℕ → Option (Option (List ℕ)) → Bool → Bool
-    → Option (List ℕ) → Option (List ℕ) → Bool → List ℕ → Bool → Option (List ℕ)
-    → Option CommandFault → Type 0
-Serves p limits readers begun failed saves old new unwritten input unread journal None =
-    (s : ObjectState) × Begins p limits begun s × AnswersAll p readers s saves old new input journal
-Serves p limits readers begun failed saves old new unwritten input unread journal (Some fault) =
+abbrev pub Serves : Profile → Limits → ℕ → Option (Option (List ℕ)) → Bool → Bool → Output
+    → List ℕ → Bool → Option (List ℕ) → Option CommandFault → Type 0
+Serves p limits readers begun failed saves o input unread journal None =
+    (s : ObjectState) × Begins p limits begun s × AnswersAll p readers s saves o input journal
+Serves p limits readers begun failed saves o input unread journal (Some fault) =
     (journal ≡ None)
-    × ((HasNoObject p limits begun failed fault × (new ≡ old))
+    × ((HasNoObject p limits begun failed fault × (o.new ≡ o.old))
     ⊎ ((s : ObjectState) × Begins p limits begun s
-    × AnswersUntil p readers s old new unwritten input unread fault))
+    × AnswersUntil p readers s o input unread fault))

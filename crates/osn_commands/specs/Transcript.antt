@@ -1,5 +1,5 @@
 -- What the command of a desk prints, and why it prints nothing.
-use Rattle.std.specs.Prelude.{◌≡◌, ◌⊎◌, ⊤, ℕ, ◌+◌, Bool, List, [], ◌∷◌, ◌++◌, length, map, Option}
+use Rattle.std.specs.Prelude.{◌≡◌, ◌⊎◌, ⊤, ℕ, ◌+◌, List, [], ◌∷◌, ◌++◌, length, map}
 use Rattle.std.specs.Prelude.{Vec}
 use Rattle.std.specs.declared.alloc.Global.{Global}
 use Rattle.osn_days.specs.Profile.{Profile}
@@ -18,8 +18,10 @@ use Rattle.osn_commands.specs.declared.fault.CommandFault.{CommandFault}
 use Rattle.osn_commands.specs.declared.fault.CommandFault.TheVariants.{BadLine, Refused, Desk}
 use Rattle.osn_commands.specs.declared.fault.CommandFault.TheVariants.{ReadFault, WriteFault}
 use Rattle.osn_commands.specs.declared.fault.CommandFault.TheVariants.{NoMemory}
-use Rattle.osn_lines.specs.Faults.{IsReadFault}
 use Rattle.osn_commands.specs.Files.{Makes, IsFileFault}
+use Rattle.osn_commands.specs.Printing.{EndsPrinting}
+use Rattle.osn_commands.specs.Streams.{Input, Output}
+use Rattle.osn_commands.specs.declared.status.Status.{Status}
 
 -- the lines of one reader, a question each with its reply
 abbrev pub reader_lines : ℕ → List Query → List Reply → List ℕ
@@ -35,17 +37,17 @@ transcript_from reader (qs ∷ lists) (rs ∷ all) =
     reader_lines reader qs.items rs.items ++ transcript_from (reader + 1) lists all
 
 -- what the two files make: the commands of the editor, and a list of questions for each reader
-abbrev pub MakeDesk : Option (List ℕ) → Option (List ℕ) → List Command → List (Vec Query Global)
-    → Type 0
+abbrev pub MakeDesk : Input → Input → List Command → List (Vec Query Global) → Type 0
 MakeDesk editor readers commands lists =
-    Makes script editor commands × Makes questions readers (map (λ qs. qs.items) lists)
+    Makes script editor.bytes commands
+    × Makes questions readers.bytes (map (λ qs. qs.items) lists)
 
 -- why the two files make no desk, of which the first is read before the second
-abbrev pub MakeNoDesk : Option (List ℕ) → Bool → Option (List ℕ) → Bool → CommandFault → Type 0
-MakeNoDesk editor failed readers failed_too fault =
-    IsFileFault Script script editor (IsReadFault failed editor) fault
-    ⊎ ((commands : List Command) × Makes script editor commands
-    × IsFileFault Questions questions readers (IsReadFault failed_too readers) fault)
+abbrev pub MakeNoDesk : Input → Input → CommandFault → Type 0
+MakeNoDesk editor readers fault =
+    IsFileFault Script script editor fault
+    ⊎ ((commands : List Command) × Makes script editor.bytes commands
+    × IsFileFault Questions questions readers fault)
 
 -- the text has the lines of replies that a desk gives
 abbrev pub IsTranscriptOf : Profile → Limits → List Command → List (Vec Query Global) → List ℕ
@@ -65,17 +67,21 @@ IsTurnedAway lists published WriteFault = ⊥
 IsTurnedAway lists published NoMemory = ⊤
 
 -- the text has the lines of replies that a desk gives, of these two files
-abbrev pub IsTranscript : Profile → Limits → Option (List ℕ) → Option (List ℕ) → List ℕ → Type 0
+abbrev pub IsTranscript : Profile → Limits → Input → Input → List ℕ → Type 0
 IsTranscript p limits editor readers text =
     (commands : List Command) × (lists : List (Vec Query Global))
     × MakeDesk editor readers commands lists
     × IsTranscriptOf p limits commands lists text
 
 -- why there is no text of these two files
-abbrev pub HasNoTranscript : Profile → Limits → Option (List ℕ) → Bool → Option (List ℕ) → Bool
-    → CommandFault → Type 0
-HasNoTranscript p limits editor failed readers failed_too fault =
-    MakeNoDesk editor failed readers failed_too fault
+abbrev pub HasNoTranscript : Profile → Limits → Input → Input → CommandFault → Type 0
+HasNoTranscript p limits editor readers fault =
+    MakeNoDesk editor readers fault
     ⊎ ((commands : List Command) × (lists : List (Vec Query Global))
     × MakeDesk editor readers commands lists
     × IsTurnedAway (length lists) (length (editions_of p limits commands)) fault)
+
+-- how the command ends, by what it printed and told
+abbrev pub PrintsTranscript : Profile → Limits → Input → Input → Output → Output → Status → Type 0
+PrintsTranscript p limits editor readers =
+    EndsPrinting (IsTranscript p limits editor readers) (HasNoTranscript p limits editor readers)

@@ -1,13 +1,12 @@
 //! The command `almanac`.
-ghost use Rattle.std.specs.Prelude.{◌≡◌, Option, None, pos, IfOk, IfErr, string_bytes};
+ghost use Rattle.std.specs.Prelude.{◌≡◌, None, pos, IfOk, IfErr, string_bytes};
 ghost use Rattle.osn_days.specs.Profile.{newest_rules};
 ghost use Rattle.osn_register.specs.Limits.{standard_limits};
 ghost use Rattle.osn_almanac.specs.Almanac.{almanac_refusal};
 ghost use Rattle.osn_commands.specs.Almanac.{published, IsAlmanacOf};
-ghost use Rattle.osn_commands.specs.Almanac.{IsAlmanac, HasNoAlmanac};
-ghost use Rattle.osn_commands.specs.Printing.{Prints};
+ghost use Rattle.osn_commands.specs.Almanac.{IsAlmanac, HasNoAlmanac, PrintsAlmanac};
 ghost use Rattle.osn_commands.specs.Refused.{IsRefusedBy};
-ghost use Rattle.osn_commands.specs.Told.{EndsBy};
+ghost use Rattle.osn_commands.specs.Streams.{input_of, output_of};
 ghost use Rattle.osn_commands.specs.declared.fault.CommandFault.{CommandFault};
 
 use crate::fault::CommandFault;
@@ -16,8 +15,8 @@ use crate::reading::journal_object;
 use crate::status::Status;
 use osn_almanac::almanac_text;
 use osn_core::Object;
+use osn_lines::{Sink, Source};
 use osn_register::Refusal;
-use osn_wire::{Sink, Source};
 use std::alloc::Global;
 
 /// The almanac of what an object published.
@@ -42,9 +41,10 @@ fn journal_almanac<J: Source>(
     year: u32,
 ) -> Result<String, CommandFault>
     ensures ok { IfOk result (λ text. IsAlmanac newest_rules standard_limits
-        (J.remaining journal.old) code.now (pos year) (string_bytes text)) }
+        (input_of J.remaining J.has_failed journal.old journal.new)
+        code.now (pos year) (string_bytes text)) }
     ensures err { IfErr result (HasNoAlmanac newest_rules standard_limits
-        (J.remaining journal.old) (J.has_failed journal.new) code.now (pos year)) }
+        (input_of J.remaining J.has_failed journal.old journal.new) code.now (pos year)) }
 {
     let object = journal_object(alloc, journal)?;
     almanac_of(alloc, &object, code, year)
@@ -62,14 +62,10 @@ pub fn almanac_command<J: Source, W: Sink, E: Sink>(
     output: &mut W,
     errors: &mut E,
 ) -> Status
-    ensures { (ending : Option CommandFault)
-        × EndsBy (E.contents errors.old) (E.contents errors.new) (E.has_failed errors.new)
-        ending result
-        × Prints (IsAlmanac newest_rules standard_limits (J.remaining journal.old)
-        code.now (pos year))
-        (HasNoAlmanac newest_rules standard_limits (J.remaining journal.old)
-        (J.has_failed journal.new) code.now (pos year))
-        (W.contents output.old) (W.contents output.new) (W.has_failed output.new) ending }
+    ensures { PrintsAlmanac newest_rules standard_limits
+        (input_of J.remaining J.has_failed journal.old journal.new) code.now (pos year)
+        (output_of W.contents W.has_failed output.old output.new)
+        (output_of E.contents E.has_failed errors.old errors.new) result }
 {
     let made = journal_almanac(alloc, journal, code, year);
     print(alloc, made, output, errors)

@@ -1,18 +1,17 @@
 //! The command `audit`.
-ghost use Rattle.std.specs.Prelude.{◌≡◌, Option, IfOk, IfErr, string_bytes};
+ghost use Rattle.std.specs.Prelude.{◌≡◌, IfOk, IfErr, string_bytes};
 ghost use Rattle.osn_days.specs.Profile.{newest_rules};
 ghost use Rattle.osn_register.specs.Limits.{standard_limits};
 ghost use Rattle.osn_commands.specs.Audited.{audit_line, Agree, IsAudited, IsNotAudited};
-ghost use Rattle.osn_commands.specs.Printing.{Prints};
-ghost use Rattle.osn_commands.specs.Told.{EndsBy};
-ghost use Rattle.osn_commands.specs.declared.fault.CommandFault.{CommandFault};
+ghost use Rattle.osn_commands.specs.Audited.{PrintsAudit};
+ghost use Rattle.osn_commands.specs.Streams.{input_of, output_of};
 
 use crate::fault::CommandFault;
 use crate::printing::print;
 use crate::status::Status;
 use osn_audit::audit;
+use osn_lines::{Sink, Source};
 use osn_register::Limits;
-use osn_wire::{Sink, Source};
 use std::alloc::{AllocError, Global};
 
 /// The line on so many replies.
@@ -29,10 +28,11 @@ fn agreed<J: Source, K: Source>(
     transcript: &mut K,
 ) -> Result<u64, CommandFault>
     ensures ok { IfOk result (Agree newest_rules standard_limits
-        (J.remaining journal.old) (K.remaining transcript.old)) }
+        (input_of J.remaining J.has_failed journal.old journal.new)
+        (input_of K.remaining K.has_failed transcript.old transcript.new)) }
     ensures err { IfErr result (IsNotAudited newest_rules standard_limits
-        (J.remaining journal.old) (J.has_failed journal.new)
-        (K.remaining transcript.old) (K.has_failed transcript.new)) }
+        (input_of J.remaining J.has_failed journal.old journal.new)
+        (input_of K.remaining K.has_failed transcript.old transcript.new)) }
 {
     Ok(audit(alloc, Limits::standard(), journal, transcript)?)
 }
@@ -44,10 +44,11 @@ fn audit_text<J: Source, K: Source>(
     transcript: &mut K,
 ) -> Result<String, CommandFault>
     ensures ok { IfOk result (λ text. IsAudited newest_rules standard_limits
-        (J.remaining journal.old) (K.remaining transcript.old) (string_bytes text)) }
+        (input_of J.remaining J.has_failed journal.old journal.new)
+        (input_of K.remaining K.has_failed transcript.old transcript.new) (string_bytes text)) }
     ensures err { IfErr result (IsNotAudited newest_rules standard_limits
-        (J.remaining journal.old) (J.has_failed journal.new)
-        (K.remaining transcript.old) (K.has_failed transcript.new)) }
+        (input_of J.remaining J.has_failed journal.old journal.new)
+        (input_of K.remaining K.has_failed transcript.old transcript.new)) }
 {
     let replies = agreed(alloc, journal, transcript)?;
     Ok(agreed_line(alloc, replies)?)
@@ -66,15 +67,11 @@ pub fn audit_command<J: Source, K: Source, W: Sink, E: Sink>(
     output: &mut W,
     errors: &mut E,
 ) -> Status
-    ensures { (ending : Option CommandFault)
-        × EndsBy (E.contents errors.old) (E.contents errors.new) (E.has_failed errors.new)
-        ending result
-        × Prints (IsAudited newest_rules standard_limits
-        (J.remaining journal.old) (K.remaining transcript.old))
-        (IsNotAudited newest_rules standard_limits
-        (J.remaining journal.old) (J.has_failed journal.new)
-        (K.remaining transcript.old) (K.has_failed transcript.new))
-        (W.contents output.old) (W.contents output.new) (W.has_failed output.new) ending }
+    ensures { PrintsAudit newest_rules standard_limits
+        (input_of J.remaining J.has_failed journal.old journal.new)
+        (input_of K.remaining K.has_failed transcript.old transcript.new)
+        (output_of W.contents W.has_failed output.old output.new)
+        (output_of E.contents E.has_failed errors.old errors.new) result }
 {
     let made = audit_text(alloc, journal, transcript);
     print(alloc, made, output, errors)

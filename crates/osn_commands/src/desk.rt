@@ -1,13 +1,11 @@
 //! The command `desk`.
-ghost use Rattle.std.specs.Prelude.{◌≡◌, Option, length, IfOk, IfErr, string_bytes};
+ghost use Rattle.std.specs.Prelude.{◌≡◌, length, IfOk, IfErr, string_bytes};
 ghost use Rattle.osn_days.specs.Profile.{newest_rules};
 ghost use Rattle.osn_register.specs.Limits.{standard_limits};
 ghost use Rattle.osn_core.specs.Script.{editions_of};
-ghost use Rattle.osn_commands.specs.Printing.{Prints};
-ghost use Rattle.osn_commands.specs.Told.{EndsBy};
+ghost use Rattle.osn_commands.specs.Streams.{input_of, output_of};
 ghost use Rattle.osn_commands.specs.Transcript.{MakeDesk, MakeNoDesk, IsTranscriptOf, IsTurnedAway};
-ghost use Rattle.osn_commands.specs.Transcript.{IsTranscript, HasNoTranscript};
-ghost use Rattle.osn_commands.specs.declared.fault.CommandFault.{CommandFault};
+ghost use Rattle.osn_commands.specs.Transcript.{IsTranscript, HasNoTranscript, PrintsTranscript};
 
 use crate::fault::CommandFault;
 use crate::printing::print;
@@ -15,9 +13,9 @@ use crate::reading::{question_lists, script_commands};
 use crate::status::Status;
 use crate::transcript::transcript;
 use osn_core::Command;
+use osn_lines::{Sink, Source};
 use osn_live::{OpenGate, run_desk};
 use osn_register::{Limits, Query};
-use osn_wire::{Sink, Source};
 use std::alloc::Global;
 use std::sync::Wait;
 use std::thread::Threads;
@@ -29,10 +27,11 @@ fn desk_files<J: Source, K: Source>(
     questions: &mut K,
 ) -> Result<(Vec<Command>, Vec<Vec<Query>>), CommandFault>
     ensures ok { IfOk result (λ made. MakeDesk
-        (J.remaining script.old) (K.remaining questions.old) made.0.items made.1.items) }
+        (input_of J.remaining J.has_failed script.old script.new)
+        (input_of K.remaining K.has_failed questions.old questions.new) made.0.items made.1.items) }
     ensures err { IfErr result (MakeNoDesk
-        (J.remaining script.old) (J.has_failed script.new)
-        (K.remaining questions.old) (K.has_failed questions.new)) }
+        (input_of J.remaining J.has_failed script.old script.new)
+        (input_of K.remaining K.has_failed questions.old questions.new)) }
 {
     let commands = script_commands(alloc, script)?;
     let lists = question_lists(alloc, questions)?;
@@ -63,10 +62,11 @@ fn desk_transcript<R: Threads + Wait, J: Source, K: Source>(
     questions: &mut K,
 ) -> Result<String, CommandFault>
     ensures ok { IfOk result (λ text. IsTranscript newest_rules standard_limits
-        (J.remaining script.old) (K.remaining questions.old) (string_bytes text)) }
+        (input_of J.remaining J.has_failed script.old script.new)
+        (input_of K.remaining K.has_failed questions.old questions.new) (string_bytes text)) }
     ensures err { IfErr result (HasNoTranscript newest_rules standard_limits
-        (J.remaining script.old) (J.has_failed script.new)
-        (K.remaining questions.old) (K.has_failed questions.new)) }
+        (input_of J.remaining J.has_failed script.old script.new)
+        (input_of K.remaining K.has_failed questions.old questions.new)) }
 {
     let (commands, lists) = desk_files(alloc, script, questions)?;
     desk_lines(rt, alloc, &commands, &lists)
@@ -87,15 +87,11 @@ pub fn desk_command<R: Threads + Wait + AllocGlobal, J: Source, K: Source, W: Si
     output: &mut W,
     errors: &mut E,
 ) -> Status
-    ensures { (ending : Option CommandFault)
-        × EndsBy (E.contents errors.old) (E.contents errors.new) (E.has_failed errors.new)
-        ending result
-        × Prints (IsTranscript newest_rules standard_limits
-        (J.remaining script.old) (K.remaining questions.old))
-        (HasNoTranscript newest_rules standard_limits
-        (J.remaining script.old) (J.has_failed script.new)
-        (K.remaining questions.old) (K.has_failed questions.new))
-        (W.contents output.old) (W.contents output.new) (W.has_failed output.new) ending }
+    ensures { PrintsTranscript newest_rules standard_limits
+        (input_of J.remaining J.has_failed script.old script.new)
+        (input_of K.remaining K.has_failed questions.old questions.new)
+        (output_of W.contents W.has_failed output.old output.new)
+        (output_of E.contents E.has_failed errors.old errors.new) result }
 {
     let alloc = rt.alloc();
     let made = desk_transcript(rt, alloc, script, questions);

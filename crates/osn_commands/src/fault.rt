@@ -1,17 +1,18 @@
 //! Why a command ended early, and how standard error is told.
 ghost use Rattle.std.specs.Prelude.{◌≡◌, ◌++◌, codes, Some, IfOk, OnErr, string_bytes};
 ghost use Rattle.osn_commands.specs.Fault.{fault_status, fault_line, refusal_end, role_name};
-ghost use Rattle.osn_commands.specs.Fault.{by_service};
-ghost use Rattle.osn_commands.specs.Fault.{by_file, by_desk};
+ghost use Rattle.osn_commands.specs.Fault.{by_service, by_file, by_desk, by_save};
+ghost use Rattle.osn_commands.specs.Streams.{output_of};
 ghost use Rattle.osn_commands.specs.Told.{WritesLine, EndsBy, Tells};
 ghost use Rattle.osn_commands.specs.declared.fault.CommandFault.{CommandFault};
 
-use crate::folder::OpenFailed;
 use crate::status::Status;
 use osn_files::{FileFault, LineFault, Role};
+use osn_folder::SaveFault;
+use osn_lines::{Interrupted, Sink, write_all};
 use osn_live::DeskFault;
 use osn_register::Refusal;
-use osn_wire::{ServeFault, Sink, write_all};
+use osn_service::ServeFault;
 use std::alloc::{AllocError, Global};
 
 /// Why a command ended early.
@@ -69,14 +70,14 @@ fn refused(alloc: Global, number: u8, name: &'static str) -> Result<String, Allo
     format!(in alloc; "oldstyle: {number} {name}\n")
 }
 
-impl From<ServeFault> for CommandFault {
-    ghost from_gives = { λ fault given. given ≡ by_service fault };
+impl From<Interrupted<ServeFault>> for CommandFault {
+    ghost from_gives = { λ end given. given ≡ by_service end.cause };
 
-    fn from(fault: ServeFault) -> CommandFault {
-        match fault {
-            ServeFault::NoMemory { .. } => CommandFault::NoMemory,
-            ServeFault::ReadFault { .. } => CommandFault::ReadFault,
-            ServeFault::WriteFault { .. } => CommandFault::WriteFault,
+    fn from(end: Interrupted<ServeFault>) -> CommandFault {
+        match end.cause {
+            ServeFault::NoMemory => CommandFault::NoMemory,
+            ServeFault::ReadFault => CommandFault::ReadFault,
+            ServeFault::WriteFault => CommandFault::WriteFault,
         }
     }
 }
@@ -107,11 +108,14 @@ impl From<DeskFault> for CommandFault {
     }
 }
 
-impl From<OpenFailed> for CommandFault {
-    ghost from_gives = { λ _ given. given ≡ CommandFault.ReadFault };
+impl From<SaveFault> for CommandFault {
+    ghost from_gives = { λ fault given. given ≡ by_save fault };
 
-    fn from(_error: OpenFailed) -> CommandFault {
-        CommandFault::ReadFault
+    fn from(fault: SaveFault) -> CommandFault {
+        match fault {
+            SaveFault::WriteFault => CommandFault::WriteFault,
+            SaveFault::NoMemory => CommandFault::NoMemory,
+        }
     }
 }
 
@@ -125,15 +129,14 @@ impl From<AllocError> for CommandFault {
 
 /// Writes a line. Where standard error fails too, the status alone tells.
 pub(crate) fn write_line<E: Sink>(errors: &mut E, line: &str)
-    ensures { WritesLine (E.contents errors.old) (E.contents errors.new)
-        (E.has_failed errors.new) line.now }
+    ensures { WritesLine (output_of E.contents E.has_failed errors.old errors.new) line.now }
 {
     let _ = write_all(errors, line.as_bytes());
 }
 
 /// Tells standard error that memory ran out.
 pub(crate) fn tell_no_memory<E: Sink>(errors: &mut E) -> Status
-    ensures { EndsBy (E.contents errors.old) (E.contents errors.new) (E.has_failed errors.new)
+    ensures { EndsBy (output_of E.contents E.has_failed errors.old errors.new)
         (Some CommandFault.NoMemory) result }
 {
     write_line(errors, "oldstyle: no memory\n");
@@ -142,10 +145,10 @@ pub(crate) fn tell_no_memory<E: Sink>(errors: &mut E) -> Status
 
 /// Tells a refusal by its line, or that there was no memory for one.
 fn tell_refusal<E: Sink>(errors: &mut E, line: Result<String, AllocError>) -> Status
-    ensures ok { IfOk line (λ text. (result ≡ Status.Refused) × WritesLine (E.contents errors.old)
-        (E.contents errors.new) (E.has_failed errors.new) (string_bytes text)) }
-    ensures err { OnErr line (EndsBy (E.contents errors.old) (E.contents errors.new)
-        (E.has_failed errors.new) (Some CommandFault.NoMemory) result) }
+    ensures ok { IfOk line (λ text. (result ≡ Status.Refused) × WritesLine
+        (output_of E.contents E.has_failed errors.old errors.new) (string_bytes text)) }
+    ensures err { OnErr line (EndsBy (output_of E.contents E.has_failed errors.old errors.new)
+        (Some CommandFault.NoMemory) result) }
 {
     match line {
         Ok(line) => {
@@ -158,8 +161,7 @@ fn tell_refusal<E: Sink>(errors: &mut E, line: Result<String, AllocError>) -> St
 
 /// Tells standard error why a command ended early. Answers the status.
 pub(crate) fn tell<E: Sink>(alloc: Global, errors: &mut E, fault: CommandFault) -> Status
-    ensures { Tells (E.contents errors.old) (E.contents errors.new) (E.has_failed errors.new) fault
-        result }
+    ensures { Tells (output_of E.contents E.has_failed errors.old errors.new) fault result }
 {
     match fault {
         CommandFault::BadLine { role, line, fault } => {

@@ -1,12 +1,12 @@
 //! Prints a text that a command made.
-ghost use Rattle.std.specs.Prelude.{◌≡◌, Option, Some, None, IfOk, IfErr, string_bytes};
-ghost use Rattle.osn_commands.specs.Printing.{Prints};
-ghost use Rattle.osn_commands.specs.Told.{EndsBy, Tells};
-ghost use Rattle.osn_commands.specs.declared.fault.CommandFault.{CommandFault};
+ghost use Rattle.std.specs.Prelude.{◌≡◌, IfOk, IfErr, string_bytes};
+ghost use Rattle.osn_commands.specs.Printing.{EndsPrinting};
+ghost use Rattle.osn_commands.specs.Streams.{output_of};
+ghost use Rattle.osn_commands.specs.Told.{Tells};
 
 use crate::fault::{CommandFault, tell};
 use crate::status::Status;
-use osn_wire::{Sink, write_all};
+use osn_lines::{Sink, write_all};
 use std::alloc::Global;
 
 /// Writes a text, or tells standard error why there is none.
@@ -16,13 +16,12 @@ pub(crate) fn print<W: Sink, E: Sink>(
     output: &mut W,
     errors: &mut E,
 ) -> Status
-    ensures ok { IfOk made (λ text. (ending : Option CommandFault)
-        × EndsBy (E.contents errors.old) (E.contents errors.new) (E.has_failed errors.new)
-        ending result
-        × Prints (λ written. written ≡ string_bytes text) (λ _. ⊥)
-        (W.contents output.old) (W.contents output.new) (W.has_failed output.new) ending) }
+    ensures ok { IfOk made (λ text.
+        EndsPrinting (λ written. written ≡ string_bytes text) (λ _. ⊥)
+        (output_of W.contents W.has_failed output.old output.new)
+        (output_of E.contents E.has_failed errors.old errors.new) result) }
     ensures err { IfErr made (λ fault.
-        Tells (E.contents errors.old) (E.contents errors.new) (E.has_failed errors.new) fault result
+        Tells (output_of E.contents E.has_failed errors.old errors.new) fault result
         × (W.contents output.new ≡ W.contents output.old)) }
 {
     match made {

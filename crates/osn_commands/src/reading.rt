@@ -8,14 +8,14 @@ ghost use Rattle.osn_files.specs.Schedule.{schedule};
 ghost use Rattle.osn_files.specs.Script.{script};
 ghost use Rattle.osn_files.specs.declared.fault.Role.TheVariants.{Journal, Script, Questions};
 ghost use Rattle.osn_files.specs.declared.fault.Role.TheVariants.{Schedule};
-ghost use Rattle.osn_lines.specs.Faults.{IsReadFault};
 ghost use Rattle.osn_commands.specs.Files.{Makes, IsFileFault};
+ghost use Rattle.osn_commands.specs.Streams.{input_of};
 
 use crate::fault::CommandFault;
 use osn_core::{Command, Object, Step};
 use osn_files::{load_journal, read_questions, read_schedule, read_script};
+use osn_lines::Source;
 use osn_register::{Limits, Query};
-use osn_wire::Source;
 use std::alloc::Global;
 
 /// The object of a journal, under the standard limits.
@@ -26,8 +26,7 @@ pub(crate) fn journal_object<J: Source>(
     ensures ok { IfOk result
         (Makes (load newest_rules standard_limits) (J.remaining journal.old)) }
     ensures err { IfErr result (IsFileFault Journal (load newest_rules standard_limits)
-        (J.remaining journal.old)
-        (IsReadFault (J.has_failed journal.new) (J.remaining journal.old))) }
+        (input_of J.remaining J.has_failed journal.old journal.new)) }
 {
     Ok(load_journal(alloc, Limits::standard(), journal)?)
 }
@@ -39,10 +38,9 @@ pub(crate) fn schedule_steps<J: Source>(
     file: &mut J,
 ) -> Result<Vec<Step>, CommandFault>
     ensures ok { IfOk result (λ steps.
-        Makes (schedule newest_rules readers) (J.remaining file.old) steps.items) }
-    ensures err { IfErr result (IsFileFault Schedule (schedule newest_rules readers)
-        (J.remaining file.old)
-        (IsReadFault (J.has_failed file.new) (J.remaining file.old))) }
+        Makes (schedule readers) (J.remaining file.old) steps.items) }
+    ensures err { IfErr result (IsFileFault Schedule (schedule readers)
+        (input_of J.remaining J.has_failed file.old file.new)) }
 {
     Ok(read_schedule(alloc, readers, file)?)
 }
@@ -55,8 +53,7 @@ pub(crate) fn script_commands<J: Source>(
     ensures ok { IfOk result (λ commands.
         Makes script (J.remaining file.old) commands.items) }
     ensures err { IfErr result (IsFileFault Script script
-        (J.remaining file.old)
-        (IsReadFault (J.has_failed file.new) (J.remaining file.old))) }
+        (input_of J.remaining J.has_failed file.old file.new)) }
 {
     Ok(read_script(alloc, file)?)
 }
@@ -69,8 +66,7 @@ pub(crate) fn question_lists<J: Source>(
     ensures ok { IfOk result (λ lists. Makes questions (J.remaining file.old)
         (map (λ asked. asked.items) lists.items)) }
     ensures err { IfErr result (IsFileFault Questions questions
-        (J.remaining file.old)
-        (IsReadFault (J.has_failed file.new) (J.remaining file.old))) }
+        (input_of J.remaining J.has_failed file.old file.new)) }
 {
     Ok(read_questions(alloc, file)?)
 }

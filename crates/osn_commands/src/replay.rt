@@ -1,23 +1,22 @@
 //! The command `replay`.
-ghost use Rattle.std.specs.Prelude.{◌≡◌, Option, None, IfOk, IfErr, string_bytes};
+ghost use Rattle.std.specs.Prelude.{◌≡◌, None, IfOk, IfErr, string_bytes};
 ghost use Rattle.std.specs.List.{flat_map};
 ghost use Rattle.osn_days.specs.Profile.{newest_rules};
 ghost use Rattle.osn_register.specs.Limits.{standard_limits};
 ghost use Rattle.osn_core.specs.Machine.{readers_refusal};
 ghost use Rattle.osn_reply.specs.OutText.{out_line};
-ghost use Rattle.osn_commands.specs.Printing.{Prints};
 ghost use Rattle.osn_commands.specs.Refused.{IsRefusedBy};
-ghost use Rattle.osn_commands.specs.Replay.{IsReplayOf, IsReplay, HasNoReplay};
-ghost use Rattle.osn_commands.specs.Told.{EndsBy};
-ghost use Rattle.osn_commands.specs.declared.fault.CommandFault.{CommandFault};
+ghost use Rattle.osn_commands.specs.Replay.{IsReplayOf, IsReplay, HasNoReplay, PrintsReplay};
+ghost use Rattle.osn_commands.specs.Streams.{input_of, output_of};
 
 use crate::fault::CommandFault;
 use crate::printing::print;
 use crate::reading::schedule_steps;
 use crate::status::Status;
 use osn_core::{Out, Step, replay};
+use osn_lines::{Sink, Source};
 use osn_register::{Limits, Refusal};
-use osn_wire::{Sink, Source, out_text};
+use osn_reply::out_text;
 use std::alloc::{AllocError, Global};
 
 /// The lines of what steps gave, one for each.
@@ -52,9 +51,9 @@ fn schedule_replay<J: Source>(
     schedule: &mut J,
 ) -> Result<String, CommandFault>
     ensures ok { IfOk result (λ text. IsReplay newest_rules standard_limits readers
-        (J.remaining schedule.old) (string_bytes text)) }
-    ensures err { IfErr result (HasNoReplay newest_rules readers
-        (J.remaining schedule.old) (J.has_failed schedule.new)) }
+        (input_of J.remaining J.has_failed schedule.old schedule.new) (string_bytes text)) }
+    ensures err { IfErr result (HasNoReplay readers
+        (input_of J.remaining J.has_failed schedule.old schedule.new)) }
 {
     let steps = schedule_steps(alloc, readers, schedule)?;
     replay_of(alloc, readers, &steps)
@@ -73,12 +72,10 @@ pub fn replay_command<J: Source, W: Sink, E: Sink>(
     output: &mut W,
     errors: &mut E,
 ) -> Status
-    ensures { (ending : Option CommandFault)
-        × EndsBy (E.contents errors.old) (E.contents errors.new) (E.has_failed errors.new)
-        ending result
-        × Prints (IsReplay newest_rules standard_limits readers (J.remaining schedule.old))
-        (HasNoReplay newest_rules readers (J.remaining schedule.old) (J.has_failed schedule.new))
-        (W.contents output.old) (W.contents output.new) (W.has_failed output.new) ending }
+    ensures { PrintsReplay newest_rules standard_limits readers
+        (input_of J.remaining J.has_failed schedule.old schedule.new)
+        (output_of W.contents W.has_failed output.old output.new)
+        (output_of E.contents E.has_failed errors.old errors.new) result }
 {
     let made = schedule_replay(alloc, readers, schedule);
     print(alloc, made, output, errors)

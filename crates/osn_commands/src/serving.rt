@@ -6,6 +6,7 @@ ghost use Rattle.osn_days.specs.Profile.{newest_rules};
 ghost use Rattle.osn_register.specs.Limits.{standard_limits};
 ghost use Rattle.osn_commands.specs.Journal.{Begins, HasNoObject};
 ghost use Rattle.osn_commands.specs.Serving.{AnswersAll, AnswersUntil, Serves};
+ghost use Rattle.osn_commands.specs.Streams.{output_of};
 ghost use Rattle.osn_commands.specs.Told.{EndsBy};
 ghost use Rattle.osn_commands.specs.declared.fault.CommandFault.{CommandFault};
 
@@ -14,8 +15,9 @@ use crate::reading::journal_object;
 use crate::status::Status;
 use osn_core::Object;
 use osn_files::journal_text;
+use osn_lines::{Sink, Source};
 use osn_register::Limits;
-use osn_wire::{Sink, Source, serve_from};
+use osn_service::serve_from;
 use std::alloc::Global;
 
 /// What the service of a command line leaves.
@@ -51,12 +53,13 @@ fn answer<R: Source, W: Sink>(
     output: &mut W,
 ) -> Result<Option<String>, CommandFault>
     ensures ok { IfOk result (λ journal. IfSome (R.remaining input.old) (λ bytes.
-        AnswersAll newest_rules readers object.old saves (W.contents output.old)
-        (W.contents output.new) bytes (option_map string_bytes journal))) }
+        AnswersAll newest_rules readers object.old saves
+        (output_of W.contents W.has_failed output.old output.new) bytes
+        (option_map string_bytes journal))) }
     ensures err { IfErr result (λ fault. IfSome (R.remaining input.old) (λ bytes.
-        AnswersUntil newest_rules readers object.old (W.contents output.old)
-        (W.contents output.new) (W.has_failed output.new) bytes (R.has_failed input.new)
-        fault)) }
+        AnswersUntil newest_rules readers object.old
+        (output_of W.contents W.has_failed output.old output.new) bytes
+        (R.has_failed input.new) fault)) }
 {
     serve_from(alloc, object, readers, input, output)?;
     if !saves {
@@ -76,12 +79,12 @@ fn serve_lines<J: Source, R: Source, W: Sink>(
     ensures ok { IfOk result (λ text. IfSome (R.remaining input.old) (λ bytes.
         Serves newest_rules standard_limits readers (option_map J.remaining journal.old)
         (option_map_or J.has_failed journal.new false) saves
-        (W.contents output.old) (W.contents output.new) (W.has_failed output.new) bytes
+        (output_of W.contents W.has_failed output.old output.new) bytes
         (R.has_failed input.new) (option_map string_bytes text) None)) }
     ensures err { IfErr result (λ fault. IfSome (R.remaining input.old) (λ bytes.
         Serves newest_rules standard_limits readers (option_map J.remaining journal.old)
         (option_map_or J.has_failed journal.new false) saves
-        (W.contents output.old) (W.contents output.new) (W.has_failed output.new) bytes
+        (output_of W.contents W.has_failed output.old output.new) bytes
         (R.has_failed input.new) None (Some fault))) }
 {
     let mut object = begun(alloc, journal)?;
@@ -104,13 +107,13 @@ pub fn serve_command<J: Source, R: Source, W: Sink, E: Sink>(
     errors: &mut E,
 ) -> Served
     ensures { (ending : Option CommandFault)
-        × EndsBy (E.contents errors.old) (E.contents errors.new) (E.has_failed errors.new)
-        ending result.status
+        × EndsBy (output_of E.contents E.has_failed errors.old errors.new) ending
+        result.status
         × ((ending ≡ None) ⊎ (result.journal ≡ None))
         × IfSome (R.remaining input.old) (λ bytes.
         Serves newest_rules standard_limits readers (option_map J.remaining journal.old)
         (option_map_or J.has_failed journal.new false) saves
-        (W.contents output.old) (W.contents output.new) (W.has_failed output.new) bytes
+        (output_of W.contents W.has_failed output.old output.new) bytes
         (R.has_failed input.new) (option_map string_bytes result.journal) ending) }
 {
     match serve_lines(alloc, journal, readers, saves, input, output) {

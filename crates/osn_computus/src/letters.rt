@@ -1,15 +1,18 @@
 //! The Sunday letters.
 ghost use Rattle.std.specs.Prelude.{◌≡◌, ◌≢◌, ◌↔◌, ◌+◌, ◌%◌, pos, false, Some, IsNone, IfSome};
+ghost use Rattle.std.specs.Prelude.{IfOk, string_bytes};
 ghost use Rattle.osn_days.specs.Profile.{first_rules, newest_rules};
 ghost use Rattle.osn_days.specs.Line.{IsYear};
 ghost use Rattle.osn_days.specs.Chain as chain;
 ghost use Rattle.osn_days.specs.declared.calendar.Calendar.TheVariants.{Swedish};
 ghost use Rattle.osn_computus.specs.declared.letter.Letter.TheVariants.{D};
 ghost use Rattle.osn_computus.specs.Letters.{letter_number, letters_of, AreSundayLetters};
+ghost use Rattle.osn_computus.specs.FigureTexts as said;
 
 use crate::letter::Letter;
 use crate::year_date::date_in;
 use osn_days::{Calendar, Day, Year, day_of};
+use std::alloc::{AllocError, Global};
 
 /// The Sunday letters of a year, by the third canon of *Inter gravissimas*.
 #[derive(Clone, Copy, Debug, PartialEq, Eq, Hash)]
@@ -62,4 +65,21 @@ pub fn sunday_letters(calendar: Calendar, year: Year) -> Option<Letters>
         Calendar::Julian | Calendar::Gregorian => Some(letters_of_year(calendar, year)),
         Calendar::Swedish => None,
     }
+}
+
+/// One letter in a common year and two in a leap year, that of January first.
+///
+/// # Errors
+///
+/// Want of memory, and nothing else.
+#[tactic(auto, unfolding(crate::specs::FigureTexts::letters_text))]
+pub fn letters_text(alloc: Global, letters: Letters) -> Result<String, AllocError>
+    ensures { IfOk result (λ s. string_bytes s ≡ said.letters_text letters) }
+{
+    let mut text = String::with_capacity(alloc, 2)?;
+    text.push_str(letters.january.name())?;
+    if letters.march != letters.january {
+        text.push_str(letters.march.name())?;
+    }
+    Ok(text)
 }

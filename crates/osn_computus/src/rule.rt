@@ -1,7 +1,8 @@
 ghost use Rattle.std.specs.Prelude.{◌≡◌};
 ghost use Rattle.osn_computus.specs.Easter.{calendar_of};
+ghost use Rattle.osn_computus.specs.RuleWords as words;
 
-use osn_days::Calendar;
+use osn_days::{Calendar, Keyword};
 
 /// The rule by which a territory finds its Easter.
 #[derive(Clone, Copy, Debug, PartialEq, Eq, Hash)]
@@ -20,6 +21,27 @@ impl Rule {
         match self {
             Rule::Julian => Calendar::Julian,
             Rule::Gregorian => Calendar::Gregorian,
+        }
+    }
+}
+
+impl Keyword for Rule {
+    ghost word_of = { words.rule_word };
+
+    ghost meaning = { words.rule_named };
+
+    fn word(self) -> &'static str {
+        match self {
+            Rule::Julian => "julian",
+            Rule::Gregorian => "gregorian",
+        }
+    }
+
+    fn from_word(word: &str) -> Option<Rule> {
+        match word {
+            "julian" => Some(Rule::Julian),
+            "gregorian" => Some(Rule::Gregorian),
+            _ => None,
         }
     }
 }

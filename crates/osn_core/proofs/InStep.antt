@@ -6,14 +6,12 @@ use Rattle.std.proofs.Common.{length-append}
 use Rattle.std.proofs.lemmas.Bool.{false≢true}
 use Rattle.std.proofs.lemmas.Bool.Decides.{nat_tests}
 use Rattle.std.proofs.lemmas.List.{get_or-append-add}
-use Rattle.std.proofs.lemmas.List.Sums.{sum_by-append}
 use Rattle.osn_days.specs.Profile.{newest_rules}
 use Rattle.osn_register.specs.declared.limits.Limits.{Limits}
 use Rattle.osn_register.specs.declared.edit.Edit.{Edit}
 use Rattle.osn_register.specs.declared.refusal.Refusal.{Refusal}
 use Rattle.osn_register.specs.declared.refusal.Refusal.TheVariants.{NothingPending, JournalFull}
 use Rattle.osn_register.specs.declared.refusal.Refusal.TheVariants.{EditionsFull}
-use Rattle.osn_register.specs.Refusal.{or_else}
 use Rattle.osn_register.specs.Plain.{PlainLand, PlainRegister, refusal, effect, applied_all}
 use Rattle.osn_core.specs.Sequential.{ObjectState, joined, last_batch, draft_lands, edits_in}
 use Rattle.osn_core.specs.Sequential.{stage_refusal, publish_refusal, with_pending, with_edition}
@@ -21,12 +19,9 @@ use Rattle.osn_core.specs.Sequential.{without_last, AreLawful}
 use Rattle.osn_core.specs.CopiesInside.{CopiesState, AreInStep, lagging_lands}
 use Rattle.osn_core.proofs.Batches.{joined-push, last_batch-push, NoneEmpty-push, without_none}
 use Rattle.osn_core.proofs.Batches.{without_part, split_last}
-use Rattle.osn_core.proofs.Lawful.{applied_all-append, applied-lawful, AreLawful-push, lawful_at}
-use Rattle.osn_core.proofs.Lawful.{applied_at}
-
-or_else-none : (a b : Option Refusal) → or_else a b ≡ None → (a ≡ None) × (b ≡ None)
-or_else-none None b h = (refl, h)
-or_else-none (Some f) b h = absurd (false≢true (sym (ap is_some h)))
+use Rattle.osn_core.proofs.Draft.{or_else-none, lawful_in_draft, draft_with, edits_with}
+use Rattle.osn_core.proofs.Draft.{draft_shown, edits_published}
+use Rattle.osn_core.proofs.Lawful.{AreLawful-push, lawful_at, applied_at}
 
 test_passed : (b : Bool) (f : Refusal) → cond b None (Some f) ≡ None → b ≡ true
 test_passed true f h = refl
@@ -55,11 +50,9 @@ pub lawful_staged : (s : ObjectState) (live standby : PlainRegister) (lag edits 
     ≡ None →
     refusal newest_rules standby.limits standby.lands e ≡ None
 lawful_staged s live standby lag edits e h none lawful =
-    let allowed = or_else-none (refusal newest_rules s.limits (draft_lands newest_rules s) e)
-    (cond (nat_lt (edits_in s) s.limits.edits) None (Some JournalFull)) lawful in
     ap (λ (r : PlainRegister). refusal newest_rules r.limits r.lands e) h.standby_is
     ∙ ap (λ ls. refusal newest_rules s.limits ls e) (has_all s lag none)
-    ∙ allowed.0
+    ∙ lawful_in_draft newest_rules s e lawful
 
 -- an edit is staged in a standby that lacks nothing
 pub one_staged : (s : ObjectState) (live standby after : PlainRegister) (lag edits : ℕ) (e : Edit) →
@@ -76,9 +69,7 @@ one_staged s live standby after lag edits e h none lawful is =
     let lands : effect (lagging_lands newest_rules (copies_of s lag)) e
     ≡ lagging_lands newest_rules (copies_of (with_pending s e) lag) =
     ap (λ ls. effect ls e) (has_all s lag none)
-    ∙ sym (applied-lawful newest_rules s.limits (draft_lands newest_rules s) e allowed.0)
-    ∙ sym (applied_all-append newest_rules s.limits [] (joined s.batches ++ s.pending) (e ∷ []))
-    ∙ ap (applied_all newest_rules s.limits []) (sym regroup)
+    ∙ draft_with newest_rules s e lawful
     ∙ sym (has_all (with_pending s e) lag none) in
     record {
       live_is = h.live_is;
@@ -88,7 +79,7 @@ one_staged s live standby after lag edits e h none lawful is =
           ∙ ap (register_of s.limits) lands;
       lag_is_of_last = h.lag_is_of_last;
       caught_up = inr none;
-      counted = omega (arith, h.counted, length-append s.pending (e ∷ []));
+      counted = omega (arith, h.counted, edits_with s e);
       sound = record {
         lawful = subst (AreLawful newest_rules s.limits []) (sym regroup)
             (AreLawful-push newest_rules s.limits []
@@ -96,7 +87,7 @@ one_staged s live standby after lag edits e h none lawful is =
             allowed.0);
         none_empty = h.sound.none_empty;
         edits = let fits : edits_in s < s.limits.edits = grind (arith, nat_tests) in omega
-            (arith, length-append s.pending (e ∷ []));
+            (arith, edits_with s e);
         editions = h.sound.editions;
       };
     }
@@ -113,18 +104,14 @@ one_published s live standby lag edits h lawful =
     let fits : length s.batches < s.limits.editions = grind (arith, nat_tests) in
     let none : lag ≡ 0 = elim h.caught_up
     [ inl nothing ↦ absurd (omega (arith, ap length nothing)) | inr all ↦ all ] in
-    let edits_are : joined (s.batches ++ s.pending ∷ []) ≡ joined s.batches ++ s.pending =
-    joined-push s.batches s.pending in
     let all_are : joined (s.batches ++ s.pending ∷ []) ++ [] ≡ joined s.batches ++ s.pending =
-    append-nil _ ∙ edits_are in
+    append-nil _ ∙ joined-push s.batches s.pending in
     let last : last_batch (s.batches ++ s.pending ∷ []) ≡ s.pending =
     last_batch-push s.batches s.pending in
     record {
       live_is =
           h.standby_is
-          ∙ ap (register_of s.limits) (has_all s lag none
-          ∙ ap (applied_all newest_rules s.limits [])
-          (sym edits_are));
+          ∙ ap (register_of s.limits) (has_all s lag none ∙ draft_shown newest_rules s);
       standby_is =
           h.live_is
           ∙ ap (λ es. register_of s.limits (applied_all newest_rules s.limits [] es))
@@ -132,21 +119,11 @@ one_published s live standby lag edits h lawful =
           ∙ ap (without_last (length s.pending)) (sym all_are));
       lag_is_of_last = omega (arith, ap length last);
       caught_up = inl refl;
-      counted = omega (
-        arith,
-        h.counted,
-        sum_by-append (λ (b : List Edit). length b) s.batches
-            (s.pending ∷ []),
-      );
+      counted = h.counted ∙ edits_published s;
       sound = record {
         lawful = subst (AreLawful newest_rules s.limits []) (sym all_are) h.sound.lawful;
         none_empty = NoneEmpty-push s.batches s.pending h.sound.none_empty some;
-        edits = omega (
-          arith,
-          h.sound.edits,
-          sum_by-append (λ (b : List Edit). length b) s.batches
-              (s.pending ∷ []),
-        );
+        edits = omega (arith, h.sound.edits, edits_published s);
         editions = omega (arith, length-append s.batches (s.pending ∷ []));
       };
     }

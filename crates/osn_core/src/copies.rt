@@ -135,18 +135,17 @@ impl Copies {
     /// # Errors
     ///
     /// Only where no memory is found. Nothing has changed then.
-    pub fn admit(&mut self, edit: &Edit) -> Result<u32, AllocError>
+    pub fn admit(&mut self, edit: Edit) -> Result<u32, AllocError>
         requires lag { self.old.lag ≡ 0 }
-        requires lawful { stage_refusal newest_rules self.old.object edit.now ≡ None }
+        requires lawful { stage_refusal newest_rules self.old.object edit ≡ None }
         ensures ok { OnOk result
-            (self.new ≡ record { object = with_pending self.old.object edit.now; lag = 0 }) }
+            (self.new ≡ record { object = with_pending self.old.object edit; lag = 0 }) }
         ensures count { IfOk result (λ n. n ≡ length self.new.object.pending) }
         ensures err { OnErr result (self.new ≡ self.old) }
     {
         self.pending.reserve(1)?;
-        let copied = edit.copy()?;
-        self.standby.admit(edit)?;
-        self.pending.push_reserved(copied);
+        self.standby.admit(&edit)?;
+        self.pending.push_reserved(edit);
         self.edits += 1;
         Ok(self.pending.len() as u32)
     }

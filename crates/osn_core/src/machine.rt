@@ -57,9 +57,7 @@ impl Core {
         if readers == 0 || readers > MOST_READERS {
             return Err(Refusal::BadCount);
         }
-        let Ok(readers) = Readers::new(alloc, readers) else {
-            return Err(Refusal::NoMemory);
-        };
+        let readers = Readers::new(alloc, readers)?;
         Ok(Core {
             copies: Copies::new(alloc, limits),
             side: 0,
@@ -182,7 +180,7 @@ impl Core {
         };
         match self.copies.check(edit) {
             Ok(_) => {
-                let pending = self.copies.admit(edit)?;
+                let pending = self.copies.admit(edit.copy()?)?;
                 Ok(Out::Staged { pending })
             }
             Err(refusal) => Ok(Out::Refused(refusal)),

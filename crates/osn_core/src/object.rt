@@ -113,10 +113,7 @@ impl Object {
         ensures err { OnErr result (self.new ≡ self.old) }
     {
         self.check(edit)?;
-        match self.admit(edit) {
-            Ok(pending) => Ok(pending),
-            Err(_) => Err(Refusal::NoMemory),
-        }
+        Ok(self.admit(edit.copy()?)?)
     }
 
     /// Stages an edit that `check` has let in, and answers how many are pending then.
@@ -124,9 +121,9 @@ impl Object {
     /// # Errors
     ///
     /// Only where no memory is found. Nothing has changed then.
-    pub fn admit(&mut self, edit: &Edit) -> Result<u32, AllocError>
-        requires { stage_refusal newest_rules self.old edit.now ≡ None }
-        ensures ok { OnOk result (self.new ≡ with_pending self.old edit.now) }
+    pub fn admit(&mut self, edit: Edit) -> Result<u32, AllocError>
+        requires { stage_refusal newest_rules self.old edit ≡ None }
+        ensures ok { OnOk result (self.new ≡ with_pending self.old edit) }
         ensures count { IfOk result (λ n. n ≡ length self.new.pending) }
         ensures err { OnErr result (self.new ≡ self.old) }
     {
@@ -160,10 +157,7 @@ impl Object {
         ensures err { OnErr result (self.new ≡ self.old) }
     {
         self.check_publish()?;
-        match self.make_edition() {
-            Ok(edition) => Ok(edition),
-            Err(_) => Err(Refusal::NoMemory),
-        }
+        Ok(self.make_edition()?)
     }
 
     /// Publishes the pending edits, which `check_publish` has let through, as the next edition, and

@@ -50,9 +50,7 @@ fn taken(alloc: Global, core: &mut Core, steps: &[Step]) -> Result<Vec<Out>, Ref
 {
     let mut outs = Vec::new(alloc);
     for step in steps {
-        let Ok(()) = take(core, step, &mut outs) else {
-            return Err(Refusal::NoMemory);
-        };
+        take(core, step, &mut outs)?;
     }
     Ok(outs)
 }

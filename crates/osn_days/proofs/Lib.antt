@@ -7,3 +7,5 @@ pub mod JulianFacts
 pub mod LineFacts
 pub mod SwedishFacts
 pub mod KeptYears
+pub mod AsciiFacts
+pub mod DateDigits

@@ -2,3 +2,6 @@ pub mod Profile
 pub mod Line
 pub mod Chain
 pub mod Weekday
+pub mod Keyword
+pub mod CalendarWords
+pub mod DateText

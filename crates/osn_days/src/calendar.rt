@@ -3,9 +3,11 @@ ghost use Rattle.std.specs.Option.{option_to_list};
 ghost use Rattle.osn_days.specs.Profile.{newest_rules};
 ghost use Rattle.osn_days.specs.Line.{IsYearNumber};
 ghost use Rattle.osn_days.specs.Chain as chain;
+ghost use Rattle.osn_days.specs.CalendarWords as words;
 
 use crate::date::Date;
 use crate::day::Day;
+use crate::keyword::Keyword;
 use crate::{gregorian, julian, swedish};
 
 /// A calendar on the line of days. Its years begin on 1 January.
@@ -16,6 +18,29 @@ pub enum Calendar {
     /// The Julian calendar without 29 February 1700, and so a day ahead of it, until a 30 February
     /// 1712 brought it back.
     Swedish,
+}
+
+impl Keyword for Calendar {
+    ghost word_of = { words.calendar_word };
+
+    ghost meaning = { words.calendar_named };
+
+    fn word(self) -> &'static str {
+        match self {
+            Calendar::Julian => "julian",
+            Calendar::Gregorian => "gregorian",
+            Calendar::Swedish => "swedish",
+        }
+    }
+
+    fn from_word(word: &str) -> Option<Calendar> {
+        match word {
+            "julian" => Some(Calendar::Julian),
+            "gregorian" => Some(Calendar::Gregorian),
+            "swedish" => Some(Calendar::Swedish),
+            _ => None,
+        }
+    }
 }
 
 /// The date of a day in a calendar: in the Gregorian by *Calendrical Calculations*, chapter 2, in

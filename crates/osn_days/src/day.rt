@@ -1,7 +1,7 @@
 ghost use Rattle.std.specs.Prelude.{◌≡◌, ◌↔◌, ◌≤◌, ℕ, pos, ◌+ℤ◌, IsSome, IfSome};
 ghost use Rattle.osn_days.specs.Profile.{newest_rules};
 ghost use Rattle.osn_days.specs.Line.{IsDay, IsOnLine, weekday, julian_day};
-ghost use Rattle.osn_days.specs.Weekday.{weekday_number};
+ghost use Rattle.osn_days.specs.Weekday.{weekday_numbered};
 
 use crate::weekday::Weekday;
 use std::marker::Model;
@@ -78,8 +78,9 @@ impl Day {
     }
 
     /// The day of the week.
+    #[tactic(auto, unfolding(crate::specs::Weekday::weekday_numbered))]
     pub fn weekday(self) -> Weekday
-        ensures { weekday_number result ≡ weekday self }
+        ensures { result ≡ weekday_numbered (weekday self) }
     {
         match self.number % 7 {
             0 => Weekday::Sunday,

@@ -1,7 +1,7 @@
 //! The line of days and the calendars on it: the fixed dates of Reingold and Dershowitz,
 //! *Calendrical Calculations* (chapter 1), with the Gregorian (chapter 2), the Julian (chapter 3)
-//! and the Swedish calendar as chains of dates. What the crate promises to those above is `date_of`
-//! and `day_of`: a calendar's chain, both ways.
+//! and the Swedish calendar as chains of dates; the words of calendars, and how dates are written.
+//! What the crate promises to those above is `date_of` and `day_of`: a calendar's chain, both ways.
 #![tactic(auto)]
 
 mod calendar;
@@ -9,12 +9,14 @@ mod date;
 mod day;
 mod gregorian;
 mod julian;
+mod keyword;
 mod swedish;
 mod weekday;
 mod year;
 
 pub use calendar::{Calendar, date_of, day_of};
-pub use date::Date;
+pub use date::{Date, date_digits, date_text};
 pub use day::{Day, HIGH};
+pub use keyword::Keyword;
 pub use weekday::Weekday;
 pub use year::Year;

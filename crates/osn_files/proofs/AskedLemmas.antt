@@ -1,25 +1,22 @@
 -- The queries of each reader, with one query more, and those that are made of lines.
 use Rattle.std.proofs.Common.{◌≡◌, ℕ, zero, suc, ◌+◌, ◌<◌, ◌≤◌, max, map, List, [], ◌∷◌, ◌++◌}
-use Rattle.std.proofs.Common.{Option, Some, None, Result, Ok, Err, IfSome, refl, ap, sym, ◌∙◌}
+use Rattle.std.proofs.Common.{Some, None, Result, Ok, Err, refl, ap, sym, ◌∙◌}
 use Rattle.std.proofs.Common.{arith, ◌⊎◌, inl, inr}
-use Rattle.std.specs.Prelude.{⊤, if◌then◌else◌}
+use Rattle.std.specs.Prelude.{if◌then◌else◌}
 use Rattle.std.specs.List.{range_with_len, cons_option}
 use Rattle.std.proofs.lemmas.Bool.{eq-eqb, ne_eqb}
 use Rattle.std.proofs.lemmas.List.Elements.{filter_map-append}
 use Rattle.std.proofs.lemmas.List.{append-nil}
 use native.Mathlib.Nat.{max-zero, zero-max, suc-max-suc, le-max_left, le-max_right, max-le}
+use Rattle.serde_json.specs.Data.{Data}
 use Rattle.osn_register.specs.declared.query.Query.{Query}
-use Rattle.osn_lines.specs.Lines.{lines}
-use Rattle.osn_files.specs.declared.fault.FileFault.{FileFault}
-use Rattle.osn_files.specs.declared.fault.FileFault.TheVariants.{NoMemory, ReadFault, BadLine}
-use Rattle.osn_files.specs.declared.fault.LineFault.{LineFault}
-use Rattle.osn_files.specs.declared.fault.Role.TheVariants.{Questions}
-use Rattle.osn_files.specs.Faults.{MatchFileFault}
+use Rattle.osn_request.specs.Request.{object_of}
+use Rattle.osn_format.specs.declared.version.Version.{Version}
+use Rattle.osn_format.specs.Version.{newest_version}
 use Rattle.osn_files.specs.Questions.{query_by, queries_of, greatest_reader, by_reader}
-use Rattle.osn_files.specs.Questions.{question_of, with_read, with_line, all_by_reader, questions}
-use Rattle.osn_files.specs.QuestionsInside.{with_query_at, with_query, list_line, list_read}
-use Rattle.osn_files.specs.Turns.{in_turn}
-use Rattle.osn_files.proofs.TurnLemmas.{ok_as, in_turn-as, if_some}
+use Rattle.osn_files.specs.Questions.{question_in, with_question, all_by_reader, questions}
+use Rattle.osn_files.specs.QuestionsInside.{with_query_at, with_query, with_object}
+use Rattle.osn_files.specs.Turns.{on_read, go_on, in_turn}
 
 -- lists by two rules that differ at no place
 map-same : (f g : ℕ → List Query) (k m : ℕ)
@@ -139,41 +136,47 @@ by_reader-more asked (suc n, q) =
     ∙ ap (λ m. map (queries_of (asked ++ (suc n, q) ∷ [])) (range_with_len 1 m))
     (sym (greatest-more asked (suc n, q)))
 
--- a line adds its query to the lists of the questions before it
-list_line-asked : (asked : List (ℕ × Query)) (line : List ℕ)
-    → list_line (by_reader asked) line ≡ ok_as by_reader (with_line asked line)
-list_line-asked asked line =
-    elim (question_of line) as (λ r.
-    list_read (by_reader asked) r ≡ ok_as by_reader (with_read asked r)) [
+-- a value that is made of another
+abbrev result_as : {S T F : Type 0} → (S → T) → Result S F → Result T F
+result_as make (Ok s) = Ok (make s)
+result_as make (Err e) = Err e
+
+-- an object adds its query to the lists of the questions before it
+object_asked : (version : Version) (asked : List (ℕ × Query)) (d : Data)
+    → with_object version (by_reader asked) d
+    ≡ result_as by_reader (with_question version asked d)
+object_asked version asked d =
+    elim (question_in d) as (λ r.
+    on_read r (λ question. Ok (with_query (by_reader asked) question.0 question.1))
+    ≡ result_as by_reader (on_read r (λ question. Ok (asked ++ question ∷ [])))) [
       | Ok question ↦ ap Ok (by_reader-more asked question)
       | Err f ↦ refl
     ]
 
-ok_as-all : (r : Result (List (ℕ × Query)) (ℕ × LineFault)) → ok_as by_reader r ≡ all_by_reader r
-ok_as-all (Ok asked) = refl
-ok_as-all (Err e) = refl
-
 -- the lists that lines make are those of their questions
-made : (begun : List (List Query)) (ls : List (List ℕ)) → begun ≡ []
-    → in_turn list_line 1 begun ls ≡ questions ls
-made begun ls none =
-    ap (λ b. in_turn list_line 1 b ls) none
-    ∙ (in_turn-as by_reader with_line list_line list_line-asked 1 [] ls
-    ∙ ok_as-all (in_turn with_line 1 [] ls))
+in_turn-asked : (n : ℕ) (version : Version) (asked : List (ℕ × Query)) (ls : List (List ℕ))
+    → in_turn with_object n (Some version) (by_reader asked) ls
+    ≡ all_by_reader (in_turn with_question n (Some version) asked ls)
+in_turn-asked n version asked [] = refl
+in_turn-asked n version asked (l ∷ ls) =
+    let lists = λ (made : List (List Query)). in_turn with_object (n + 1) (Some version) made ls in
+    let all = λ (made : List (ℕ × Query)). in_turn with_question (n + 1) (Some version) made ls in
+    elim (object_of l) as (λ r.
+    go_on n (on_read r (with_object version (by_reader asked))) lists
+    ≡ all_by_reader (go_on n (on_read r (with_question version asked)) all)) [
+      | Ok d ↦ ap (λ r. go_on n r lists) (object_asked version asked d)
+          ∙ elim (with_question version asked d) as (λ r.
+          go_on n (result_as by_reader r) lists ≡ all_by_reader (go_on n r all)) [
+            | Ok more ↦ in_turn-asked (n + 1) version more ls
+            | Err f ↦ refl
+          ]
+      | Err f ↦ refl
+    ]
 
-pub questions-made : (begun now : List (List Query)) (input : Option (List ℕ)) → begun ≡ []
-    → IfSome input (λ bytes. in_turn list_line 1 begun (lines bytes) ≡ Ok now)
-    → IfSome input (λ bytes. questions (lines bytes) ≡ Ok now)
-questions-made begun now input none h =
-    if_some input (λ bytes e. sym (made begun (lines bytes) none) ∙ e) h
-
-pub questions-fault : (begun : List (List Query)) (fault : FileFault) (input : Option (List ℕ))
-    → begun ≡ []
-    → IfSome input (λ bytes. MatchFileFault fault ⊤ ⊤ (λ role line why.
-    (role ≡ Questions) × (in_turn list_line 1 begun (lines bytes) ≡ Err (line, why))))
-    → IfSome input (λ bytes. MatchFileFault fault ⊤ ⊤ (λ role line why.
-    (role ≡ Questions) × (questions (lines bytes) ≡ Err (line, why))))
-questions-fault begun NoMemory input none h = if_some input (λ bytes e. tt) h
-questions-fault begun ReadFault input none h = if_some input (λ bytes e. tt) h
-questions-fault begun (BadLine role line why) input none h =
-    if_some input (λ bytes e. (e.0, sym (made begun (lines bytes) none) ∙ e.1)) h
+pub questions-made : (version : Version) (none : List (List Query)) (ls : List (List ℕ))
+    → version ≡ newest_version → none ≡ []
+    → in_turn with_object 1 (Some version) none ls ≡ questions ls
+questions-made version none ls newest empty =
+    ap (λ lists. in_turn with_object 1 (Some version) lists ls) empty
+    ∙ (ap (λ v. in_turn with_object 1 (Some v) [] ls) newest
+    ∙ in_turn-asked 1 newest_version [] ls)

@@ -13,16 +13,17 @@ use Rattle.serde_json.specs.Data.{Data, string}
 use Rattle.osn_days.specs.declared.calendar.Calendar.{Calendar}
 use Rattle.osn_days.specs.declared.calendar.Calendar.TheVariants as calendars
 use Rattle.osn_days.specs.Profile.{newest_rules}
+use Rattle.osn_days.specs.CalendarWords.{calendar_word, calendar_named}
 use Rattle.osn_computus.specs.declared.rule.Rule.{Rule}
 use Rattle.osn_computus.specs.declared.rule.Rule.TheVariants as rules
+use Rattle.osn_computus.specs.RuleWords.{rule_word, rule_named}
 use Rattle.osn_lands.specs.declared.regime.Regime.{Regime}
 use Rattle.osn_lands.specs.declared.style.Style.{Style}
 use Rattle.osn_lands.specs.declared.style.Style.TheVariants as styles
+use Rattle.osn_lands.specs.StyleWords.{style_word, style_named}
 use Rattle.osn_register.specs.Code.{is_code, is_name, is_code_byte, is_capital}
-use Rattle.osn_request.specs.declared.member.Member.TheVariants as members
+use Rattle.osn_format.specs.declared.member.Member.TheVariants as members
 use Rattle.osn_request.specs.Field.{text_at, regime_of}
-use Rattle.osn_words.specs.Words.{calendar_word, style_word, rule_word}
-use Rattle.osn_words.specs.Words.{calendar_named, style_named, rule_named}
 use Rattle.osn_files.proofs.TextFacts.{Fits, Fits-string}
 
 Fits-wider : (d : Data) (m n : ℕ) → Fits d m → m ≤ n → Fits d n

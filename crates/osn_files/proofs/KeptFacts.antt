@@ -3,7 +3,8 @@ use Rattle.std.proofs.Common.{◌≡◌, ℕ, ◌+◌, nat_lt, cond, List, [], �
 use Rattle.std.proofs.Common.{Option, Some, None, Result, Ok, Err, refl, sym, ap, subst}
 use Rattle.std.proofs.Common.{◌∙◌, arith, append-nil, append_assoc}
 use Rattle.std.proofs.lemmas.List.{take-append-drop}
-use Rattle.osn_days.specs.Profile.{first_rules, newest_rules}
+use Rattle.serde_json.specs.Data.{Data}
+use Rattle.osn_days.specs.Profile.{Profile, first_rules, newest_rules}
 use Rattle.osn_register.specs.declared.edit.Edit.{Edit}
 use Rattle.osn_register.specs.declared.limits.Limits.{Limits}
 use Rattle.osn_register.specs.declared.refusal.Refusal.{Refusal}
@@ -16,13 +17,15 @@ use Rattle.osn_core.specs.Sequential.{ObjectState, opened, joined, AreLawful, dr
 use Rattle.osn_core.specs.Sequential.{stage_refusal, publish_refusal, with_pending, with_edition}
 use Rattle.osn_core.proofs.Batches.{joined-push}
 use Rattle.osn_core.proofs.Lawful.{AreLawful-push}
-use Rattle.osn_request.specs.declared.wire_fault.WireFault.{WireFault}
-use Rattle.osn_words.specs.declared.version.Version.TheVariants.{First}
+use Rattle.osn_format.specs.declared.wire_fault.WireFault.{WireFault}
+use Rattle.osn_request.specs.Request.{object_of}
+use Rattle.osn_format.specs.declared.version.Version.{Version}
+use Rattle.osn_format.specs.declared.version.Version.TheVariants.{First}
 use Rattle.osn_files.specs.declared.fault.LineFault.{LineFault}
-use Rattle.osn_files.specs.Commands.{command_of}
-use Rattle.osn_files.specs.Journal.{unless_refused, after_command, after_read, after_line}
+use Rattle.osn_files.specs.Commands.{command_in}
+use Rattle.osn_files.specs.Journal.{unless_refused, after_command, after_object}
 use Rattle.osn_files.specs.Kept.{IsSameRegister, KeepsEditions}
-use Rattle.osn_files.specs.Turns.{go_on, in_turn, behind}
+use Rattle.osn_files.specs.Turns.{on_read, go_on, in_turn}
 use Rattle.osn_files.proofs.CommandFacts.{both_none}
 use Rattle.osn_files.proofs.LawFacts.{lawful_front}
 use Rattle.osn_files.proofs.NewerFacts.{IsLonger, refusal_passes, applied_passes}
@@ -155,16 +158,22 @@ command_goes limits s made Publish old fixed is =
 
 read_goes : (limits : Limits) (s made : ObjectState) (r : Result Command WireFault)
     → IsOld limits s → ((c : Command) → r ≡ Ok c → CommandHasFixed c)
-    → after_read first_rules s r ≡ Ok made → Goes limits (after_read newest_rules s r) made
+    → on_read r (after_command first_rules s) ≡ Ok made
+    → Goes limits (on_read r (after_command newest_rules s)) made
 read_goes limits s made (Ok c) old fixed is = command_goes limits s made c old (fixed c refl) is
 read_goes limits s made (Err f) old fixed is = absurd (cc)
 
 -- a line behind a head of the first version
-line_goes : (limits : Limits) (s made : ObjectState) (line : List ℕ) → IsOld limits s
-    → after_line first_rules First s line ≡ Ok made
-    → Goes limits (after_line newest_rules First s line) made
-line_goes limits s made line old is =
-    read_goes limits s made (command_of first_rules line) old (fixed_command line) is
+line_goes : (limits : Limits) (s made : ObjectState) (r : Result Data WireFault) → IsOld limits s
+    → on_read r (after_object first_rules First s) ≡ Ok made
+    → Goes limits (on_read r (after_object newest_rules First s)) made
+line_goes limits s made (Ok d) old is =
+    read_goes limits s made (command_in first_rules d) old (fixed_command d) is
+line_goes limits s made (Err f) old is = absurd (cc)
+
+abbrev behind_first : Profile → ℕ → ObjectState → List (List ℕ)
+    → Result ObjectState (ℕ × LineFault)
+behind_first p n s ls = in_turn (after_object p) n (Some First) s ls
 
 -- what the newest rules make of an object by lines, and that it is an old one
 record Ends (limits : Limits) (r : Result ObjectState (ℕ × LineFault)) (made : ObjectState)
@@ -177,15 +186,15 @@ ends_by : (limits : Limits) (n : ℕ) (made : ObjectState) (ls : List (List ℕ)
     (r newest : Result ObjectState LineFault)
     → ((t : ObjectState) → r ≡ Ok t → Goes limits newest t)
     → ((t : ObjectState) → IsOld limits t
-    → in_turn (after_line first_rules First) (n + 1) t ls ≡ Ok made
-    → Ends limits (in_turn (after_line newest_rules First) (n + 1) t ls) made)
-    → go_on n r (λ t. in_turn (after_line first_rules First) (n + 1) t ls) ≡ Ok made
-    → Ends limits (go_on n newest (λ t. in_turn (after_line newest_rules First) (n + 1) t ls)) made
+    → behind_first first_rules (n + 1) t ls ≡ Ok made
+    → Ends limits (behind_first newest_rules (n + 1) t ls) made)
+    → go_on n r (λ t. behind_first first_rules (n + 1) t ls) ≡ Ok made
+    → Ends limits (go_on n newest (λ t. behind_first newest_rules (n + 1) t ls)) made
 ends_by limits n made ls (Ok t) newest first rest is =
     let one = first t refl in
     let end = rest t one.old is in
     record {
-      ends = ap (λ q. go_on n q (λ u. in_turn (after_line newest_rules First) (n + 1) u ls))
+      ends = ap (λ q. go_on n q (λ u. behind_first newest_rules (n + 1) u ls))
           one.goes ∙ end.ends;
       old = end.old;
     }
@@ -193,27 +202,34 @@ ends_by limits n made ls (Err f) newest first rest is = absurd (cc)
 
 -- lines behind it in turn
 lines_end : (limits : Limits) (n : ℕ) (s made : ObjectState) (ls : List (List ℕ)) → IsOld limits s
-    → in_turn (after_line first_rules First) n s ls ≡ Ok made
-    → Ends limits (in_turn (after_line newest_rules First) n s ls) made
+    → behind_first first_rules n s ls ≡ Ok made
+    → Ends limits (behind_first newest_rules n s ls) made
 lines_end limits n s made [] old is =
     let same : s ≡ made = cc in record { ends = is; old = subst (IsOld limits) same old }
 lines_end limits n s made (l ∷ ls) old is =
-    ends_by limits n made ls (after_line first_rules First s l) (after_line newest_rules First s l)
-    (λ t e. line_goes limits s t l old e)
+    ends_by limits n made ls (on_read (object_of l) (after_object first_rules First s))
+    (on_read (object_of l) (after_object newest_rules First s))
+    (λ t e. line_goes limits s t (object_of l) old e)
     (λ t old_t e. lines_end limits (n + 1) t made ls old_t e)
     is
+
+-- what is loaded behind a head
+abbrev behind : Profile → Limits → List (List ℕ) → Result Version WireFault
+    → Result ObjectState (ℕ × LineFault)
+behind p limits rest r =
+    go_on 1 (on_read r Ok) (λ v. in_turn (after_object p) 2 (Some v) (opened limits) rest)
 
 -- a journal of the first version keeps its editions
 pub keeps_editions : (limits : Limits) (ls : List (List ℕ)) → KeepsEditions limits ls
 unfolding KeepsEditions
 keeps_editions limits [] = λ first object is. absurd first
 keeps_editions limits (head ∷ rest) = λ first object is.
-    let loaded : in_turn (after_line first_rules First) 2 (opened limits) rest ≡ Ok object =
-    sym (ap (behind (after_line first_rules) (opened limits) rest) first) ∙ is in
+    let loaded : behind_first first_rules 2 (opened limits) rest ≡ Ok object =
+    sym (ap (behind first_rules limits rest) first) ∙ is in
     let none : IsOld limits (opened limits) =
     record { limits_are = refl; lawful = tt; fixed = tt } in
     let end = lines_end limits 2 (opened limits) object rest none loaded in (
-      ap (behind (after_line newest_rules) (opened limits) rest) first ∙ end.ends,
+      ap (behind newest_rules limits rest) first ∙ end.ends,
       same_edition limits object end.old,
       same_all limits object end.old,
     )

@@ -23,20 +23,20 @@ use Rattle.osn_core.specs.declared.command.Command.TheVariants.{Stage, Publish}
 use Rattle.osn_core.specs.Sequential.{ObjectState, opened, joined, edits_in, AreLawful, NoneEmpty}
 use Rattle.osn_core.specs.Sequential.{IsSound, stage_refusal, publish_refusal, draft_lands}
 use Rattle.osn_core.proofs.Batches.{joined-push}
-use Rattle.osn_request.specs.Field.{◌>>=◌}
-use Rattle.osn_words.specs.Version.{newest_version}
+use Rattle.osn_request.specs.Request.{object_of}
+use Rattle.osn_format.specs.Version.{newest_version}
 use Rattle.osn_files.specs.declared.fault.LineFault.{LineFault}
-use Rattle.osn_files.specs.Commands.{command_in}
-use Rattle.osn_files.specs.Journal.{after_read, after_command, after_line, load}
-use Rattle.osn_files.specs.Turns.{go_on, in_turn, behind}
+use Rattle.osn_files.specs.Journal.{after_command, after_object, load}
+use Rattle.osn_files.specs.Turns.{on_read, go_on, in_turn}
 use Rattle.osn_files.specs.Journal as journal
 use Rattle.osn_files.specs.JournalText.{line_text, edit_data, publish_data, edits_text, batch_text}
 use Rattle.osn_files.specs.JournalText.{batches_text, journal_text}
 use Rattle.osn_files.proofs.CommandFacts.{Says}
 use Rattle.osn_files.proofs.SaysFacts.{Says-publish, Says-lawful, IsLine-head, version_of-head}
 
-abbrev step : ObjectState → List ℕ → Result ObjectState LineFault
-step = after_line newest_rules newest_version
+-- lines that are run behind a head of the newest version
+abbrev run : ℕ → ObjectState → List (List ℕ) → Result ObjectState (ℕ × LineFault)
+run n s ls = in_turn (after_object newest_rules) n (Some newest_version) s ls
 
 abbrev pub at : Limits → List (List Edit) → List Edit → ObjectState
 at limits done pend = record { limits = limits; batches = done; pending = pend }
@@ -74,17 +74,18 @@ lawful_rest limits lands (e ∷ es) fs h =
 
 -- one line is run
 step_says : (s : ObjectState) (d : Data) (c : Command) → Says d c
-    → step s (compact_text d) ≡ after_command newest_rules s c
+    → on_read (object_of (compact_text d)) (after_object newest_rules newest_version s)
+    ≡ after_command newest_rules s c
 step_says s d c h =
-    ap (λ r. after_read newest_rules s (r >>= command_in newest_rules)) h.line.object
-    ∙ ap (after_read newest_rules s) h.command
+    ap (λ r. on_read r (after_object newest_rules newest_version s)) h.line.object
+    ∙ ap (λ r. on_read r (after_command newest_rules s)) h.command
 
 run_line : (s u t : ObjectState) (d : Data) (c : Command) (more : List ℕ) → Says d c
-    → after_command newest_rules s c ≡ Ok u → ((m : ℕ) → in_turn step m u (lines more) ≡ Ok t)
-    → (n : ℕ) → in_turn step n s (lines (line_text d ++ more)) ≡ Ok t
+    → after_command newest_rules s c ≡ Ok u → ((m : ℕ) → run m u (lines more) ≡ Ok t)
+    → (n : ℕ) → run n s (lines (line_text d ++ more)) ≡ Ok t
 run_line s u t d c more h one rest n =
-    ap (in_turn step n s) (h.line.first more)
-    ∙ (ap (λ r. go_on n r (λ v. in_turn step (n + 1) v (lines more))) (step_says s d c h ∙ one)
+    ap (run n s) (h.line.first more)
+    ∙ (ap (λ r. go_on n r (λ v. run (n + 1) v (lines more))) (step_says s d c h ∙ one)
     ∙ rest (n + 1))
 
 stage_passes : (s : ObjectState) (e : Edit)
@@ -107,10 +108,10 @@ publish_passes s some room =
 run_edits : (limits : Limits) (done : List (List Edit)) (pend es : List Edit) (more : List ℕ)
     (t : ObjectState) → AreLawful newest_rules limits (lands_at limits (joined done ++ pend)) es
     → edits_in (at limits done pend) + length es ≤ limits.edits
-    → ((m : ℕ) → in_turn step m (at limits done (pend ++ es)) (lines more) ≡ Ok t)
-    → (n : ℕ) → in_turn step n (at limits done pend) (lines (edits_text es ++ more)) ≡ Ok t
+    → ((m : ℕ) → run m (at limits done (pend ++ es)) (lines more) ≡ Ok t)
+    → (n : ℕ) → run n (at limits done pend) (lines (edits_text es ++ more)) ≡ Ok t
 run_edits limits done pend [] more t lawful room rest n =
-    ap (λ p. in_turn step n (at limits done p) (lines more)) (sym (append-nil pend)) ∙ rest n
+    ap (λ p. run n (at limits done p) (lines more)) (sym (append-nil pend)) ∙ rest n
 run_edits limits done pend (e ∷ es) more t lawful room rest n =
     let s = at limits done pend in
     let grown : lands_at limits (joined done ++ (pend ++ e ∷ []))
@@ -119,7 +120,7 @@ run_edits limits done pend (e ∷ es) more t lawful room rest n =
     ∙ (applied_all-append limits [] (joined done ++ pend) (e ∷ [])
     ∙ applied-lawful limits (lands_at limits (joined done ++ pend)) e lawful.0) in
     let passes = stage_passes s e lawful.0 (omega (arith, room)) in
-    ap (λ text. in_turn step n s (lines text))
+    ap (λ text. run n s (lines text))
     (append_assoc (line_text (edit_data e)) (edits_text es) more)
     ∙ run_line s (at limits done (pend ++ e ∷ [])) t (edit_data e) (Stage e) (edits_text es ++ more)
     (Says-lawful limits (lands_at limits (joined done ++ pend)) e lawful.0)
@@ -127,7 +128,7 @@ run_edits limits done pend (e ∷ es) more t lawful room rest n =
     (run_edits limits done (pend ++ e ∷ []) es more t
     (subst (λ ls. AreLawful newest_rules limits ls es) (sym grown) lawful.1)
     (omega (arith, room, length-append pend (e ∷ [])))
-    (λ m. ap (λ p. in_turn step m (at limits done p) (lines more)) (append_assoc pend (e ∷ []) es)
+    (λ m. ap (λ p. run m (at limits done p) (lines more)) (append_assoc pend (e ∷ []) es)
     ∙ rest m))
     n
 
@@ -138,10 +139,10 @@ run_batches : (limits : Limits) (done bs : List (List Edit)) (pend : List Edit) 
     → NoneEmpty bs
     → sum_by (λ b. length b) done + sum_by (λ b. length b) bs ≤ limits.edits
     → length done + length bs ≤ limits.editions
-    → ((m : ℕ) → in_turn step m (at limits (done ++ bs) []) (lines more) ≡ Ok t)
-    → (n : ℕ) → in_turn step n (at limits done []) (lines (batches_text bs ++ more)) ≡ Ok t
+    → ((m : ℕ) → run m (at limits (done ++ bs) []) (lines more) ≡ Ok t)
+    → (n : ℕ) → run n (at limits done []) (lines (batches_text bs ++ more)) ≡ Ok t
 run_batches limits done [] pend more t lawful some edits editions rest n =
-    ap (λ b. in_turn step n (at limits b []) (lines more)) (sym (append-nil done)) ∙ rest n
+    ap (λ b. run n (at limits b []) (lines more)) (sym (append-nil done)) ∙ rest n
 run_batches limits done (b ∷ bs) pend more t lawful some edits editions rest n =
     let s = at limits done b in
     let behind = line_text publish_data ++ (batches_text bs ++ more) in
@@ -166,7 +167,7 @@ run_batches limits done (b ∷ bs) pend more t lawful some edits editions rest n
     let total : sum_by (λ (c : List Edit). length c) (b ∷ bs)
     ≡ (0 + length b) + sum_by (λ (c : List Edit). length c) bs =
     sum_by-append (λ (c : List Edit). length c) (b ∷ []) bs in
-    ap (λ text. in_turn step n (at limits done []) (lines text)) regroup
+    ap (λ text. run n (at limits done []) (lines text)) regroup
     ∙ run_edits limits done [] b behind t first (omega (arith, edits))
     (run_line s (at limits (done ++ b ∷ []) []) t publish_data Publish (batches_text bs ++ more)
     Says-publish
@@ -175,7 +176,7 @@ run_batches limits done (b ∷ bs) pend more t lawful some edits editions rest n
     (run_batches limits (done ++ b ∷ []) bs pend more t others some.1
     (omega (arith, edits, sum_by-append (λ (c : List Edit). length c) done (b ∷ [])))
     (omega (arith, editions, length-append done (b ∷ [])))
-    (λ m. ap (λ c. in_turn step m (at limits c []) (lines more)) (append_assoc done (b ∷ []) bs)
+    (λ m. ap (λ c. run m (at limits c []) (lines more)) (append_assoc done (b ∷ []) bs)
     ∙ rest m)))
     n
 
@@ -185,10 +186,12 @@ pub load-journal_text : (s : ObjectState) → IsSound newest_rules s
 load-journal_text s h =
     let rest = batches_text s.batches ++ edits_text s.pending in
     ap (load newest_rules s.limits) (IsLine-head.first rest)
-    ∙ (ap (behind (after_line newest_rules) (opened s.limits) (lines rest)) version_of-head
+    ∙ (ap (λ r. go_on 1 (on_read r Ok)
+    (λ v. in_turn (after_object newest_rules) 2 (Some v) (opened s.limits) (lines rest)))
+    version_of-head
     ∙ run_batches s.limits [] s.batches s.pending (edits_text s.pending) s h.lawful h.none_empty
     (omega (arith, h.edits)) (omega (arith, h.editions))
-    (λ m. ap (λ text. in_turn step m (at s.limits s.batches []) (lines text))
+    (λ m. ap (λ text. run m (at s.limits s.batches []) (lines text))
     (sym (append-nil (edits_text s.pending)))
     ∙ run_edits s.limits s.batches [] s.pending [] s
     (subst (λ es. AreLawful newest_rules s.limits (lands_at s.limits es) s.pending)

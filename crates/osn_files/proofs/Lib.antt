@@ -1,9 +1,7 @@
-pub mod TurnLemmas
-mod HeadLemmas
+pub mod FileLemmas
 mod ReadLemmas
 mod QuestionLemmas
 mod AskedLemmas
-mod ScheduleLemmas
 mod ByteFacts
 mod TextFacts
 mod EditFacts

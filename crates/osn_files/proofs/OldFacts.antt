@@ -1,33 +1,34 @@
 -- What a line of the first version may say: no style that goes from Easter to Easter.
-use Rattle.std.proofs.Common.{◌≡◌, ℕ, List, [], ◌∷◌, false, Option, Some, None}
+use Rattle.std.proofs.Common.{◌≡◌, List, [], ◌∷◌, false, Option, Some, None}
 use Rattle.std.proofs.Common.{option_and_then, if◌then◌else◌, Result, Ok, Err, refl, subst}
 use Rattle.serde_json.specs.Data.{Data}
 use Rattle.osn_days.specs.Profile.{first_rules}
+use Rattle.osn_days.specs.CalendarWords.{calendar_named}
+use Rattle.osn_computus.specs.RuleWords.{rule_named}
 use Rattle.osn_lands.specs.declared.regime.Regime.{Regime}
 use Rattle.osn_lands.specs.declared.style.Style.{Style}
 use Rattle.osn_lands.specs.declared.style.Style.TheVariants as styles
 use Rattle.osn_lands.specs.Style.{is_from_easter}
+use Rattle.osn_lands.specs.StyleWords.{style_named, style_written, has_style}
 use Rattle.osn_register.specs.declared.edit.Edit.{Edit}
 use Rattle.osn_register.specs.declared.edit.Edit.TheVariants.{AddLand, AddChange, AlterChange}
 use Rattle.osn_register.specs.declared.edit.Edit.TheVariants.{DropChange, AddException}
 use Rattle.osn_register.specs.declared.edit.Edit.TheVariants.{DropException}
 use Rattle.osn_core.specs.declared.command.Command.{Command}
 use Rattle.osn_core.specs.declared.command.Command.TheVariants.{Stage, Publish}
-use Rattle.osn_request.specs.declared.member.Member.TheVariants as members
+use Rattle.osn_format.specs.declared.member.Member.TheVariants as members
 use Rattle.osn_request.specs.declared.request.op.Op.{Op}
 use Rattle.osn_request.specs.declared.request.op.Op.TheVariants as ops
 use Rattle.osn_request.specs.declared.request.op.EditOp.{EditOp}
 use Rattle.osn_request.specs.declared.request.op.EditOp.TheVariants as edit_ops
-use Rattle.osn_request.specs.declared.wire_fault.WireFault.{WireFault}
-use Rattle.osn_request.specs.declared.wire_fault.WireFault.TheVariants.{BadField}
+use Rattle.osn_format.specs.declared.wire_fault.WireFault.{WireFault}
+use Rattle.osn_format.specs.declared.wire_fault.WireFault.TheVariants.{BadField}
 use Rattle.osn_request.specs.EditRequest.{edit_of, add_land_of, add_change_of, alter_change_of}
 use Rattle.osn_request.specs.EditRequest.{drop_change_of, add_exception_of, drop_exception_of}
 use Rattle.osn_request.specs.Field.{◌>>=◌, or_fault, text_at, whole_at, word_at, style_at}
 use Rattle.osn_request.specs.Field.{regime_of}
 use Rattle.osn_request.specs.Op.{op_of}
-use Rattle.osn_request.specs.Request.{object_of}
-use Rattle.osn_words.specs.Words.{calendar_named, rule_named, style_named, style_written, has_style}
-use Rattle.osn_files.specs.Commands.{command_by, command_in, command_of}
+use Rattle.osn_files.specs.Commands.{command_by, command_in}
 
 -- the regime's year begins on the same date each year
 abbrev pub IsFixed : Regime → Type 0
@@ -179,11 +180,8 @@ fixed_command_by d ops.Publish c is = at_ok CommandHasFixed Publish c tt is
 fixed_command_by d (ops.Query op) c is = absurd (cc)
 
 -- a command that is read by the first rules
-pub fixed_command : (line : List ℕ) (c : Command) → command_of first_rules line ≡ Ok c
-    → CommandHasFixed c
-fixed_command line c is =
-    behind_ok CommandHasFixed (object_of line) (command_in first_rules)
-    (λ d _ b eb. behind_ok CommandHasFixed (op_of d) (command_by first_rules d)
+pub fixed_command : (d : Data) (c : Command) → command_in first_rules d ≡ Ok c → CommandHasFixed c
+fixed_command d c is =
+    behind_ok CommandHasFixed (op_of d) (command_by first_rules d)
     (λ op _ a ea. fixed_command_by d op a ea)
-    b eb)
     c is

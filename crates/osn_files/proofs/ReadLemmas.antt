@@ -1,88 +1,203 @@
--- What a file that is being read becomes by its lines, and what is read at their end.
+-- What comes of a file that is being read, by its lines and at their end.
 use Rattle.std.proofs.Common.{◌≡◌, ℕ, ◌+◌, List, [], ◌∷◌, ◌++◌, length, take, drop, unwrap_or, zero}
 use Rattle.std.proofs.Common.{suc, Option, Some, None, Result, Ok, Err, IfSome, refl, sym, ap}
-use Rattle.std.proofs.Common.{subst, ◌∙◌}
+use Rattle.std.proofs.Common.{Bool, ◌∙◌, arith, append-nil, append_assoc, length-append}
 use Rattle.std.specs.Prelude.{slice_get}
-use Rattle.osn_lines.specs.Lines.{lines, front_of}
+use Rattle.serde_json.specs.Data.{Data}
+use Rattle.osn_lines.specs.Lines.{lines}
+use Rattle.osn_lines.specs.declared.fault.TakeFault.{TakeFault}
+use Rattle.osn_lines.specs.declared.fault.TakeFault.TheVariants as ends
+use Rattle.osn_lines.specs.Faults.{MatchFault, IsReadFault}
 use Rattle.osn_lines.specs.Taking.{TakesAll, StopsAfter}
+use Rattle.osn_request.specs.declared.request.RequestError.{RequestError}
+use Rattle.osn_request.specs.declared.request.RequestError.TheVariants as errors
+use Rattle.osn_format.specs.declared.wire_fault.WireFault.TheVariants.{BadHead}
+use Rattle.osn_request.specs.Field.{◌>>=◌, or_fault}
+use Rattle.osn_request.specs.Request.{object_of, Fails}
+use Rattle.osn_format.specs.declared.version.Version.{Version}
 use Rattle.osn_files.specs.declared.fault.LineFault.{LineFault}
+use Rattle.osn_files.specs.declared.fault.LineFault.TheVariants.{Wire}
 use Rattle.osn_files.specs.declared.fault.Role.{Role}
 use Rattle.osn_files.specs.declared.reading.Reading.{Reading}
 use Rattle.osn_files.specs.declared.stop.LineStop.{LineStop}
 use Rattle.osn_files.specs.declared.stop.LineStop.TheVariants.{NoMemory, Fault}
-use Rattle.osn_files.specs.ReadingInside.{Reads, Faults, StopsReading}
-use Rattle.osn_files.specs.Stops.{Stops}
-use Rattle.osn_files.specs.Turns.{in_turn}
-use Rattle.osn_files.proofs.TurnLemmas.{in_turn-one, in_turn-fault, if_some}
+use Rattle.osn_files.specs.Files.{ReadsFile}
+use Rattle.osn_files.specs.ReadingInside.{taken, with_version, goes_on, Reads, Faults, StopsReading}
+use Rattle.osn_files.specs.Stops.{Stops, stop_of, file_fault}
+use Rattle.osn_files.specs.Turns.{on_read, go_on, in_turn}
+use Rattle.osn_files.specs.Version.{version_in}
+use Rattle.osn_files.proofs.FileLemmas.{if_some}
 
--- what a line makes is what its first 65,537 bytes make
-abbrev pub IsByFront : {S : Type 0} → (S → List ℕ → Result S LineFault) → Type 0
-IsByFront {S} step = (s : S) (line : List ℕ) → step s (front_of line) ≡ step s line
+-- the rule of a fold
+abbrev Rule : Type 0 → Type 0 → Type 0
+Rule S A = S → Version → A → Data → Result A LineFault
 
--- a line makes what is made of the bytes that were given of it
-of_given : {S : Type 0} (step : S → List ℕ → Result S LineFault) (s : S) (given line : List ℕ)
-    → IsByFront step → given ≡ front_of line → step s line ≡ step s given
-of_given step s given line by_front e = sym (by_front s line) ∙ ap (step s) (sym e)
+-- what a line makes, and then those behind it
+in_turn-line : {A : Type 0} (step : Version → A → Data → Result A LineFault) (n : ℕ)
+    (version : Option Version) (a : A) (line : List ℕ) (more : List (List ℕ))
+    → in_turn step n version a (line ∷ more)
+    ≡ go_on n (on_read (object_of line) (taken step version a))
+    (λ t. in_turn step (n + 1) t.0 t.1 more)
+in_turn-line {A = A} step n None a line more =
+    elim (object_of line) as (λ r.
+    go_on n (on_read (r >>= λ d. or_fault BadHead (version_in d)) Ok)
+    (λ v. in_turn step (n + 1) (Some v) a more)
+    ≡ go_on n (on_read r (taken step None a)) (λ t. in_turn step (n + 1) t.0 t.1 more)) [
+      | Ok d ↦ elim (version_in d) as (λ o.
+          go_on n (on_read (or_fault BadHead o) Ok) (λ v. in_turn step (n + 1) (Some v) a more)
+          ≡ go_on {S = Option Version × A} n
+          (on_read (or_fault BadHead o) (λ v. Ok (Some v, a)))
+          (λ t. in_turn step (n + 1) t.0 t.1 more)) [
+            | Some v ↦ refl
+            | None ↦ refl
+          ]
+      | Err f ↦ refl
+    ]
+in_turn-line {A = A} step n (Some version) a line more =
+    elim (object_of line) as (λ r.
+    go_on n (on_read r (step version a)) (λ t. in_turn step (n + 1) (Some version) t more)
+    ≡ go_on n (on_read r (taken step (Some version) a))
+    (λ t. in_turn step (n + 1) t.0 t.1 more)) [
+      | Ok d ↦ elim (step version a d) as (λ r.
+          go_on n r (λ t. in_turn step (n + 1) (Some version) t more)
+          ≡ go_on n (with_version version r) (λ t. in_turn step (n + 1) t.0 t.1 more)) [
+            | Ok t ↦ refl
+            | Err f ↦ refl
+          ]
+      | Err f ↦ refl
+    ]
 
-pub Reads-line : {S : Type 0} (step : S → List ℕ → Result S LineFault) (begun old new : Reading S)
-    (before : List (List ℕ)) (given line : List ℕ) → IsByFront step → Reads step begun before old
-    → given ≡ front_of line → step old.made given ≡ Ok new.made
-    → Reads step begun (before ++ line ∷ []) new
-Reads-line step begun old new before given line by_front h front one =
-    in_turn-one step begun.made old.made new.made before line h
-    (of_given step old.made given line by_front front ∙ one)
+-- the object of a line was taken
+pub Reads-line : {S A : Type 0} (step : Rule S A) (state : S → A) (begun old new : Reading S)
+    (before : List (List ℕ)) (line : List ℕ) (d : Data) → Reads step state begun before old
+    → object_of line ≡ Ok d
+    → taken (step old.fold) old.version (state old.fold) d ≡ Ok (new.version, state new.fold)
+    → step new.fold ≡ step old.fold
+    → Reads step state begun (before ++ line ∷ []) new
+Reads-line step state begun old new before line d h read one same = λ more.
+    let n = length before + 1 in
+    ap (goes_on step state begun 1) (append_assoc before (line ∷ []) more)
+    ∙ (h (line ∷ more)
+    ∙ (in_turn-line (step old.fold) n old.version (state old.fold) line more
+    ∙ (ap (λ r. go_on n (on_read r (taken (step old.fold) old.version (state old.fold)))
+    (λ t. in_turn (step old.fold) (n + 1) t.0 t.1 more)) read
+    ∙ (ap (λ r. go_on n r (λ t. in_turn (step old.fold) (n + 1) t.0 t.1 more)) one
+    ∙ (ap (λ rule. in_turn rule (n + 1) new.version (state new.fold) more) (sym same)
+    ∙ ap (λ k. goes_on step state new k more)
+    (omega (arith, length-append before (line ∷ []))))))))
 
-pub StopsReading-line : {S : Type 0} (step : S → List ℕ → Result S LineFault)
-    (begun old : Reading S) (before : List (List ℕ)) (given line : List ℕ) (why : LineStop)
-    → IsByFront step → Reads step begun before old → given ≡ front_of line
-    → Stops (step old.made given) why → StopsReading step begun before (Some line) why
-StopsReading-line step begun old before given line NoMemory by_front h front stop = tt
-StopsReading-line step begun old before given line (Fault f) by_front h front stop = λ more.
-    in_turn-fault step begun.made old.made f before line more h
-    (of_given step old.made given line by_front front ∙ stop)
+-- a line stopped the reading
+pub StopsReading-line : {S A : Type 0} (step : Rule S A) (state : S → A) (begun old : Reading S)
+    (before : List (List ℕ)) (line : List ℕ) (why : LineStop) → Reads step state begun before old
+    → Stops (on_read (object_of line) (taken (step old.fold) old.version (state old.fold))) why
+    → StopsReading step state begun before (Some line) why
+StopsReading-line step state begun old before line NoMemory h stop = tt
+StopsReading-line step state begun old before line (Fault f) h stop = λ more.
+    let n = length before + 1 in
+    h (line ∷ more)
+    ∙ (in_turn-line (step old.fold) n old.version (state old.fold) line more
+    ∙ ap (λ r. go_on n r (λ t. in_turn (step old.fold) (n + 1) t.0 t.1 more)) stop)
 
--- where all lines were taken, they made what it is now
-pub made-all : {S : Type 0} (step : S → List ℕ → Result S LineFault) (begun now : Reading S)
-    (input : Option (List ℕ)) (n : ℕ) → TakesAll (Reads step) begun now input n
-    → IfSome input (λ bytes. in_turn step 1 begun.made (lines bytes) ≡ Ok now.made)
-made-all step begun now input n h =
-    if_some input (λ bytes all. ap (in_turn step 1 begun.made) all ∙ h.takes begun [] refl) h.all
+-- a line has no object
+pub Stops-none : {A : Type 0} (make : Data → Result A LineFault) (line : List ℕ)
+    (why : RequestError) → Fails why (object_of line)
+    → Stops (on_read (object_of line) make) (stop_of why)
+Stops-none make line errors.NoMemory none = tt
+Stops-none make line (errors.Fault f) none = ap (λ r. on_read r make) none
+
+-- the object of a line stops the reading
+pub Stops-object : {A : Type 0} (make : Data → Result A LineFault) (line : List ℕ) (d : Data)
+    (why : LineStop) → object_of line ≡ Ok d → Stops (make d) why
+    → Stops (on_read (object_of line) make) why
+Stops-object make line d NoMemory read stop = tt
+Stops-object make line d (Fault f) read stop = ap (λ r. on_read r make) read ∙ stop
+
+-- where all lines were taken, what comes of them is what comes of none behind them
+ended : {S A : Type 0} (step : Rule S A) (state : S → A) (begun now : Reading S)
+    (input : Option (List ℕ)) (n : ℕ) (r : Result A (ℕ × LineFault))
+    → TakesAll (Reads step state) begun now input n
+    → ((k : ℕ) → goes_on step state now k [] ≡ r)
+    → IfSome input (λ bytes. goes_on step state begun 1 (lines bytes) ≡ r)
+ended step state begun now input n r h is =
+    if_some input
+    (λ bytes all. ap (goes_on step state begun 1) (all ∙ sym (append-nil h.taken))
+    ∙ (h.takes begun [] (λ more. refl) [] ∙ is (length h.taken + 1)))
+    h.all
+
+pub made-all : {S A : Type 0} (step : Rule S A) (state : S → A) (begun now : Reading S)
+    (input : Option (List ℕ)) (n : ℕ) (version : Version) → now.version ≡ Some version
+    → TakesAll (Reads step state) begun now input n
+    → IfSome input (λ bytes. goes_on step state begun 1 (lines bytes) ≡ Ok (state now.fold))
+made-all step state begun now input n version known h =
+    ended step state begun now input n (Ok (state now.fold)) h
+    (λ k. ap (λ v. in_turn (step now.fold) k v (state now.fold) []) known)
+
+pub no-head : {S A : Type 0} (step : Rule S A) (state : S → A) (begun now : Reading S)
+    (input : Option (List ℕ)) (n : ℕ) → now.version ≡ None
+    → TakesAll (Reads step state) begun now input n
+    → IfSome input (λ bytes. goes_on step state begun 1 (lines bytes) ≡ Err (1, Wire BadHead))
+no-head step state begun now input n none h =
+    ended step state begun now input n (Err (1, Wire BadHead)) h
+    (λ k. ap (λ v. in_turn (step now.fold) k v (state now.fold) []) none)
+
+-- they were counted
+pub counted : {S A : Type 0} (step : Rule S A) (state : S → A) (begun now : Reading S)
+    (input : Option (List ℕ)) (n : ℕ) → TakesAll (Reads step state) begun now input n
+    → IfSome input (λ bytes. n ≡ length (lines bytes))
+counted step state begun now input n h =
+    if_some input (λ bytes all. h.count ∙ ap length (sym all)) h.all
 
 -- a list from what is read of it at a place
 split_at : (xs : List (List ℕ)) (n : ℕ) (x : List ℕ) → slice_get xs n ≡ Some x
     → xs ≡ take n xs ++ x ∷ drop (suc n) xs
 split_at [] n x h = absurd (cc)
-split_at (y ∷ ys) zero x h = ap (λ z. z ∷ ys) (some_same y x h)
-  where
-    some_same : (a b : List ℕ) → Some a ≡ Some b → a ≡ b
-    some_same a b e = ap (λ o. unwrap_or o a) e
+split_at (y ∷ ys) zero x h = ap (λ o. unwrap_or o y ∷ ys) h
 split_at (y ∷ ys) (suc n) x h = ap (λ l. y ∷ l) (split_at ys n x h)
 
-stopped_at : {S : Type 0} (step : S → List ℕ → Result S LineFault) (begun : Reading S)
+stopped_at : {S A : Type 0} (step : Rule S A) (state : S → A) (begun : Reading S)
     (input : Option (List ℕ)) (n : ℕ) (taken : List (List ℕ)) (at : Option (List ℕ))
-    (f : LineFault) → Faults step begun taken at f → n ≡ length taken
+    (f : LineFault) → Faults step state begun taken at f → n ≡ length taken
     → IfSome input (λ bytes. take n (lines bytes) ≡ taken)
     → IfSome input (λ bytes. IfSome at (λ line. slice_get (lines bytes) n ≡ Some line))
-    → IfSome input (λ bytes. in_turn step 1 begun.made (lines bytes) ≡ Err (n + 1, f))
-stopped_at step begun None n taken at f faults count first next = tt
-stopped_at step begun (Some bytes) n taken None f faults count first next = absurd faults
-stopped_at step begun (Some bytes) n taken (Some line) f faults count first next =
+    → IfSome input (λ bytes. goes_on step state begun 1 (lines bytes) ≡ Err (n + 1, f))
+stopped_at step state begun None n taken at f faults count first next = tt
+stopped_at step state begun (Some bytes) n taken None f faults count first next = absurd faults
+stopped_at step state begun (Some bytes) n taken (Some line) f faults count first next =
     let more = drop (suc n) (lines bytes) in
     let all : lines bytes ≡ taken ++ line ∷ more =
     split_at (lines bytes) n line next ∙ ap (λ front. front ++ line ∷ more) first in
-    ap (in_turn step 1 begun.made) all
+    ap (goes_on step state begun 1) all
     ∙ (faults more ∙ ap (λ k. Err (k + 1, f)) (sym count))
 
--- where a line stopped the reading, its fault is what is read
-pub made-stop : {S : Type 0} (step : S → List ℕ → Result S LineFault) (begun now : Reading S)
-    (input : Option (List ℕ)) (n : ℕ) (role : Role) (why : LineStop) (f : LineFault)
-    → why ≡ Fault f
-    → StopsAfter (Reads step) (λ b ls at _ stop. StopsReading step b ls at stop) begun now input n
-    why
-    → IfSome input (λ bytes.
-    (role ≡ role) × (in_turn step 1 begun.made (lines bytes) ≡ Err (n + 1, f)))
-made-stop step begun now input n role why f is h =
-    if_some input (λ bytes e. (refl, e))
-    (stopped_at step begun input n h.taken h.at f
-    (subst (StopsReading step begun h.taken h.at) is (h.stops begun [] refl)) h.count h.first
-    h.next)
+-- where the lines ended early, the file has the fault that is told
+pub interrupted : {F A T S : Type 0} (step : Rule F A) (state : F → A) (begun now : Reading F)
+    (view : T → A) (role : Role) (n : ℕ) (cause : TakeFault LineStop) (P Q : Type 0)
+    (remaining : S → Option (List ℕ)) (has_failed : S → Bool) (old new : S)
+    → MatchFault cause P Q (StopsAfter (Reads step state)
+    (λ b ls at _ stop. StopsReading step state b ls at stop) begun now (remaining old) n)
+    → MatchFault cause (has_failed new ≡ has_failed old)
+    (IsReadFault (has_failed new) (remaining old)) (λ _. has_failed new ≡ has_failed old)
+    → ReadsFile role (goes_on step state begun 1) view (Err (file_fault role n cause)) remaining
+    has_failed old new
+interrupted step state begun now view role n ends.NoMemory P Q remaining has_failed old new h
+    reason =
+    record { made = tt; end = tt; sound = tt; fault = tt; reason = reason }
+interrupted step state begun now view role n ends.ReadFault P Q remaining has_failed old new h
+    reason =
+    record { made = tt; end = tt; sound = tt; fault = tt; reason = reason }
+interrupted step state begun now view role n (ends.Stopped NoMemory) P Q remaining has_failed old
+    new h reason =
+    record { made = tt; end = tt; sound = tt; fault = tt; reason = reason }
+interrupted step state begun now view role n (ends.Stopped (Fault f)) P Q remaining has_failed old
+    new h reason =
+    record {
+      made = tt;
+      end = tt;
+      sound = tt;
+      fault = (
+        refl,
+        stopped_at step state begun (remaining old) n h.taken h.at f
+            (h.stops begun [] (λ more. refl)) h.count h.first h.next,
+      );
+      reason = reason;
+    }

@@ -19,7 +19,7 @@ use Rattle.osn_register.specs.Plain.{PlainLand, refusal}
 use Rattle.osn_core.specs.declared.command.Command.TheVariants.{Stage, Publish}
 use Rattle.osn_request.specs.EditRequest.{add_land_of, add_change_of, alter_change_of}
 use Rattle.osn_request.specs.EditRequest.{drop_change_of, add_exception_of, drop_exception_of}
-use Rattle.osn_words.specs.Version.{newest_version}
+use Rattle.osn_format.specs.Version.{newest_version}
 use Rattle.osn_files.specs.JournalText.{edit_data, publish_data}
 use Rattle.osn_files.specs.Version.{head_data, version_of}
 use Rattle.osn_files.proofs.TextFacts.{Fits-number, Fit-none, Fit-member}

@@ -1,17 +1,17 @@
--- The command of a line of a journal or a script, an edit or a publish: this project's profile.
-use Rattle.std.specs.Prelude.{ℕ, List, Result, Ok, Err}
+-- The command of the object of a line of a journal or a script, an edit or a publish: this
+-- project's profile.
+use Rattle.std.specs.Prelude.{Result, Ok, Err}
 use Rattle.serde_json.specs.Data.{Data}
 use Rattle.osn_days.specs.Profile.{Profile}
 use Rattle.osn_core.specs.declared.command.Command.{Command}
 use Rattle.osn_core.specs.declared.command.Command.TheVariants.{Stage, Publish}
 use Rattle.osn_request.specs.declared.request.op.Op.{Op}
 use Rattle.osn_request.specs.declared.request.op.Op.TheVariants as ops
-use Rattle.osn_request.specs.declared.wire_fault.WireFault.{WireFault}
-use Rattle.osn_request.specs.declared.wire_fault.WireFault.TheVariants.{UnknownOp}
+use Rattle.osn_format.specs.declared.wire_fault.WireFault.{WireFault}
+use Rattle.osn_format.specs.declared.wire_fault.WireFault.TheVariants.{UnknownOp}
 use Rattle.osn_request.specs.EditRequest.{edit_of}
 use Rattle.osn_request.specs.Field.{◌>>=◌}
 use Rattle.osn_request.specs.Op.{op_of}
-use Rattle.osn_request.specs.Request.{object_of}
 
 -- the command of an object that asks for this
 abbrev pub command_by : Profile → Data → Op → Result Command WireFault
@@ -22,7 +22,3 @@ command_by p d (ops.Query op) = Err UnknownOp
 -- the command of an object
 abbrev pub command_in : Profile → Data → Result Command WireFault
 command_in p d = op_of d >>= command_by p d
-
--- the command of a line
-abbrev pub command_of : Profile → List ℕ → Result Command WireFault
-command_of p line = object_of line >>= command_in p

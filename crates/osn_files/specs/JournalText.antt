@@ -5,15 +5,17 @@ use Rattle.std.specs.Prelude.{ℕ, ℤ, List, [], ◌∷◌, ◌++◌, codes}
 use Rattle.std.specs.List.{flat_map}
 use Rattle.serde_json.specs.Data.{Data, string, object, member, no_members}
 use Rattle.serde_json.specs.Written.{compact_text}
+use Rattle.osn_days.specs.CalendarWords.{calendar_word}
+use Rattle.osn_computus.specs.RuleWords.{rule_word}
 use Rattle.osn_lands.specs.declared.regime.Regime.{Regime}
+use Rattle.osn_lands.specs.StyleWords.{style_word}
 use Rattle.osn_register.specs.declared.edit.Edit.{Edit}
 use Rattle.osn_register.specs.declared.edit.Edit.TheVariants.{AddLand, AddChange, AlterChange}
 use Rattle.osn_register.specs.declared.edit.Edit.TheVariants.{DropChange, AddException}
 use Rattle.osn_register.specs.declared.edit.Edit.TheVariants.{DropException}
 use Rattle.osn_core.specs.Sequential.{ObjectState}
-use Rattle.osn_words.specs.Json.{signed}
-use Rattle.osn_words.specs.Words.{calendar_word, style_word, rule_word}
-use Rattle.osn_words.specs.Version.{newest_version}
+use Rattle.osn_format.specs.Json.{signed}
+use Rattle.osn_format.specs.Version.{newest_version}
 use Rattle.osn_files.specs.Version.{head_data}
 
 -- what an edit of this op asks for that changes the regime of a territory from a day on

@@ -1,4 +1,5 @@
 pub mod Faults
+pub mod Files
 pub mod Version
 pub mod Turns
 pub mod Commands
@@ -10,7 +11,4 @@ pub mod Schedule
 pub mod Stops
 pub mod ReadingInside
 pub mod QuestionsInside
-pub mod Fronts
-pub mod HeadedInside
 pub mod Kept
-pub mod ScheduleInside

@@ -7,15 +7,15 @@ use Rattle.serde_json.specs.Data.{Data}
 use Rattle.osn_register.specs.declared.query.Query.{Query}
 use Rattle.osn_request.specs.declared.request.op.Op.{Op}
 use Rattle.osn_request.specs.declared.request.op.Op.TheVariants as ops
-use Rattle.osn_request.specs.declared.wire_fault.WireFault.{WireFault}
-use Rattle.osn_request.specs.declared.wire_fault.WireFault.TheVariants.{NotAQuery}
+use Rattle.osn_format.specs.declared.wire_fault.WireFault.{WireFault}
+use Rattle.osn_format.specs.declared.wire_fault.WireFault.TheVariants.{NotAQuery}
 use Rattle.osn_request.specs.Field.{◌>>=◌}
 use Rattle.osn_request.specs.Op.{op_of}
 use Rattle.osn_request.specs.QueryRequest.{query_of}
-use Rattle.osn_request.specs.Request.{object_of}
+use Rattle.osn_format.specs.declared.version.Version.{Version}
+use Rattle.osn_format.specs.Version.{newest_version}
 use Rattle.osn_files.specs.declared.fault.LineFault.{LineFault}
-use Rattle.osn_files.specs.declared.fault.LineFault.TheVariants.{Wire}
-use Rattle.osn_files.specs.Turns.{in_turn}
+use Rattle.osn_files.specs.Turns.{on_read, in_turn}
 
 -- the most readers
 abbrev pub most_readers : ℕ
@@ -30,18 +30,11 @@ question_by d (ops.Query op) = query_of most_readers op d
 abbrev pub question_in : Data → Result (ℕ × Query) WireFault
 question_in d = op_of d >>= question_by d
 
--- the query of a line
-abbrev pub question_of : List ℕ → Result (ℕ × Query) WireFault
-question_of line = object_of line >>= question_in
-
-abbrev pub with_read : List (ℕ × Query) → Result (ℕ × Query) WireFault
+-- the questions, with that of a line's object
+abbrev pub with_question : Version → List (ℕ × Query) → Data
     → Result (List (ℕ × Query)) LineFault
-with_read asked (Ok question) = Ok (asked ++ question ∷ [])
-with_read asked (Err f) = Err (Wire f)
-
--- the questions, with that of a line
-abbrev pub with_line : List (ℕ × Query) → List ℕ → Result (List (ℕ × Query)) LineFault
-with_line asked line = with_read asked (question_of line)
+with_question version asked d =
+    on_read (question_in d) (λ question. Ok (asked ++ question ∷ []))
 
 abbrev pub query_by : ℕ → ℕ × Query → Option Query
 query_by reader question = if question.0 == reader then Some question.1 else None
@@ -67,4 +60,4 @@ all_by_reader (Err e) = Err e
 -- the queries of each reader in the lines, or the first fault and the number of its line, counted
 -- from 1
 abbrev pub questions : List (List ℕ) → Result (List (List Query)) (ℕ × LineFault)
-questions lines = all_by_reader (in_turn with_line 1 [] lines)
+questions lines = all_by_reader (in_turn with_question 1 (Some newest_version) [] lines)

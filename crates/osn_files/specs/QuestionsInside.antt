@@ -1,10 +1,11 @@
 -- The lists of queries that are made while a question file is read.
-use Rattle.std.specs.Prelude.{ℕ, zero, suc, List, [], ◌∷◌, ◌++◌, Result, Ok, Err}
+use Rattle.std.specs.Prelude.{ℕ, zero, suc, List, [], ◌∷◌, ◌++◌, Result, Ok}
+use Rattle.serde_json.specs.Data.{Data}
 use Rattle.osn_register.specs.declared.query.Query.{Query}
-use Rattle.osn_request.specs.declared.wire_fault.WireFault.{WireFault}
+use Rattle.osn_format.specs.declared.version.Version.{Version}
 use Rattle.osn_files.specs.declared.fault.LineFault.{LineFault}
-use Rattle.osn_files.specs.declared.fault.LineFault.TheVariants.{Wire}
-use Rattle.osn_files.specs.Questions.{question_of}
+use Rattle.osn_files.specs.Questions.{question_in}
+use Rattle.osn_files.specs.Turns.{on_read}
 
 -- one query more at a place, counted from 0
 abbrev pub with_query_at : List (List Query) → ℕ → Query → List (List Query)
@@ -18,11 +19,7 @@ abbrev pub with_query : List (List Query) → ℕ → Query → List (List Query
 with_query lists zero q = lists
 with_query lists (suc n) q = with_query_at lists n q
 
-abbrev pub list_read : List (List Query) → Result (ℕ × Query) WireFault
-    → Result (List (List Query)) LineFault
-list_read lists (Ok question) = Ok (with_query lists question.0 question.1)
-list_read lists (Err f) = Err (Wire f)
-
--- the lists, with the query of a line
-abbrev pub list_line : List (List Query) → List ℕ → Result (List (List Query)) LineFault
-list_line lists line = list_read lists (question_of line)
+-- the lists, with the query of a line's object
+abbrev pub with_object : Version → List (List Query) → Data → Result (List (List Query)) LineFault
+with_object version lists d =
+    on_read (question_in d) (λ question. Ok (with_query lists question.0 question.1))

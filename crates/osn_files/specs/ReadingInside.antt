@@ -1,26 +1,51 @@
 -- A file that is being read, as what takes lines.
 use Rattle.std.specs.Prelude.{◌≡◌, ◌+◌, ℕ, List, ◌∷◌, ◌++◌, length, Option, Some, None, Result, Ok}
 use Rattle.std.specs.Prelude.{Err}
+use Rattle.serde_json.specs.Data.{Data}
+use Rattle.osn_format.specs.declared.wire_fault.WireFault.TheVariants.{BadHead}
+use Rattle.osn_request.specs.Field.{or_fault}
+use Rattle.osn_format.specs.declared.version.Version.{Version}
 use Rattle.osn_files.specs.declared.fault.LineFault.{LineFault}
 use Rattle.osn_files.specs.declared.reading.Reading.{Reading}
 use Rattle.osn_files.specs.declared.stop.LineStop.{LineStop}
 use Rattle.osn_files.specs.declared.stop.LineStop.TheVariants.{NoMemory, Fault}
-use Rattle.osn_files.specs.Turns.{in_turn}
+use Rattle.osn_files.specs.Turns.{on_read, in_turn}
+use Rattle.osn_files.specs.Version.{version_in}
 
--- what was begun is now, once it took these lines
-abbrev pub Reads : {S : Type 0} → (S → List ℕ → Result S LineFault) → Reading S → List (List ℕ)
-    → Reading S → Type 0
-Reads step begun lines now = in_turn step 1 begun.made lines ≡ Ok now.made
+abbrev pub with_version : {A : Type 0} → Version → Result A LineFault
+    → Result (Option Version × A) LineFault
+with_version version (Ok a) = Ok (Some version, a)
+with_version version (Err f) = Err f
+
+-- the version that is known, and what is made, by the object of one line
+abbrev pub taken : {A : Type 0} → (Version → A → Data → Result A LineFault) → Option Version → A
+    → Data → Result (Option Version × A) LineFault
+taken step None a d =
+    on_read (or_fault BadHead (version_in d)) (λ version. Ok (Some version, a))
+taken step (Some version) a d = with_version version (step version a d)
+
+-- what comes of the file by these lines, where the first has this number
+abbrev pub goes_on : {S A : Type 0} → (S → Version → A → Data → Result A LineFault) → (S → A)
+    → Reading S → ℕ → List (List ℕ) → Result A (ℕ × LineFault)
+goes_on step state r n lines = in_turn (step r.fold) n r.version (state r.fold) lines
+
+-- what was begun is now, once it took these lines: the same comes of it by whatever stands behind
+-- them
+abbrev pub Reads : {S A : Type 0} → (S → Version → A → Data → Result A LineFault) → (S → A)
+    → Reading S → List (List ℕ) → Reading S → Type 0
+Reads step state begun lines now =
+    (more : List (List ℕ))
+    → goes_on step state begun 1 (lines ++ more) ≡ goes_on step state now (length lines + 1) more
 
 -- what was begun took these lines and met a fault at the next, whatever stands behind it
-abbrev pub Faults : {S : Type 0} → (S → List ℕ → Result S LineFault) → Reading S → List (List ℕ)
-    → Option (List ℕ) → LineFault → Type 0
-Faults step begun lines None f = ⊥
-Faults step begun lines (Some line) f =
+abbrev pub Faults : {S A : Type 0} → (S → Version → A → Data → Result A LineFault) → (S → A)
+    → Reading S → List (List ℕ) → Option (List ℕ) → LineFault → Type 0
+Faults step state begun lines None f = ⊥
+Faults step state begun lines (Some line) f =
     (more : List (List ℕ))
-    → in_turn step 1 begun.made (lines ++ line ∷ more) ≡ Err (length lines + 1, f)
+    → goes_on step state begun 1 (lines ++ line ∷ more) ≡ Err (length lines + 1, f)
 
-abbrev pub StopsReading : {S : Type 0} → (S → List ℕ → Result S LineFault) → Reading S
-    → List (List ℕ) → Option (List ℕ) → LineStop → Type 0
-StopsReading step begun lines at NoMemory = Unit {0}
-StopsReading step begun lines at (Fault f) = Faults step begun lines at f
+abbrev pub StopsReading : {S A : Type 0} → (S → Version → A → Data → Result A LineFault)
+    → (S → A) → Reading S → List (List ℕ) → Option (List ℕ) → LineStop → Type 0
+StopsReading step state begun lines at NoMemory = Unit {0}
+StopsReading step state begun lines at (Fault f) = Faults step state begun lines at f

@@ -1,26 +1,26 @@
 -- What is read from the lines of a schedule, which has no head: the steps of one editor and of so
 -- many readers, in the order of the lines. This project's profile.
-use Rattle.std.specs.Prelude.{ℕ, List, [], ◌∷◌, ◌++◌, codes, Option, Result, Ok, Err}
+use Rattle.std.specs.Prelude.{ℕ, List, [], ◌∷◌, ◌++◌, codes, Option, Some, Result, Ok, Err}
 use Rattle.serde_json.specs.Data.{Data}
 use Rattle.osn_days.specs.Profile.{Profile}
+use Rattle.osn_days.specs.Keyword.{meaning}
 use Rattle.osn_core.specs.declared.step.Step.{Step}
 use Rattle.osn_core.specs.declared.step.Step.TheVariants as steps
-use Rattle.osn_request.specs.declared.member.Member.TheVariants as members
+use Rattle.osn_format.specs.declared.member.Member.TheVariants as members
 use Rattle.osn_request.specs.declared.request.op.Op.{Op}
 use Rattle.osn_request.specs.declared.request.op.Op.TheVariants as ops
-use Rattle.osn_request.specs.declared.wire_fault.WireFault.{WireFault}
-use Rattle.osn_request.specs.declared.wire_fault.WireFault.TheVariants.{UnknownOp, UnknownStep}
+use Rattle.osn_format.specs.declared.wire_fault.WireFault.{WireFault}
+use Rattle.osn_format.specs.declared.wire_fault.WireFault.TheVariants.{UnknownOp, UnknownStep}
 use Rattle.osn_request.specs.EditRequest.{edit_of}
 use Rattle.osn_request.specs.Field.{◌>>=◌, or_fault, text_at, whole_at}
 use Rattle.osn_request.specs.Op.{op_of}
 use Rattle.osn_request.specs.QueryRequest.{query_of, reader_in}
-use Rattle.osn_request.specs.Request.{object_of}
-use Rattle.osn_words.specs.Words.{meaning}
+use Rattle.osn_format.specs.declared.version.Version.{Version}
+use Rattle.osn_format.specs.Version.{rules_of, newest_version}
 use Rattle.osn_files.specs.declared.fault.LineFault.{LineFault}
-use Rattle.osn_files.specs.declared.fault.LineFault.TheVariants.{Wire}
 use Rattle.osn_files.specs.declared.step_line.StepKind.{StepKind}
 use Rattle.osn_files.specs.declared.step_line.StepKind.TheVariants as kinds
-use Rattle.osn_files.specs.Turns.{in_turn}
+use Rattle.osn_files.specs.Turns.{on_read, in_turn}
 
 -- the kind of step of a word
 abbrev pub kind_named : List ℕ → Option StepKind
@@ -81,18 +81,11 @@ step_by p readers d kinds.Absorb = Ok steps.Absorb
 abbrev pub step_in : Profile → ℕ → Data → Result Step WireFault
 step_in p readers d = kind_of d >>= step_by p readers d
 
--- the step of a line
-abbrev pub step_of : Profile → ℕ → List ℕ → Result Step WireFault
-step_of p readers line = object_of line >>= step_in p readers
-
-abbrev pub with_read : List Step → Result Step WireFault → Result (List Step) LineFault
-with_read done (Ok s) = Ok (done ++ s ∷ [])
-with_read done (Err f) = Err (Wire f)
-
--- the steps, with that of a line
-abbrev pub with_line : Profile → ℕ → List Step → List ℕ → Result (List Step) LineFault
-with_line p readers done line = with_read done (step_of p readers line)
+-- the steps, with that of a line's object, which is read by the words of a version
+abbrev pub with_step : ℕ → Version → List Step → Data → Result (List Step) LineFault
+with_step readers version done d =
+    on_read (step_in (rules_of version) readers d) (λ step. Ok (done ++ step ∷ []))
 
 -- the steps of a schedule's lines, or the first fault and the number of its line, counted from 1
-abbrev pub schedule : Profile → ℕ → List (List ℕ) → Result (List Step) (ℕ × LineFault)
-schedule p readers = in_turn (with_line p readers) 1 []
+abbrev pub schedule : ℕ → List (List ℕ) → Result (List Step) (ℕ × LineFault)
+schedule readers = in_turn (with_step readers) 1 (Some newest_version) []

@@ -1,15 +1,13 @@
 //! Loads a journal.
-ghost use Rattle.std.specs.Prelude.{◌≡◌, ⊤, ℕ, List, Ok, Err, IfOk, IfErr, IfSome, OnOk};
-ghost use Rattle.std.specs.Io.KnownBytes.{IsAtEnd};
+ghost use Rattle.std.specs.Prelude.{ℕ, List};
 ghost use Rattle.osn_days.specs.Profile.{newest_rules};
-ghost use Rattle.osn_lines.specs.Lines.{lines};
-ghost use Rattle.osn_files.specs.Faults.{MatchFileFault, FailsAsTold};
+ghost use Rattle.osn_files.specs.Files.{ReadsFile};
 ghost use Rattle.osn_files.specs.Journal.{load};
 ghost use Rattle.osn_files.specs.Kept.{KeepsEditions};
 ghost use Rattle.osn_files.specs.declared.fault.Role.TheVariants.{Journal};
 
 use crate::fault::{FileFault, Role};
-use crate::headed::read_headed;
+use crate::reading::read_lines;
 use osn_core::Object;
 use osn_lines::Source;
 use osn_register::Limits;
@@ -31,24 +29,14 @@ pub fn load_journal<R: Source>(
     limits: Limits,
     source: &mut R,
 ) -> Result<Object, FileFault>
-    // The object, or the fault, is that of the lines of all that is read.
-    ensures object { IfOk result (λ object. IfSome (R.remaining source.old) (λ input.
-        load newest_rules limits (lines input) ≡ Ok object)) }
-    ensures fault { IfErr result (λ fault. IfSome (R.remaining source.old) (λ input.
-        MatchFileFault fault ⊤ ⊤ (λ role line why.
-        (role ≡ Journal) × (load newest_rules limits (lines input) ≡ Err (line, why))))) }
-    ensures role { IfErr result (λ fault. MatchFileFault fault ⊤ ⊤ (λ role _ _. role ≡ Journal)) }
-    ensures end { OnOk result (IsAtEnd (R.remaining source.new)) }
+    ensures file { ReadsFile Journal (load newest_rules limits) (λ object. object) result
+        R.remaining R.has_failed source.old source.new }
 
     // Whatever the lines: a journal of the first version that the first rules load, the newest
     // rules load too, and each of its editions is the same register under both.
     ensures kept { (journal : List (List ℕ)) → KeepsEditions limits journal }
-
-    // The source failed where a read fault says so, or gave no end in 4,294,967,295 reads, and
-    // nowhere else.
-    ensures sound { OnOk result (R.has_failed source.new ≡ R.has_failed source.old) }
-    ensures reason { IfErr result (FailsAsTold (R.has_failed source.old)
-        (R.has_failed source.new) (R.remaining source.old)) }
 {
-    read_headed(alloc, Role::Journal, Object::new(alloc, limits), source)
+    let none = Object::new(alloc, limits);
+    let (object, _) = read_lines(alloc, Role::Journal, None, none, source)?;
+    Ok(object)
 }

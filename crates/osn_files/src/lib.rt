@@ -1,13 +1,12 @@
 //! Files of lines: a journal, which keeps an object, read and written; scripts, question files and
-//! schedules, read. What the crate promises to those above: each call that reads gives what the
-//! definition makes of the lines, in whatever pieces the bytes come, or the first fault with its
-//! line; and what `journal_text` writes of an object is loaded as that object again, its pending
-//! edits included.
+//! schedules, and what else a `LineFold` makes of lines, read. What the crate promises to those
+//! above: each call that reads gives what the definition makes of the lines, in whatever pieces the
+//! bytes come, or the first fault with its line; and what `journal_text` writes of an object is
+//! loaded as that object again, its pending edits included.
 #![tactic(auto)]
 
 mod command_line;
 mod fault;
-mod headed;
 mod journal;
 mod lists;
 mod question_line;
@@ -17,7 +16,6 @@ mod running;
 mod schedule;
 mod script;
 mod step_line;
-mod steps;
 mod stop;
 mod version;
 mod written;
@@ -26,6 +24,8 @@ pub use fault::{FileFault, LineFault, Role};
 pub use journal::load_journal;
 pub use question_line::question_in;
 pub use questions::read_questions;
+pub use reading::{LineFold, read_lines};
 pub use schedule::read_schedule;
 pub use script::read_script;
+pub use stop::LineStop;
 pub use written::journal_text;

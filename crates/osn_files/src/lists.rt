@@ -3,10 +3,12 @@ ghost use Rattle.std.specs.Prelude.{◌≡◌, ◌-◌, ◌<◌, ◌≤◌, [], 
 ghost use Rattle.osn_register.specs.declared.query.Query.{Query as QueryValue};
 ghost use Rattle.osn_files.specs.QuestionsInside.{with_query_at, with_query};
 
-use crate::question_line::question_of;
-use crate::reading::MadeOfLines;
+use crate::question_line::question_in;
+use crate::reading::LineFold;
 use crate::stop::LineStop;
+use osn_format::Version;
 use osn_register::Query;
+use serde_json::Value;
 use std::alloc::{AllocError, Global};
 use std::marker::Model;
 
@@ -68,17 +70,25 @@ impl Lists {
     }
 }
 
-impl MadeOfLines for Lists {
-    ghost use Rattle.osn_files.specs.Fronts.{lists-front};
-    ghost use Rattle.osn_files.specs.QuestionsInside.{list_line};
+impl LineFold for Lists {
+    ghost use Rattle.std.specs.Prelude.{List};
+    ghost use Rattle.osn_register.specs.declared.query.Query.{Query};
+    ghost use Rattle.osn_files.specs.QuestionsInside.{with_object};
 
-    ghost step = { list_line };
+    ghost State = { List (List Query) };
 
-    fn take_line(&mut self, alloc: Global, line: &[u8]) -> Result<(), LineStop> {
-        let (reader, query) = question_of(alloc, line)?;
+    ghost state = { λ lists. lists };
+
+    ghost step = { λ _. with_object };
+
+    fn take_object(
+        &mut self,
+        alloc: Global,
+        _version: Version,
+        object: &Value,
+    ) -> Result<(), LineStop> {
+        let (reader, query) = question_in(alloc, object)?;
         self.put(alloc, reader, query)?;
         Ok(())
     }
-
-    ghost by_front = { lists-front };
 }

@@ -1,12 +1,13 @@
 //! The query of a line of a question file.
-ghost use Rattle.std.specs.Prelude.{◌<◌, ◌≤◌, IfOk};
+ghost use Rattle.std.specs.Prelude.{◌≤◌, IfOk};
 ghost use Rattle.serde_json.specs.View.{view};
 ghost use Rattle.osn_request.specs.Request.{Gives};
 ghost use Rattle.osn_files.specs.Questions as said;
 
 use osn_core::MOST_READERS;
+use osn_format::WireFault;
 use osn_register::Query;
-use osn_request::{Op, RequestError, WireFault, object_of, op_of, query_of};
+use osn_request::{Op, RequestError, op_of, query_of};
 use serde_json::Value;
 use std::alloc::Global;
 
@@ -23,16 +24,4 @@ pub fn question_in(alloc: Global, value: &Value) -> Result<(u32, Query), Request
         Op::Query(op) => query_of(alloc, MOST_READERS, op, value),
         Op::Edit(_) | Op::Publish => Err(RequestError::Fault(WireFault::NotAQuery)),
     }
-}
-
-/// The reader who asks, and the query of a line, or its first fault.
-///
-/// # Errors
-/// The first fault of the line, or want of memory.
-pub(crate) fn question_of(alloc: Global, line: &[u8]) -> Result<(u32, Query), RequestError>
-    ensures question { Gives result (said.question_of line.now) }
-    ensures among { IfOk result (λ asked. 0 < asked.0) }
-{
-    let value = object_of(alloc, line)?;
-    question_in(alloc, &value)
 }

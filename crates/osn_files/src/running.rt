@@ -5,20 +5,21 @@ ghost use Rattle.osn_core.specs.declared.command.Command.TheVariants.{Stage, Pub
 ghost use Rattle.osn_files.specs.Journal.{after_command};
 ghost use Rattle.osn_files.specs.Stops.{Stops};
 
-use crate::command_line::command_of;
-use crate::headed::MadeBehindHead;
+use crate::command_line::command_in;
+use crate::reading::LineFold;
 use crate::stop::LineStop;
 use osn_core::{Command, Object};
+use osn_format::Version;
 use osn_register::Edit;
-use osn_words::Version;
+use serde_json::Value;
 use std::alloc::Global;
 
-fn stage(object: &mut Object, edit: &Edit) -> Result<(), LineStop>
+fn stage(object: &mut Object, edit: Edit) -> Result<(), LineStop>
     ensures ok { OnOk result
-        (after_command newest_rules object.old (Stage edit.now) ≡ Ok object.new) }
-    ensures err { IfErr result (Stops (after_command newest_rules object.old (Stage edit.now))) }
+        (after_command newest_rules object.old (Stage edit) ≡ Ok object.new) }
+    ensures err { IfErr result (Stops (after_command newest_rules object.old (Stage edit))) }
 {
-    object.check(edit)?;
+    object.check(&edit)?;
     object.admit(edit)?;
     Ok(())
 }
@@ -33,9 +34,9 @@ fn publish(object: &mut Object) -> Result<(), LineStop>
 }
 
 /// Runs a command on the object.
-fn run(object: &mut Object, command: &Command) -> Result<(), LineStop>
-    ensures ok { OnOk result (after_command newest_rules object.old command.now ≡ Ok object.new) }
-    ensures err { IfErr result (Stops (after_command newest_rules object.old command.now)) }
+fn run(object: &mut Object, command: Command) -> Result<(), LineStop>
+    ensures ok { OnOk result (after_command newest_rules object.old command ≡ Ok object.new) }
+    ensures err { IfErr result (Stops (after_command newest_rules object.old command)) }
 {
     match command {
         Command::Stage(edit) => stage(object, edit),
@@ -43,21 +44,23 @@ fn run(object: &mut Object, command: &Command) -> Result<(), LineStop>
     }
 }
 
-impl MadeBehindHead for Object {
+impl LineFold for Object {
     ghost use Rattle.osn_days.specs.Profile.{newest_rules};
-    ghost use Rattle.osn_files.specs.Journal.{after_line};
-    ghost use Rattle.osn_files.specs.Fronts.{after_line-front};
+    ghost use Rattle.osn_core.specs.Sequential.{ObjectState};
+    ghost use Rattle.osn_files.specs.Journal.{after_object};
 
-    ghost step = { after_line newest_rules };
+    ghost State = { ObjectState };
 
-    fn take_behind(
+    ghost state = { λ object. object };
+
+    ghost step = { λ _. after_object newest_rules };
+
+    fn take_object(
         &mut self,
         alloc: Global,
         version: Version,
-        line: &[u8],
+        object: &Value,
     ) -> Result<(), LineStop> {
-        run(self, &command_of(alloc, version, line)?)
+        run(self, command_in(alloc, version, object)?)
     }
-
-    ghost by_front = { after_line-front newest_rules };
 }

@@ -1,16 +1,13 @@
 //! The step of a line of a schedule.
 ghost use Rattle.std.specs.Prelude.{◌≡◌};
 ghost use Rattle.serde_json.specs.View.{view};
-ghost use Rattle.osn_days.specs.Profile.{newest_rules};
 ghost use Rattle.osn_request.specs.Request.{Gives};
+ghost use Rattle.osn_format.specs.Version.{rules_of};
 ghost use Rattle.osn_files.specs.Schedule as said;
 
 use osn_core::Step;
-use osn_request::{
-    Member, Op, RequestError, WireFault, edit_of, object_of, op_of, query_of, reader_in, text_at,
-    whole_at,
-};
-use osn_words::Version;
+use osn_format::{Member, Version, WireFault};
+use osn_request::{Op, RequestError, edit_of, op_of, query_of, reader_in, text_at, whole_at};
 use serde_json::Value;
 use std::alloc::Global;
 
@@ -72,18 +69,24 @@ fn look_of(alloc: Global, readers: u32, value: &Value) -> Result<Step, RequestEr
     }
 }
 
-fn stage_of(alloc: Global, value: &Value) -> Result<Step, RequestError>
-    ensures { Gives result (said.stage_of newest_rules (view value.now)) }
+fn stage_of(alloc: Global, version: Version, value: &Value) -> Result<Step, RequestError>
+    ensures { Gives result (said.stage_of (rules_of version) (view value.now)) }
 {
     match op_of(value)? {
-        Op::Edit(op) => Ok(Step::Stage(edit_of(alloc, Version::newest(), op, value)?)),
+        Op::Edit(op) => Ok(Step::Stage(edit_of(alloc, version, op, value)?)),
         Op::Publish | Op::Query(_) => Err(RequestError::Fault(WireFault::UnknownOp)),
     }
 }
 
 /// The step of a line's object that is of this kind.
-fn step_by(alloc: Global, readers: u32, kind: StepKind, value: &Value) -> Result<Step, RequestError>
-    ensures { Gives result (said.step_by newest_rules readers (view value.now) kind) }
+fn step_by(
+    alloc: Global,
+    version: Version,
+    readers: u32,
+    kind: StepKind,
+    value: &Value,
+) -> Result<Step, RequestError>
+    ensures { Gives result (said.step_by (rules_of version) readers (view value.now) kind) }
 {
     match kind {
         StepKind::Look => look_of(alloc, readers, value),
@@ -99,27 +102,24 @@ fn step_by(alloc: Global, readers: u32, kind: StepKind, value: &Value) -> Result
         StepKind::Leave => Ok(Step::Leave {
             reader: reader_of(readers, value)?,
         }),
-        StepKind::Stage => stage_of(alloc, value),
+        StepKind::Stage => stage_of(alloc, version, value),
         StepKind::Publish => Ok(Step::Publish),
         StepKind::Claim => Ok(Step::Claim),
         StepKind::Absorb => Ok(Step::Absorb),
     }
 }
 
-/// The step of a line's object, or its first fault.
-fn step_in(alloc: Global, readers: u32, value: &Value) -> Result<Step, RequestError>
-    ensures { Gives result (said.step_in newest_rules readers (view value.now)) }
-{
-    step_by(alloc, readers, kind_of(value)?, value)
-}
-
-/// The step of a line, where there are so many readers, or its first fault.
+/// The step of a line's object by the rules of a version, where there are so many readers.
 ///
 /// # Errors
-/// The first fault of the line, or want of memory.
-pub(crate) fn step_of(alloc: Global, readers: u32, line: &[u8]) -> Result<Step, RequestError>
-    ensures { Gives result (said.step_of newest_rules readers line.now) }
+/// The first fault of the object, or want of memory.
+pub(crate) fn step_in(
+    alloc: Global,
+    version: Version,
+    readers: u32,
+    value: &Value,
+) -> Result<Step, RequestError>
+    ensures { Gives result (said.step_in (rules_of version) readers (view value.now)) }
 {
-    let value = object_of(alloc, line)?;
-    step_in(alloc, readers, &value)
+    step_by(alloc, version, readers, kind_of(value)?, value)
 }

@@ -1,12 +1,13 @@
 //! Why a line ends the reading of a file.
 use crate::fault::LineFault;
+use osn_format::WireFault;
 use osn_register::Refusal;
 use osn_request::RequestError;
 use std::alloc::AllocError;
 
 /// Why a line ends the reading of a file.
 #[derive(Drop)]
-pub(crate) enum LineStop {
+pub enum LineStop {
     /// Memory ran out.
     NoMemory,
     /// The line has this fault.
@@ -33,6 +34,18 @@ impl From<Refusal> for LineStop {
 
     fn from(refusal: Refusal) -> LineStop {
         LineStop::Fault(LineFault::Register(refusal))
+    }
+}
+
+impl From<WireFault> for LineStop {
+    ghost use Rattle.std.specs.Prelude.{◌≡◌};
+    ghost use Rattle.osn_files.specs.declared.fault.LineFault.TheVariants.{Wire};
+    ghost use Rattle.osn_files.specs.declared.stop.LineStop.TheVariants.{Fault};
+
+    ghost from_gives = { λ fault stop. stop ≡ Fault (Wire fault) };
+
+    fn from(fault: WireFault) -> LineStop {
+        LineStop::Fault(LineFault::Wire(fault))
     }
 }
 

@@ -5,18 +5,18 @@ ghost use Rattle.osn_days.specs.Profile.{newest_rules};
 ghost use Rattle.osn_lines.specs.Lines.{lines};
 ghost use Rattle.osn_core.specs.Sequential.{IsSound};
 ghost use Rattle.osn_register.specs.declared.edit.Edit.TheVariants as edits;
-ghost use Rattle.osn_words.specs.Json.{value_tokens, member_tokens};
-ghost use Rattle.osn_words.specs.Version.{newest_version};
+ghost use Rattle.osn_format.specs.Json.{value_tokens, member_tokens};
+ghost use Rattle.osn_format.specs.Version.{newest_version};
 ghost use Rattle.osn_files.specs.Journal.{load};
 ghost use Rattle.osn_files.specs.JournalText as said;
 ghost use Rattle.osn_files.specs.Version.{head_data};
 
 use json::Writer;
 use osn_core::{Batch, Object};
+use osn_days::Keyword;
+use osn_format::{Member, Version, write_number, write_signed, write_text};
 use osn_lands::Regime;
 use osn_register::{Edit, Text};
-use osn_request::Member;
-use osn_words::{Version, Word, write_number, write_signed, write_text};
 use std::alloc::{AllocError, Global};
 
 /// The room that a journal gets at first.

@@ -1,4 +1,5 @@
 pub mod Style
+pub mod StyleWords
 pub mod Label
 pub mod Dual
 pub mod Territory

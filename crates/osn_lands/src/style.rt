@@ -1,5 +1,8 @@
 ghost use Rattle.std.specs.Prelude.{◌≡◌};
 ghost use Rattle.osn_lands.specs.Style as plain;
+ghost use Rattle.osn_lands.specs.StyleWords as words;
+
+use osn_days::Keyword;
 
 /// Where a year begins. The names are this project's, and claim no place's practice.
 #[derive(Clone, Copy, Debug, PartialEq, Eq, Hash)]
@@ -31,6 +34,35 @@ impl Style {
             | Style::Nativity
             | Style::September
             | Style::Pisan => false,
+        }
+    }
+}
+
+impl Keyword for Style {
+    ghost word_of = { words.style_word };
+
+    ghost meaning = { words.style_written };
+
+    fn word(self) -> &'static str {
+        match self {
+            Style::January => "january",
+            Style::Annunciation => "annunciation",
+            Style::Nativity => "nativity",
+            Style::September => "september",
+            Style::Pisan => "pisan",
+            Style::Easter => "easter",
+        }
+    }
+
+    fn from_word(word: &str) -> Option<Style> {
+        match word {
+            "january" => Some(Style::January),
+            "annunciation" => Some(Style::Annunciation),
+            "nativity" => Some(Style::Nativity),
+            "september" => Some(Style::September),
+            "pisan" => Some(Style::Pisan),
+            "easter" => Some(Style::Easter),
+            _ => None,
         }
     }
 }

@@ -7,10 +7,12 @@ use Rattle.std.specs.Io.KnownBytes.{Consumes, IsAtEnd}
 use Rattle.std.proofs.lemmas.List.{take_at}
 use Rattle.osn_lines.specs.declared.fault.TakeFault.{TakeFault}
 use Rattle.osn_lines.specs.declared.fault.TakeFault.TheVariants.{NoMemory, ReadFault, Stopped}
+use Rattle.osn_lines.specs.declared.kept.Kept.{Kept}
 use Rattle.osn_lines.specs.Faults.{MatchFault}
 use Rattle.osn_lines.specs.Inside.{IsKept, IsTaken, IsStopped}
 use Rattle.osn_lines.specs.Lines.{lines}
 use Rattle.osn_lines.specs.Taking.{Takes, Stops, TakesAll, TakesFirst, StopsAfter, HasRead}
+use Rattle.osn_lines.specs.Taking.{TakesEnded}
 use Rattle.osn_lines.proofs.LineLemmas.{lines-feed}
 use Rattle.osn_lines.proofs.TakeLemmas.{Takes-then}
 
@@ -29,12 +31,12 @@ known_whole P (Some xs) None read h e p = absurd h
 known_whole P (Some xs) (Some ys) read h e p =
     subst P (sym (h ∙ (ap (λ l. read ++ l) e ∙ append-nil read))) p
 
-pub MatchFault-weaker : {S : Type 0} (fault : TakeFault S) (P Q P' Q' : ℕ → Type 0)
-    (R R' : ℕ → S → Type 0) → ((n : ℕ) → P n → P' n) → ((n : ℕ) → Q n → Q' n) →
-    ((n : ℕ) (why : S) → R n why → R' n why) → MatchFault fault P Q R → MatchFault fault P' Q' R'
-MatchFault-weaker (NoMemory n) P Q P' Q' R R' p q r h = p n h
-MatchFault-weaker (ReadFault n) P Q P' Q' R R' p q r h = q n h
-MatchFault-weaker (Stopped n why) P Q P' Q' R R' p q r h = r n why h
+pub MatchFault-weaker : {S : Type 0} (fault : TakeFault S) (P Q P' Q' : Type 0)
+    (R R' : S → Type 0) → (P → P') → (Q → Q') → ((why : S) → R why → R' why) →
+    MatchFault fault P Q R → MatchFault fault P' Q' R'
+MatchFault-weaker NoMemory P Q P' Q' R R' p q r h = p h
+MatchFault-weaker ReadFault P Q P' Q' R R' p q r h = q h
+MatchFault-weaker (Stopped why) P Q P' Q' R R' p q r h = r why h
 
 pub if_err_at : {T E : Type 0} (P : E → Type 0) (r : Result T E) (x y : E) → r ≡ Err x → x ≡ y →
     P y → IfErr r P
@@ -72,8 +74,8 @@ TakesFirst-from after s t a b bytes n Left h consumed = record {
 }
 
 -- of what was read so many lines have ended
-pub HasRead-from : {S : Type 0} (after : S → List (List ℕ) → S → Type 0) (s t : S)
-    (a b : Option (List ℕ)) (bytes kept : List ℕ) (n : ℕ) →
+HasRead-from : {S : Type 0} (after : S → List (List ℕ) → S → Type 0) (s t : S)
+    (a b : Option (List ℕ)) (bytes : List ℕ) (kept : Kept) (n : ℕ) →
     IsTaken after s t bytes 0 n (IsKept kept) → Consumes a b bytes → HasRead a b n
 HasRead-from after s t a b bytes kept n h consumed = record {
   read = bytes;
@@ -88,15 +90,25 @@ HasRead-from after s t a b bytes kept n h consumed = record {
       );
 }
 
+-- where no more is read than was taken and kept
+pub TakesEnded-from : {S : Type 0} (after : S → List (List ℕ) → S → Type 0) (s t : S)
+    (a b : Option (List ℕ)) (bytes : List ℕ) (kept : Kept) (n : ℕ) →
+    IsTaken after s t bytes 0 n (IsKept kept) → Consumes a b bytes → TakesEnded after s t a b n
+TakesEnded-from after s t a b bytes kept n h consumed = record {
+  first = TakesFirst-from after s t a b bytes n (IsKept kept) h consumed;
+  read = HasRead-from after s t a b bytes kept n h consumed;
+}
+
 -- at the end all lines were taken
-lines_at_end : {S : Type 0} (after : S → List (List ℕ) → S → Type 0) (s t : S) (bytes kept : List ℕ)
-    (n : ℕ) (h : IsTaken after s t bytes 0 n (IsKept kept)) → lines bytes ≡ h.taken ++ lines h.left
+lines_at_end : {S : Type 0} (after : S → List (List ℕ) → S → Type 0) (s t : S) (bytes : List ℕ)
+    (kept : Kept) (n : ℕ) (h : IsTaken after s t bytes 0 n (IsKept kept)) →
+    lines bytes ≡ h.taken ++ lines h.left
 lines_at_end after s t bytes kept n h =
     ap lines (sym (append-nil bytes))
     ∙ (h.cuts.whole [] ∙ ap (λ l. h.taken ++ lines l) (append-nil h.left))
 
 pub TakesAll-from : {S : Type 0} (after : S → List (List ℕ) → S → Type 0) (s t u : S)
-    (a b : Option (List ℕ)) (bytes kept : List ℕ) (m n : ℕ) →
+    (a b : Option (List ℕ)) (bytes : List ℕ) (kept : Kept) (m n : ℕ) →
     IsTaken after s t bytes 0 m (IsKept kept) → Consumes a b bytes → IsAtEnd b →
     ((part : List ℕ) → IsKept kept part →
     Takes after t u (lines part) × (n ≡ m + length (lines part))) → TakesAll after s u a n
@@ -113,7 +125,7 @@ TakesAll-from after s t u a b bytes kept m n h consumed end next =
 
 -- where memory runs out at the last line
 pub TakesFirst-at_end : {S : Type 0} (after : S → List (List ℕ) → S → Type 0) (s t u : S)
-    (a b : Option (List ℕ)) (bytes kept : List ℕ) (m n : ℕ) →
+    (a b : Option (List ℕ)) (bytes : List ℕ) (kept : Kept) (m n : ℕ) →
     IsTaken after s t bytes 0 m (IsKept kept) → Consumes a b bytes → n ≡ m → u ≡ t →
     TakesFirst after s u a n
 TakesFirst-at_end {S} after s t u a b bytes kept m n h consumed same still =
@@ -124,7 +136,7 @@ TakesFirst-at_end {S} after s t u a b bytes kept m n h consumed same still =
 -- where the taker stops at the last line
 pub StopsAfter-at_end : {S W : Type 0} (after : S → List (List ℕ) → S → Type 0)
     (stopped : S → List (List ℕ) → Option (List ℕ) → S → W → Type 0) (s t u : S)
-    (a b : Option (List ℕ)) (bytes kept : List ℕ) (m n : ℕ) (why : W) →
+    (a b : Option (List ℕ)) (bytes : List ℕ) (kept : Kept) (m n : ℕ) (why : W) →
     IsTaken after s t bytes 0 m (IsKept kept) → Consumes a b bytes → IsAtEnd b → n ≡ m →
     ((part : List ℕ) → IsKept kept part →
     (lines part ≡ part ∷ []) × Stops after stopped t u (Some part) why) →

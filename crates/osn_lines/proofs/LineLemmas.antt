@@ -1,12 +1,12 @@
 -- How `lines` goes on behind bytes that are already cut.
 use Rattle.std.proofs.Common.{◌≡◌, ℕ, zero, suc, ◌+◌, ◌<◌, ◌≤◌, Bool, true, false, cond, List, []}
 use Rattle.std.proofs.Common.{◌∷◌, ◌++◌, length, take, drop, refl, ap, sym, ◌∙◌, append_assoc}
-use Rattle.std.proofs.Common.{append-nil, arith, min, slice_index, ◌==◌, length-take, length-drop}
-use Rattle.std.proofs.lemmas.List.{take_min, take_more, take_all}
+use Rattle.std.proofs.Common.{append-nil, arith, subst, slice_index, ◌==◌, length-drop}
+use Rattle.std.proofs.lemmas.List.{take_more}
 use Rattle.std.proofs.Math.Seq.{take-add}
 use Rattle.std.proofs.lemmas.Bool.{eqb-true}
-use Rattle.osn_lines.specs.Inside.{HasNoFeed, IsKept, Cuts}
-use Rattle.osn_lines.specs.Lines.{lines, onto_first, front_of}
+use Rattle.osn_lines.specs.Inside.{HasNoFeed, Cuts}
+use Rattle.osn_lines.specs.Lines.{lines, onto_first}
 
 -- bytes at the front of the first line
 abbrev pub onto : List ℕ → List (List ℕ) → List (List ℕ)
@@ -39,7 +39,7 @@ lines-feed (b ∷ p) more h =
     lines-front b p (10 ∷ more) h ∙ ap (λ l. l ∷ lines more) (append-nil (b ∷ p))
 
 -- bytes without a line feed are one line, if there are any
-pub lines-last : (b : ℕ) (p : List ℕ) → HasNoFeed (b ∷ p) → lines (b ∷ p) ≡ (b ∷ p) ∷ []
+lines-last : (b : ℕ) (p : List ℕ) → HasNoFeed (b ∷ p) → lines (b ∷ p) ≡ (b ∷ p) ∷ []
 lines-last b p h = ap lines (sym (append-nil (b ∷ p))) ∙ lines-front b p [] h
 
 pub HasNoFeed-append : (xs ys : List ℕ) → HasNoFeed xs → HasNoFeed ys → HasNoFeed (xs ++ ys)
@@ -88,48 +88,6 @@ HasNoFeed-take (b ∷ bytes) (suc k) h = (
   HasNoFeed-take bytes k (λ i lt e. h (suc i) (omega arith) e),
 )
 
-take_front : (n : ℕ) (xs ys : List ℕ) → take n (take n xs ++ ys) ≡ take n (xs ++ ys)
-take_front zero xs ys = refl
-take_front (suc n) [] ys = refl
-take_front (suc n) (x ∷ xs) ys = ap (λ l. x ∷ l) (take_front n xs ys)
-
--- what is kept of kept bytes and further ones
-pub front_of-front : (part more : List ℕ) →
-    front_of (front_of part ++ more) ≡ front_of (part ++ more)
-unfolding front_of
-front_of-front part more = take_front 65537 part more
-
-pub short_is_empty : (part : List ℕ) → length part ≤ 0 → part ≡ []
-short_is_empty [] h = refl
-short_is_empty (x ∷ part) h = absurd (omega arith)
-
--- nothing is kept only of nothing
-pub front_of-empty : (part : List ℕ) → [] ≡ front_of part → part ≡ []
-unfolding front_of
-front_of-empty part h = short_is_empty part (omega (arith, length-take 65537 part, ap length h))
-
-pub front_of-nil : front_of [] ≡ []
-unfolding front_of
-front_of-nil = refl
-
-pub length-front_of : (part : List ℕ) → length (front_of part) ≤ 65537
-unfolding front_of
-length-front_of part = omega (arith, length-take 65537 part)
-
-take_further : (n room : ℕ) (xs ys : List ℕ) → length xs + room ≡ n →
-    take n (xs ++ ys) ≡ xs ++ take room ys
-take_further n room [] ys h = ap (λ k. take k ys) (omega arith)
-take_further zero room (x ∷ xs) ys h = absurd (omega arith)
-take_further (suc n) room (x ∷ xs) ys h = ap (λ l. x ∷ l) (take_further n room xs ys (omega arith))
-
--- as much of further bytes is kept as there is room for
-pub front_of-more : (kept more : List ℕ) (room taken : ℕ) → length kept + room ≡ 65537 →
-    taken ≡ min room (length more) → front_of (kept ++ more) ≡ kept ++ take taken more
-unfolding front_of
-front_of-more kept more room taken h t =
-    take_further 65537 room kept more h
-    ∙ ap (λ l. kept ++ l) (sym (ap (λ k. take k more) t ∙ take_min room more))
-
 -- a line and its line feed are seen behind what was seen
 pub seen_line : (piece : List ℕ) (from place : ℕ) → from + place < length piece →
     (slice_index (drop from piece) place == 10) ≡ true →
@@ -142,26 +100,14 @@ seen_line piece from place h e =
     ∙ ap (λ b. take place (drop from piece) ++ b ∷ [])
     (eqb-true (slice_index (drop from piece) place) 10 e)))
 
--- of a line that hasn't ended something is kept, so it is the last line
-pub lines-kept : (kept part : List ℕ) → IsKept kept part → 0 < length kept →
-    lines part ≡ (part ++ []) ∷ []
-lines-kept kept [] h more = absurd (omega (arith, ap length (h.0 ∙ front_of-nil)))
-lines-kept kept (b ∷ p) h more = lines-last b p h.1 ∙ ap (λ l. l ∷ []) (sym (append-nil (b ∷ p)))
-
--- a line of at most 65,537 bytes is its own front
-front_of-short : (line : List ℕ) → length line ≤ 65537 → front_of line ≡ line
-unfolding front_of
-front_of-short line h = take_all 65537 line h
+-- what stands behind the last line feed is the last line, if it is anything
+pub lines-rest : (part : List ℕ) → HasNoFeed part → 0 < length part → lines part ≡ (part ++ []) ∷ []
+lines-rest [] h more = absurd (omega arith)
+lines-rest (b ∷ p) h more = lines-last b p h ∙ ap (λ l. l ∷ []) (sym (append-nil (b ∷ p)))
 
 -- where nothing was kept of a line, its end is the line
-pub front_of-whole : (kept part end : List ℕ) → kept ≡ [] → length end ≤ 65536 →
-    kept ≡ front_of part → end ≡ front_of (part ++ end)
-front_of-whole kept part end none short h =
-    sym (ap (λ l. front_of (l ++ end)) (front_of-empty part (sym none ∙ h))
-    ∙ front_of-short end (omega arith))
-
--- what is kept of a line, and its end
-pub front_of-joined : (given line kept part end : List ℕ) → given ≡ line →
-    line ≡ front_of (kept ++ end) → kept ≡ front_of part → given ≡ front_of (part ++ end)
-front_of-joined given line kept part end same h k =
-    same ∙ (h ∙ (ap (λ l. front_of (l ++ end)) k ∙ front_of-front part end))
+pub whole_end : (part end : List ℕ) → part ≡ [] → length end ≤ 65536 →
+    (end ≡ part ++ end) × (length (part ++ end) ≤ 65536)
+whole_end part end none few =
+    let same : end ≡ part ++ end = sym (ap (λ l. l ++ end) none) in
+    (same, subst (λ (l : List ℕ). length l ≤ 65536) same few)

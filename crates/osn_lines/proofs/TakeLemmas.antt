@@ -3,12 +3,11 @@ use Rattle.std.proofs.Common.{◌≡◌, ◌<◌, ◌≤◌, ◌==◌, ℕ, ◌+
 use Rattle.std.proofs.Common.{length-drop, length, subst, arith, List, [], ◌∷◌, ◌++◌, ap, sym, ◌∙◌}
 use Rattle.std.proofs.Common.{append_assoc, append-nil, length-append, Option, Some}
 use Rattle.std.proofs.lemmas.List.{take-append-drop, take_all}
-use Rattle.osn_lines.specs.Inside.{HasNoFeed, IsKept, Cuts, IsTaken, IsStopped}
-use Rattle.osn_lines.specs.Lines.{front_of}
+use Rattle.osn_lines.specs.declared.kept.Kept.{Kept}
+use Rattle.osn_lines.specs.Inside.{HasNoFeed, Holds, IsKept, Cuts, IsTaken, IsStopped}
 use Rattle.osn_lines.specs.Taking.{Takes, Rests, Stops}
-use Rattle.osn_lines.proofs.LineLemmas.{front_of-front, front_of-nil, HasNoFeed-append}
-use Rattle.osn_lines.proofs.LineLemmas.{HasNoFeed-take, seen_line, Cuts-nothing, Cuts-line}
-use Rattle.osn_lines.proofs.LineLemmas.{Cuts-more, Cuts-then}
+use Rattle.osn_lines.proofs.LineLemmas.{HasNoFeed-append, HasNoFeed-take, seen_line, Cuts-nothing}
+use Rattle.osn_lines.proofs.LineLemmas.{Cuts-line, Cuts-more, Cuts-then}
 
 pub Takes-nothing : {S : Type 0} (after : S → List (List ℕ) → S → Type 0) (s : S) →
     Takes after s s []
@@ -24,7 +23,7 @@ Takes-then {S} after s t u xs ys h k =
 
 -- nothing is taken yet
 pub IsTaken-nothing : {S : Type 0} (after : S → List (List ℕ) → S → Type 0) (s : S)
-    (part kept : List ℕ) (n : ℕ) → IsKept kept part →
+    (part : List ℕ) (kept : Kept) (n : ℕ) → IsKept kept part →
     IsTaken after s s (part ++ []) n n (IsKept kept)
 IsTaken-nothing after s part kept n h =
     subst (λ (l : List ℕ). IsTaken after s s l n n (IsKept kept)) (sym (append-nil part))
@@ -83,10 +82,10 @@ found_bytes part piece hay end from place f =
 
 -- the line that ends at `place` of the rest is taken next
 pub IsTaken-next : {S : Type 0} (after : S → List (List ℕ) → S → Type 0) (s t u : S)
-    (part piece hay end kept kept' : List ℕ) (n m from place : ℕ) →
+    (part piece hay end : List ℕ) (kept kept' : Kept) (n m from place : ℕ) →
     IsTaken after s t (part ++ take from piece) n m (IsKept kept) →
-    ((p : List ℕ) → kept ≡ front_of p → Takes after t u ((p ++ end) ∷ [])) →
-    Found piece hay end from place → kept' ≡ [] →
+    ((p : List ℕ) → Holds kept p → Takes after t u ((p ++ end) ∷ [])) →
+    Found piece hay end from place → Holds kept' [] →
     IsTaken after s u (part ++ take (from + place + 1) piece) n (m + 1) (IsKept kept')
 IsTaken-next after s t u part piece hay end kept kept' n m from place h line f empty =
     subst (λ (l : List ℕ). IsTaken after s u l n (m + 1) (IsKept kept'))
@@ -99,7 +98,7 @@ IsTaken-next after s t u part piece hay end kept kept' n m from place h line f e
           (found_no_feed piece hay end from place f);
       takes = Takes-then after s t u h.taken ((h.left ++ end) ∷ []) h.takes (line h.left h.rest.0);
       count = omega (arith, h.count, length-append h.taken ((h.left ++ end) ∷ []));
-      rest = (empty ∙ sym front_of-nil, tt);
+      rest = (empty, tt);
     })
 
 -- bytes behind a cut at `from`
@@ -111,7 +110,7 @@ rest_bytes part piece from =
 
 -- no line ends in the rest, or memory ran out at the next
 pub IsTaken-rest : {S : Type 0} (after : S → List (List ℕ) → S → Type 0) (s t u : S)
-    (part piece kept : List ℕ) (n m from : ℕ) (Left : List ℕ → Type 0) →
+    (part piece : List ℕ) (kept : Kept) (n m from : ℕ) (Left : List ℕ → Type 0) →
     IsTaken after s t (part ++ take from piece) n m (IsKept kept) → u ≡ t →
     ((left : List ℕ) → IsKept kept left → Left (left ++ drop from piece)) →
     IsTaken after s u (part ++ piece) n m Left
@@ -130,9 +129,9 @@ IsTaken-rest {S} after s t u part piece kept n m from Left h same rest =
 -- the taker stopped at the line that ends at `place` of the rest
 pub IsStopped-next : {S W : Type 0} (after : S → List (List ℕ) → S → Type 0)
     (stopped : S → List (List ℕ) → Option (List ℕ) → S → W → Type 0) (s t u : S)
-    (part piece hay end kept : List ℕ) (n m q from place : ℕ) (why : W) →
+    (part piece hay end : List ℕ) (kept : Kept) (n m q from place : ℕ) (why : W) →
     IsTaken after s t (part ++ take from piece) n m (IsKept kept) →
-    ((p : List ℕ) → kept ≡ front_of p → Stops after stopped t u (Some (p ++ end)) why) →
+    ((p : List ℕ) → Holds kept p → Stops after stopped t u (Some (p ++ end)) why) →
     Found piece hay end from place → q ≡ m → IsStopped after stopped s u (part ++ piece) n q why
 IsStopped-next after stopped s t u part piece hay end kept n m q from place why h stops f same =
     let k = from + place + 1 in
@@ -157,22 +156,21 @@ IsStopped-next after stopped s t u part piece hay end kept n m q from place why 
     }
 
 -- what the rest adds to what is kept
-pub IsKept-more : (kept kept' hay rest left : List ℕ) → hay ≡ rest →
-    kept' ≡ front_of (kept ++ hay) →
+pub IsKept-more : (kept kept' : Kept) (hay rest left : List ℕ) → hay ≡ rest →
+    ((line : List ℕ) → Holds kept line → Holds kept' (line ++ hay)) →
     ((i : ℕ) → 0 ≤ i → i < length hay → (slice_index hay i == 10) ≡ true → ⊥) → IsKept kept left →
     IsKept kept' (left ++ rest)
-IsKept-more kept kept' hay rest left is_hay k none h =
+IsKept-more kept kept' hay rest left is_hay more none h =
     let no_feed : HasNoFeed rest =
     subst HasNoFeed (take_all (length hay) hay (omega arith) ∙ is_hay)
     (HasNoFeed-take hay (length hay) (λ i lt. none i (omega arith) lt)) in (
-      k ∙ (ap (λ l. front_of (l ++ hay)) h.0
-          ∙ (front_of-front left hay ∙ ap (λ l. front_of (left ++ l)) is_hay)),
+      subst (λ (l : List ℕ). Holds kept' (left ++ l)) is_hay (more left h.0),
       HasNoFeed-append left rest h.1 no_feed,
     )
 
 -- a further piece was read
 pub IsTaken-then : {S : Type 0} (after : S → List (List ℕ) → S → Type 0) (s t u : S)
-    (bytes given piece kept : List ℕ) (n m q : ℕ) (Left : List ℕ → Type 0) →
+    (bytes given piece : List ℕ) (kept : Kept) (n m q : ℕ) (Left : List ℕ → Type 0) →
     IsTaken after s t bytes n m (IsKept kept) → given ≡ piece →
     ((part : List ℕ) → IsKept kept part → IsTaken after t u (part ++ given) m q Left) →
     IsTaken after s u (bytes ++ piece) n q Left
@@ -191,7 +189,7 @@ IsTaken-then after s t u bytes given piece kept n m q Left h same next =
 -- and the taker stopped in it
 pub IsStopped-then : {S W : Type 0} (after : S → List (List ℕ) → S → Type 0)
     (stopped : S → List (List ℕ) → Option (List ℕ) → S → W → Type 0) (s t u : S)
-    (bytes given piece kept : List ℕ) (n m q : ℕ) (why : W) →
+    (bytes given piece : List ℕ) (kept : Kept) (n m q : ℕ) (why : W) →
     IsTaken after s t bytes n m (IsKept kept) → given ≡ piece →
     ((part : List ℕ) → IsKept kept part → IsStopped after stopped t u (part ++ given) m q why) →
     IsStopped after stopped s u (bytes ++ piece) n q why

@@ -1,14 +1,13 @@
--- What holds where taking lines ended early, by the reason, and why a read or a write fails.
+-- What holds where taking lines ended early, by the cause, and why a read or a write fails.
 use Rattle.std.specs.Prelude.{◌≡◌, ◌≤◌, ◌⊎◌, ℕ, Bool, true, List, length, Option, IfSome}
 use Rattle.osn_lines.specs.declared.fault.TakeFault.{TakeFault}
 use Rattle.osn_lines.specs.declared.fault.TakeFault.TheVariants.{NoMemory, ReadFault, Stopped}
 
--- a fact for each reason, of the number of lines, and of why the taker stopped
-abbrev pub MatchFault : {S : Type 0} → TakeFault S → (ℕ → Type 0) → (ℕ → Type 0) →
-    (ℕ → S → Type 0) → Type 0
-MatchFault (NoMemory n) P Q R = P n
-MatchFault (ReadFault n) P Q R = Q n
-MatchFault (Stopped n why) P Q R = R n why
+-- a fact for each cause, that of a stop being of why the taker stopped
+abbrev pub MatchFault : {S : Type 0} → TakeFault S → Type 0 → Type 0 → (S → Type 0) → Type 0
+MatchFault NoMemory P Q R = P
+MatchFault ReadFault P Q R = Q
+MatchFault (Stopped why) P Q R = R why
 
 -- the source failed, or it gives no end in 4,294,967,295 reads
 abbrev pub IsReadFault : Bool → Option (List ℕ) → Type 0

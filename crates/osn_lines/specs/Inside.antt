@@ -1,6 +1,8 @@
 -- What holds between two reads, inside the loop over lines.
-use Rattle.std.specs.Prelude.{◌≡◌, ℕ, ◌+◌, List, [], ◌∷◌, ◌++◌, ◌==◌, false, length, Option, Some}
-use Rattle.osn_lines.specs.Lines.{lines, front_of}
+use Rattle.std.specs.Prelude.{◌≡◌, ◌<◌, ◌≤◌, ℕ, ◌+◌, List, [], ◌∷◌, ◌++◌, ◌==◌, Bool, true, false}
+use Rattle.std.specs.Prelude.{length, Option, Some}
+use Rattle.osn_lines.specs.declared.kept.Kept.{Kept}
+use Rattle.osn_lines.specs.Lines.{lines, longest_line}
 use Rattle.osn_lines.specs.Taking.{Takes}
 
 -- no byte is a line feed
@@ -13,9 +15,18 @@ HasNoFeed (b ∷ bs) = ((b == 10) ≡ false) × HasNoFeed bs
 pub record Cuts (bytes : List ℕ) (done : List (List ℕ)) (left : List ℕ) : Type 0 where
   pub whole : (more : List ℕ) → lines (bytes ++ more) ≡ done ++ lines (left ++ more)
 
--- of a line that hasn't ended yet as much is kept as matters
-abbrev pub IsKept : List ℕ → List ℕ → Type 0
-IsKept kept line = (kept ≡ front_of line) × HasNoFeed line
+-- these bytes are all of the line, unless it is too long
+abbrev pub HoldsBytes : Bool → List ℕ → List ℕ → Type 0
+HoldsBytes false bytes line = (bytes ≡ line) × (length line ≤ longest_line)
+HoldsBytes true bytes line = longest_line < length line
+
+-- what has come of a line is kept, or that it is too long
+abbrev pub Holds : Kept → List ℕ → Type 0
+Holds kept line = HoldsBytes kept.is_too_long kept.bytes.items line
+
+-- this has come of a line that hasn't ended yet
+abbrev pub IsKept : Kept → List ℕ → Type 0
+IsKept kept line = Holds kept line × HasNoFeed line
 
 -- of these bytes the lines `taken` were taken, which made n lines into m, and of what is left Left
 -- holds

@@ -1,6 +1,8 @@
 -- How bytes are cut into lines (this project's profile): at each line feed, and what stands after
 -- the last one is a line if it isn't empty.
-use Rattle.std.specs.Prelude.{ℕ, List, [], ◌∷◌, ◌==◌, if◌then◌else◌, take}
+use Rattle.std.specs.Prelude.{◌≡◌, ◌<◌, ◌≤◌, ℕ, List, [], ◌∷◌, ◌==◌, if◌then◌else◌, length}
+use Rattle.osn_lines.specs.declared.line.Line.{Line}
+use Rattle.osn_lines.specs.declared.line.Line.TheVariants.{Whole, TooLong}
 
 -- a byte at the front of the first line
 abbrev pub onto_first : ℕ → List (List ℕ) → List (List ℕ)
@@ -16,6 +18,7 @@ lines (b ∷ bs) = if b == 10 then [] ∷ lines bs else onto_first b (lines bs)
 abbrev pub longest_line : ℕ
 longest_line = 65536
 
--- as much of a line as matters: a line is longer than the longest exactly where this is
-unfoldable pub front_of : List ℕ → List ℕ
-front_of line = take 65537 line
+-- what is handed over of a line: all of it, or that it is longer than the longest
+abbrev pub IsLine : Line → List ℕ → Type 0
+IsLine (Whole bytes) line = (bytes.now ≡ line) × (length line ≤ longest_line)
+IsLine TooLong line = longest_line < length line

@@ -55,3 +55,10 @@ pub record HasRead (old new : Option (List ℕ)) (n : ℕ) : Type 0 where
   pub read : List ℕ
   pub consumed : Consumes old new read
   pub ended : length (lines (read ++ 10 ∷ [])) ≡ n + 1
+
+-- n lines were taken, the first n of the input where that is known, and of the bytes that were read
+-- no other has ended
+pub record TakesEnded {S : Type 0} (after : S → List (List ℕ) → S → Type 0) (s t : S)
+    (old new : Option (List ℕ)) (n : ℕ) : Type 0 where
+  pub first : TakesFirst after s t old n
+  pub read : HasRead old new n

@@ -1,12 +1,26 @@
 //! How taking lines ends early.
 
-/// Why not every line was taken. `lines` counts the lines that were taken before.
+use std::fmt::Display;
+use thiserror::Error;
+
+/// An end before the end of the input: how many lines, and why no more.
+#[derive(Debug, Drop, Error)]
+#[error("behind {lines} lines {cause}")]
+#[error_bound(C: Display)]
+pub struct Interrupted<C> {
+    /// How many lines were done with before.
+    pub lines: u64,
+    /// Why no further line was.
+    pub cause: C,
+}
+
+/// Why not every line was taken.
 #[derive(Debug, Drop)]
 pub enum TakeFault<S> {
     /// Memory ran out.
-    NoMemory { lines: u64 },
+    NoMemory,
     /// The source failed, or gave no end within 4,294,967,295 reads.
-    ReadFault { lines: u64 },
+    ReadFault,
     /// The taker stopped: at the line behind those that it took, or between two lines.
-    Stopped { lines: u64, why: S },
+    Stopped(S),
 }

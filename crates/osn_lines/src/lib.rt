@@ -6,14 +6,16 @@
 
 mod cut;
 mod fault;
+mod kept;
+mod line;
 mod plain;
 mod sink;
 mod source;
 mod stream;
 mod taker;
 
-pub use cut::LONGEST_LINE;
-pub use fault::TakeFault;
+pub use fault::{Interrupted, TakeFault};
+pub use line::{LONGEST_LINE, Line};
 pub use plain::Plain;
 pub use sink::{Sink, WriteFailed, write_all};
 pub use source::{ReadFailed, Source};

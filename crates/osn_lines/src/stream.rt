@@ -5,10 +5,12 @@ ghost use Rattle.std.specs.Io.KnownBytes.{IsAtEnd};
 ghost use Rattle.osn_lines.specs.Faults.{MatchFault, IsReadFault};
 ghost use Rattle.osn_lines.specs.Inside.{IsKept};
 ghost use Rattle.osn_lines.specs.Lines.{lines};
-ghost use Rattle.osn_lines.specs.Taking.{Takes, Stops, TakesAll, TakesFirst, StopsAfter, HasRead};
+ghost use Rattle.osn_lines.specs.Taking.{Takes, Stops, TakesAll, TakesFirst, TakesEnded, StopsAfter};
 
-use crate::cut::{LONGEST_LINE, MOST_KEPT, take_line, take_piece};
-use crate::fault::TakeFault;
+use crate::cut::{take_line, take_piece};
+use crate::fault::{Interrupted, TakeFault};
+use crate::kept::Kept;
+use crate::line::LONGEST_LINE;
 use crate::source::Source;
 use crate::taker::LineTaker;
 use std::alloc::{AllocError, Global};
@@ -26,25 +28,29 @@ fn zeros(alloc: Global, size: usize) -> Result<Vec<u8>, AllocError>
 /// Has the bytes behind the last line feed taken as a line, if there are any, behind so many lines.
 fn take_rest<T: LineTaker>(
     taker: &mut T,
-    kept: &mut Vec<u8>,
+    kept: &mut Kept,
     count: u64,
-) -> Result<u64, TakeFault<T::Stop>>
-    requires kept { length kept.old.items ≤ MOST_KEPT }
-    requires count { count + 1 < 2 ^ 64 }
-    ensures taken { IfOk result (λ n. (part : List ℕ) → IsKept kept.old.items part →
+) -> Result<u64, Interrupted<TakeFault<T::Stop>>>
+    requires { count + 1 < 2 ^ 64 }
+    ensures taken { IfOk result (λ n. (part : List ℕ) → IsKept kept.old part →
         Takes T.after taker.old taker.new (lines part) × (n ≡ count + length (lines part))) }
-    ensures fault { IfErr result (λ fault. MatchFault fault
-        (λ n. (n ≡ count) × (taker.new ≡ taker.old))
-        (λ _. ⊥)
-        (λ n why. (n ≡ count) × ((part : List ℕ) → IsKept kept.old.items part →
+    ensures fault { IfErr result (λ end. (end.lines ≡ count) × MatchFault end.cause
+        (taker.new ≡ taker.old)
+        ⊥
+        (λ why. (part : List ℕ) → IsKept kept.old part →
         (lines part ≡ part ∷ [])
-        × Stops T.after T.stopped taker.old taker.new (Some part) why))) }
+        × Stops T.after T.stopped taker.old taker.new (Some part) why)) }
 {
     if kept.is_empty() {
         return Ok(count);
     }
-    take_line(taker, kept, &[], count)?;
-    Ok(count + 1)
+    match take_line(taker, kept, &[]) {
+        Ok(()) => Ok(count + 1),
+        Err(cause) => Err(Interrupted {
+            lines: count,
+            cause,
+        }),
+    }
 }
 
 /// Hands every line of the source to the taker, in order, up to the end of the input. Answers their
@@ -52,58 +58,69 @@ fn take_rest<T: LineTaker>(
 ///
 /// Each line is handed over as soon as its line feed has come, and what stands behind the last line
 /// feed at the end of the input. Before each read the taker is told. Besides what the taker uses
-/// there is one read of at most 65,536 bytes, and of a line that hasn't ended yet at most 65,537
+/// there is one read of at most 65,536 bytes, and of a line that hasn't ended yet at most 65,536
 /// bytes.
 ///
 /// # Errors
 ///
-/// `NoMemory` where memory ran out here; `ReadFault` where the source failed, or gave no end within
-/// 4,294,967,295 reads; `Stopped` where the taker stopped. No line is handed over after that, and a
-/// line that a failed read cut short is not.
+/// The number of lines that were taken, and why no more: `NoMemory` where memory ran out here;
+/// `ReadFault` where the source failed, or gave no end within 4,294,967,295 reads; `Stopped` where
+/// the taker stopped. No line is handed over after that, and a line that a failed read cut short is
+/// not.
 pub fn take_lines<T: LineTaker, R: Source>(
     alloc: Global,
     taker: &mut T,
     source: &mut R,
-) -> Result<u64, TakeFault<T::Stop>>
+) -> Result<u64, Interrupted<TakeFault<T::Stop>>>
     ensures taken { IfOk result (TakesAll T.after taker.old taker.new (R.remaining source.old)) }
     ensures end { OnOk result (IsAtEnd (R.remaining source.new)) }
-    ensures fault { IfErr result (λ fault. MatchFault fault
-        (TakesFirst T.after taker.old taker.new (R.remaining source.old))
-        (TakesFirst T.after taker.old taker.new (R.remaining source.old))
-        (StopsAfter T.after T.stopped taker.old taker.new (R.remaining source.old))) }
+    ensures fault { IfErr result (λ end. MatchFault end.cause
+        (TakesFirst T.after taker.old taker.new (R.remaining source.old) end.lines)
+        (TakesEnded T.after taker.old taker.new (R.remaining source.old) (R.remaining source.new)
+        end.lines)
+        (StopsAfter T.after T.stopped taker.old taker.new (R.remaining source.old) end.lines)) }
 
     // A further line can be counted.
-    ensures few { IfErr result (λ fault. MatchFault fault
-        (λ n. n < 2 ^ 63) (λ n. n < 2 ^ 63) (λ n _. n < 2 ^ 63)) }
-
-    // Of the line that a failed read cut short nothing is taken.
-    ensures read { IfErr result (λ fault. MatchFault fault (λ _. ⊤)
-        (HasRead (R.remaining source.old) (R.remaining source.new)) (λ _ _. ⊤)) }
+    ensures few { IfErr result (λ end. end.lines < 2 ^ 63) }
 
     // The source failed where a read fault says so, or gave no end in 4,294,967,295 reads, and
     // nowhere else.
     ensures sound { OnOk result (R.has_failed source.new ≡ R.has_failed source.old) }
-    ensures reason { IfErr result (λ fault. MatchFault fault
-        (λ _. R.has_failed source.new ≡ R.has_failed source.old)
-        (λ _. IsReadFault (R.has_failed source.new) (R.remaining source.old))
-        (λ _ _. R.has_failed source.new ≡ R.has_failed source.old)) }
+    ensures reason { IfErr result (λ end. MatchFault end.cause
+        (R.has_failed source.new ≡ R.has_failed source.old)
+        (IsReadFault (R.has_failed source.new) (R.remaining source.old))
+        (λ _. R.has_failed source.new ≡ R.has_failed source.old)) }
 {
     let Ok(mut buffer) = zeros(alloc, READ_SIZE) else {
-        return Err(TakeFault::NoMemory { lines: 0 });
+        return Err(Interrupted {
+            lines: 0,
+            cause: TakeFault::NoMemory,
+        });
     };
-    let mut kept = Vec::new(alloc);
-    let mut count = 0;
+    let mut kept = Kept::new(alloc);
+    let mut lines = 0;
     for _call in 0..u32::MAX {
         if let Err(why) = taker.before_read() {
-            return Err(TakeFault::Stopped { lines: count, why });
+            return Err(Interrupted {
+                lines,
+                cause: TakeFault::Stopped(why),
+            });
         }
         let Ok(read) = source.read(&mut buffer) else {
-            return Err(TakeFault::ReadFault { lines: count });
+            return Err(Interrupted {
+                lines,
+                cause: TakeFault::ReadFault,
+            });
         };
         if read == 0 {
-            return take_rest(taker, &mut kept, count);
+            return take_rest(taker, &mut kept, lines);
         }
-        take_piece(taker, &mut kept, &buffer[..read], &mut count)?;
+        if let Err(cause) = take_piece(taker, &mut kept, &buffer[..read], &mut lines) {
+            return Err(Interrupted { lines, cause });
+        }
     }
-    Err(TakeFault::ReadFault { lines: count })
+    Err(Interrupted {
+        lines,
+        cause: TakeFault::ReadFault,
+    })
 }

@@ -1,7 +1,9 @@
 //! What takes lines.
 ghost use Rattle.std.specs.Prelude.{◌≡◌, ℕ, List, [], ◌∷◌, Option, Some, None, OnOk, IfErr};
-ghost use Rattle.osn_lines.specs.Lines.{front_of};
+ghost use Rattle.osn_lines.specs.Lines.{IsLine};
 ghost use Rattle.osn_lines.specs.Taking.{Takes, Rests, Stops};
+
+use crate::line::Line;
 
 /// What takes one line after another, and may stop. The words `after` and `stopped` are its own:
 /// what it has become by the lines that it took, and what a stop shows.
@@ -16,15 +18,15 @@ pub trait LineTaker {
     // line, or between two lines where there is none. It is `now`, and has this reason.
     ghost stopped: { Self → List (List ℕ) → Option (List ℕ) → Self → Self.Stop → Type 0 };
 
-    /// Takes a line, which is given by its first 65,537 bytes, without its line feed.
+    /// Takes a line.
     ///
     /// # Errors
     ///
     /// Why it stops here. No further line is given to it then.
-    fn take(&mut self, line: &[u8]) -> Result<(), Self::Stop>
-        ensures taken { OnOk result ((whole : List ℕ) → line.now ≡ front_of whole →
+    fn take(&mut self, line: Line<'_>) -> Result<(), Self::Stop>
+        ensures taken { OnOk result ((whole : List ℕ) → IsLine line.entry whole →
             Takes after self.old self.new (whole ∷ [])) }
-        ensures stop { IfErr result (λ why. (whole : List ℕ) → line.now ≡ front_of whole →
+        ensures stop { IfErr result (λ why. (whole : List ℕ) → IsLine line.entry whole →
             Stops after stopped self.old self.new (Some whole) why) };
 
     /// Makes ready for a wait: it is called before each read, and more input may be long in coming.

@@ -170,10 +170,7 @@ impl Editor {
         ensures err { OnErr result (self.new ≡ self.old) }
     {
         self.check(edit)?;
-        match self.admit(edit) {
-            Ok(pending) => Ok(pending),
-            Err(_) => Err(Refusal::NoMemory),
-        }
+        Ok(self.admit(edit.copy()?)?)
     }
 
     /// Whether an edit may be staged now.
@@ -195,17 +192,17 @@ impl Editor {
         &self.draft
     }
 
-    fn admit(&mut self, edit: &Edit) -> Result<u32, AllocError>
-        requires { stage_refusal newest_rules self.old.object edit.now ≡ None }
+    /// Stages an edit that `check` has let in.
+    fn admit(&mut self, edit: Edit) -> Result<u32, AllocError>
+        requires { stage_refusal newest_rules self.old.object edit ≡ None }
         ensures ok { OnOk result
-            (self.new ≡ record self.old { object = with_pending self.old.object edit.now }) }
+            (self.new ≡ record self.old { object = with_pending self.old.object edit }) }
         ensures count { IfOk result (λ n. n ≡ length self.new.object.pending) }
         ensures err { OnErr result (self.new ≡ self.old) }
     {
-        let copied = edit.copy()?;
         self.pending.reserve(1)?;
-        self.draft.admit(edit)?;
-        self.pending.push_reserved(copied);
+        self.draft.admit(&edit)?;
+        self.pending.push_reserved(edit);
         self.edits += 1;
         Ok(self.pending.len() as u32)
     }
@@ -306,7 +303,7 @@ impl Editor {
     {
         match self.check(edit) {
             Ok(()) => {
-                self.admit(edit)?;
+                self.admit(edit.copy()?)?;
                 Ok(())
             }
             Err(_) => Ok(()),

@@ -1,6 +1,8 @@
 ghost use Rattle.std.specs.Prelude.{◌≡◌};
 ghost use Rattle.osn_register.specs.Refusal.{refusal_number, refusal_name};
 
+use std::alloc::AllocError;
+
 /// Why an edit, a query or a publish is refused.
 #[derive(Clone, Copy, Debug, PartialEq, Eq, Hash)]
 pub enum Refusal {
@@ -105,5 +107,15 @@ impl Refusal {
             Refusal::NoMemory => "NoMemory",
             Refusal::BadCount => "BadCount",
         }
+    }
+}
+
+impl From<AllocError> for Refusal {
+    ghost use Rattle.osn_register.specs.declared.refusal.Refusal.TheVariants.{NoMemory};
+
+    ghost from_gives = { λ _ refusal. refusal ≡ NoMemory };
+
+    fn from(_: AllocError) -> Refusal {
+        Refusal::NoMemory
     }
 }

@@ -205,10 +205,7 @@ impl Register {
         ensures memory { IfErr result (λ f. f ≡ Refusal.NoMemory → takes_memory edit.now ≡ true) }
     {
         self.check(edit)?;
-        match self.admit(edit) {
-            Ok(()) => Ok(()),
-            Err(_) => Err(Refusal::NoMemory),
-        }
+        Ok(self.admit(edit)?)
     }
 
     /// Applies a lawful edit, and passes over one that is refused.

@@ -2,7 +2,7 @@
 use Rattle.std.proofs.Common.{◌≡◌, ℕ, List, [], ◌∷◌, ◌++◌, codes, ap, ◌∙◌, append_assoc}
 use Rattle.json.specs.Token.{Token, begin_object, end_object}
 use Rattle.serde_json.specs.Data.{Data}
-use Rattle.osn_words.specs.Json.{whole, value_tokens, member_tokens}
+use Rattle.osn_format.specs.Json.{whole, value_tokens, member_tokens}
 use Rattle.osn_reply.specs.ReplyText.{answered_data}
 
 -- an answer that was begun and then ended is the whole reply

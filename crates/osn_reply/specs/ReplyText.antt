@@ -4,28 +4,30 @@ use Rattle.std.specs.Prelude.{ℕ, Bool, List, [], ◌∷◌, ◌++◌, map, cod
 use Rattle.serde_json.specs.Data.{Data, boolean, string, object, member, no_members}
 use Rattle.serde_json.specs.Written.{compact_text}
 use Rattle.osn_computus.specs.declared.letters.Letters.{Letters}
+use Rattle.osn_computus.specs.FigureTexts.{epact_text, letters_text}
+use Rattle.osn_computus.specs.RuleWords.{rule_word}
 use Rattle.osn_days.specs.declared.calendar.Calendar.TheVariants.{Julian, Gregorian}
 use Rattle.osn_days.specs.Chain.{date_of}
 use Rattle.osn_days.specs.Line.{weekday, julian_day}
-use Rattle.osn_days.specs.Weekday.{weekday_name}
+use Rattle.osn_days.specs.Weekday.{weekday_name, weekday_numbered}
+use Rattle.osn_days.specs.DateText.{date_text, text_of_date}
+use Rattle.osn_days.specs.CalendarWords.{calendar_word}
 use Rattle.osn_lands.specs.declared.regime.Regime.{Regime}
 use Rattle.osn_lands.specs.declared.period.Period.{Period}
+use Rattle.osn_lands.specs.StyleWords.{style_word}
 use Rattle.osn_register.specs.declared.answer.Answer.{Answer}
 use Rattle.osn_register.specs.declared.answer.Answer.TheVariants as answers
 use Rattle.osn_register.specs.declared.answer.Found.{Found}
 use Rattle.osn_register.specs.declared.answer.Land.{Land}
 use Rattle.osn_register.specs.Refusal.{refusal_number, refusal_name}
-use Rattle.osn_request.specs.declared.wire_fault.WireFault.{WireFault}
-use Rattle.osn_request.specs.declared.wire_fault.WireFault.TheVariants as faults
+use Rattle.osn_format.specs.declared.wire_fault.WireFault.{WireFault}
+use Rattle.osn_format.specs.declared.wire_fault.WireFault.TheVariants as faults
 use Rattle.osn_reply.specs.declared.outcome.Outcome.{Outcome}
 use Rattle.osn_reply.specs.declared.outcome.Outcome.TheVariants.{Staged, Published, Refused, Fault}
 use Rattle.osn_reply.specs.declared.outcome.Outcome.TheVariants.{Replied}
-use Rattle.osn_request.specs.Member.{member_name}
-use Rattle.osn_request.specs.WireFault.{wire_fault_number, wire_fault_name}
-use Rattle.osn_words.specs.Json.{whole, list_data}
-use Rattle.osn_words.specs.Texts.{date_text, text_of_date, weekday_numbered, epact_text}
-use Rattle.osn_words.specs.Texts.{letters_text}
-use Rattle.osn_words.specs.Words.{calendar_word, style_word, rule_word}
+use Rattle.osn_format.specs.Member.{member_name}
+use Rattle.osn_format.specs.WireFault.{wire_fault_number, wire_fault_name}
+use Rattle.osn_format.specs.Json.{whole, list_data}
 
 -- a day as a territory names it
 abbrev pub found_data : Found → Data

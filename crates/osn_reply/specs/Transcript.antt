@@ -6,7 +6,7 @@ use Rattle.osn_register.specs.declared.query.Query.{Query}
 use Rattle.osn_register.specs.declared.query.Query.TheVariants.{Read, DayIn, Easter, YearFigures}
 use Rattle.osn_register.specs.declared.query.Query.TheVariants.{Lands, Periods}
 use Rattle.osn_core.specs.declared.step.Reply.{Reply}
-use Rattle.osn_words.specs.Json.{whole, signed}
+use Rattle.osn_format.specs.Json.{whole, signed}
 use Rattle.osn_reply.specs.ReplyText.{replied_data, line_of}
 
 -- a query with the members of its row, what it asks for, and who asks

@@ -1,6 +1,6 @@
 use osn_core::Reply;
+use osn_format::WireFault;
 use osn_register::Refusal;
-use osn_request::WireFault;
 
 /// What became of a line.
 #[derive(Debug, Drop)]

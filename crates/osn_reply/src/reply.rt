@@ -5,7 +5,7 @@ ghost use Rattle.osn_reply.specs.ReplyText.{refused_data, fault_data, outcome_da
 ghost use Rattle.osn_reply.specs.ReplyText.{reply_line};
 ghost use Rattle.osn_reply.specs.OutText.{out_line};
 ghost use Rattle.osn_reply.specs.Transcript.{transcript_line};
-ghost use Rattle.osn_words.specs.Json.{value_tokens};
+ghost use Rattle.osn_format.specs.Json.{value_tokens};
 
 mod answer;
 mod asked;
@@ -21,9 +21,8 @@ use answer::write_reply;
 use asked::Asked;
 use json::Writer;
 use osn_core::{Out, Reply};
+use osn_format::{WireFault, write_number, write_text};
 use osn_register::Query;
-use osn_request::WireFault;
-use osn_words::{write_number, write_text};
 use std::alloc::{AllocError, Global};
 use write_json::WriteJson;
 

@@ -4,14 +4,16 @@ use Rattle.std.specs.Prelude.{ℕ, ℤ, List, Option, Some, None, option_and_the
 use Rattle.serde_json.specs.Data.{Data}
 use Rattle.serde_json.specs.Find.{get, as_str, as_number, as_i64}
 use Rattle.osn_days.specs.Profile.{Profile}
+use Rattle.osn_days.specs.CalendarWords.{calendar_named}
+use Rattle.osn_computus.specs.RuleWords.{rule_named}
 use Rattle.osn_lands.specs.declared.regime.Regime.{Regime}
 use Rattle.osn_lands.specs.declared.style.Style.{Style}
-use Rattle.osn_request.specs.declared.member.Member.{Member}
-use Rattle.osn_request.specs.declared.member.Member.TheVariants as members
-use Rattle.osn_request.specs.declared.wire_fault.WireFault.{WireFault}
-use Rattle.osn_request.specs.declared.wire_fault.WireFault.TheVariants.{BadField}
-use Rattle.osn_request.specs.Member.{member_name}
-use Rattle.osn_words.specs.Words.{calendar_named, style_named, rule_named}
+use Rattle.osn_lands.specs.StyleWords.{style_named}
+use Rattle.osn_format.specs.declared.member.Member.{Member}
+use Rattle.osn_format.specs.declared.member.Member.TheVariants as members
+use Rattle.osn_format.specs.declared.wire_fault.WireFault.{WireFault}
+use Rattle.osn_format.specs.declared.wire_fault.WireFault.TheVariants.{BadField}
+use Rattle.osn_format.specs.Member.{member_name}
 
 -- one reading behind another, where the first one meets no fault
 infixl 10 ◌>>=◌

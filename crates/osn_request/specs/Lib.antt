@@ -1,5 +1,3 @@
-pub mod Member
-pub mod WireFault
 pub mod Field
 pub mod Op
 pub mod EditRequest

@@ -3,13 +3,9 @@
 //! definition says of the value that `serde_json` reads, or the line's first fault.
 #![tactic(auto)]
 
-mod member;
 mod request;
-mod wire_fault;
 
-pub use member::Member;
 pub use request::{
     EditOp, Op, QueryOp, Request, RequestError, edit_of, object_of, op_of, query_of, read_request,
-    reader_in, text_at, whole_at,
+    reader_in, request_of_line, text_at, whole_at,
 };
-pub use wire_fault::WireFault;

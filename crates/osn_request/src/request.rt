@@ -1,24 +1,24 @@
 //! Reads one line into a request, or names its first fault.
-ghost use Rattle.std.specs.Prelude.{◌≡◌, ◌<◌, length, MatchResult, IfErr, Ok, Err, Some};
+ghost use Rattle.std.specs.Prelude.{◌≡◌, ◌<◌, ℕ, List, length, MatchResult, IfErr, Ok, Err, Some};
 ghost use Rattle.std.specs.Str.{IsUtf8};
 ghost use Rattle.serde_json.specs.View.{view};
 ghost use Rattle.osn_days.specs.Profile.{newest_rules};
+ghost use Rattle.osn_lines.specs.Lines.{IsLine};
 ghost use Rattle.osn_request.specs.Request as said;
 ghost use Rattle.osn_request.specs.declared.request.RequestError.TheVariants.{NoMemory};
-ghost use Rattle.osn_words.specs.Version.{rules_of};
+ghost use Rattle.osn_format.specs.Version.{rules_of};
 
 mod edit;
 mod field;
 mod op;
 mod query;
 
-use crate::wire_fault::WireFault;
 pub use edit::edit_of;
 pub use field::{text_at, whole_at};
 pub use op::{EditOp, Op, QueryOp, op_of};
-use osn_lines::LONGEST_LINE;
+use osn_format::{Version, WireFault};
+use osn_lines::{LONGEST_LINE, Line};
 use osn_register::{Edit, Query};
-use osn_words::Version;
 pub use query::{query_of, reader_in};
 use serde_json::Value;
 use std::alloc::{AllocError, Global};
@@ -85,26 +85,38 @@ fn value_of(alloc: Global, line: &[u8]) -> Result<Value, RequestError>
     }
 }
 
-/// The object of a line.
-///
-/// # Errors
-/// Memory is taken for the value of a line alone that is a text and not too long.
-pub fn object_of(alloc: Global, line: &[u8]) -> Result<Value, RequestError>
+/// The object of a line that is not too long.
+fn object_of_whole(alloc: Global, line: &[u8]) -> Result<Value, RequestError>
     ensures object { MatchResult result
-        (λ v. said.object_of line.now ≡ Ok (view v))
-        (λ e. said.Fails e (said.object_of line.now)) }
+        (λ v. said.object_in (said.value_of line.now) ≡ Ok (view v))
+        (λ e. said.Fails e (said.object_in (said.value_of line.now))) }
     ensures memory { MatchResult result
-        (λ _. said.IsReadable line.now)
-        (λ e. e ≡ NoMemory → said.IsReadable line.now) }
+        (λ _. IsUtf8 line.now × (0 < length line.now))
+        (λ e. e ≡ NoMemory → IsUtf8 line.now × (0 < length line.now)) }
 {
-    if line.len() > LONGEST_LINE {
-        return Err(RequestError::Fault(WireFault::LineTooLong));
-    }
     let value = value_of(alloc, line)?;
     if !value.is_object() {
         return Err(RequestError::Fault(WireFault::NotObject));
     }
     Ok(value)
+}
+
+/// The object of a line.
+///
+/// # Errors
+/// Memory is taken for the value of a line alone that is a text and not too long.
+pub fn object_of(alloc: Global, line: Line<'_>) -> Result<Value, RequestError>
+    ensures object { (whole : List ℕ) → IsLine line.entry whole → MatchResult result
+        (λ v. said.object_of whole ≡ Ok (view v))
+        (λ e. said.Fails e (said.object_of whole)) }
+    ensures memory { (whole : List ℕ) → IsLine line.entry whole → MatchResult result
+        (λ _. said.IsReadable whole)
+        (λ e. e ≡ NoMemory → said.IsReadable whole) }
+{
+    match line {
+        Line::Whole(bytes) => object_of_whole(alloc, bytes),
+        Line::TooLong => Err(RequestError::Fault(WireFault::LineTooLong)),
+    }
 }
 
 /// The request of a line's object, by the rules of a version.
@@ -131,10 +143,27 @@ fn request_of(
 /// # Errors
 /// The first fault of the line; or want of memory, for a line alone that is a text, not an empty
 /// one and not too long.
+pub fn request_of_line(alloc: Global, readers: u32, line: Line<'_>) -> Result<Request, RequestError>
+    ensures request { (whole : List ℕ) → IsLine line.entry whole →
+        said.Gives result (said.request newest_rules readers whole) }
+    ensures memory { (whole : List ℕ) → IsLine line.entry whole →
+        IfErr result (λ e. e ≡ NoMemory → said.IsReadable whole) }
+{
+    let value = object_of(alloc, line)?;
+    request_of(alloc, Version::newest(), readers, &value)
+}
+
+/// The request of a line of these bytes, as `request_of_line`.
+///
+/// # Errors
+/// The first fault of the line; or want of memory, for a line alone that is a text, not an empty
+/// one and not too long.
 pub fn read_request(alloc: Global, readers: u32, line: &[u8]) -> Result<Request, RequestError>
     ensures request { said.Gives result (said.request newest_rules readers line.now) }
     ensures memory { IfErr result (λ e. e ≡ NoMemory → said.IsReadable line.now) }
 {
-    let value = object_of(alloc, line)?;
-    request_of(alloc, Version::newest(), readers, &value)
+    if line.len() > LONGEST_LINE {
+        return request_of_line(alloc, readers, Line::TooLong);
+    }
+    request_of_line(alloc, readers, Line::Whole(line))
 }

@@ -1,3 +1,4 @@
+pub mod LiveLemmas
+mod MemoryLemmas
 mod SearchLemmas
 mod TableLemmas
-pub mod LiveLemmas

@@ -3,8 +3,9 @@
 use crate::compare::same;
 use crate::printed::{Left, Wanted, is_left, left_by, sink};
 use crate::session::joined;
-use osn_commands::{Disk, Folder, Served, Status, run, serve_command, tell_no_words};
-use osn_wire::Plain;
+use osn_commands::{Served, Status, run, serve_command, tell_no_words};
+use osn_folder::{Disk, Folder};
+use osn_lines::Plain;
 use std::alloc::Global;
 use std::io;
 use std::io::{ErrorKind, Read, Write};

@@ -2,7 +2,7 @@
 //! of Pisa beside them: labels, texts, the days of labels, and registers of such years. The days
 //! were found apart, by walks along every day and the table of the Julian full moons.
 use crate::compare::same;
-use crate::labels::{Named, are_named, day_of, label, regime_of};
+use crate::named::{Named, are_named, day_of, label, regime_of};
 use crate::session::serves;
 use osn_computus::Rule;
 use osn_days::{Calendar, Day, HIGH};

@@ -2,7 +2,7 @@
 //! few bytes a call, and a call that is chosen fails, and each call behind it.
 ghost use Rattle.std.specs.Prelude.{None};
 
-use osn_wire::{ReadFailed, Sink, Source, WriteFailed};
+use osn_lines::{ReadFailed, Sink, Source, WriteFailed};
 use std::alloc::Global;
 
 /// How a stream goes: how many bytes a call gives or takes at most, and how many calls go well.

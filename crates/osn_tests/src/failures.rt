@@ -4,8 +4,9 @@ use crate::compare::same;
 use crate::failing::{Course, FailingSink, FailingSource, reads_of};
 use crate::streams::{End, READ, WRITTEN, end_of};
 use osn_core::Object;
+use osn_lines::{Sink, Source};
 use osn_register::Limits;
-use osn_wire::{Sink, Source, serve, serve_from};
+use osn_service::{serve, serve_from};
 use std::alloc::Global;
 use std::process::Abort;
 

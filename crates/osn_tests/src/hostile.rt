@@ -1,12 +1,11 @@
 //! One worked session, cut anywhere, with reads that fail inside a line, and over a writer that
 //! takes one byte a call; and lines of deep lists.
 use crate::compare::same;
+use crate::failing::{Course, FailingSink, FailingSource};
 use crate::session::served;
 use osn_register::Limits;
-use osn_wire::{Plain, serve};
+use osn_service::serve;
 use std::alloc::{AllocError, Global};
-use std::io;
-use std::io::{ErrorKind, Read, Write};
 use std::process::Abort;
 use std::test::Fail;
 
@@ -99,65 +98,42 @@ fn each_cut_of_a_session(rt: HostRuntime) -> Result<(), Fail> {
     are_cut(&rt, rt.alloc(), &CUTS)
 }
 
-/// Gives some bytes, and then ends or fails.
-#[derive(Drop)]
-struct Short {
-    left: &'static [u8],
-    fails: bool,
-}
-
-impl Read for Short {
-    fn read(&mut self, buffer: &mut [u8]) -> io::Result<usize> {
-        if self.left.is_empty() && self.fails {
-            return Err(io::Error::from(ErrorKind::TimedOut));
-        }
-        let count = self.left.len().min(buffer.len());
-        buffer[..count].copy_from_slice(&self.left[..count]);
-        self.left = &self.left[count..];
-        Ok(count)
-    }
-}
-
-/// Takes one byte a call.
-#[derive(Drop)]
-struct Narrow(Vec<u8>);
-
-impl Write for Narrow {
-    fn write(&mut self, bytes: &[u8]) -> io::Result<usize> {
-        let count = bytes.len().min(1);
-        self.0.extend_from_slice(&bytes[..count])?;
-        Ok(count)
-    }
-
-    fn flush(&mut self) -> io::Result<()> {
-        Ok(())
-    }
-}
-
-/// How many bytes of the input are read, and whether reading fails behind them; how the session
-/// ends, and how many bytes of the replies are written.
-const ENDINGS: [(usize, bool, &str, usize); 3] = [
-    (116, true, "Err(ReadFault { lines: 2 })", 59),
-    (182, true, "Err(ReadFault { lines: 2 })", 59),
-    (183, false, "Ok(3)", 259),
+/// How many bytes of the input are read, and how many reads go well; how the session ends, and how
+/// many bytes of the replies are written.
+const ENDINGS: [(usize, usize, &str, usize); 3] = [
+    (
+        116,
+        1,
+        "Err(Interrupted { lines: 2, cause: ReadFault })",
+        59,
+    ),
+    (
+        182,
+        1,
+        "Err(Interrupted { lines: 2, cause: ReadFault })",
+        59,
+    ),
+    (183, usize::MAX, "Ok(3)", 259),
 ];
 
 fn end_so(
     rt: &impl Abort,
     alloc: Global,
-    rows: &[(usize, bool, &str, usize)],
+    rows: &[(usize, usize, &str, usize)],
 ) -> Result<(), AllocError> {
-    for (length, fails, wanted, count) in rows {
+    for (length, sound, wanted, count) in rows {
         let left = READ.as_bytes().get(..*length).unwrap_or_default();
-        let mut source = Plain::new(Short {
-            left,
-            fails: *fails,
-        });
-        let mut sink = Plain::new(Narrow(Vec::new(alloc)));
+        let course = Course {
+            step: usize::MAX,
+            sound: *sound,
+        };
+        let mut source = FailingSource::new(left, course);
+        let mut sink = FailingSink::new(alloc, Course::sound(1));
         let ended = serve(alloc, Limits::standard(), 8, &mut source, &mut sink);
         let ended = format!(in alloc; "{ended:?}")?;
         same(rt, (length, ended.as_str()), (length, *wanted));
-        same(rt, sink.into_inner().0, replies(alloc, *count, false)?);
+        let replies = replies(alloc, *count, false)?;
+        same(rt, sink.taken(), replies.as_slice());
     }
     Ok(())
 }

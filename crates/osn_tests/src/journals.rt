@@ -3,7 +3,7 @@ use crate::compare::same;
 use crate::session::{apart, joined};
 use osn_core::Object;
 use osn_register::Limits;
-use osn_wire::{FileFault, Plain, ServeFault, journal_text, load_journal, serve_from};
+use osn_wire::{FileFault, Interrupted, Plain, ServeFault, journal_text, load_journal, serve_from};
 use std::alloc::{AllocError, Global};
 use std::io;
 use std::io::{ErrorKind, Read};
@@ -340,7 +340,11 @@ fn loaded_from(alloc: Global, journal: &str) -> Result<Object, Fail> {
 }
 
 /// What an object answers to requests.
-fn answered(alloc: Global, object: &mut Object, requests: &str) -> Result<Vec<u8>, ServeFault> {
+fn answered(
+    alloc: Global,
+    object: &mut Object,
+    requests: &str,
+) -> Result<Vec<u8>, Interrupted<ServeFault>> {
     let mut sink = Plain::new(Vec::new(alloc));
     serve_from(
         alloc,

@@ -2,28 +2,11 @@
 //! 1750 and of Sweden, and days beside the beginnings of years and the ends of the line, whose
 //! numbers are Python's `toordinal` and those of the Julian day number's formula.
 use crate::compare::same;
-use osn_computus::Rule;
-use osn_days::{Calendar, Day, HIGH};
-use osn_lands::{Label, Regime, Style, day_of_label, dual_text, label_of};
-use std::alloc::{AllocError, Global};
+use crate::named::{Named, are_named, label, regime_of};
+use osn_days::{Calendar, HIGH};
+use osn_lands::{Style, day_of_label};
+use std::alloc::AllocError;
 use std::process::Abort;
-
-/// The day of a number on the line.
-pub fn day_of(number: u32) -> Day {
-    Day::new(i64::from(number)).unwrap_or(Day::FIRST)
-}
-
-/// The label of a year, a month and a day.
-pub fn label(ymd: (i32, u8, u8)) -> Label {
-    Label {
-        year: ymd.0,
-        month: ymd.1,
-        day: ymd.2,
-    }
-}
-
-/// A day under a regime of a calendar and a style: its number, its label and its dual text.
-pub type Named = (Calendar, Style, u32, (i32, u8, u8), &'static str);
 
 const NAMED: [Named; 39] = [
     (
@@ -300,27 +283,6 @@ const NAMED: [Named; 39] = [
         "1 September 10000",
     ),
 ];
-
-/// The regime of a calendar and a style under the Julian rule.
-pub fn regime_of(calendar: Calendar, style: Style) -> Regime {
-    let rule = Rule::Julian;
-    Regime {
-        calendar,
-        style,
-        rule,
-    }
-}
-
-/// That days are named so, and are those of their labels.
-pub fn are_named(rt: &impl Abort, alloc: Global, rows: &[Named]) -> Result<(), AllocError> {
-    for (calendar, style, number, ymd, text) in rows {
-        let (regime, day) = (regime_of(*calendar, *style), day_of(*number));
-        let found = (label_of(regime, day), day_of_label(regime, label(*ymd)));
-        same(rt, found, (label(*ymd), [Some(day), None]));
-        same(rt, dual_text(alloc, regime, day)?.as_str(), *text);
-    }
-    Ok(())
-}
 
 #[test]
 fn labels_and_texts(rt: HostRuntime) -> Result<(), AllocError> {

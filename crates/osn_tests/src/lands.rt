@@ -3,7 +3,7 @@
 //! the ends of the line, whose numbers are Python's `toordinal` and those of the Julian day
 //! number's formula.
 use crate::compare::same;
-use crate::labels::{day_of, label};
+use crate::named::{day_of, label};
 use osn_computus::Rule;
 use osn_days::{Calendar, Day, HIGH, Year};
 use osn_lands::{LandFault, Period, Regime, Style, Territory};

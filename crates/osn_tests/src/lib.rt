@@ -61,7 +61,11 @@ mod limits;
 #[cfg(test)]
 mod live;
 #[cfg(test)]
+mod memory;
+#[cfg(test)]
 mod mistakes;
+#[cfg(test)]
+mod named;
 #[cfg(test)]
 mod names;
 #[cfg(test)]

@@ -19,8 +19,8 @@ fn made(alloc: Global, object: &mut Object, line: &str) -> Result<Result<u32, Re
 }
 
 /// A stage by the test and then the call that refuses nothing.
-fn staged(object: &mut Object, edit: &Edit) -> Result<Result<u32, Refusal>, Fail> {
-    match object.check(edit) {
+fn staged(object: &mut Object, edit: Edit) -> Result<Result<u32, Refusal>, Fail> {
+    match object.check(&edit) {
         Ok(_) => Ok(Ok(object.admit(edit)?)),
         Err(refusal) => Ok(Err(refusal)),
     }
@@ -37,7 +37,7 @@ fn published(object: &mut Object) -> Result<Result<u32, Refusal>, Fail> {
 /// Either, as a line asks for.
 fn admitted(alloc: Global, object: &mut Object, line: &str) -> Result<Result<u32, Refusal>, Fail> {
     match read_request(alloc, 1, line.as_bytes())? {
-        Request::Stage(edit) => staged(object, &edit),
+        Request::Stage(edit) => staged(object, edit),
         Request::Publish => published(object),
         Request::Ask { .. } => Err(Fail::new("a query")),
     }

@@ -3,7 +3,7 @@
 use crate::compare::same;
 use crate::session::joined;
 use osn_commands::{Status, almanac_command, audit_command, desk_command, replay_command};
-use osn_wire::Plain;
+use osn_lines::Plain;
 use std::alloc::Global;
 use std::process::Abort;
 use std::str;

@@ -6,8 +6,8 @@ ghost use Rattle.osn_lands.specs.Label.{days_with_label};
 ghost use Rattle.osn_lands.specs.Territory.{reading};
 
 use crate::compare::same;
-use crate::labels::{label, regime_of};
 use crate::lands::of_forty_changes;
+use crate::named::{label, regime_of};
 use crate::walk::day_at;
 use osn_days::{Calendar, Day, HIGH};
 use osn_lands::{Label, Regime, Style, Territory, day_of_label, label_of};

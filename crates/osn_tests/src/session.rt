@@ -1,7 +1,8 @@
 //! Sessions of the service over memory, written as what is read and what is written.
 use crate::compare::same;
+use osn_lines::Plain;
 use osn_register::Limits;
-use osn_wire::{Plain, serve};
+use osn_service::serve;
 use std::alloc::{AllocError, Global};
 use std::process::Abort;
 use std::test::Fail;

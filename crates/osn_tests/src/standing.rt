@@ -4,8 +4,9 @@ use crate::compare::same;
 use crate::session::{apart, are_replies};
 use crate::streams::sink_that_fails;
 use osn_core::Object;
+use osn_lines::{Interrupted, Plain, Sink};
 use osn_register::Limits;
-use osn_wire::{Plain, ServeFault, Sink, serve_from};
+use osn_service::{ServeFault, serve_from};
 use std::alloc::{AllocError, Global};
 use std::process::Abort;
 use std::test::Fail;
@@ -44,7 +45,7 @@ fn served_from(
     alloc: Global,
     object: &mut Object,
     input: &[u8],
-) -> Result<(Vec<u8>, u64), ServeFault> {
+) -> Result<(Vec<u8>, u64), Interrupted<ServeFault>> {
     let mut source = Plain::new(input);
     let mut sink = Plain::new(Vec::new(alloc));
     let lines = serve_from(alloc, object, 8, &mut source, &mut sink)?;
@@ -114,7 +115,12 @@ fn lines_before<W: Sink>(
     sink: &mut W,
 ) -> Option<u64> {
     match serve_from(alloc, object, 8, &mut Plain::new(input), sink) {
-        Err(ServeFault::WriteFault { lines }) => Some(lines),
+        Err(
+            Interrupted {
+                lines,
+                cause: ServeFault::WriteFault,
+            },
+        ) => Some(lines),
         _ => None,
     }
 }

@@ -1,7 +1,8 @@
 //! Streams: bytes that come and go in any pieces, and reads, writes and flushes that fail.
 use crate::compare::same;
+use osn_lines::{Interrupted, Plain};
 use osn_register::Limits;
-use osn_wire::{Plain, ServeFault, serve};
+use osn_service::{ServeFault, serve};
 use std::alloc::{AllocError, Global};
 use std::cell::Cell;
 use std::io;
@@ -102,12 +103,14 @@ pub enum End {
 }
 
 /// How what the service answered ends.
-pub fn end_of(answered: Result<u64, ServeFault>) -> End {
+pub fn end_of(answered: Result<u64, Interrupted<ServeFault>>) -> End {
     match answered {
         Ok(lines) => End::Answered(lines),
-        Err(ServeFault::NoMemory { lines }) => End::NoMemory(lines),
-        Err(ServeFault::ReadFault { lines }) => End::ReadFault(lines),
-        Err(ServeFault::WriteFault { lines }) => End::WriteFault(lines),
+        Err(Interrupted { lines, cause }) => match cause {
+            ServeFault::NoMemory => End::NoMemory(lines),
+            ServeFault::ReadFault => End::ReadFault(lines),
+            ServeFault::WriteFault => End::WriteFault(lines),
+        },
     }
 }
 

@@ -2,7 +2,7 @@
 ghost use Rattle.std.specs.Prelude.{⊤};
 
 use crate::compare::same;
-use osn_wire::{LineTaker, Plain, TakeFault, take_lines};
+use osn_lines::{Interrupted, Line, LineTaker, Plain, TakeFault, take_lines};
 use std::alloc::Global;
 use std::process::Abort;
 
@@ -29,12 +29,14 @@ impl LineTaker for Patient {
 
     ghost stopped = { λ _ _ _ _ _. ⊤ };
 
-    fn take(&mut self, line: &[u8]) -> Result<(), Why> {
-        if line == b"stop".as_slice() {
-            return Err(Why::Line);
+    fn take(&mut self, line: Line<'_>) -> Result<(), Why> {
+        match line {
+            Line::Whole(bytes) if bytes == b"stop".as_slice() => Err(Why::Line),
+            Line::Whole(_) | Line::TooLong => {
+                self.taken = self.taken.saturating_add(1);
+                Ok(())
+            }
         }
-        self.taken = self.taken.saturating_add(1);
-        Ok(())
     }
 
     fn before_read(&mut self) -> Result<(), Why> {
@@ -71,9 +73,11 @@ const ENDS: [(&[u8], u32, End, u64); 8] = [
 fn ended(alloc: Global, taker: &mut Patient, input: &[u8]) -> (End, u64) {
     match take_lines(alloc, taker, &mut Plain::new(input)) {
         Ok(lines) => (End::Taken, lines),
-        Err(TakeFault::NoMemory { lines }) => (End::NoMemory, lines),
-        Err(TakeFault::ReadFault { lines }) => (End::ReadFault, lines),
-        Err(TakeFault::Stopped { lines, why }) => (End::Stopped(why), lines),
+        Err(Interrupted { lines, cause }) => match cause {
+            TakeFault::NoMemory => (End::NoMemory, lines),
+            TakeFault::ReadFault => (End::ReadFault, lines),
+            TakeFault::Stopped(why) => (End::Stopped(why), lines),
+        },
     }
 }
 

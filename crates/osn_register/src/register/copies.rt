@@ -1,7 +1,7 @@
 //! Registers made of another one, and of edits.
 ghost use Rattle.std.specs.Prelude.{◌≡◌, [], true, None, IfOk, OnOk, OnErr, ◌<◌, length};
 ghost use Rattle.osn_days.specs.Profile.{newest_rules};
-ghost use Rattle.osn_register.specs.Plain.{folded, fold_takes_memory};
+ghost use Rattle.osn_register.specs.Plain.{applied_all, folded, fold_takes_memory};
 ghost use Rattle.osn_register.specs.Plain.{land_of, with_land, IsSoundTerritory};
 
 use crate::edit::Edit;
@@ -40,6 +40,25 @@ impl Register {
         self.insert(key, entry.copy()?)
     }
 
+    /// Applies edits in turn, and passes over those that are refused.
+    ///
+    /// # Errors
+    ///
+    /// Only where no memory is found, of which refused edits and those that alter or drop take
+    /// none. Some of the edits may be applied then.
+    pub fn apply_all(&mut self, edits: &[Edit]) -> Result<(), AllocError>
+        ensures ok { OnOk result (self.new ≡ record self.old {
+          lands = applied_all newest_rules self.old.limits self.old.lands edits.now;
+        }) }
+        ensures memory { OnErr result
+            (fold_takes_memory newest_rules self.old.limits self.old.lands edits.now ≡ true) }
+    {
+        for edit in edits {
+            self.apply_if_lawful(edit)?;
+        }
+        Ok(())
+    }
+
     /// The register of edits applied in turn to the empty one, refused ones passed over.
     ///
     /// # Errors
@@ -51,9 +70,7 @@ impl Register {
         ensures memory { OnErr result (fold_takes_memory newest_rules limits [] edits.now ≡ true) }
     {
         let mut register = Register::new(alloc, limits);
-        for edit in edits {
-            register.apply_if_lawful(edit)?;
-        }
+        register.apply_all(edits)?;
         Ok(register)
     }
 }

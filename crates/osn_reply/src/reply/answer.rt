@@ -3,7 +3,7 @@ ghost use Rattle.std.specs.Prelude.{◌≡◌, [], ◌∷◌, ◌++◌, codes, O
 ghost use Rattle.json.specs.Token.{begin_object, end_object, key};
 ghost use Rattle.osn_register.specs.declared.answer.Answer.TheVariants.{Refused};
 ghost use Rattle.osn_reply.specs.ReplyText as said;
-ghost use Rattle.osn_words.specs.Json.{whole, value_tokens, member_tokens};
+ghost use Rattle.osn_format.specs.Json.{whole, value_tokens, member_tokens};
 
 use crate::reply::figures::Reckoning;
 use crate::reply::write_json::{WriteJson, write_list, write_member};
@@ -11,9 +11,9 @@ use json::Writer;
 use osn_computus::Epact;
 use osn_core::Reply;
 use osn_days::{Day, Year};
+use osn_format::{write_flag, write_number, write_text};
 use osn_lands::Period;
 use osn_register::{Answer, Found, Land, Refusal};
-use osn_words::{write_flag, write_number, write_text};
 use std::alloc::{AllocError, Global};
 
 /// Begins a reply, its member `answer` and the object of that.

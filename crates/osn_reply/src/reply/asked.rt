@@ -3,15 +3,15 @@ ghost use Rattle.std.specs.Prelude.{◌≡◌, [], ◌∷◌, ◌++◌, codes, O
 ghost use Rattle.json.specs.Token.{begin_object, end_object};
 ghost use Rattle.serde_json.specs.Data.{string};
 ghost use Rattle.osn_register.specs.declared.query.Query.TheVariants as queries;
-ghost use Rattle.osn_words.specs.Json.{whole, signed, value_tokens, member_tokens};
+ghost use Rattle.osn_format.specs.Json.{whole, signed, value_tokens, member_tokens};
 ghost use Rattle.osn_reply.specs.Transcript as said;
 
 use crate::reply::answer::write_reply;
 use crate::reply::write_json::WriteJson;
 use json::Writer;
 use osn_core::Reply;
+use osn_format::{write_number, write_signed, write_text};
 use osn_register::{Query, Text};
-use osn_words::{write_number, write_signed, write_text};
 use std::alloc::{AllocError, Global};
 
 /// Begins the object of a query that names a territory.

@@ -2,13 +2,13 @@
 ghost use Rattle.std.specs.Prelude.{◌≡◌, ◌++◌, OnOk};
 ghost use Rattle.serde_json.specs.Data.{string};
 ghost use Rattle.osn_days.specs.Chain as chain;
-ghost use Rattle.osn_words.specs.Texts as said;
-ghost use Rattle.osn_words.specs.Json.{member_tokens};
+ghost use Rattle.osn_days.specs.DateText as said;
+ghost use Rattle.osn_format.specs.Json.{member_tokens};
 
 use json::Writer;
-use osn_days::{Calendar, Day, date_of};
+use osn_days::{Calendar, Day, date_digits, date_of, date_text};
+use osn_format::write_text;
 use osn_lands::Label;
-use osn_words::{date_digits, date_text, write_text};
 use std::alloc::{AllocError, Global};
 use std::str;
 

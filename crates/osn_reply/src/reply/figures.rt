@@ -2,15 +2,15 @@
 ghost use Rattle.std.specs.Prelude.{◌≡◌, [], ◌∷◌, ◌++◌, codes, OnOk};
 ghost use Rattle.json.specs.Token.{end_object};
 ghost use Rattle.serde_json.specs.Data.{string};
-ghost use Rattle.osn_words.specs.Texts.{epact_text, letters_text};
+ghost use Rattle.osn_computus.specs.FigureTexts.{epact_text, letters_text};
 ghost use Rattle.osn_reply.specs.ReplyText as said;
-ghost use Rattle.osn_words.specs.Json.{whole, member_tokens};
+ghost use Rattle.osn_format.specs.Json.{whole, member_tokens};
 
 use crate::reply::write_json::{WriteJson, write_member};
 use json::Writer;
-use osn_computus::{Epact, Letters};
+use osn_computus::{Epact, Letters, epact_text, letters_text};
 use osn_days::Day;
-use osn_words::{letters_text, write_number, write_text};
+use osn_format::{write_number, write_text};
 use std::alloc::{AllocError, Global};
 
 impl WriteJson for u8 {
@@ -25,16 +25,9 @@ impl WriteJson for u8 {
 impl WriteJson for Epact {
     ghost shown = { λ e. string (epact_text e) };
 
-    #[tactic(auto, unfolding(osn_words::specs::Texts::epact_text))]
-    fn write_json(&self, _alloc: Global, out: &mut Writer) -> Result<(), AllocError> {
-        let epact = *self;
-        if epact.number == 0 {
-            out.string("*")
-        } else if epact.number == 25 && epact.prime {
-            out.string("25'")
-        } else {
-            out.quoted_u64(u64::from(epact.number))
-        }
+    fn write_json(&self, alloc: Global, out: &mut Writer) -> Result<(), AllocError> {
+        let text = epact_text(alloc, *self)?;
+        out.string(text.as_str())
     }
 }
 

@@ -5,18 +5,18 @@ ghost use Rattle.serde_json.specs.Data.{string};
 ghost use Rattle.osn_days.specs.declared.calendar.Calendar.TheVariants.{Julian, Gregorian};
 ghost use Rattle.osn_days.specs.Chain.{date_of};
 ghost use Rattle.osn_days.specs.Line.{weekday, julian_day};
-ghost use Rattle.osn_days.specs.Weekday.{weekday_name};
-ghost use Rattle.osn_words.specs.Json.{whole, member_tokens};
-ghost use Rattle.osn_words.specs.Texts.{date_text, text_of_date, weekday_numbered};
+ghost use Rattle.osn_days.specs.Weekday.{weekday_name, weekday_numbered};
+ghost use Rattle.osn_days.specs.DateText.{date_text, text_of_date};
+ghost use Rattle.osn_format.specs.Json.{whole, member_tokens};
 ghost use Rattle.osn_reply.specs.ReplyText.{found_data, land_data};
 
 use crate::reply::date::{write_date_of, write_label};
 use crate::reply::write_json::WriteJson;
 use json::Writer;
 use osn_days::{Calendar, Day};
+use osn_format::{write_number, write_text};
 use osn_lands::Label;
 use osn_register::{Found, Land};
-use osn_words::{weekday_of, write_number, write_text};
 use std::alloc::{AllocError, Global};
 
 /// Writes the members that say which day it is: its date in either calendar, and between them its
@@ -47,7 +47,7 @@ fn end_with_weekday(
     ensures before { out.new.before ≡ out.old.before }
 {
     write_label(alloc, out, "label", label)?;
-    write_text(out, "weekday", weekday_of(day))?;
+    write_text(out, "weekday", day.weekday().name())?;
     out.end_object()
 }
 

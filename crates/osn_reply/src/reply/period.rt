@@ -2,14 +2,17 @@
 ghost use Rattle.std.specs.Prelude.{◌≡◌, [], ◌∷◌, ◌++◌, codes, OnOk};
 ghost use Rattle.json.specs.Token.{begin_object, end_object};
 ghost use Rattle.serde_json.specs.Data.{string};
-ghost use Rattle.osn_words.specs.Json.{member_tokens};
-ghost use Rattle.osn_words.specs.Words.{calendar_word, style_word, rule_word};
+ghost use Rattle.osn_days.specs.CalendarWords.{calendar_word};
+ghost use Rattle.osn_computus.specs.RuleWords.{rule_word};
+ghost use Rattle.osn_lands.specs.StyleWords.{style_word};
+ghost use Rattle.osn_format.specs.Json.{member_tokens};
 ghost use Rattle.osn_reply.specs.ReplyText.{regime_data, period_data};
 
 use crate::reply::write_json::WriteJson;
 use json::Writer;
+use osn_days::Keyword;
+use osn_format::{write_number, write_text};
 use osn_lands::{Period, Regime};
-use osn_words::{Word, write_number, write_text};
 use std::alloc::{AllocError, Global};
 
 /// Begins an object with the calendar of a regime.

@@ -1,6 +1,6 @@
 //! What a step of the core gives, as a line.
 ghost use Rattle.std.specs.Prelude.{◌≡◌, ◌++◌, OnOk};
-ghost use Rattle.osn_words.specs.Json.{value_tokens};
+ghost use Rattle.osn_format.specs.Json.{value_tokens};
 ghost use Rattle.osn_reply.specs.OutText.{word_data, out_data};
 
 use crate::reply::answer::write_reply;
@@ -8,7 +8,7 @@ use crate::reply::write_json::WriteJson;
 use crate::reply::{write_published, write_refused, write_staged};
 use json::Writer;
 use osn_core::Out;
-use osn_words::write_text;
+use osn_format::write_text;
 use std::alloc::{AllocError, Global};
 
 /// Writes an out that is a word alone.

@@ -1,7 +1,7 @@
 //! How the values of a reply are written as JSON: each by its tokens, one behind another.
 ghost use Rattle.std.specs.Prelude.{◌≡◌, ◌++◌, OnOk, map};
 ghost use Rattle.serde_json.specs.Data.{Data};
-ghost use Rattle.osn_words.specs.Json.{whole, list_data, value_tokens, member_tokens};
+ghost use Rattle.osn_format.specs.Json.{whole, list_data, value_tokens, member_tokens};
 
 use json::Writer;
 use osn_days::Day;

@@ -3,14 +3,13 @@ ghost use Rattle.std.specs.Prelude.{◌≡◌, Err, IsOk};
 ghost use Rattle.serde_json.specs.View.{view};
 ghost use Rattle.osn_request.specs.EditRequest as said;
 ghost use Rattle.osn_request.specs.Request.{GivesLast};
-ghost use Rattle.osn_words.specs.Version.{rules_of};
+ghost use Rattle.osn_format.specs.Version.{rules_of};
 
-use crate::member::Member;
 use crate::request::RequestError;
 use crate::request::field::{regime_of, text_at, whole_at};
 use crate::request::op::EditOp;
+use osn_format::{Member, Version};
 use osn_register::{Edit, Text};
-use osn_words::Version;
 use serde_json::Value;
 use std::alloc::Global;
 

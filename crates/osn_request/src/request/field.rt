@@ -2,12 +2,11 @@
 ghost use Rattle.std.specs.Prelude.{◌≡◌, MatchResult, Ok, Err};
 ghost use Rattle.serde_json.specs.View.{view};
 ghost use Rattle.osn_request.specs.Field as said;
-ghost use Rattle.osn_words.specs.Version.{rules_of};
+ghost use Rattle.osn_format.specs.Version.{rules_of};
 
-use crate::member::Member;
-use crate::wire_fault::WireFault;
+use osn_days::Keyword;
+use osn_format::{Member, Version, WireFault};
 use osn_lands::{Regime, Style};
-use osn_words::{Version, Word};
 use serde_json::Value;
 
 /// A member that is a text.
@@ -33,7 +32,7 @@ pub fn whole_at(value: &Value, member: Member) -> Result<i64, WireFault>
 }
 
 /// A member that is one of some words.
-fn word_at<W: Word>(value: &Value, member: Member) -> Result<W, WireFault>
+fn word_at<W: Keyword>(value: &Value, member: Member) -> Result<W, WireFault>
     ensures { result ≡ said.word_at member W.meaning (view value.now) }
 {
     match W::from_word(text_at(value, member)?) {

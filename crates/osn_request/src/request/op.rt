@@ -3,9 +3,8 @@ ghost use Rattle.std.specs.Prelude.{◌≡◌};
 ghost use Rattle.serde_json.specs.View.{view};
 ghost use Rattle.osn_request.specs.Op as said;
 
-use crate::member::Member;
 use crate::request::field::text_at;
-use crate::wire_fault::WireFault;
+use osn_format::{Member, WireFault};
 use serde_json::Value;
 
 /// What a line asks for.

@@ -6,11 +6,10 @@ ghost use Rattle.osn_request.specs.declared.request.RequestError.TheVariants.{No
 ghost use Rattle.osn_request.specs.QueryRequest as said;
 ghost use Rattle.osn_request.specs.Request.{Gives, GivesLast};
 
-use crate::member::Member;
 use crate::request::RequestError;
 use crate::request::field::{text_at, whole_at};
 use crate::request::op::QueryOp;
-use crate::wire_fault::WireFault;
+use osn_format::{Member, WireFault};
 use osn_register::{Query, Text};
 use serde_json::Value;
 use std::alloc::Global;

@@ -7,7 +7,7 @@ use Rattle.osn_audit.proofs.follower.apply_batches.Goals as goal
 pub loop-batch-preserved : goal.loop-batch-preserved
 loop-batch-preserved c =
     let l = c.loop-batch in
-    let one = c.in_ok-apply_edits.ensures in
+    let one = c.in_ok-apply_all.ensures.ok in
     let edits = c.edits.ensures in
     record {
       limits = ap (λ r. r.limits) one ∙ l.invariant.limits;

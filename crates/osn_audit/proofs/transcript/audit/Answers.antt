@@ -5,6 +5,6 @@ use Rattle.osn_audit.proofs.transcript.audit.Goals as goal
 pub returns-clause-agrees : goal.returns-clause-agrees
 returns-clause-agrees g c =
     IfOk-weaker c.audit_lines.result _ _
-    (λ n count. agreed_on c.args.limits _ _ c.in_ok-object.object n c.in_ok-object.ensures.object
-    count)
-    c.audit_lines.ensures.count
+    (λ n made. agreed_on c.args.limits _ _ c.in_ok-object.object n
+    c.in_ok-object.ensures.file.made made)
+    c.audit_lines.ensures.made

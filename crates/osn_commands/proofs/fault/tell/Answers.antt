@@ -7,7 +7,7 @@ use Rattle.osn_commands.proofs.fault.tell.Goals as goal
 
 pub returns-in-BadLine : goal.returns-in-BadLine
 returns-in-BadLine g c =
-    told_refusal string_bytes _ _ _ c.args.fault _ c.bad_line.result
+    told_refusal string_bytes _ c.args.fault _ c.bad_line.result
     (ap fault_status c.in-BadLine.is)
     (IfOk-weaker c.bad_line.result _ _ (λ text e. e ∙ sym (ap fault_line c.in-BadLine.is))
     c.bad_line.ensures)
@@ -15,7 +15,7 @@ returns-in-BadLine g c =
 
 pub returns-in-Refused : goal.returns-in-Refused
 returns-in-Refused g c =
-    told_refusal string_bytes _ _ _ c.args.fault _ c.refused.result
+    told_refusal string_bytes _ c.args.fault _ c.refused.result
     (ap fault_status c.in-Refused.is)
     (IfOk-weaker c.refused.result _ _ (λ text e. e
     ∙ same_end _ _ _ _ c.number.ensures c.name.ensures
@@ -25,7 +25,7 @@ returns-in-Refused g c =
 
 pub returns-in-Desk : goal.returns-in-Desk
 returns-in-Desk g c =
-    told_refusal string_bytes _ _ _ c.args.fault _ c.refused-in-Desk.result
+    told_refusal string_bytes _ c.args.fault _ c.refused-in-Desk.result
     (ap fault_status c.in-Desk.is)
     (IfOk-weaker c.refused-in-Desk.result _ _ (λ text e. e
     ∙ same_end _ _ _ _ c.number-in-Desk.ensures c.name-in-Desk.ensures
@@ -35,9 +35,9 @@ returns-in-Desk g c =
 
 pub returns-in-ReadFault : goal.returns-in-ReadFault
 returns-in-ReadFault g c =
-    told_as_it_is _ _ _ c.args.fault _ _ c.in-ReadFault.is (refl, c.write_line.ensures)
+    told_as_it_is _ c.args.fault _ _ c.in-ReadFault.is (refl, c.write_line.ensures)
 
 pub returns-in-WriteFault : goal.returns-in-WriteFault
 returns-in-WriteFault g c =
-    told_as_it_is _ _ _ c.args.fault _ _ c.in-WriteFault.is
+    told_as_it_is _ c.args.fault _ _ c.in-WriteFault.is
     (refl, c.write_line-in-WriteFault.ensures)

@@ -7,7 +7,7 @@ returns-in-Ok-clause-ok g c =
     let t = c.tell.ensures in rw c.in-Ok.is (
       Some t.0,
       t.2,
-      in_part _ _ _ _ t.0 _ c.as_bytes.result.now c.in-Err-write_all.field-0 t.1
+      in_part _ _ t.0 _ c.as_bytes.result.now c.in-Err-write_all.field-0 t.1
           c.as_bytes.ensures.value c.in-Err-write_all.ensures.reason
           c.in-Err-write_all.ensures.err.1,
     )

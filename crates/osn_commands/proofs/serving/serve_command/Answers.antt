@@ -10,6 +10,6 @@ returns-in-Err g c =
       Some t.0,
       t.2,
       inr refl,
-      serves_known newest_rules standard_limits _ _ _ c.args.saves _ _ _ _ _ _ c.in-Err.fault
+      serves_known newest_rules standard_limits _ _ _ c.args.saves _ _ _ _ c.in-Err.fault
           t.0 t.1 c.in-Err.ensures.err,
     )

@@ -11,5 +11,5 @@ returns-clause-outs c =
     (sym (drop_all c.loop-step.step-index c.args.steps.now c.loop-step-test.false))
     ∙ c.loop-step.invariant
 
-pub returns-in_default-clause-refused : goal.returns-in_default-clause-refused
-returns-in_default-clause-refused c = search rules
+pub returns-in_err-take-clause-refused : goal.returns-in_err-take-clause-refused
+returns-in_err-take-clause-refused c = search rules

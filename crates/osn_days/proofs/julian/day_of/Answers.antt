@@ -11,9 +11,6 @@ use Rattle.osn_days.proofs.JulianFacts.{julian_count, julian_is, julian_place, j
 use Rattle.osn_days.proofs.JulianFacts.{julian_count-late, julian_count-early}
 use Rattle.osn_days.proofs.julian.day_of.Goals as goal
 use Rattle.osn_days.proofs.julian.day_of.Goals.{then-date-gt2, else-date-gt2}
-use Rattle.osn_days.proofs.julian.day_of.Goals.{then-date-lt1-2-via-then-date-lt1-2}
-use Rattle.osn_days.proofs.julian.day_of.Goals.{}
-use Rattle.osn_days.proofs.julian.day_of.Goals.{then-date-lt1-2-via-else-date-lt1-2+then-date-month_length}
 
 pub returns-in_err-year : goal.returns-in_err-year
 returns-in_err-year c =
@@ -35,8 +32,8 @@ pub returns-then-date-lt1-2 : goal.returns-then-date-lt1-2
 returns-then-date-lt1-2 c = days_not newest_rules Julian c.args.date julian_by_months
     (λ n on s same.
     elim c.then-date-lt1-2.branch [
-      | then-date-lt1-2-via-then-date-lt1-2 w ↦ absurd (omega (arith, s.day_low))
-      | then-date-lt1-2-via-else-date-lt1-2+then-date-month_length w ↦
+      | goal.then-date-lt1-2-via-then-date-lt1-2 w ↦ absurd (omega (arith, s.day_low))
+      | goal.then-date-lt1-2-via-else-date-lt1-2+then-date-month_length w ↦
           let year : pos c.in_ok-year.year ≡ c.args.date.year =
           omega (arith, ints, c.in_ok-year.ensures.value) in
           let length = w.month_length.ensures

@@ -1,14 +1,15 @@
-use Rattle.std.proofs.lemmas.Result.{err_from_is_err_and}
-use Rattle.osn_files.proofs.AskedLemmas.{questions-made, questions-fault}
+use Rattle.std.proofs.Common.{◌∙◌, sym, ap, Ok}
+use Rattle.osn_files.proofs.AskedLemmas.{questions-made}
+use Rattle.osn_files.proofs.FileLemmas.{ReadsFile-ok, ReadsFile-err}
 use Rattle.osn_files.proofs.questions.read_questions.Goals as goal
 
-pub returns-in_err-lists-clause-fault : goal.returns-in_err-lists-clause-fault
-returns-in_err-lists-clause-fault g c =
-    let err = err_from_is_err_and c.from_residual.result c.from_residual.ensures.1 in
-    rw (err.1, err.2)
-    (questions-fault _ _ _ c.new.ensures c.in_err-lists.ensures.fault)
+pub returns-in_err-lists : goal.returns-in_err-lists
+returns-in_err-lists g c =
+    ReadsFile-err c.from_residual.ensures.1 c.in_err-lists.ensures.file
+    (λ ls e is. sym (questions-made _ _ ls c.newest.ensures c.new-none.ensures) ∙ is)
 
-pub returns-clause-questions : goal.returns-clause-questions
-returns-clause-questions g c =
-    rw c.into_inner.ensures
-    (questions-made _ _ _ c.new.ensures c.in_ok-lists.ensures.made)
+pub returns : goal.returns
+returns g c =
+    ReadsFile-ok c.in_ok-lists.ensures.file
+    (λ ls is. sym (questions-made _ _ ls c.newest.ensures c.new-none.ensures)
+    ∙ (is ∙ ap Ok (sym c.into_inner.ensures)))

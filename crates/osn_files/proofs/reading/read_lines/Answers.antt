@@ -1,11 +1,27 @@
-use Rattle.osn_files.proofs.ReadLemmas.{made-all, made-stop}
+use Rattle.std.proofs.Common.{refl}
+use Rattle.osn_files.proofs.ReadLemmas.{made-all, no-head, interrupted}
 use Rattle.osn_files.proofs.reading.read_lines.Goals as goal
 
-pub returns-in-Ok-clause-made : goal.returns-in-Ok-clause-made
-returns-in-Ok-clause-made g c = made-all _ _ _ _ _ c.in-Ok.ensures.taken
+pub returns-in-Some-clause-file : goal.returns-in-Some-clause-file
+returns-in-Some-clause-file g c = record {
+  made = made-all _ _ _ _ _ _ _ c.in-Some.is c.in-Ok.ensures.taken;
+  end = c.in-Ok.ensures.end;
+  sound = c.in-Ok.ensures.sound;
+  fault = tt;
+  reason = tt;
+}
 
-pub returns-clause-fault : goal.returns-clause-fault
-returns-clause-fault g c =
-    let arm = c.in-Err-Stopped-default-Fault in
-    let stopped = rw arm.field-0-is at arm.ensures.fault in
-    made-stop _ _ _ _ _ c.args.role arm.field-0-1 arm.fault arm.field-0-1-is stopped
+pub returns-in-None-clause-file : goal.returns-in-None-clause-file
+returns-in-None-clause-file g c = record {
+  made = tt;
+  end = tt;
+  sound = tt;
+  fault = (refl, no-head _ _ _ _ _ _ c.in-None.is c.in-Ok.ensures.taken);
+  reason = c.in-Ok.ensures.sound;
+}
+
+pub returns-in-Err-clause-file : goal.returns-in-Err-clause-file
+returns-in-Err-clause-file g c =
+    rw c.fault_of.ensures
+    (interrupted _ _ _ _ _ c.args.role c.in-Err.end.lines c.in-Err.end.cause _ _ _ _ _ _
+    c.in-Err.ensures.fault c.in-Err.ensures.reason)

@@ -1,5 +1,5 @@
 use Rattle.std.proofs.Common.{◌≡◌, append_assoc, rules, to_z, of_z, w64}
-use Rattle.osn_words.proofs.WriteLemmas.{at_last}
+use Rattle.osn_format.proofs.WriteLemmas.{at_last}
 use Rattle.osn_files.proofs.written.write_drop_exception.Goals as goal
 
 pub returns-clause-tokens : goal.returns-clause-tokens

@@ -1,4 +1,4 @@
-use Rattle.std.proofs.Common.{◌++◌, List, subst, sym, ℕ, take, drop, length, arith, ap, refl}
+use Rattle.std.proofs.Common.{◌++◌, List, ℕ, take, drop, length, arith, ap, refl}
 use Rattle.std.specs.Prelude.{⊤}
 use Rattle.std.proofs.lemmas.List.{take_rest, length-drop}
 use Rattle.std.proofs.lemmas.Result.{err_from_is_err_and}
@@ -11,10 +11,9 @@ use Rattle.osn_lines.proofs.cut.take_piece.Goals as goal
 
 pub loop-place-init : goal.loop-place-init
 loop-place-init g c = record {
-  room = c.requires.kept;
   within = omega arith;
   count = omega arith;
-  taken = λ part h. IsTaken-nothing _ _ part _ _ h;
+  taken = λ part h. IsTaken-nothing _ _ part c.args.kept.now _ h;
 }
 
 pub loop-place-preserved : goal.loop-place-preserved
@@ -25,11 +24,10 @@ loop-place-preserved g c =
     let found = c.in-Some.ensures in
     let rest = take_rest piece from in
     record {
-      room = omega (arith, ap length c.in_ok-take_line.ensures.kept);
       within = omega (arith, found.0.high, ap length rest, length-drop from piece);
       count = omega arith;
       taken = λ part h.
-          IsTaken-next _ _ _ _ part piece _ _ _ _ _ _ from place
+          IsTaken-next _ _ _ _ part piece _ _ c.loop-place.kept c.take_line.new.kept _ _ from place
           (c.loop-place.invariant.taken part h) c.in_ok-take_line.ensures.taken
           (record {
             is_hay = rest;
@@ -47,7 +45,7 @@ returns-in_err-take_line-clause-fault g c =
     let stopped = g.T.LineTaker.stopped in
     let s = c.args.taker.now in
     let u = c.take_line.new.taker in
-    let kept = c.args.kept.now.items in
+    let kept = c.args.kept.now in
     let piece = c.args.piece.now in
     let from = c.loop-place.from in
     let found = c.in-Some.ensures in
@@ -56,20 +54,20 @@ returns-in_err-take_line-clause-fault g c =
     let fault = c.in_err-take_line.field-0.0 in
     if_err_at
     (λ f. MatchFault f
-    (λ n. (part : List ℕ) → IsKept kept part →
-    IsTaken after s u (part ++ piece) c.args.lines.now n (λ _. ⊤))
-    (λ _. ⊥)
-    (λ n why. (part : List ℕ) → IsKept kept part →
-    IsStopped after stopped s u (part ++ piece) c.args.lines.now n why))
+    ((part : List ℕ) → IsKept kept part →
+    IsTaken after s u (part ++ piece) c.args.lines.now c.loop-place.lines (λ _. ⊤))
+    ⊥
+    (λ why. (part : List ℕ) → IsKept kept part →
+    IsStopped after stopped s u (part ++ piece) c.args.lines.now c.loop-place.lines why))
     c.from_residual.result err.0 fault err.1 err.2
     (MatchFault-weaker fault _ _ _ _ _ _
-    (λ n k part h.
-    subst (λ (m : ℕ). IsTaken after s u (part ++ piece) c.args.lines.now m (λ _. ⊤)) (sym k.0)
-    (IsTaken-rest after s _ u part piece _ _ _ from (λ _. ⊤) (taken part h) k.1 (λ left x. tt)))
-    (λ n k. absurd k)
-    (λ n why k part h.
-    IsStopped-next after stopped s _ u part piece _ _ _ _ _ n from c.in-Some.place why
-    (taken part h) k.1
+    (λ same part h.
+    IsTaken-rest after s _ u part piece c.loop-place.kept _ _ from (λ _. ⊤) (taken part h) same
+    (λ left x. tt))
+    (λ k. absurd k)
+    (λ why stops part h.
+    IsStopped-next after stopped s _ u part piece _ _ c.loop-place.kept _ _ _ from
+    c.in-Some.place why (taken part h) stops
     (record {
       is_hay = take_rest piece from;
       is_end = ap (λ k. take k (drop from piece))
@@ -78,18 +76,19 @@ returns-in_err-take_line-clause-fault g c =
       within = found.0.high;
       feed = found.1;
     })
-    k.0)
+    refl)
     c.in_err-take_line.ensures.fault)
 
 pub returns-in-Ok-clause-taken : goal.returns-in-Ok-clause-taken
 returns-in-Ok-clause-taken g c = λ part h.
     let piece = c.args.piece.now in
     let from = c.loop-place.from in
-    IsTaken-rest _ _ _ _ part piece _ _ _ from _ (c.loop-place.invariant.taken part h) refl
-    (λ left k. IsKept-more _ _ _ (drop from piece) left (take_rest piece from) c.in-Ok.ensures
-    c.in_default.ensures k)
+    IsTaken-rest _ _ _ _ part piece c.loop-place.kept _ _ from _
+    (c.loop-place.invariant.taken part h) refl
+    (λ left k. IsKept-more c.loop-place.kept c.add.new.self _ (drop from piece) left
+    (take_rest piece from) c.in-Ok.ensures c.in_default.ensures k)
 
 pub returns-in-Err-clause-fault : goal.returns-in-Err-clause-fault
 returns-in-Err-clause-fault g c = λ part h.
-    IsTaken-rest _ _ _ _ part c.args.piece.now _ _ _ c.loop-place.from _
+    IsTaken-rest _ _ _ _ part c.args.piece.now c.loop-place.kept _ _ c.loop-place.from _
     (c.loop-place.invariant.taken part h) refl (λ left k. tt)

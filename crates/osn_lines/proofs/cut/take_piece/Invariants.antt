@@ -6,12 +6,11 @@ use Rattle.osn_lines.proofs.cut.take_piece.Given as goal
 abbrev pub invariant-loop-place : goal.invariant-loop-place
 invariant-loop-place g l =
     record {
-      room : length l.kept.items ≤ 65537;
       within : l.from ≤ length l.piece;
       count : l.lines ≤ l.fn.lines + l.from;
-      taken : (part : List ℕ) → IsKept l.fn.kept.items part →
+      taken : (part : List ℕ) → IsKept l.fn.kept part →
           IsTaken g.T.LineTaker.after l.fn.taker l.taker (part ++ take l.from l.piece) l.fn.lines
-          l.lines (IsKept l.kept.items);
+          l.lines (IsKept l.kept);
     }
 
 abbrev pub decreases-loop-place : goal.decreases-loop-place

@@ -1,22 +1,18 @@
 use Rattle.std.proofs.Common.{◌≡◌, ◌<◌, ◌∙◌, [], ◌++◌, length, take, refl, sym, ap, arith}
 use Rattle.std.proofs.lemmas.List.{take_at, length-take, length-append}
-use Rattle.std.proofs.lemmas.Result.{IfOk-weaker, IfErr-weaker, err_from_is_err_and}
-use Rattle.osn_lines.specs.Faults.{MatchFault}
+use Rattle.std.proofs.lemmas.Result.{IfOk-weaker, IfErr-weaker}
 use Rattle.osn_lines.specs.Inside.{IsKept}
-use Rattle.osn_lines.specs.Taking.{TakesFirst, StopsAfter}
 use Rattle.osn_lines.proofs.ByteLemmas.{Consumes-nothing, Consumes-then, Consumes-end}
 use Rattle.osn_lines.proofs.ByteLemmas.{Consumes-keeps}
-use Rattle.osn_lines.proofs.InputLemmas.{MatchFault-weaker, if_err_at, TakesAll-from}
-use Rattle.osn_lines.proofs.InputLemmas.{TakesFirst-from, TakesFirst-at_end, HasRead-from}
+use Rattle.osn_lines.proofs.InputLemmas.{MatchFault-weaker, TakesAll-from, TakesEnded-from}
+use Rattle.osn_lines.proofs.InputLemmas.{TakesFirst-from, TakesFirst-at_end}
 use Rattle.osn_lines.proofs.InputLemmas.{StopsAfter-at_end, StopsAfter-from}
-use Rattle.osn_lines.proofs.LineLemmas.{front_of-nil, length-front_of}
 use Rattle.osn_lines.proofs.TakeLemmas.{Takes-nothing, IsTaken-rests, IsTaken-then, IsStopped-then}
 use Rattle.osn_lines.proofs.stream.take_lines.Goals as goal
 
 pub loop-call-init : goal.loop-call-init
 loop-call-init g c = record {
   buffer = c.in-Ok.ensures;
-  room = omega (arith, ap length c.new-kept.ensures.items);
   few = omega arith;
   source = refl;
   taken = (
@@ -29,16 +25,21 @@ loop-call-init g c = record {
       cuts = record { whole = λ more. refl };
       takes = Takes-nothing g.T.LineTaker.after c.args.taker.now;
       count = refl;
-      rest = (c.new-kept.ensures.items ∙ sym front_of-nil, tt);
+      rest = (c.new-kept.ensures, tt);
     },
   );
 }
 
-pub returns-in_default-read-clause-read : goal.returns-in_default-read-clause-read
-returns-in_default-read-clause-read g c =
+pub returns-in_default-read-clause-fault : goal.returns-in_default-read-clause-fault
+returns-in_default-read-clause-fault g c =
     let inv = c.loop-call.invariant.taken in
-    HasRead-from _ _ _ _ _ inv.0 _ _ inv.3 (Consumes-keeps _ _ _ inv.0 inv.2
-    c.in_default-read.ensures.bytes)
+    let after = g.T.LineTaker.after in
+    let ready =
+    IsTaken-rests after c.args.taker.now c.loop-call.taker c.before_read.new.self inv.0 0
+    c.loop-call.lines (IsKept c.loop-call.kept) inv.3
+    c.in_default-before_read.ensures.ready in
+    TakesEnded-from after _ _ _ _ inv.0 c.loop-call.kept _ ready
+    (Consumes-keeps _ _ _ inv.0 inv.2 c.in_default-read.ensures.bytes)
 
 pub returns-then-read-eq0-clause-taken : goal.returns-then-read-eq0-clause-taken
 returns-then-read-eq0-clause-taken g c =
@@ -58,11 +59,11 @@ returns-then-read-eq0-clause-taken g c =
     Consumes-end _ _ _ inv.0 c.read.new.buffer c.in-Ok-read.read c.if-read-eq0.true inv.2
     bytes.0 in
     let ready =
-    IsTaken-rests after s c.loop-call.taker t inv.0 0 c.loop-call.count
-    (IsKept c.loop-call.kept.items) inv.3 c.in_default-before_read.ensures.ready in
+    IsTaken-rests after s c.loop-call.taker t inv.0 0 c.loop-call.lines
+    (IsKept c.loop-call.kept) inv.3 c.in_default-before_read.ensures.ready in
     IfOk-weaker c.take_rest.result _ _
-    (λ n h. TakesAll-from after s t c.take_rest.new.taker _ _ inv.0 _ _ n ready consumed
-    (bytes.1 c.if-read-eq0.true some) h)
+    (λ n h. TakesAll-from after s t c.take_rest.new.taker _ _ inv.0 c.loop-call.kept _ n ready
+    consumed (bytes.1 c.if-read-eq0.true some) h)
     c.take_rest.ensures.taken
 
 pub returns-then-read-eq0-clause-fault : goal.returns-then-read-eq0-clause-fault
@@ -86,26 +87,26 @@ returns-then-read-eq0-clause-fault g c =
     bytes.0 in
     let end = bytes.1 c.if-read-eq0.true some in
     let ready =
-    IsTaken-rests after s c.loop-call.taker t inv.0 0 c.loop-call.count
-    (IsKept c.loop-call.kept.items) inv.3 c.in_default-before_read.ensures.ready in
+    IsTaken-rests after s c.loop-call.taker t inv.0 0 c.loop-call.lines
+    (IsKept c.loop-call.kept) inv.3 c.in_default-before_read.ensures.ready in
     IfErr-weaker c.take_rest.result _ _
-    (λ fault h. MatchFault-weaker fault _ _ _ _ _ _
-    (λ n k. TakesFirst-at_end after s t u _ _ inv.0 _ _ n ready consumed k.0 k.1)
-    (λ n k. absurd k)
-    (λ n why k. StopsAfter-at_end after stopped s t u _ _ inv.0 _ _ n why ready consumed end k.0
-    k.1)
-    h)
+    (λ last h. MatchFault-weaker last.cause _ _ _ _ _ _
+    (λ same. TakesFirst-at_end after s t u _ _ inv.0 c.loop-call.kept _ last.lines ready consumed
+    h.0 same)
+    (λ k. absurd k)
+    (λ why stops. StopsAfter-at_end after stopped s t u _ _ inv.0 c.loop-call.kept _ last.lines why
+    ready consumed end h.0 stops)
+    h.1)
     c.take_rest.ensures.fault
 
-pub returns-in_err-take_piece-clause-fault : goal.returns-in_err-take_piece-clause-fault
-returns-in_err-take_piece-clause-fault g c =
+pub returns-in-Err-take_piece-clause-fault : goal.returns-in-Err-take_piece-clause-fault
+returns-in-Err-take_piece-clause-fault g c =
     let inv = c.loop-call.invariant.taken in
     let after = g.T.LineTaker.after in
     let stopped = g.T.LineTaker.stopped in
     let s = c.args.taker.now in
     let t = c.before_read.new.self in
     let u = c.take_piece.new.taker in
-    let input = g.R.Source.remaining c.args.source.now in
     let got = take c.in-Ok-read.read c.read.new.buffer in
     let full : length c.read.new.buffer ≡ c.loop-call.buffer.len =
     omega (
@@ -119,21 +120,16 @@ returns-in_err-take_piece-clause-fault g c =
     ∙ take_at c.read.new.buffer _ c.loop-call.buffer.len full) in
     let consumed = Consumes-then _ _ _ inv.0 got inv.2 c.in-Ok-read.ensures.bytes.0 in
     let ready =
-    IsTaken-rests after s c.loop-call.taker t inv.0 0 c.loop-call.count
-    (IsKept c.loop-call.kept.items) inv.3 c.in_default-before_read.ensures.ready in
-    let err = err_from_is_err_and c.from_residual.result c.from_residual.ensures.1 in
-    let fault = c.in_err-take_piece.field-0.0 in
-    if_err_at
-    (λ f. MatchFault f (TakesFirst after s u input) (TakesFirst after s u input)
-    (StopsAfter after stopped s u input))
-    c.from_residual.result err.0 fault err.1 err.2
-    (MatchFault-weaker fault _ _ _ _ _ _
-    (λ n h. TakesFirst-from after s u _ _ (inv.0 ++ got) n _
-    (IsTaken-then after s t u inv.0 _ got _ 0 _ n _ ready same h) consumed)
-    (λ n k. absurd k)
-    (λ n why h. StopsAfter-from after stopped s u _ _ (inv.0 ++ got) n why
-    (IsStopped-then after stopped s t u inv.0 _ got _ 0 _ n why ready same h) consumed)
-    c.in_err-take_piece.ensures.fault)
+    IsTaken-rests after s c.loop-call.taker t inv.0 0 c.loop-call.lines
+    (IsKept c.loop-call.kept) inv.3 c.in_default-before_read.ensures.ready in
+    MatchFault-weaker c.in-Err-take_piece.cause _ _ _ _ _ _
+    (λ h. TakesFirst-from after s u _ _ (inv.0 ++ got) _ _
+    (IsTaken-then after s t u inv.0 _ got c.loop-call.kept 0 _ _ _ ready same h) consumed)
+    (λ k. absurd k)
+    (λ why h. StopsAfter-from after stopped s u _ _ (inv.0 ++ got) _ why
+    (IsStopped-then after stopped s t u inv.0 _ got c.loop-call.kept 0 _ _ why ready same h)
+    consumed)
+    c.in-Err-take_piece.ensures.fault
 
 pub loop-call-preserved : goal.loop-call-preserved
 loop-call-preserved g c =
@@ -158,20 +154,19 @@ loop-call-preserved g c =
     let size : length got ≡ read =
     omega (arith, length-take read c.read.new.buffer, c.in-Ok-read.ensures.bound) in
     let ready =
-    IsTaken-rests after s c.loop-call.taker t inv.0 0 c.loop-call.count
-    (IsKept c.loop-call.kept.items) inv.3 c.in_default-before_read.ensures.ready in
+    IsTaken-rests after s c.loop-call.taker t inv.0 0 c.loop-call.lines
+    (IsKept c.loop-call.kept) inv.3 c.in_default-before_read.ensures.ready in
     let all =
-    IsTaken-then after s t u inv.0 _ got _ 0 c.loop-call.count _ _ ready same
-    c.in_ok-take_piece.ensures.taken in
+    IsTaken-then after s t u inv.0 _ got c.loop-call.kept 0 c.loop-call.lines _ _ ready same
+    c.in_default-take_piece.ensures.taken in
     record {
       buffer =
           ap length (sym c.deref.ensures.value ∙ here)
           ∙ omega (arith, full, c.loop-call.invariant.buffer, c.loop-call.buffer.ok.0);
-      room = omega (arith, ap length all.rest.0, length-front_of all.left);
       few =
           omega (
             arith,
-            c.in_ok-take_piece.ensures.count,
+            c.in_default-take_piece.ensures.count,
             ap length same,
             size,
             full,
@@ -189,7 +184,7 @@ loop-call-preserved g c =
       );
     }
 
-pub returns-clause-read : goal.returns-clause-read
-returns-clause-read g c =
+pub returns-clause-fault : goal.returns-clause-fault
+returns-clause-fault g c =
     let inv = c.loop-call.invariant.taken in
-    HasRead-from _ _ _ _ _ inv.0 _ _ inv.3 inv.2
+    TakesEnded-from g.T.LineTaker.after _ _ _ _ inv.0 c.loop-call.kept _ inv.3 inv.2

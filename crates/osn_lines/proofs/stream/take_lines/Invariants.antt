@@ -8,10 +8,9 @@ abbrev pub invariant-loop-call : goal.invariant-loop-call
 invariant-loop-call g l =
     record {
       buffer : length l.buffer.items ≡ 65536;
-      room : length l.kept.items ≤ 65537;
-      few : l.count ≤ 65536 * l._call;
+      few : l.lines ≤ 65536 * l._call;
       source : g.R.Source.has_failed l.source ≡ g.R.Source.has_failed l.fn.source;
       taken : (read : List ℕ) × (l._call ≤ length read)
           × Consumes (g.R.Source.remaining l.fn.source) (g.R.Source.remaining l.source) read
-          × IsTaken g.T.LineTaker.after l.fn.taker l.taker read 0 l.count (IsKept l.kept.items);
+          × IsTaken g.T.LineTaker.after l.fn.taker l.taker read 0 l.lines (IsKept l.kept);
     }

@@ -8,7 +8,8 @@ use Rattle.osn_computus.specs.Letters.{letter_of_sundays}
 use Rattle.osn_computus.proofs.FindFacts.{find_on_line}
 use Rattle.osn_tests.proofs.TableLemmas.{none_on_line, none_so_far, letter_next}
 use Rattle.osn_tests.proofs.tables.letter_of_sundays.Goals as goal
-use Rattle.osn_tests.proofs.tables.letter_of_sundays.Goals.{then-number-gt1, else-number-gt1}
+use Rattle.osn_tests.proofs.tables.letter_of_sundays.Goals.{then-number-gt1}
+use Rattle.osn_tests.proofs.tables.letter_of_sundays.Goals.{else-number-gt1}
 
 pub loop-number-init : goal.loop-number-init
 unfolding letter_at

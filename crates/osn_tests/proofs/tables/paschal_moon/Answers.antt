@@ -8,7 +8,8 @@ use Rattle.osn_computus.specs.declared.rule.Rule.TheVariants.{Gregorian}
 use Rattle.osn_computus.specs.Moon.{MonthDay, julian_full_moon, gregorian_new_moon}
 use Rattle.osn_computus.specs.Easter.{day_with, paschal_moon}
 use Rattle.osn_computus.proofs.MoonFacts.{moon_bounds}
-use Rattle.osn_tests.proofs.TableLemmas.{table_none, table_some, julian_moon, gregorian_moon}
+use Rattle.osn_tests.proofs.TableLemmas.{table_none, table_some, julian_moon}
+use Rattle.osn_tests.proofs.TableLemmas.{gregorian_moon}
 use Rattle.osn_tests.proofs.TableLemmas.{gregorian_none, moved_13}
 use Rattle.osn_tests.proofs.tables.paschal_moon.Goals as goal
 

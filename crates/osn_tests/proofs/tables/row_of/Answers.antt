@@ -2,7 +2,8 @@ use Rattle.std.proofs.Common.{Option, sym, ap, ◌∙◌, false}
 use Rattle.std.specs.List.{find}
 use Rattle.std.proofs.lemmas.List.{at_drop_all}
 use Rattle.std.specs.Option.{option_map}
-use Rattle.osn_tests.proofs.TableLemmas.{Label, is_label, date_beside, find_here, find_later}
+use Rattle.osn_tests.proofs.TableLemmas.{Label, is_label, date_beside, find_here}
+use Rattle.osn_tests.proofs.TableLemmas.{find_later}
 use Rattle.osn_tests.proofs.tables.row_of.Goals as goal
 
 pub returns-then-is_epact : goal.returns-then-is_epact

@@ -8,21 +8,18 @@ use Rattle.osn_core.proofs.copies.Copies.admit.Goals as goal
 pub admit-requires : goal.admit-requires
 admit-requires c =
     let none = ap (λ s. s.lag) c.self.view_is ∙ c.requires.lag in
-    let lawful = subst (λ s. stage_refusal newest_rules s.object c.args.edit.now ≡ None)
+    let lawful = subst (λ s. stage_refusal newest_rules s.object c.args.edit ≡ None)
     (sym c.self.view_is) c.requires.lawful in
     lawful_staged (copies_in c.self.inside).object c.self.inside.live c.self.inside.standby
-    c.self.inside.lag c.self.inside.edits c.args.edit.now c.self.invariant none lawful
+    c.self.inside.lag c.self.inside.edits c.args.edit c.self.invariant none lawful
 
 pub invariant_of-self-2 : goal.invariant_of-self-2
 invariant_of-self-2 c =
     let none = ap (λ s. s.lag) c.self.view_is ∙ c.requires.lag in
-    let lawful = subst (λ s. stage_refusal newest_rules s.object c.args.edit.now ≡ None)
+    let lawful = subst (λ s. stage_refusal newest_rules s.object c.args.edit ≡ None)
     (sym c.self.view_is) c.requires.lawful in
-    let pushed : c.push_reserved.new.self.items ≡ c.self.inside.pending.items ++ c.args.edit.now ∷
-    [] =
-    c.push_reserved.ensures.items
-    ∙ ap (λ es. es ++ c.in_ok-copied.copied ∷ []) c.reserve.ensures.items
-    ∙ ap (λ e. c.self.inside.pending.items ++ e ∷ []) c.in_ok-copied.ensures in
+    let pushed : c.push_reserved.new.self.items ≡ c.self.inside.pending.items ++ c.args.edit ∷ [] =
+    c.push_reserved.ensures.items ∙ ap (λ es. es ++ c.args.edit ∷ []) c.reserve.ensures.items in
     rw pushed (one_staged (copies_in c.self.inside).object c.self.inside.live c.self.inside.standby
-    c.admit.new.self c.self.inside.lag c.self.inside.edits c.args.edit.now c.self.invariant none
+    c.admit.new.self c.self.inside.lag c.self.inside.edits c.args.edit c.self.invariant none
     lawful c.in_ok-admit.ensures.ok)

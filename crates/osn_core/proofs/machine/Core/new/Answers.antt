@@ -11,7 +11,7 @@ invariant_of-result c =
     record {
       side = omega arith;
       lag = ap (λ s. s.lag) c.new-2.ensures;
-      readers = λ r. subst (λ rs. IsPlaced 0 Ready n (reader_at rs r)) (sym c.in-Ok.ensures)
+      readers = λ r. subst (λ rs. IsPlaced 0 Ready n (reader_at rs r)) (sym c.in_ok-readers.ensures)
           (idle_at (IsPlaced 0 Ready n) tt tt c.args.readers r);
     }
 

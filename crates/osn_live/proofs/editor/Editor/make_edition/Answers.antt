@@ -3,9 +3,9 @@ use Rattle.osn_days.specs.Profile.{newest_rules}
 use Rattle.osn_register.specs.declared.edit.Edit.{Edit}
 use Rattle.osn_register.specs.Plain.{PlainLand}
 use Rattle.osn_core.specs.Sequential.{ObjectState, lands_of, draft_lands, edits_in, with_edition}
+use Rattle.osn_core.proofs.Draft.{draft_shown, draft_published, edits_published}
 use Rattle.osn_live.specs.Certificate.{CertificateState}
 use Rattle.osn_live.specs.InsideEditor.{object_in}
-use Rattle.osn_live.proofs.Draft.{draft_shown, draft_published, edits_published}
 use Rattle.osn_live.proofs.editor.Editor.make_edition.Goals as goal
 
 pub new-next-requires : goal.new-next-requires

@@ -1,9 +1,9 @@
 use Rattle.std.proofs.Common.{◌≡◌, Result, Ok, Err, OnOk, refl, ap, sym, ◌∙◌}
 use Rattle.serde_json.specs.Data.{string}
-use Rattle.osn_words.specs.Json.{whole}
-use Rattle.osn_words.specs.Texts.{epact_text}
+use Rattle.osn_computus.specs.FigureTexts.{epact_text}
+use Rattle.osn_format.specs.Json.{whole}
 use Rattle.osn_reply.specs.ReplyText as said
-use Rattle.osn_words.proofs.WriteLemmas.{at_last}
+use Rattle.osn_format.proofs.WriteLemmas.{at_last}
 use Rattle.osn_reply.proofs.ToldLemmas.{told}
 use Rattle.osn_reply.proofs.reply.answer.write_reply.Goals as goal
 

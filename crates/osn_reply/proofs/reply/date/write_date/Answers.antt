@@ -1,6 +1,6 @@
 use Rattle.std.proofs.Common.{◌≡◌, refl, rules, to_z, of_z, w32}
-use Rattle.osn_words.specs.Texts as said
-use Rattle.osn_words.proofs.WriteLemmas.{at_last, is_taken}
+use Rattle.osn_days.specs.DateText as said
+use Rattle.osn_format.proofs.WriteLemmas.{at_last, is_taken}
 use Rattle.osn_reply.proofs.reply.date.write_date.Goals as goal
 
 pub unwrap-requires : goal.unwrap-requires

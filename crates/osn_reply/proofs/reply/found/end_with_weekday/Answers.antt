@@ -1,5 +1,5 @@
 use Rattle.std.proofs.Common.{append_assoc}
-use Rattle.osn_words.proofs.WriteLemmas.{at_last}
+use Rattle.osn_format.proofs.WriteLemmas.{at_last}
 use Rattle.osn_reply.proofs.reply.found.end_with_weekday.Goals as goal
 
 pub returns-clause-tokens : goal.returns-clause-tokens
@@ -9,5 +9,6 @@ returns-clause-tokens c =
       e,
       c.in_ok-write_text.ensures.tokens,
       c.in_ok-write_label.ensures.tokens,
-      c.weekday_of.ensures,
+      c.name.ensures,
+      c.weekday.ensures,
     ) (simp append_assoc))

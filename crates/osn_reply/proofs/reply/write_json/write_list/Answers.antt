@@ -1,6 +1,6 @@
 use Rattle.std.proofs.Common.{◌++◌, ◌∙◌, sym, append_assoc}
 use Rattle.std.proofs.lemmas.List.{at_drop_all}
-use Rattle.osn_words.proofs.WriteLemmas.{at_last}
+use Rattle.osn_format.proofs.WriteLemmas.{at_last}
 use Rattle.osn_reply.proofs.reply.write_json.write_list.Invariants.{rest_tokens}
 use Rattle.osn_reply.proofs.reply.write_json.write_list.Goals as goal
 

@@ -1,0 +1,28 @@
+use Rattle.std.proofs.lemmas.Result.{IfOk-weaker}
+use Rattle.osn_commands.proofs.RunLemmas.{ran}
+use Rattle.osn_commands.proofs.program.execute.Goals as goal
+
+pub returns-in-Serve-clause-ok : goal.returns-in-Serve-clause-ok
+returns-in-Serve-clause-ok g c =
+    IfOk-weaker c.serve.result _ _
+    (λ status h. ran c.args.invocation _ _ _ _ _ _ status c.in-Serve.is h) c.serve.ensures.ok
+
+pub returns-in-Replay-clause-ok : goal.returns-in-Replay-clause-ok
+returns-in-Replay-clause-ok g c =
+    IfOk-weaker c.replay.result _ _
+    (λ status h. ran c.args.invocation _ _ _ _ _ _ status c.in-Replay.is h) c.replay.ensures.ok
+
+pub returns-in-Desk-clause-ok : goal.returns-in-Desk-clause-ok
+returns-in-Desk-clause-ok g c =
+    IfOk-weaker c.desk.result _ _
+    (λ status h. ran c.args.invocation _ _ _ _ _ _ status c.in-Desk.is h) c.desk.ensures.ok
+
+pub returns-in-Almanac-clause-ok : goal.returns-in-Almanac-clause-ok
+returns-in-Almanac-clause-ok g c =
+    IfOk-weaker c.almanac.result _ _
+    (λ status h. ran c.args.invocation _ _ _ _ _ _ status c.in-Almanac.is h) c.almanac.ensures.ok
+
+pub returns-in-Audit-clause-ok : goal.returns-in-Audit-clause-ok
+returns-in-Audit-clause-ok g c =
+    IfOk-weaker c.audit.result _ _
+    (λ status h. ran c.args.invocation _ _ _ _ _ _ status c.in-Audit.is h) c.audit.ensures.ok

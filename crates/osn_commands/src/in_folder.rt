@@ -1,0 +1,177 @@
+//! The commands over the files of a folder, which are opened by their paths first.
+ghost use Rattle.std.specs.Prelude.{◌≡◌, ◌⊎◌, ◌&&◌, ◌∷◌, [], false, is_some, option_map, pos};
+ghost use Rattle.std.specs.Prelude.{IfOk, IfSome, OnErr, string_bytes};
+ghost use Rattle.osn_days.specs.Profile.{newest_rules};
+ghost use Rattle.osn_register.specs.Limits.{standard_limits};
+ghost use Rattle.osn_folder.specs.Folder.{Changes, CannotOpen, MayFail, Saves, Leaves, path_if};
+ghost use Rattle.osn_commands.specs.Almanac.{PrintsAlmanac};
+ghost use Rattle.osn_commands.specs.Audited.{PrintsAudit};
+ghost use Rattle.osn_commands.specs.Replay.{PrintsReplay};
+ghost use Rattle.osn_commands.specs.Run.{EndsService, Finishes, ReadsOne, ReadsTwo, folders_of};
+ghost use Rattle.osn_commands.specs.Streams.{input_of, output_of};
+ghost use Rattle.osn_commands.specs.Transcript.{PrintsTranscript};
+
+use crate::almanac::almanac_command;
+use crate::audited::audit_command;
+use crate::desk::desk_command;
+use crate::fault::{CommandFault, tell};
+use crate::progress::Watched;
+use crate::replay::replay_command;
+use crate::serving::{Served, serve_command};
+use crate::status::Status;
+use osn_folder::{Folder, OpenFailed, open_both, open_file, open_if, save_file};
+use osn_invocation::ServeOptions;
+use osn_lines::{Sink, Source};
+use std::alloc::Global;
+use std::sync::Wait;
+use std::thread::Threads;
+
+/// Opens the journal, if any, answers the request lines, and saves the journal that is left.
+pub(crate) fn serve<D: Folder, R: Source, W: Sink, E: Sink>(
+    alloc: Global,
+    folder: &mut D,
+    options: ServeOptions,
+    input: &mut R,
+    output: &mut W,
+    errors: &mut E,
+) -> Result<Status, OpenFailed>
+    ensures ok { IfOk result (EndsService
+        (option_map (λ path. path.now) options.entry.journal)
+        (option_map (λ path. path.now) options.entry.save) options.entry.readers
+        (MayFail D.File.has_failed)
+        (folders_of D.known folder.old folder.new)
+        (input_of R.remaining R.has_failed input.old input.new)
+        (output_of W.contents W.has_failed output.old output.new)
+        (output_of E.contents E.has_failed errors.old errors.new)) }
+    ensures err { OnErr result
+        (CannotOpen (path_if (option_map (λ path. path.now) options.entry.journal))
+        (D.known folder.old) (D.known folder.new)
+        × (output.new ≡ output.old) × (errors.new ≡ errors.old)) }
+{
+    let ServeOptions {
+        journal,
+        save,
+        readers,
+    } = options;
+    let mut source = open_if(folder, journal)?;
+    let saves = save.is_some();
+    let served = serve_command(alloc, &mut source, readers, saves, input, output, errors);
+    Ok(finish(alloc, folder, served, save, errors))
+}
+
+/// Saves the journal that the service left, if any, or tells standard error why it could not.
+fn finish<D: Folder, E: Sink>(
+    alloc: Global,
+    folder: &mut D,
+    served: Served,
+    path: Option<&str>,
+    errors: &mut E,
+) -> Status
+    ensures unsaved { is_some path.entry && is_some served.journal ≡ false
+        → (result ≡ served.status) × (errors.new ≡ errors.old) × (folder.new ≡ folder.old) }
+    ensures saved { IfSome path.entry (λ path. IfSome served.journal (λ text.
+        ((result ≡ served.status) × (errors.new ≡ errors.old)
+        × Changes (Saves path.now (string_bytes text)) (D.known folder.old) (D.known folder.new))
+        ⊎ (Changes (Leaves path.now) (D.known folder.old) (D.known folder.new)
+        × Finishes (output_of E.contents E.has_failed errors.old errors.new) result))) }
+{
+    let (Some(path), Some(journal)) = (path, served.journal) else {
+        return served.status;
+    };
+    match save_file(folder, alloc, path, journal.as_str()) {
+        Ok(()) => served.status,
+        Err(fault) => tell(alloc, errors, CommandFault::from(fault)),
+    }
+}
+
+/// Opens the schedule, and replays it.
+pub(crate) fn replay<D: Folder, W: Sink, E: Sink>(
+    alloc: Global,
+    folder: &mut D,
+    readers: u32,
+    schedule: &str,
+    output: &mut W,
+    errors: &mut E,
+) -> Result<Status, OpenFailed>
+    ensures ok { IfOk result (λ status. ReadsOne schedule.now (MayFail D.File.has_failed)
+        (folders_of D.known folder.old folder.new)
+        (λ file. PrintsReplay newest_rules standard_limits readers file
+        (output_of W.contents W.has_failed output.old output.new)
+        (output_of E.contents E.has_failed errors.old errors.new) status)) }
+    ensures err { OnErr result (CannotOpen (schedule.now ∷ [])
+        (D.known folder.old) (D.known folder.new)
+        × (output.new ≡ output.old) × (errors.new ≡ errors.old)) }
+{
+    let mut file = open_file(folder, schedule)?;
+    Ok(replay_command(alloc, readers, &mut file, output, errors))
+}
+
+/// Opens the script and then the questions, and runs their desk.
+pub(crate) fn desk<F: Threads + Wait + AllocGlobal, D: Folder, W: Sink, E: Sink>(
+    rt: &F,
+    folder: &mut D,
+    script: &str,
+    questions: &str,
+    output: &mut W,
+    errors: &mut E,
+) -> Result<Status, OpenFailed>
+    ensures ok { IfOk result (λ status. ReadsTwo script.now questions.now
+        (MayFail D.File.has_failed) (folders_of D.known folder.old folder.new)
+        (λ file other. PrintsTranscript newest_rules standard_limits file other
+        (output_of W.contents W.has_failed output.old output.new)
+        (output_of E.contents E.has_failed errors.old errors.new) status)) }
+    ensures err { OnErr result (CannotOpen (script.now ∷ questions.now ∷ [])
+        (D.known folder.old) (D.known folder.new)
+        × (output.new ≡ output.old) × (errors.new ≡ errors.old)) }
+{
+    let (mut script, mut questions) = open_both(folder, script, questions)?;
+    Ok(desk_command(rt, &mut script, &mut questions, output, errors))
+}
+
+/// Opens the journal, and prints the almanac of what it published.
+pub(crate) fn almanac<D: Folder, W: Sink, E: Sink>(
+    alloc: Global,
+    folder: &mut D,
+    journal: &str,
+    code: &str,
+    year: u32,
+    output: &mut W,
+    errors: &mut E,
+) -> Result<Status, OpenFailed>
+    ensures ok { IfOk result (λ status. ReadsOne journal.now (MayFail D.File.has_failed)
+        (folders_of D.known folder.old folder.new)
+        (λ file. PrintsAlmanac newest_rules standard_limits file code.now (pos year)
+        (output_of W.contents W.has_failed output.old output.new)
+        (output_of E.contents E.has_failed errors.old errors.new) status)) }
+    ensures err { OnErr result (CannotOpen (journal.now ∷ [])
+        (D.known folder.old) (D.known folder.new)
+        × (output.new ≡ output.old) × (errors.new ≡ errors.old)) }
+{
+    let mut file = open_file(folder, journal)?;
+    Ok(almanac_command(alloc, &mut file, code, year, output, errors))
+}
+
+/// Opens the journal and then the transcript, and audits that. A terminal, where there is one, is
+/// told how much of the transcript was read.
+pub(crate) fn audit<D: Folder, W: Sink, E: Sink, T: Sink + Drop>(
+    alloc: Global,
+    folder: &mut D,
+    journal: &str,
+    transcript: &str,
+    output: &mut W,
+    errors: &mut E,
+    terminal: Option<T>,
+) -> Result<Status, OpenFailed>
+    ensures ok { IfOk result (λ status. ReadsTwo journal.now transcript.now
+        (MayFail D.File.has_failed) (folders_of D.known folder.old folder.new)
+        (λ file other. PrintsAudit newest_rules standard_limits file other
+        (output_of W.contents W.has_failed output.old output.new)
+        (output_of E.contents E.has_failed errors.old errors.new) status)) }
+    ensures err { OnErr result (CannotOpen (journal.now ∷ transcript.now ∷ [])
+        (D.known folder.old) (D.known folder.new)
+        × (output.new ≡ output.old) × (errors.new ≡ errors.old)) }
+{
+    let (mut journal, told) = open_both(folder, journal, transcript)?;
+    let mut transcript = Watched::new(alloc, told, terminal);
+    Ok(audit_command(alloc, &mut journal, &mut transcript, output, errors))
+}

@@ -1,0 +1,57 @@
+//! What is shown in place of a command.
+ghost use Rattle.std.specs.IoError.{error_kind};
+ghost use Rattle.clap.specs.Words.{kind_of};
+ghost use Rattle.osn_commands.specs.Run.{ShowsOrEnds};
+ghost use Rattle.osn_commands.specs.Streams.{output_of};
+ghost use Rattle.osn_commands.specs.Told.{TellsNoWords};
+
+use crate::fault::{tell_no_memory, write_line};
+use crate::printing::print;
+use crate::status::Status;
+use clap::Error;
+use clap::error::ErrorKind;
+use osn_lines::Sink;
+use std::alloc::Global;
+use std::io;
+
+/// Shows help or the version where they were asked for, or else what is wrong with the arguments.
+pub(crate) fn show<W: Sink, E: Sink>(
+    alloc: Global,
+    shown: &Error,
+    output: &mut W,
+    errors: &mut E,
+) -> Status
+    ensures { ShowsOrEnds (kind_of shown.now)
+        (output_of W.contents W.has_failed output.old output.new)
+        (output_of E.contents E.has_failed errors.old errors.new) result }
+{
+    let kind = shown.kind();
+    if kind == ErrorKind::OutOfMemory {
+        return tell_no_memory(errors);
+    }
+    let Ok(text) = format!(in alloc; "{shown}") else {
+        return tell_no_memory(errors);
+    };
+    match kind {
+        ErrorKind::DisplayHelp | ErrorKind::DisplayVersion => {
+            print(alloc, Ok(text), output, errors)
+        }
+        _ => {
+            write_line(errors, text.as_str());
+            Status::Misused
+        }
+    }
+}
+
+/// Tells standard error that the words of the command line could not be had: for want of memory, or
+/// where one of them is no text of UTF-8.
+pub fn tell_no_words<E: Sink>(why: &io::Error, errors: &mut E) -> Status
+    ensures { TellsNoWords (output_of E.contents E.has_failed errors.old errors.new)
+        (error_kind why.now) result }
+{
+    if why.kind() == io::ErrorKind::OutOfMemory {
+        return tell_no_memory(errors);
+    }
+    write_line(errors, "error: a word of the command line is not UTF-8\n");
+    Status::Misused
+}

@@ -1,0 +1,29 @@
+-- What a call that reads a file of lines gives.
+use Rattle.std.specs.Prelude.{◌≡◌, ⊤, ℕ, Bool, List, Option, Result, Ok, Err, IfOk, IfErr, IfSome}
+use Rattle.std.specs.Prelude.{OnOk}
+use Rattle.std.specs.Io.KnownBytes.{IsAtEnd}
+use Rattle.osn_lines.specs.Lines.{lines}
+use Rattle.osn_files.specs.declared.fault.FileFault.{FileFault}
+use Rattle.osn_files.specs.declared.fault.LineFault.{LineFault}
+use Rattle.osn_files.specs.declared.fault.Role.{Role}
+use Rattle.osn_files.specs.Faults.{MatchFileFault, FailsAsTold}
+
+-- A file of this role is read by a rule, which says what lines make, or the first fault and the
+-- number of its line, counted from 1. What is made has this view. The source stood so before, and
+-- stands so now; what it still has is said only where that is known.
+pub record ReadsFile {A T S : Type 0} (role : Role)
+    (rule : List (List ℕ) → Result A (ℕ × LineFault)) (view : T → A) (result : Result T FileFault)
+    (remaining : S → Option (List ℕ)) (has_failed : S → Bool) (old new : S) : Type 0 where
+  -- what is made is what the rule makes of the lines of all that is read
+  pub made : IfOk result (λ made. IfSome (remaining old) (λ input.
+      rule (lines input) ≡ Ok (view made)))
+  -- all of the source was read, and it didn't fail
+  pub end : OnOk result (IsAtEnd (remaining new))
+  pub sound : OnOk result (has_failed new ≡ has_failed old)
+  -- a line that is told is one of this file, and the first that the rule refuses, with its fault
+  pub fault : IfErr result (λ fault. MatchFileFault fault ⊤ ⊤ (λ named line why.
+      (named ≡ role)
+      × IfSome (remaining old) (λ input. rule (lines input) ≡ Err (line, why))))
+  -- the source failed where a read fault says so, or gave no end in 4,294,967,295 reads, and
+  -- nowhere else
+  pub reason : IfErr result (FailsAsTold (has_failed old) (has_failed new) (remaining old))

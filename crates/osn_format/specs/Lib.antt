@@ -1,0 +1,4 @@
+pub mod Version
+pub mod Json
+pub mod Member
+pub mod WireFault

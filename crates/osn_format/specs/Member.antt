@@ -1,0 +1,23 @@
+-- The names of a line's members: this project's profile.
+use Rattle.std.specs.Prelude.{ℕ, List, codes}
+use Rattle.osn_format.specs.declared.member.Member.{Member}
+use Rattle.osn_format.specs.declared.member.Member.TheVariants.{Op, Code, Name, Calendar, Style}
+use Rattle.osn_format.specs.declared.member.Member.TheVariants.{Rule, Reader, Year, Month, Day}
+use Rattle.osn_format.specs.declared.member.Member.TheVariants.{Journal, Step, Ask, Reply, Edition}
+
+abbrev pub member_name : Member → List ℕ
+member_name Op = codes "op"
+member_name Code = codes "code"
+member_name Name = codes "name"
+member_name Calendar = codes "calendar"
+member_name Style = codes "style"
+member_name Rule = codes "rule"
+member_name Reader = codes "reader"
+member_name Year = codes "year"
+member_name Month = codes "month"
+member_name Day = codes "day"
+member_name Journal = codes "journal"
+member_name Step = codes "step"
+member_name Ask = codes "ask"
+member_name Reply = codes "reply"
+member_name Edition = codes "edition"

@@ -1,0 +1,58 @@
+//! The versions of the rules, and of the form of journals and scripts.
+ghost use Rattle.std.specs.Prelude.{◌≡◌};
+ghost use Rattle.osn_lands.specs.StyleWords.{has_style};
+ghost use Rattle.osn_format.specs.Version as said;
+
+use osn_lands::Style;
+
+/// A version of the rules and of the form of journals and scripts.
+#[derive(Clone, Copy, Debug, PartialEq, Eq)]
+pub enum Version {
+    /// The first version, which stays for good.
+    First,
+    /// The second version: two styles more.
+    Second,
+}
+
+impl Version {
+    /// The version that is written, and by which requests are read.
+    pub fn newest() -> Version
+        ensures { result ≡ said.newest_version }
+    {
+        Self::Second
+    }
+
+    /// The number in a head.
+    pub fn number(self) -> u32
+        ensures { result ≡ said.version_number self }
+    {
+        match self {
+            Version::First => 1,
+            Version::Second => 2,
+        }
+    }
+
+    /// The version of a number, if any has it.
+    pub fn numbered(number: i64) -> Option<Version>
+        ensures { result ≡ said.version_numbered number }
+    {
+        match number {
+            1 => Some(Version::First),
+            2 => Some(Version::Second),
+            _ => None,
+        }
+    }
+
+    /// Whether a line may have the style's word by the rules of this version.
+    pub fn has_style(self, style: Style) -> bool
+        ensures { result ≡ has_style (said.rules_of self) style }
+    {
+        match self {
+            Version::First => match style {
+                Style::January | Style::Annunciation | Style::Nativity | Style::September => true,
+                Style::Pisan | Style::Easter => false,
+            },
+            Version::Second => true,
+        }
+    }
+}

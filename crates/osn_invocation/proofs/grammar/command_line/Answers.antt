@@ -1,0 +1,30 @@
+use Rattle.std.proofs.Common.{◌∙◌, ap, true}
+use Rattle.std.proofs.lemmas.Result.{IfOk-weaker}
+use Rattle.clap.specs.Words.{Shape}
+use Rattle.clap.specs.Simple.{app_of_fields, on_top}
+use Rattle.clap.specs.declared.builder.command.Command.{Command}
+use Rattle.clap.specs.declared.builder.command.Command.TheOpen.{Command-F}
+use Rattle.osn_invocation.specs.Grammar.{IsCommand, program_grammar}
+use Rattle.osn_invocation.proofs.GrammarLemmas.{explained, one_more_command}
+use Rattle.osn_invocation.proofs.grammar.command_line.Goals as goal
+
+pub returns : goal.returns
+returns c =
+    let versioned : IsCommand program_grammar c.version.result = (
+      ap app_of_fields c.version.ensures
+          ∙ ap (on_top (λ (s : Shape). record s { has_version = true })) c.new.ensures.app,
+      ap (λ (f : Command-F Command). f.has_globals) c.version.ensures ∙ c.new.ensures.local,
+    ) in
+    let program = explained _ _ c.after_help.result _ _ _ versioned
+    c.about.ensures c.after_help.ensures in
+    let first = one_more_command _ _ _ _ _ c.in_ok-subcommand.ensures
+    program c.in_ok-serve_grammar.ensures in
+    let second = one_more_command _ _ _ _ _ c.in_ok-subcommand-2.ensures
+    first c.in_ok-replay_grammar.ensures in
+    let third = one_more_command _ _ _ _ _ c.in_ok-subcommand-3.ensures
+    second c.in_ok-desk_grammar.ensures in
+    let fourth = one_more_command _ _ _ _ _ c.in_ok-subcommand-4.ensures
+    third c.in_ok-almanac_grammar.ensures in
+    IfOk-weaker c.subcommand-5.result _ _
+    (λ new added. one_more_command _ new _ _ _ added fourth c.in_ok-audit_grammar.ensures)
+    c.subcommand-5.ensures

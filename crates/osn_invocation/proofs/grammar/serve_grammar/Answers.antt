@@ -1,0 +1,18 @@
+use Rattle.std.proofs.lemmas.Result.{IfOk-weaker}
+use Rattle.osn_invocation.proofs.GrammarLemmas.{explained, helped, one_more_arg}
+use Rattle.osn_invocation.proofs.grammar.serve_grammar.Goals as goal
+
+pub returns : goal.returns
+returns c =
+    let command = explained _ _ c.after_help.result _ _ _
+    (c.new.ensures.app, c.new.ensures.local) c.about.ensures c.after_help.ensures in
+    let journal = helped c.file_arg.result c.help.result _ _
+    c.help.ensures c.file_arg.ensures in
+    let save = helped c.file_arg-2.result c.help-2.result _ _
+    c.help-2.ensures c.file_arg-2.ensures in
+    let readers = helped c.readers_arg.result c.help-3.result _ _
+    c.help-3.ensures c.readers_arg.ensures in
+    let first = one_more_arg _ _ _ _ _ c.in_ok-arg.ensures command journal in
+    let second = one_more_arg _ _ _ _ _ c.in_ok-arg-2.ensures first save in
+    IfOk-weaker c.arg-3.result _ _
+    (λ new added. one_more_arg _ new _ _ _ added second readers) c.arg-3.ensures

@@ -1,0 +1,87 @@
+-- The grammar of the command line, and what it finds in the arguments.
+use Rattle.std.specs.Prelude.{◌≡◌, true, false, List, Some, codes, pos}
+use Rattle.clap.specs.Words.{App, Rule, Text, app_of, found_of, matches_of, new_app, new_rule}
+use Rattle.clap.specs.Words.{rows_of, rule_of, subcommand_of, subcommand_rows_of, with_rule}
+use Rattle.clap.specs.Words.{with_subcommand}
+use Rattle.clap.specs.Simple.{on_top}
+use Rattle.clap.specs.declared.builder.arg.Arg.{Arg}
+use Rattle.clap.specs.declared.builder.command.Command.{Command}
+use Rattle.clap.specs.declared.builder.command.Command.TheViews.{out-Command}
+use Rattle.clap.specs.declared.builder.value_parser.ValueParser.TheVariants.{Signed}
+use Rattle.clap.specs.declared.parser.matches.ArgMatches.{ArgMatches}
+
+-- an option that names a file, `--journal FILE`
+abbrev pub file_option : Text → Rule
+file_option name = record (new_rule name) { long = Some name; value_names = 1 }
+
+-- the option `--readers N`: N is 1 to 64
+abbrev pub readers_option : Rule
+readers_option = record (new_rule (codes "readers")) {
+  long = Some (codes "readers");
+  value_names = 1;
+  parser = Some (Signed (pos 1) (pos 64));
+}
+
+-- an argument that has to stand
+abbrev pub required_arg : Text → Rule
+required_arg name = record (new_rule name) { value_names = 1; required = true }
+
+-- YEAR is 0 to 4294967295
+abbrev pub year_arg : Rule
+year_arg =
+    record (required_arg (codes "year")) { parser = Some (Signed (pos 0) (pos 4294967295)) }
+
+-- `serve [--journal FILE] [--save FILE] [--readers N]`
+abbrev pub serve_grammar : App
+serve_grammar = with_rule (with_rule
+    (with_rule (new_app (codes "serve")) (file_option (codes "journal")))
+    (file_option (codes "save"))) readers_option
+
+-- `replay --readers N SCHEDULE`
+abbrev pub replay_grammar : App
+replay_grammar = with_rule
+    (with_rule (new_app (codes "replay")) (record readers_option { required = true }))
+    (required_arg (codes "schedule"))
+
+-- `desk SCRIPT QUESTIONS`
+abbrev pub desk_grammar : App
+desk_grammar = with_rule
+    (with_rule (new_app (codes "desk")) (required_arg (codes "script")))
+    (required_arg (codes "questions"))
+
+-- `almanac JOURNAL CODE YEAR`
+abbrev pub almanac_grammar : App
+almanac_grammar = with_rule (with_rule
+    (with_rule (new_app (codes "almanac")) (required_arg (codes "journal")))
+    (required_arg (codes "code"))) year_arg
+
+-- `audit JOURNAL TRANSCRIPT`
+abbrev pub audit_grammar : App
+audit_grammar = with_rule
+    (with_rule (new_app (codes "audit")) (required_arg (codes "journal")))
+    (required_arg (codes "transcript"))
+
+-- the program, which has `--version`
+abbrev pub program_grammar : App
+program_grammar = on_top (λ s. record s { has_version = true }) (new_app (codes "oldstyle"))
+
+-- the command line: the program with its commands, and what each grammar has by itself, `--help`
+-- and `help COMMAND`
+abbrev pub command_line : App
+command_line = with_subcommand (with_subcommand (with_subcommand (with_subcommand
+    (with_subcommand program_grammar serve_grammar.top) replay_grammar.top) desk_grammar.top)
+    almanac_grammar.top) audit_grammar.top
+
+-- the argument has this rule, at its own command alone
+abbrev pub IsArg : Rule → Arg → Type 0
+IsArg rule arg = (rule_of arg ≡ rule) × (arg.global ≡ false)
+
+-- the command has this grammar, and no argument of it is one of its commands' too
+abbrev pub IsCommand : App → Command → Type 0
+IsCommand grammar command =
+    (app_of command ≡ grammar) × ((out-Command command).has_globals ≡ false)
+
+-- what was found in the arguments is what the grammar finds
+abbrev pub HasMatches : List Text → ArgMatches → Type 0
+HasMatches args found = (rows_of (found_of found) ≡ matches_of command_line args)
+    × (subcommand_rows_of found ≡ subcommand_of command_line args)

@@ -1,0 +1,92 @@
+-- What a command line asks for, by what the grammar finds in its arguments.
+use Rattle.std.specs.Prelude.{◌&&◌, ℕ, Bool, List, [], Option, Some, None, if◌then◌else◌}
+use Rattle.std.specs.Prelude.{codes, length, nat_lt, option_map, unwrap_or}
+use Rattle.std.specs.Char.{digit_value}
+use Rattle.std.specs.List.{list_all}
+use Rattle.std.specs.Option.{option_map_or}
+use Rattle.std.specs.Str.{bytes_eq}
+use Rattle.std.specs.Str.Parse.{digits_value, without_leading_plus}
+use Rattle.clap.specs.Words.{Row, Text, first_of, matches_of, one_of, subcommand_of}
+use Rattle.osn_invocation.specs.Grammar.{command_line}
+use Rattle.osn_invocation.specs.declared.invocation.Invocation.{Invocation}
+use Rattle.osn_invocation.specs.declared.invocation.Invocation.TheVariants.{Serve, Replay, Desk}
+use Rattle.osn_invocation.specs.declared.invocation.Invocation.TheVariants.{Almanac, Audit}
+
+-- what a command line asks for: the service by a journal, where to save it and readers; a replay by
+-- readers and a schedule; a desk by a script and questions; an almanac by a journal, a code and a
+-- year; an audit by a journal and a transcript. Files are named by their paths
+pub data InvocationModel : Type 0 where
+  serving : Option Text → Option Text → ℕ → InvocationModel
+  replaying : ℕ → Text → InvocationModel
+  working : Text → Text → InvocationModel
+  printing : Text → Text → ℕ → InvocationModel
+  auditing : Text → Text → InvocationModel
+
+-- decimal digits, of a number below 2 ^ 32
+abbrev pub is_number : Text → Bool
+is_number digits = nat_lt 0 (length digits)
+    && list_all (λ digit. nat_lt (digit_value digit) 10) digits
+    && nat_lt (digits_value 10 digits) 4294967296
+
+-- the number that a text is, behind a plus or none, and `other` where it is none
+abbrev pub number_or : ℕ → Text → ℕ
+number_or other text =
+    if is_number (without_leading_plus text) then digits_value 10 (without_leading_plus text)
+    else other
+
+-- the number that was given, and `other` where none was
+abbrev pub number_of : ℕ → Text → List Row → ℕ
+number_of other name given = option_map_or (number_or other) (one_of name given) other
+
+-- the text of an argument that has to stand, and the empty one where it does not
+abbrev pub text_of : Text → List Row → Text
+text_of name given = unwrap_or (first_of name given) []
+
+-- what each command asks for, by what was found for its arguments
+abbrev pub serve_invocation : List Row → InvocationModel
+serve_invocation given = serving (first_of (codes "journal") given) (first_of (codes "save") given)
+    (number_of 8 (codes "readers") given)
+
+abbrev pub replay_invocation : List Row → InvocationModel
+replay_invocation given =
+    replaying (number_of 8 (codes "readers") given) (text_of (codes "schedule") given)
+
+abbrev pub desk_invocation : List Row → InvocationModel
+desk_invocation given = working (text_of (codes "script") given) (text_of (codes "questions") given)
+
+abbrev pub almanac_invocation : List Row → InvocationModel
+almanac_invocation given = printing (text_of (codes "journal") given) (text_of (codes "code") given)
+    (number_of 0 (codes "year") given)
+
+abbrev pub audit_invocation : List Row → InvocationModel
+audit_invocation given =
+    auditing (text_of (codes "journal") given) (text_of (codes "transcript") given)
+
+-- what a command asks for, by its name
+abbrev pub command_invocation : Text → List Row → InvocationModel
+command_invocation name given =
+    if bytes_eq name (codes "replay") then replay_invocation given
+    else (if bytes_eq name (codes "desk") then desk_invocation given
+    else (if bytes_eq name (codes "almanac") then almanac_invocation given
+    else (if bytes_eq name (codes "audit") then audit_invocation given
+    else serve_invocation given)))
+
+-- of no command, what `serve` asks for
+abbrev pub invocation_by : List Row → Option (Text × List Row) → InvocationModel
+invocation_by given None = serve_invocation given
+invocation_by given (Some command) = command_invocation command.0 command.1
+
+-- what the arguments ask for, by what the grammar finds in them
+abbrev pub invocation_in : List Text → InvocationModel
+invocation_in args =
+    invocation_by (matches_of command_line args) (subcommand_of command_line args)
+
+-- the same of what was read, by the texts behind its references
+abbrev pub model_of : Invocation → InvocationModel
+model_of (Serve given) =
+    serving (option_map (λ path. path.now) given.journal) (option_map (λ path. path.now) given.save)
+    given.readers
+model_of (Replay readers schedule) = replaying readers schedule.now
+model_of (Desk script questions) = working script.now questions.now
+model_of (Almanac journal code year) = printing journal.now code.now year
+model_of (Audit journal transcript) = auditing journal.now transcript.now

@@ -1,0 +1,159 @@
+//! The grammar of the command line, as `clap` reads it.
+
+ghost use Rattle.std.specs.Prelude.{◌≡◌, IfOk};
+ghost use Rattle.osn_invocation.specs.Grammar.{IsArg, IsCommand, almanac_grammar, audit_grammar};
+ghost use Rattle.osn_invocation.specs.Grammar.{command_line, desk_grammar, file_option};
+ghost use Rattle.osn_invocation.specs.Grammar.{readers_option, replay_grammar, required_arg};
+ghost use Rattle.osn_invocation.specs.Grammar.{serve_grammar, year_arg};
+
+use clap::{Arg, Command, value_parser};
+use std::alloc::{AllocError, Global};
+
+const ABOUT: &str = "Says which day a dated document means, by the calendar, the beginning of the \
+year and the rule of Easter that were in force where it was written";
+
+const STATUSES: &str = "Statuses:
+  0  done
+  1  the input was refused: a line of a file, a territory or a year, or no question
+  2  the words of the command line are wrong
+  3  a read or a write failed, or a file could not be opened
+  4  memory ran out
+Of a status but 0, one line on standard error says what was refused or failed.";
+
+/// The option `--readers`.
+fn readers_arg<'a>(alloc: Global) -> Arg<'a>
+    ensures { IsArg readers_option result }
+{
+    Arg::new(alloc, "readers")
+        .long("readers")
+        .value_name("N")
+        .value_parser(value_parser!(u32).range(1..65))
+}
+
+/// An argument that has to stand.
+fn required_arg<'a>(alloc: Global, id: &'a str, shown: &'a str) -> Arg<'a>
+    ensures { IsArg (required_arg id.now) result }
+{
+    Arg::new(alloc, id).value_name(shown).required(true)
+}
+
+/// An option that names a file.
+fn file_arg<'a>(alloc: Global, id: &'a str) -> Arg<'a>
+    ensures { IsArg (file_option id.now) result }
+{
+    Arg::new(alloc, id).long(id).value_name("FILE")
+}
+
+/// The year of an almanac.
+fn year_arg<'a>(alloc: Global) -> Arg<'a>
+    ensures { IsArg year_arg result }
+{
+    required_arg(alloc, "year", "YEAR").value_parser(value_parser!(u32))
+}
+
+/// The command `serve` and its options.
+fn serve_grammar<'a>(alloc: Global) -> Result<Command<'a>, AllocError>
+    ensures { IfOk result (IsCommand serve_grammar) }
+{
+    Command::new(alloc, "serve")
+        .about("Answers request lines on standard input (so does the program without words)")
+        .after_help(SERVE_EXAMPLE)
+        .arg(file_arg(alloc, "journal").help(
+            "The journal to begin with; else there are no territories",
+        ))?
+        .arg(file_arg(alloc, "save").help(
+            "Where the journal is saved at the end of the input, unless a fault ended it",
+        ))?
+        .arg(readers_arg(alloc).help("How many readers ask, 1 to 64 [default: 8]"))
+}
+
+const SERVE_EXAMPLE: &str = "Example:
+  ./oldstyle serve --journal examples/samples.journal --save new.journal < examples/added.jsonl
+
+Requests and replies are JSON lines. The journal is saved only where all lines were answered.";
+
+/// The command `replay`, its option and its argument.
+fn replay_grammar<'a>(alloc: Global) -> Result<Command<'a>, AllocError>
+    ensures { IfOk result (IsCommand replay_grammar) }
+{
+    Command::new(alloc, "replay")
+        .about("Takes the steps of one editor and of readers, and prints what each gives")
+        .after_help(REPLAY_EXAMPLE)
+        .arg(
+            readers_arg(alloc)
+                .required(true)
+                .help("How many readers there are, 1 to 64"),
+        )?
+        .arg(required_arg(alloc, "schedule", "SCHEDULE").help("The file of the steps"))
+}
+
+const REPLAY_EXAMPLE: &str = "Example:
+  ./oldstyle replay --readers 2 examples/two_readers.schedule
+
+A step is a JSON line. All steps are taken before anything is printed.";
+
+/// The command `desk` and its arguments.
+fn desk_grammar<'a>(alloc: Global) -> Result<Command<'a>, AllocError>
+    ensures { IfOk result (IsCommand desk_grammar) }
+{
+    Command::new(alloc, "desk")
+        .about("Lets readers ask while an editor works, each in a thread of its own")
+        .after_help(DESK_EXAMPLE)
+        .arg(required_arg(alloc, "script", "SCRIPT").help(
+            "The file of what the editor does, in the form of a journal",
+        ))?
+        .arg(required_arg(alloc, "questions", "QUESTIONS").help("The file of what the readers ask"))
+}
+
+const DESK_EXAMPLE: &str = "Example:
+  ./oldstyle desk examples/rome.script examples/rome.questions
+
+A question is a JSON line. Questions and replies are printed by reader and then by place; which
+edition a reply is of may differ from run to run.";
+
+/// The command `almanac` and its arguments.
+fn almanac_grammar<'a>(alloc: Global) -> Result<Command<'a>, AllocError>
+    ensures { IfOk result (IsCommand almanac_grammar) }
+{
+    Command::new(alloc, "almanac")
+        .about("Prints the almanac of a territory and year, as a journal published the territory")
+        .after_help(ALMANAC_EXAMPLE)
+        .arg(required_arg(alloc, "journal", "JOURNAL").help("The file of the journal"))?
+        .arg(required_arg(alloc, "code", "CODE").help("The code of the territory"))?
+        .arg(year_arg(alloc).help("The year, 1 to 9999"))
+}
+
+const ALMANAC_EXAMPLE: &str = "Example:
+  ./oldstyle almanac examples/samples.journal GB 1752";
+
+/// The command `audit` and its arguments.
+fn audit_grammar<'a>(alloc: Global) -> Result<Command<'a>, AllocError>
+    ensures { IfOk result (IsCommand audit_grammar) }
+{
+    Command::new(alloc, "audit")
+        .about("Says whether each reply of a transcript is the one that a journal gives")
+        .after_help(AUDIT_EXAMPLE)
+        .arg(required_arg(alloc, "journal", "JOURNAL").help("The file of the journal"))?
+        .arg(required_arg(alloc, "transcript", "TRANSCRIPT").help(
+            "The file of what readers asked and were told",
+        ))
+}
+
+const AUDIT_EXAMPLE: &str = "Example:
+  ./oldstyle desk examples/rome.script examples/rome.questions > rome.transcript
+  ./oldstyle audit examples/rome.script rome.transcript";
+
+/// The program with all its commands.
+pub(crate) fn command_line<'a>(alloc: Global) -> Result<Command<'a>, AllocError>
+    ensures { IfOk result (IsCommand command_line) }
+{
+    Command::new(alloc, "oldstyle")
+        .version("0.1.0")
+        .about(ABOUT)
+        .after_help(STATUSES)
+        .subcommand(serve_grammar(alloc)?)?
+        .subcommand(replay_grammar(alloc)?)?
+        .subcommand(desk_grammar(alloc)?)?
+        .subcommand(almanac_grammar(alloc)?)?
+        .subcommand(audit_grammar(alloc)?)
+}

@@ -1,0 +1,192 @@
+//! What a command line asks for, by what the grammar finds in its arguments.
+
+ghost use Rattle.std.specs.Prelude.{◌≡◌, IfErr, IfOk, map, option_map, true};
+ghost use Rattle.clap.specs.Words.{FailsBy, fault_of, first_of, found_of, kind_of, rows_of};
+ghost use Rattle.clap.specs.Words.{subcommand_rows_of, takes};
+ghost use Rattle.clap.specs.declared.error.kind.ErrorKind.TheVariants.{OutOfMemory};
+ghost use Rattle.osn_invocation.specs.Grammar.{HasMatches, command_line};
+ghost use Rattle.osn_invocation.specs.Invocation.{almanac_invocation, audit_invocation};
+ghost use Rattle.osn_invocation.specs.Invocation.{command_invocation, desk_invocation};
+ghost use Rattle.osn_invocation.specs.Invocation.{invocation_by, invocation_in, model_of};
+ghost use Rattle.osn_invocation.specs.Invocation.{number_of, replay_invocation};
+ghost use Rattle.osn_invocation.specs.Invocation.{serve_invocation, text_of};
+
+use crate::grammar::command_line;
+use clap::{ArgMatches, Error};
+use std::alloc::Global;
+use std::convert::AsStr;
+
+/// The readers of the service where no number is given.
+const READERS: u32 = 8;
+
+/// The options of the service. Files are named by their paths; the readers are 1 to 64.
+#[derive(Clone, Copy, Debug, PartialEq, Eq)]
+pub struct ServeOptions<'a> {
+    /// The journal to begin with, if any.
+    pub journal: Option<&'a str>,
+    /// Where the journal is saved in the end, if anywhere.
+    pub save: Option<&'a str>,
+    /// How many readers ask.
+    pub readers: u32,
+}
+
+/// What a command line asks for. Files are named by their paths.
+#[derive(Clone, Copy, Debug, PartialEq, Eq)]
+pub enum Invocation<'a> {
+    /// To answer request lines.
+    Serve(ServeOptions<'a>),
+    /// To print what each step of a schedule gives. The readers are 1 to 64.
+    Replay {
+        /// How many readers there are.
+        readers: u32,
+        /// The file of the steps.
+        schedule: &'a str,
+    },
+    /// To print what readers are told while an editor works through a script.
+    Desk {
+        /// The file of what the editor does.
+        script: &'a str,
+        /// The file of what the readers ask.
+        questions: &'a str,
+    },
+    /// To print the almanac of a territory and year.
+    Almanac {
+        /// The file of the journal.
+        journal: &'a str,
+        /// The code of the territory.
+        code: &'a str,
+        /// The year, counted from 1 January.
+        year: u32,
+    },
+    /// To hold a transcript against a journal.
+    Audit {
+        /// The file of the journal.
+        journal: &'a str,
+        /// The file of what readers asked and were told.
+        transcript: &'a str,
+    },
+}
+
+/// What the grammar finds in the arguments of a command line.
+fn matches_in<'a, S: AsStr>(alloc: Global, args: &'a [S]) -> Result<ArgMatches<'a>, Error>
+    ensures ok { IfOk result (HasMatches (map S.text args.now)) }
+    ensures err { IfErr result (λ e. takes command_line (map S.text args.now) ≡ true
+        → kind_of e ≡ OutOfMemory) }
+    ensures kinds { FailsBy (fault_of command_line (map S.text args.now)) result }
+{
+    command_line(alloc)?.try_get_matches_from(args)
+}
+
+/// Reads the arguments of a command line, of which the first is the program's name.
+///
+/// # Errors
+///
+/// What is shown to the user in place of a command: help or the version where they were asked for,
+/// a mistake in the arguments, or that memory ran out.
+pub fn parse_args<'a, S: AsStr>(alloc: Global, args: &'a [S]) -> Result<Invocation<'a>, Error>
+    ensures ok { IfOk result (λ found. model_of found ≡ invocation_in (map S.text args.now)) }
+    ensures err { IfErr result (λ e. takes command_line (map S.text args.now) ≡ true
+        → kind_of e ≡ OutOfMemory) }
+    ensures kinds { FailsBy (fault_of command_line (map S.text args.now)) result }
+{
+    let found = matches_in(alloc, args)?;
+    Ok(invocation_of(&found))
+}
+
+/// What was asked for by what was found; of no command, what `serve` asks for.
+fn invocation_of<'a>(found: &ArgMatches<'a>) -> Invocation<'a>
+    ensures { model_of result
+        ≡ invocation_by (rows_of (found_of found.now)) (subcommand_rows_of found.now) }
+{
+    match found.subcommand() {
+        Some((name, given)) => command_of(name, given),
+        None => serve_of(found),
+    }
+}
+
+/// What a command asks for, by its name and the arguments behind it.
+fn command_of<'a>(name: &str, given: &ArgMatches<'a>) -> Invocation<'a>
+    ensures { model_of result ≡ command_invocation name.now (rows_of (found_of given.now)) }
+{
+    match name {
+        "replay" => replay_of(given),
+        "desk" => desk_of(given),
+        "almanac" => almanac_of(given),
+        "audit" => audit_of(given),
+        _ => serve_of(given),
+    }
+}
+
+/// What the options of `serve` ask for; of none, that nothing is named.
+fn serve_of<'a>(given: &ArgMatches<'a>) -> Invocation<'a>
+    ensures { model_of result ≡ serve_invocation (rows_of (found_of given.now)) }
+{
+    Invocation::Serve(ServeOptions {
+        journal: path_of(given, "journal"),
+        save: path_of(given, "save"),
+        readers: number_of(given, "readers", READERS),
+    })
+}
+
+/// What the arguments of `replay` ask for.
+fn replay_of<'a>(given: &ArgMatches<'a>) -> Invocation<'a>
+    ensures { model_of result ≡ replay_invocation (rows_of (found_of given.now)) }
+{
+    Invocation::Replay {
+        readers: number_of(given, "readers", READERS),
+        schedule: text_of(given, "schedule"),
+    }
+}
+
+/// What the arguments of `desk` ask for.
+fn desk_of<'a>(given: &ArgMatches<'a>) -> Invocation<'a>
+    ensures { model_of result ≡ desk_invocation (rows_of (found_of given.now)) }
+{
+    Invocation::Desk {
+        script: text_of(given, "script"),
+        questions: text_of(given, "questions"),
+    }
+}
+
+/// What the arguments of `almanac` ask for.
+fn almanac_of<'a>(given: &ArgMatches<'a>) -> Invocation<'a>
+    ensures { model_of result ≡ almanac_invocation (rows_of (found_of given.now)) }
+{
+    Invocation::Almanac {
+        journal: text_of(given, "journal"),
+        code: text_of(given, "code"),
+        year: number_of(given, "year", 0),
+    }
+}
+
+/// What the arguments of `audit` ask for.
+fn audit_of<'a>(given: &ArgMatches<'a>) -> Invocation<'a>
+    ensures { model_of result ≡ audit_invocation (rows_of (found_of given.now)) }
+{
+    Invocation::Audit {
+        journal: text_of(given, "journal"),
+        transcript: text_of(given, "transcript"),
+    }
+}
+
+/// The path that stands behind an option, if any.
+fn path_of<'a>(given: &ArgMatches<'a>, id: &str) -> Option<&'a str>
+    ensures { option_map (λ path. path.now) result
+        ≡ first_of id.now (rows_of (found_of given.now)) }
+{
+    given.get_str(id)
+}
+
+/// The text of a word that has to stand.
+fn text_of<'a>(given: &ArgMatches<'a>, id: &str) -> &'a str
+    ensures { result.now ≡ text_of id.now (rows_of (found_of given.now)) }
+{
+    given.get_str(id).unwrap_or_default()
+}
+
+/// The number that a word is, or the other one where it doesn't stand.
+fn number_of(given: &ArgMatches<'_>, id: &str, other: u32) -> u32
+    ensures { result ≡ number_of other id.now (rows_of (found_of given.now)) }
+{
+    given.get_one(id).unwrap_or(other)
+}

@@ -1,0 +1,9 @@
+//! What a command line asks for: its grammar, and the command with its files and numbers that stand
+//! in the arguments. What the crate promises to those above: `parse_args` takes what the grammar
+//! takes and answers what that finds in it; an error is of a kind that the grammar gives.
+#![tactic(auto)]
+
+mod grammar;
+mod invocation;
+
+pub use invocation::{Invocation, ServeOptions, parse_args};

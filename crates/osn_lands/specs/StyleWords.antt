@@ -1,0 +1,34 @@
+-- The words of year styles, in a line and in a reply, and which of them the rules have: this
+-- project's profile.
+use Rattle.std.specs.Prelude.{ℕ, Bool, if◌then◌else◌, List, [], ◌∷◌, codes}
+use Rattle.std.specs.Prelude.{Option, Some, None, option_and_then}
+use Rattle.std.specs.List.{list_any}
+use Rattle.std.specs.Str.{bytes_eq}
+use Rattle.osn_days.specs.Keyword.{written_by}
+use Rattle.osn_days.specs.Profile.{Profile}
+use Rattle.osn_lands.specs.declared.style.Style.{Style}
+use Rattle.osn_lands.specs.declared.style.Style.TheVariants.{January, Annunciation, Nativity}
+use Rattle.osn_lands.specs.declared.style.Style.TheVariants.{September, Pisan, Easter}
+
+abbrev pub style_word : Style → List ℕ
+style_word January = codes "january"
+style_word Annunciation = codes "annunciation"
+style_word Nativity = codes "nativity"
+style_word September = codes "september"
+style_word Pisan = codes "pisan"
+style_word Easter = codes "easter"
+
+-- the style that is written by a word, whatever the rules
+abbrev pub style_written : List ℕ → Option Style
+style_written =
+    written_by style_word
+    (January ∷ Annunciation ∷ Nativity ∷ September ∷ Pisan ∷ Easter ∷ [])
+
+-- the rules have the style's word
+abbrev pub has_style : Profile → Style → Bool
+has_style p style = list_any (bytes_eq (style_word style)) p.style_words
+
+-- the style of a word, where the rules have it
+abbrev pub style_named : Profile → List ℕ → Option Style
+style_named p word =
+    option_and_then (λ style. if has_style p style then Some style else None) (style_written word)

@@ -1,0 +1,17 @@
+use Rattle.std.proofs.Common.{◌≡◌, true, drop}
+use Rattle.osn_days.specs.Profile.{newest_rules}
+use Rattle.osn_register.specs.Plain.{applied_all, fold_takes_memory}
+use Rattle.osn_register.proofs.register.Register.apply_all.Given as goal
+
+-- the edits that are left lead to the same territories, and take memory only where all do
+abbrev pub invariant-loop-edit : goal.invariant-loop-edit
+invariant-loop-edit l =
+    record {
+      limits : l.self.limits ≡ l.fn.self.limits;
+      lands : applied_all newest_rules l.fn.self.limits l.self.lands (drop l.edit-index l.edits)
+          ≡ applied_all newest_rules l.fn.self.limits l.fn.self.lands l.edits;
+      memory : fold_takes_memory newest_rules l.fn.self.limits l.self.lands
+          (drop l.edit-index l.edits) ≡
+          true
+          → fold_takes_memory newest_rules l.fn.self.limits l.fn.self.lands l.edits ≡ true;
+    }

@@ -1,5 +1,0 @@
-use Rattle.std.proofs.Common.{rules}
-use Rattle.osn_request.proofs.request.object_of.Goals as goal
-
-pub returns-clause-object : goal.returns-clause-object
-returns-clause-object c = search rules

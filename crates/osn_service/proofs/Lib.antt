@@ -1,0 +1,5 @@
+pub mod WaitLemmas
+pub mod PartLemmas
+pub mod ServeLemmas
+pub mod StopLemmas
+pub mod ClauseLemmas

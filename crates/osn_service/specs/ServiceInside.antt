@@ -1,0 +1,90 @@
+-- What holds while lines are served: the replies that wait to be written, and what stands behind
+-- them.
+use Rattle.std.specs.Prelude.{◌≡◌, ◌≤◌, ◌<◌, ◌+◌, ◌⊎◌, ℕ, nat_le, List, [], ◌∷◌, ◌++◌}
+use Rattle.std.specs.Prelude.{Option, length, take, fold}
+use Rattle.std.specs.List.{count_by}
+use Rattle.std.specs.Io.KnownBytes.{Appends}
+use Rattle.osn_service.specs.declared.waiting.Waiting.{Waiting}
+use Rattle.osn_service.specs.Replies.{replies}
+
+-- with so many bytes what waits is written
+abbrev pub full : ℕ
+full = 65536
+
+-- where each reply ends, the first of which begins at a place
+abbrev pub ends_from : {S : Type 0} → (S → List ℕ → List ℕ) → (S → List ℕ → S) → ℕ → S →
+    List (List ℕ) → List ℕ
+ends_from text after from s [] = []
+ends_from text after from s (line ∷ rest) =
+    (from + length (text s line)) ∷ ends_from text after (from + length (text s line))
+    (after s line) rest
+
+-- no line of these changes anything
+abbrev pub ChangesNothing : {S : Type 0} → (S → List ℕ → S) → S → List (List ℕ) → Type 0
+ChangesNothing after s [] = Unit {0}
+ChangesNothing after s (line ∷ rest) = (after s line ≡ s) × ChangesNothing after s rest
+
+-- no line of these but the first changes anything
+abbrev pub ChangesFirst : {S : Type 0} → (S → List ℕ → S) → S → List (List ℕ) → Type 0
+ChangesFirst after s [] = Unit {0}
+ChangesFirst after s (line ∷ rest) = ChangesNothing after (after s line) rest
+
+-- the lines were answered; the replies to the last of them wait, and of those lines only the first
+-- has changed anything
+pub record Waits {S : Type 0} (text : S → List ℕ → List ℕ) (after : S → List ℕ → S) (begun now : S)
+    (lines : List (List ℕ)) (old new : Option (List ℕ)) (waiting : Waiting) : Type 0 where
+  pub done : List (List ℕ)
+  pub rest : List (List ℕ)
+  pub split : lines ≡ done ++ rest
+  pub written : Appends old new (replies text after begun done)
+  pub texts : waiting.text.items ≡ replies text after (fold after begun done) rest
+  pub places : waiting.ends.items ≡ ends_from text after 0 (fold after begun done) rest
+  pub reached : now ≡ fold after begun lines
+  pub changes : ChangesFirst after (fold after begun done) rest
+
+-- a reply more waits
+pub record Pushes (old new : Waiting) (reply : List ℕ) : Type 0 where
+  pub text : new.text.items ≡ old.text.items ++ reply
+  pub ends : new.ends.items ≡ old.ends.items ++ length new.text.items ∷ []
+
+-- what waited is written, and nothing waits
+pub record Writes (written now : Option (List ℕ)) (old new : Waiting) : Type 0 where
+  pub all : Appends written now old.text.items
+  pub text : new.text.items ≡ []
+  pub ends : new.ends.items ≡ []
+
+-- some bytes of what waited are written, and so many replies of it not whole
+pub record WritesSome (written now : Option (List ℕ)) (waiting : Waiting)
+    (unwritten : ℕ) : Type 0 where
+  pub bytes : ℕ
+  pub within : bytes ≤ length waiting.text.items
+  pub some : Appends written now (take bytes waiting.text.items)
+  pub count : unwritten + count_by (λ end. nat_le end bytes) waiting.ends.items
+      ≡ length waiting.ends.items
+
+-- a reply was added that changes nothing, or what waited was written before it
+abbrev pub Adds : {S : Type 0} → S → S → List ℕ → Option (List ℕ) → Option (List ℕ) → Waiting →
+    Waiting → Type 0
+Adds s u reply written now old new =
+    ((u ≡ s) × (now ≡ written) × Pushes old new reply)
+    ⊎ (Appends written now old.text.items × (new.text.items ≡ reply)
+    × (new.ends.items ≡ length reply ∷ []))
+
+-- nothing was written, or all that waited
+abbrev pub Settles : Option (List ℕ) → Option (List ℕ) → Waiting → Waiting → Type 0
+Settles written now old new =
+    ((now ≡ written) × (new.text.items ≡ old.text.items) × (new.ends.items ≡ old.ends.items))
+    ⊎ Writes written now old new
+
+-- a front of the replies is written, with those to n lines whole and no more, and no line behind
+-- the next has changed anything
+pub record InPart {S : Type 0} (text : S → List ℕ → List ℕ) (after : S → List ℕ → S) (begun now : S)
+    (lines : List (List ℕ)) (old new : Option (List ℕ)) (n : ℕ) : Type 0 where
+  pub bytes : ℕ
+  pub enough : n ≤ length lines
+  pub within : bytes ≤ length (replies text after begun lines)
+  pub written : Appends old new (take bytes (replies text after begun lines))
+  pub whole : length (replies text after begun (take n lines)) ≤ bytes
+  pub no_more : n < length lines → bytes < length (replies text after begun (take (n + 1) lines))
+  pub reached : (now ≡ fold after begun (take n lines))
+      ⊎ ((n < length lines) × (now ≡ fold after begun (take (n + 1) lines)))

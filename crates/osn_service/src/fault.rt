@@ -1,0 +1,21 @@
+//! How answering a stream of lines ends early.
+
+use thiserror::Error;
+
+/// Why not every line was answered. The number of lines beside it counts those whose reply was
+/// written whole.
+#[derive(Clone, Copy, Debug, PartialEq, Eq, Error)]
+pub enum ServeFault {
+    /// Memory ran out. No line behind those was answered.
+    #[error("memory ran out; no further line is answered")]
+    NoMemory,
+    /// The source failed, or gave no end within 4,294,967,295 reads. No line behind those was
+    /// answered.
+    #[error("the input failed; no further line is answered")]
+    ReadFault,
+    /// The sink failed, or did not take a text within 4,294,967,295 writes. The reply to the next
+    /// line may be written in part. That line may have changed the object, and no line behind it
+    /// has.
+    #[error("the output failed; the next line may have been applied")]
+    WriteFault,
+}

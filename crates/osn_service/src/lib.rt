@@ -1,0 +1,13 @@
+//! Bytes in and bytes out: the lines of a stream, a request read from each, and the reply to it as
+//! a JSON line. What the crate promises to those above: `serve` writes the text of each outcome of
+//! the sequential object run on the requests of the lines read, in order, and nothing else.
+#![tactic(auto)]
+
+mod fault;
+mod service;
+mod session;
+mod stop;
+mod waiting;
+
+pub use fault::ServeFault;
+pub use service::{serve, serve_from};

@@ -1,0 +1,217 @@
+//! What answers request lines: an object, and a sink for the replies.
+//!
+//! What waits is written before a line that changes the object, so that of the lines whose replies
+//! wait only the first has changed it.
+ghost use Rattle.std.specs.Prelude.{◌≡◌, ◌<◌, ℕ, List, [], ◌∷◌, length, IfErr, OnOk, OnErr};
+ghost use Rattle.std.specs.Io.KnownBytes.{Appends};
+ghost use Rattle.osn_days.specs.Profile.{newest_rules};
+ghost use Rattle.osn_lines.specs.Faults.{WriteFails};
+ghost use Rattle.osn_lines.specs.Lines.{IsLine};
+ghost use Rattle.osn_reply.specs.ReplyText.{reply_line};
+ghost use Rattle.osn_service.specs.ServiceInside.{full, Pushes, Adds, Settles, WritesSome};
+ghost use Rattle.osn_service.specs.Served.{line_text};
+ghost use Rattle.osn_service.specs.Session as said;
+ghost use Rattle.osn_service.specs.Stop.{MatchStop};
+
+use crate::stop::{Stop, Unfinished};
+use crate::waiting::Waiting;
+use osn_core::Object;
+use osn_lines::{Line, LineTaker, Sink};
+use osn_register::{Edit, Query};
+use osn_reply::Outcome;
+use osn_request::{Request, RequestError, request_of_line};
+use std::alloc::{AllocError, Global};
+
+/// Writes what waits, and then adds the reply to a change, which is made behind it.
+fn write_and_push<W: Sink>(
+    alloc: Global,
+    sink: &mut W,
+    waiting: &mut Waiting,
+    outcome: Outcome,
+) -> Result<(), Stop>
+    ensures ok { OnOk result
+        (Appends (W.contents sink.old) (W.contents sink.new) waiting.old.text.items) }
+    ensures text { OnOk result (waiting.new.text.items ≡ reply_line outcome) }
+    ensures ends { OnOk result (waiting.new.ends.items ≡ length (reply_line outcome) ∷ []) }
+    ensures sound { OnOk result (W.has_failed sink.new ≡ W.has_failed sink.old) }
+    ensures err { IfErr result (λ stop. MatchStop stop
+        (Settles (W.contents sink.old) (W.contents sink.new) waiting.old waiting.new)
+        (WritesSome (W.contents sink.old) (W.contents sink.new) waiting.old)) }
+    ensures reason { IfErr result (λ stop. MatchStop stop
+        (W.has_failed sink.new ≡ W.has_failed sink.old)
+        (λ _. WriteFails (W.has_failed sink.old) (W.has_failed sink.new) waiting.old.text.items)) }
+{
+    waiting.write(sink)?;
+    Ok(waiting.push(alloc, outcome)?)
+}
+
+fn stage<W: Sink>(
+    alloc: Global,
+    object: &mut Object,
+    sink: &mut W,
+    waiting: &mut Waiting,
+    edit: Edit,
+) -> Result<(), Stop>
+    ensures ok { OnOk result (Adds object.old object.new
+        (reply_line (said.stage_outcome newest_rules object.old edit))
+        (W.contents sink.old) (W.contents sink.new) waiting.old waiting.new) }
+    ensures after { OnOk result (object.new ≡ said.stage_after newest_rules object.old edit) }
+    ensures sound { OnOk result (W.has_failed sink.new ≡ W.has_failed sink.old) }
+    ensures err { IfErr result (λ stop. MatchStop stop
+        (Settles (W.contents sink.old) (W.contents sink.new) waiting.old waiting.new)
+        (WritesSome (W.contents sink.old) (W.contents sink.new) waiting.old)) }
+    ensures kept { OnErr result (object.new ≡ object.old) }
+    ensures reason { IfErr result (λ stop. MatchStop stop
+        (W.has_failed sink.new ≡ W.has_failed sink.old)
+        (λ _. WriteFails (W.has_failed sink.old) (W.has_failed sink.new) waiting.old.text.items)) }
+{
+    let pending = match object.check(&edit) {
+        Ok(pending) => pending,
+        Err(refusal) => return Ok(waiting.push(alloc, Outcome::Refused(refusal))?),
+    };
+    write_and_push(alloc, sink, waiting, Outcome::Staged(pending))?;
+    match object.admit(edit) {
+        Ok(_) => Ok(()),
+        Err(_) => {
+            waiting.clear();
+            Err(Stop::NoMemory)
+        }
+    }
+}
+
+fn publish<W: Sink>(
+    alloc: Global,
+    object: &mut Object,
+    sink: &mut W,
+    waiting: &mut Waiting,
+) -> Result<(), Stop>
+    ensures ok { OnOk result (Adds object.old object.new
+        (reply_line (said.publish_outcome object.old))
+        (W.contents sink.old) (W.contents sink.new) waiting.old waiting.new) }
+    ensures after { OnOk result (object.new ≡ said.publish_after object.old) }
+    ensures sound { OnOk result (W.has_failed sink.new ≡ W.has_failed sink.old) }
+    ensures err { IfErr result (λ stop. MatchStop stop
+        (Settles (W.contents sink.old) (W.contents sink.new) waiting.old waiting.new)
+        (WritesSome (W.contents sink.old) (W.contents sink.new) waiting.old)) }
+    ensures kept { OnErr result (object.new ≡ object.old) }
+    ensures reason { IfErr result (λ stop. MatchStop stop
+        (W.has_failed sink.new ≡ W.has_failed sink.old)
+        (λ _. WriteFails (W.has_failed sink.old) (W.has_failed sink.new) waiting.old.text.items)) }
+{
+    let edition = match object.check_publish() {
+        Ok(edition) => edition,
+        Err(refusal) => return Ok(waiting.push(alloc, Outcome::Refused(refusal))?),
+    };
+    write_and_push(alloc, sink, waiting, Outcome::Published(edition))?;
+    match object.make_edition() {
+        Ok(_) => Ok(()),
+        Err(_) => {
+            waiting.clear();
+            Err(Stop::NoMemory)
+        }
+    }
+}
+
+fn ask(
+    alloc: Global,
+    object: &Object,
+    reader: u32,
+    query: &Query,
+    waiting: &mut Waiting,
+) -> Result<(), AllocError>
+    ensures ok { OnOk result (Pushes waiting.old waiting.new
+        (reply_line (said.ask_outcome newest_rules object.now reader query.now))) }
+    ensures err { OnErr result (waiting.new.text.items ≡ waiting.old.text.items) }
+    ensures err_ends { OnErr result (waiting.new.ends.items ≡ waiting.old.ends.items) }
+{
+    let reply = object.ask(query)?;
+    waiting.push(alloc, Outcome::Replied { reader, reply })
+}
+
+/// Answers a line: adds the reply to its request, or to its first fault, which leaves the object. A
+/// stop leaves the object too.
+fn answer<W: Sink>(
+    alloc: Global,
+    readers: u32,
+    object: &mut Object,
+    sink: &mut W,
+    waiting: &mut Waiting,
+    line: Line<'_>,
+) -> Result<(), Stop>
+    ensures ok { OnOk result ((whole : List ℕ) → IsLine line.entry whole →
+        Adds object.old object.new (line_text newest_rules readers object.old whole)
+        (W.contents sink.old) (W.contents sink.new) waiting.old waiting.new) }
+    ensures after { OnOk result ((whole : List ℕ) → IsLine line.entry whole →
+        object.new ≡ said.line_after newest_rules readers object.old whole) }
+    ensures sound { OnOk result (W.has_failed sink.new ≡ W.has_failed sink.old) }
+    ensures err { IfErr result (λ stop. MatchStop stop
+        (Settles (W.contents sink.old) (W.contents sink.new) waiting.old waiting.new)
+        (WritesSome (W.contents sink.old) (W.contents sink.new) waiting.old)) }
+    ensures kept { OnErr result (object.new ≡ object.old) }
+    ensures reason { IfErr result (λ stop. MatchStop stop
+        (W.has_failed sink.new ≡ W.has_failed sink.old)
+        (λ _. WriteFails (W.has_failed sink.old) (W.has_failed sink.new) waiting.old.text.items)) }
+{
+    match request_of_line(alloc, readers, line) {
+        Ok(Request::Stage(edit)) => stage(alloc, object, sink, waiting, edit),
+        Ok(Request::Publish) => publish(alloc, object, sink, waiting),
+        Ok(Request::Ask { reader, query }) => Ok(ask(alloc, object, reader, &query, waiting)?),
+        Err(RequestError::Fault(fault)) => Ok(waiting.push(alloc, Outcome::Fault(fault))?),
+        Err(RequestError::NoMemory) => Err(Stop::NoMemory),
+    }
+}
+
+/// Writes what waits where it is so much that it is to be written, so that less waits then.
+fn make_room<W: Sink>(sink: &mut W, waiting: &mut Waiting) -> Result<(), Unfinished>
+    ensures ok { OnOk result
+        (Settles (W.contents sink.old) (W.contents sink.new) waiting.old waiting.new) }
+    ensures room { OnOk result (length waiting.new.text.items < full) }
+    ensures sound { OnOk result (W.has_failed sink.new ≡ W.has_failed sink.old) }
+    ensures err { IfErr result (λ failed.
+        WritesSome (W.contents sink.old) (W.contents sink.new) waiting.old failed.unwritten) }
+    ensures reason { OnErr result
+        (WriteFails (W.has_failed sink.old) (W.has_failed sink.new) waiting.old.text.items) }
+{
+    if waiting.is_full() {
+        return waiting.write(sink);
+    }
+    Ok(())
+}
+
+/// An object and a sink, with the replies that wait and the number of readers. It owns no memory,
+/// so that what it borrows is known again once it is gone.
+#[derive(Drop)]
+pub(crate) struct Session<'a, W> {
+    pub(crate) alloc: Global,
+    pub(crate) readers: u32,
+    pub(crate) object: &'a mut Object,
+    pub(crate) sink: &'a mut W,
+    pub(crate) waiting: &'a mut Waiting,
+}
+
+impl<'a, W: Sink> LineTaker for Session<'a, W> {
+    ghost use Rattle.osn_service.specs.SessionInside.{Serving, StopsServing};
+
+    type Stop = Stop;
+
+    ghost after = { λ begun lines now. Serving W.contents W.has_failed begun lines now };
+
+    ghost stopped = { λ begun lines _ now why.
+        StopsServing W.contents W.has_failed begun lines now why };
+
+    fn take(&mut self, line: Line<'_>) -> Result<(), Stop> {
+        make_room(self.sink, self.waiting)?;
+        answer(
+            self.alloc,
+            self.readers,
+            self.object,
+            self.sink,
+            self.waiting,
+            line,
+        )
+    }
+
+    fn before_read(&mut self) -> Result<(), Stop> {
+        Ok(self.waiting.write(self.sink)?)
+    }
+}

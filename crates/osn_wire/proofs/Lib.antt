@@ -1,6 +1,0 @@
-pub mod FrontLemmas
-pub mod WaitLemmas
-pub mod PartLemmas
-pub mod ServeLemmas
-pub mod StopLemmas
-pub mod ClauseLemmas

@@ -1,3 +1,0 @@
-pub mod WriteLemmas
-pub mod WeekdayFacts
-pub mod Padded

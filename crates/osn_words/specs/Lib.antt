@@ -1,4 +1,0 @@
-pub mod Words
-pub mod Version
-pub mod Texts
-pub mod Json
