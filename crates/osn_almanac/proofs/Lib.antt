@@ -1,2 +1,2 @@
 pub mod Text
-mod BareFacts
+pub mod TrimmedFacts

@@ -14,9 +14,10 @@ use Rattle.osn_days.specs.declared.calendar.Calendar.TheVariants.{Gregorian}
 use Rattle.osn_days.specs.Profile.{Profile}
 use Rattle.osn_days.specs.Chain.{date_of}
 use Rattle.osn_days.specs.DateText.{text_of_date}
+use Rattle.osn_days.specs.Month.{month_name}
 use Rattle.osn_days.specs.CalendarWords.{calendar_word}
 use Rattle.osn_lands.specs.declared.period.Period.{Period}
-use Rattle.osn_lands.specs.Dual.{dual_text, month_name}
+use Rattle.osn_lands.specs.Dual.{dual_text}
 use Rattle.osn_lands.specs.StyleWords.{style_word}
 use Rattle.osn_register.specs.declared.answer.Answer.{Answer}
 use Rattle.osn_register.specs.declared.answer.Answer.TheVariants as answers
@@ -26,7 +27,7 @@ use Rattle.osn_register.specs.declared.query.Query.TheVariants.{Read, DayIn, Eas
 use Rattle.osn_register.specs.declared.query.Query.TheVariants.{Lands, Periods}
 use Rattle.osn_register.specs.declared.refusal.Refusal.{Refusal}
 use Rattle.osn_register.specs.Answer.{answer, easter_refusal}
-use Rattle.osn_register.specs.Plain.{PlainLand}
+use Rattle.osn_register.specs.Plain.{LandModel}
 use Rattle.osn_almanac.specs.declared.feast.Feast.{Feast}
 use Rattle.osn_almanac.specs.Columns.{day_line, absent_line}
 use Rattle.osn_almanac.specs.Feast.{feast_name, days_after_easter, feasts}
@@ -42,14 +43,18 @@ heading name code year =
     codes "Almanac of "
     ++ (name ++ (codes " (" ++ (code ++ (codes ") for " ++ signed_decimal year))))
 
--- the heading of a listed territory, if it has the code
-unfoldable pub heading_of : List ℕ → ℤ → Land → List (List ℕ)
-heading_of code year land =
-    if bytes_eq land.code code then heading land.name land.code year ∷ [] else []
+-- the name of the territory that has the code, of those that are listed, and no text where none has
+abbrev pub name_among : List ℕ → List Land → List ℕ
+name_among code [] = []
+name_among code (land ∷ rest) =
+    if bytes_eq land.code code then land.name else name_among code rest
+
+abbrev pub name_in : List ℕ → Answer → List ℕ
+name_in code (answers.Lands lands) = name_among code lands
+name_in code other = []
 
 abbrev pub heading_lines : List ℕ → ℤ → Answer → List (List ℕ)
-heading_lines code year (answers.Lands lands) = flat_map (heading_of code year) lands
-heading_lines code year other = []
+heading_lines code year lands = heading (name_in code lands) code year ∷ []
 
 -- ---- the figures
 
@@ -120,15 +125,15 @@ feast_line_of feast (answers.OnDay found period) = day_line (feast_name feast) f
 feast_line_of feast other = absent_line (feast_name feast) (codes "off the line")
 
 -- the line of a feast of a year whose Easter is that day
-unfoldable pub feast_line : Profile → List PlainLand → List ℕ → ℕ → Feast → List ℕ
+unfoldable pub feast_line : Profile → List LandModel → List ℕ → ℕ → Feast → List ℕ
 feast_line p lands code easter feast =
     feast_line_of feast
     (answer p lands (DayIn code (pos easter +ℤ days_after_easter feast)))
 
-unfoldable pub feast_lines : Profile → List PlainLand → List ℕ → Found → List (List ℕ)
+unfoldable pub feast_lines : Profile → List LandModel → List ℕ → Found → List (List ℕ)
 feast_lines p lands code easter = map (feast_line p lands code easter.day) feasts
 
-abbrev pub easter_lines : Profile → List PlainLand → List ℕ → Answer → List (List ℕ)
+abbrev pub easter_lines : Profile → List LandModel → List ℕ → Answer → List (List ℕ)
 easter_lines p lands code (answers.Easters found listed) =
     easter_heading found listed ∷ flat_map (feast_lines p lands code) found
 easter_lines p lands code other = []
@@ -146,7 +151,7 @@ month_lines_of month (answers.Reading (found ∷ more) skipped) =
 month_lines_of month other = absent_line (month_name month) (codes "none") ∷ []
 
 -- the month of the year as the territory counts it
-unfoldable pub month_lines : Profile → List PlainLand → List ℕ → ℤ → ℕ → List (List ℕ)
+unfoldable pub month_lines : Profile → List LandModel → List ℕ → ℤ → ℕ → List (List ℕ)
 month_lines p lands code year month =
     month_lines_of month (answer p lands (Read code year (pos month) (pos 1)))
 
@@ -155,7 +160,7 @@ months = 1 ∷ 2 ∷ 3 ∷ 4 ∷ 5 ∷ 6 ∷ 7 ∷ 8 ∷ 9 ∷ 10 ∷ 11 ∷ 12 
 
 -- ---- the whole
 
-abbrev pub almanac_lines : Profile → List PlainLand → List ℕ → ℤ → List (List ℕ)
+abbrev pub almanac_lines : Profile → List LandModel → List ℕ → ℤ → List (List ℕ)
 almanac_lines p lands code year =
     heading_lines code year (answer p lands Lands)
     ++ (figures_lines (answer p lands (YearFigures year))
@@ -163,9 +168,9 @@ almanac_lines p lands code year =
     ++ (easter_lines p lands code (answer p lands (Easter code year))
     ++ flat_map (month_lines p lands code year) months)))
 
-unfoldable pub almanac : Profile → List PlainLand → List ℕ → ℤ → List ℕ
+unfoldable pub almanac : Profile → List LandModel → List ℕ → ℤ → List ℕ
 almanac p lands code year = lines_text (almanac_lines p lands code year)
 
 -- why there is no almanac: what refuses a query of the territory's Easters
-abbrev pub almanac_refusal : Profile → List PlainLand → List ℕ → ℤ → Option Refusal
+abbrev pub almanac_refusal : Profile → List LandModel → List ℕ → ℤ → Option Refusal
 almanac_refusal = easter_refusal

@@ -1,4 +1,4 @@
 pub mod Columns
 pub mod Feast
 pub mod Almanac
-pub mod Bare
+pub mod Trimmed

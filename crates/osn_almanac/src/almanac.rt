@@ -1,8 +1,8 @@
 ghost use Rattle.std.specs.Prelude.{◌≡◌, None, IfOk, IfErr, OnOk, string_bytes};
 ghost use Rattle.osn_days.specs.Profile.{newest_rules};
 ghost use Rattle.osn_register.specs.Refusal.{IsRefusalOrNoMemory};
-ghost use Rattle.osn_almanac.specs.Almanac as said;
-ghost use Rattle.osn_almanac.specs.Bare.{AreBare};
+ghost use Rattle.osn_almanac.specs.Almanac as spec;
+ghost use Rattle.osn_almanac.specs.Trimmed.{AreTrimmed};
 
 use crate::changes::push_changes;
 use crate::easters::push_easters;
@@ -16,9 +16,14 @@ use std::alloc::{AllocError, Global};
 const ROOM: usize = 2048;
 
 /// The almanac, part by part.
-fn written(alloc: Global, register: &Register, code: &str, year: i64) -> Result<String, AllocError>
+fn text_of_year(
+    alloc: Global,
+    register: &Register,
+    code: &str,
+    year: i64,
+) -> Result<String, AllocError>
     ensures { IfOk result
-        (λ s. string_bytes s ≡ said.almanac newest_rules register.now.lands code.now year) }
+        (λ s. string_bytes s ≡ spec.almanac newest_rules register.now.lands code.now year) }
 {
     let mut text = String::with_capacity(alloc, ROOM)?;
     push_heading(alloc, &mut text, register, code, year)?;
@@ -44,18 +49,18 @@ pub fn almanac_text(
     year: i64,
 ) -> Result<String, Refusal>
     ensures lawful { OnOk result
-        (said.almanac_refusal newest_rules register.now.lands code.now year ≡ None) }
+        (spec.almanac_refusal newest_rules register.now.lands code.now year ≡ None) }
     ensures text { IfOk result
-        (λ s. string_bytes s ≡ said.almanac newest_rules register.now.lands code.now year) }
+        (λ s. string_bytes s ≡ spec.almanac newest_rules register.now.lands code.now year) }
     ensures refused { IfErr result (IsRefusalOrNoMemory
-        (said.almanac_refusal newest_rules register.now.lands code.now year)) }
+        (spec.almanac_refusal newest_rules register.now.lands code.now year)) }
 
     // As a law: no line ends with a space.
-    ensures bare { OnOk result
-        (AreBare (said.almanac_lines newest_rules register.now.lands code.now year)) }
+    ensures trimmed { OnOk result
+        (AreTrimmed (spec.almanac_lines newest_rules register.now.lands code.now year)) }
 {
     register.check_easter(code, year)?;
-    match written(alloc, register, code, year) {
+    match text_of_year(alloc, register, code, year) {
         Ok(text) => Ok(text),
         Err(_) => Err(Refusal::NoMemory),
     }

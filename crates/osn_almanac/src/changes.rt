@@ -3,7 +3,7 @@ ghost use Rattle.std.specs.List.{flat_map};
 ghost use Rattle.osn_days.specs.Profile.{newest_rules};
 ghost use Rattle.osn_register.specs.Answer.{answer};
 ghost use Rattle.osn_register.specs.declared.query.Query.TheVariants.{Periods};
-ghost use Rattle.osn_almanac.specs.Almanac as said;
+ghost use Rattle.osn_almanac.specs.Almanac as spec;
 
 use crate::columns::push_line;
 use osn_days::{Calendar, Day, Keyword, date_of};
@@ -13,7 +13,7 @@ use std::alloc::{AllocError, Global};
 
 /// Whether the period begins with a change, on a day that has a Gregorian date in the year.
 fn is_change_in(year: i64, period: &Period) -> bool
-    ensures { result ≡ said.is_change_in year period.now }
+    ensures { result ≡ spec.is_change_in year period.now }
 {
     period.first > Day::FIRST && i64::from(date_of(Calendar::Gregorian, period.first).year) == year
 }
@@ -28,8 +28,8 @@ fn push_change_text(
     style: &str,
     rule: &str,
 ) -> Result<(), AllocError>
-    ensures { OnOk result (string_bytes out.new ≡ string_bytes out.old ++ said.lines_text
-        (said.change_text dual.now day calendar.now style.now rule.now ∷ [])) }
+    ensures { OnOk result (string_bytes out.new ≡ string_bytes out.old ++ spec.lines_text
+        (spec.change_text dual.now day calendar.now style.now rule.now ∷ [])) }
 {
     let line = format!(in alloc;
         "From {}, day {}: {} calendar, {} style, {} rule",
@@ -42,7 +42,7 @@ fn push_change_text(
 #[tactic(auto, unfolding(crate::specs::Almanac::change_line))]
 fn push_change(alloc: Global, out: &mut String, period: &Period) -> Result<(), AllocError>
     ensures { OnOk result (string_bytes out.new
-        ≡ string_bytes out.old ++ said.lines_text (said.change_line newest_rules period.now ∷ [])) }
+        ≡ string_bytes out.old ++ spec.lines_text (spec.change_line newest_rules period.now ∷ [])) }
 {
     let regime = period.regime;
     let dual = dual_text(alloc, regime, period.first)?;
@@ -66,7 +66,7 @@ fn push_change_of(
     period: &Period,
 ) -> Result<(), AllocError>
     ensures { OnOk result (string_bytes out.new ≡ string_bytes out.old
-        ++ said.lines_text (said.change_of newest_rules year period.now)) }
+        ++ spec.lines_text (spec.change_of newest_rules year period.now)) }
 {
     if is_change_in(year, period) {
         push_change(alloc, out, period)?;
@@ -82,7 +82,7 @@ fn push_changes_among(
     periods: &[Period],
 ) -> Result<(), AllocError>
     ensures { OnOk result (string_bytes out.new ≡ string_bytes out.old
-        ++ said.lines_text (flat_map (said.change_of newest_rules year) periods.now)) }
+        ++ spec.lines_text (flat_map (spec.change_of newest_rules year) periods.now)) }
 {
     for period in periods {
         push_change_of(alloc, out, year, period)?;
@@ -98,7 +98,7 @@ fn push_changes_in(
     periods: &Answer,
 ) -> Result<(), AllocError>
     ensures { OnOk result (string_bytes out.new ≡ string_bytes out.old
-        ++ said.lines_text (said.change_lines newest_rules year periods.now)) }
+        ++ spec.lines_text (spec.change_lines newest_rules year periods.now)) }
 {
     match periods {
         Answer::Periods(periods) => push_changes_among(alloc, out, year, periods.as_slice()),
@@ -114,8 +114,8 @@ pub(crate) fn push_changes(
     code: &str,
     year: i64,
 ) -> Result<(), AllocError>
-    ensures { OnOk result (string_bytes out.new ≡ string_bytes out.old ++ said.lines_text
-        (said.change_lines newest_rules year (answer newest_rules register.now.lands
+    ensures { OnOk result (string_bytes out.new ≡ string_bytes out.old ++ spec.lines_text
+        (spec.change_lines newest_rules year (answer newest_rules register.now.lands
         (Periods code.now)))) }
 {
     let code = Text::from_str(alloc, code)?;

@@ -2,14 +2,18 @@
 //! weekday, as long as `Wednesday`, and 7 for the number of a day, of which the line has no more
 //! digits.
 ghost use Rattle.std.specs.Prelude.{◌≡◌, [], ◌∷◌, ◌++◌, OnOk, string_bytes};
-ghost use Rattle.osn_almanac.specs.Columns as said;
+ghost use Rattle.osn_almanac.specs.Columns as spec;
 ghost use Rattle.osn_almanac.specs.Almanac.{lines_text};
 
 use osn_days::Day;
 use std::alloc::{AllocError, Global};
 
 /// Appends a line and its line feed.
-pub(crate) fn push_line(out: &mut String, line: &str) -> Result<(), AllocError>
+///
+/// # Errors
+///
+/// `AllocError` where there is no memory for them.
+pub fn push_line(out: &mut String, line: &str) -> Result<(), AllocError>
     ensures { OnOk result (string_bytes out.new
         ≡ string_bytes out.old ++ lines_text (line.now ∷ [])) }
 {
@@ -26,7 +30,7 @@ pub(crate) fn push_day(
     date: &str,
 ) -> Result<(), AllocError>
     ensures { OnOk result (string_bytes out.new
-        ≡ string_bytes out.old ++ lines_text (said.day_line name.now day date.now ∷ [])) }
+        ≡ string_bytes out.old ++ lines_text (spec.day_line name.now day date.now ∷ [])) }
 {
     let line = format!(in alloc;
         "{:<13} {:<9} {:>7} {}",
@@ -46,7 +50,7 @@ pub(crate) fn push_absent(
     remark: &str,
 ) -> Result<(), AllocError>
     ensures { OnOk result (string_bytes out.new
-        ≡ string_bytes out.old ++ lines_text (said.absent_line name.now remark.now ∷ [])) }
+        ≡ string_bytes out.old ++ lines_text (spec.absent_line name.now remark.now ∷ [])) }
 {
     let line = format!(in alloc; "{:<13} {}", name, remark)?;
     push_line(out, line.as_str())

@@ -3,7 +3,7 @@ ghost use Rattle.std.specs.List.{flat_map};
 ghost use Rattle.osn_days.specs.Profile.{newest_rules};
 ghost use Rattle.osn_register.specs.Answer.{answer};
 ghost use Rattle.osn_register.specs.declared.query.Query.TheVariants.{Easter};
-ghost use Rattle.osn_almanac.specs.Almanac as said;
+ghost use Rattle.osn_almanac.specs.Almanac as spec;
 ghost use Rattle.osn_almanac.specs.Feast.{days_after_easter};
 
 use crate::columns::{push_absent, push_day, push_line};
@@ -14,7 +14,7 @@ use std::alloc::{AllocError, Global};
 
 /// Whether the territory had an Easter in the year, and by what.
 fn easter_heading(found: &[Found], listed: bool) -> &'static str
-    ensures { result.now ≡ said.easter_heading found.now listed }
+    ensures { result.now ≡ spec.easter_heading found.now listed }
 {
     if found.is_empty() {
         "Easter never"
@@ -33,7 +33,7 @@ fn push_feast_in(
     on_day: &Answer,
 ) -> Result<(), AllocError>
     ensures { OnOk result (string_bytes out.new ≡ string_bytes out.old
-        ++ said.lines_text (said.feast_line_of feast on_day.now ∷ [])) }
+        ++ spec.lines_text (spec.feast_line_of feast on_day.now ∷ [])) }
 {
     match on_day {
         Answer::OnDay { found, .. } => {
@@ -60,8 +60,8 @@ fn push_feast(
     easter: Day,
     feast: Feast,
 ) -> Result<(), AllocError>
-    ensures { OnOk result (string_bytes out.new ≡ string_bytes out.old ++ said.lines_text
-        (said.feast_line newest_rules register.now.lands code.now easter feast ∷ [])) }
+    ensures { OnOk result (string_bytes out.new ≡ string_bytes out.old ++ spec.lines_text
+        (spec.feast_line newest_rules register.now.lands code.now easter feast ∷ [])) }
 {
     let query = Query::DayIn {
         code: Text::from_str(alloc, code)?,
@@ -80,8 +80,8 @@ fn push_feasts(
     easter: Day,
     feasts: &[Feast],
 ) -> Result<(), AllocError>
-    ensures { OnOk result (string_bytes out.new ≡ string_bytes out.old ++ said.lines_text
-        (map (said.feast_line newest_rules register.now.lands code.now easter) feasts.now)) }
+    ensures { OnOk result (string_bytes out.new ≡ string_bytes out.old ++ spec.lines_text
+        (map (spec.feast_line newest_rules register.now.lands code.now easter) feasts.now)) }
 {
     for feast in feasts {
         push_feast(alloc, out, register, code, easter, *feast)?;
@@ -98,8 +98,8 @@ fn push_feasts_of(
     code: &str,
     easter: &Found,
 ) -> Result<(), AllocError>
-    ensures { OnOk result (string_bytes out.new ≡ string_bytes out.old ++ said.lines_text
-        (said.feast_lines newest_rules register.now.lands code.now easter.now)) }
+    ensures { OnOk result (string_bytes out.new ≡ string_bytes out.old ++ spec.lines_text
+        (spec.feast_lines newest_rules register.now.lands code.now easter.now)) }
 {
     push_feasts(alloc, out, register, code, easter.day, &FEASTS)
 }
@@ -112,8 +112,8 @@ fn push_each(
     code: &str,
     easters: &[Found],
 ) -> Result<(), AllocError>
-    ensures { OnOk result (string_bytes out.new ≡ string_bytes out.old ++ said.lines_text
-        (flat_map (said.feast_lines newest_rules register.now.lands code.now) easters.now)) }
+    ensures { OnOk result (string_bytes out.new ≡ string_bytes out.old ++ spec.lines_text
+        (flat_map (spec.feast_lines newest_rules register.now.lands code.now) easters.now)) }
 {
     for easter in easters {
         push_feasts_of(alloc, out, register, code, easter)?;
@@ -129,8 +129,8 @@ fn push_easters_in(
     code: &str,
     easters: &Answer,
 ) -> Result<(), AllocError>
-    ensures { OnOk result (string_bytes out.new ≡ string_bytes out.old ++ said.lines_text
-        (said.easter_lines newest_rules register.now.lands code.now easters.now)) }
+    ensures { OnOk result (string_bytes out.new ≡ string_bytes out.old ++ spec.lines_text
+        (spec.easter_lines newest_rules register.now.lands code.now easters.now)) }
 {
     match easters {
         Answer::Easters { found, listed } => {
@@ -149,8 +149,8 @@ pub(crate) fn push_easters(
     code: &str,
     year: i64,
 ) -> Result<(), AllocError>
-    ensures { OnOk result (string_bytes out.new ≡ string_bytes out.old ++ said.lines_text
-        (said.easter_lines newest_rules register.now.lands code.now
+    ensures { OnOk result (string_bytes out.new ≡ string_bytes out.old ++ spec.lines_text
+        (spec.easter_lines newest_rules register.now.lands code.now
         (answer newest_rules register.now.lands (Easter code.now year)))) }
 {
     let query = Query::Easter {

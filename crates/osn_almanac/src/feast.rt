@@ -1,5 +1,5 @@
 ghost use Rattle.std.specs.Prelude.{◌≡◌};
-ghost use Rattle.osn_almanac.specs.Feast as said;
+ghost use Rattle.osn_almanac.specs.Feast as spec;
 
 /// A feast that is counted from Easter.
 #[derive(Clone, Copy)]
@@ -25,7 +25,7 @@ pub(crate) const FEASTS: [Feast; 6] = [
 impl Feast {
     /// The English name.
     pub(crate) fn name(self) -> &'static str
-        ensures { result.now ≡ said.feast_name self }
+        ensures { result.now ≡ spec.feast_name self }
     {
         match self {
             Feast::Septuagesima => "Septuagesima",
@@ -39,7 +39,7 @@ impl Feast {
 
     /// How many days it is after Easter, and less than none before.
     pub(crate) fn days_after_easter(self) -> i8
-        ensures { result ≡ said.days_after_easter self }
+        ensures { result ≡ spec.days_after_easter self }
     {
         match self {
             Feast::Septuagesima => -63,

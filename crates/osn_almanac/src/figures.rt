@@ -2,7 +2,7 @@ ghost use Rattle.std.specs.Prelude.{◌≡◌, [], ◌∷◌, ◌++◌, OnOk, st
 ghost use Rattle.osn_days.specs.Profile.{newest_rules};
 ghost use Rattle.osn_register.specs.Answer.{answer};
 ghost use Rattle.osn_register.specs.declared.query.Query.TheVariants.{YearFigures};
-ghost use Rattle.osn_almanac.specs.Almanac as said;
+ghost use Rattle.osn_almanac.specs.Almanac as spec;
 
 use crate::columns::push_line;
 use osn_computus::{Epact, Letters, epact_text, letters_text};
@@ -13,7 +13,7 @@ use std::alloc::{AllocError, Global};
 #[tactic(auto, unfolding(crate::specs::Almanac::cycles_line))]
 fn push_cycles(alloc: Global, out: &mut String, golden: u8, indiction: u8) -> Result<(), AllocError>
     ensures { OnOk result (string_bytes out.new
-        ≡ string_bytes out.old ++ said.lines_text (said.cycles_line golden indiction ∷ [])) }
+        ≡ string_bytes out.old ++ spec.lines_text (spec.cycles_line golden indiction ∷ [])) }
 {
     let line = format!(in alloc; "Golden number {}, indiction {}", golden, indiction)?;
     push_line(out, line.as_str())
@@ -28,7 +28,7 @@ fn push_julian(
     letters: Letters,
 ) -> Result<(), AllocError>
     ensures { OnOk result (string_bytes out.new
-        ≡ string_bytes out.old ++ said.lines_text (said.julian_line epact letters ∷ [])) }
+        ≡ string_bytes out.old ++ spec.lines_text (spec.julian_line epact letters ∷ [])) }
 {
     let letters = letters_text(alloc, letters)?;
     let line = format!(in alloc;
@@ -48,7 +48,7 @@ fn push_gregorian(
     letters: Letters,
 ) -> Result<(), AllocError>
     ensures { OnOk result (string_bytes out.new
-        ≡ string_bytes out.old ++ said.lines_text (said.gregorian_line epact letters ∷ [])) }
+        ≡ string_bytes out.old ++ spec.lines_text (spec.gregorian_line epact letters ∷ [])) }
 {
     let epact = epact_text(alloc, epact)?;
     let letters = letters_text(alloc, letters)?;
@@ -63,7 +63,7 @@ fn push_gregorian(
 /// Appends the figures of the year, by what is answered.
 fn push_figures_in(alloc: Global, out: &mut String, figures: &Answer) -> Result<(), AllocError>
     ensures { OnOk result (string_bytes out.new
-        ≡ string_bytes out.old ++ said.lines_text (said.figures_lines figures.now)) }
+        ≡ string_bytes out.old ++ spec.lines_text (spec.figures_lines figures.now)) }
 {
     match figures {
         Answer::Figures {
@@ -90,8 +90,8 @@ pub(crate) fn push_figures(
     register: &Register,
     year: i64,
 ) -> Result<(), AllocError>
-    ensures { OnOk result (string_bytes out.new ≡ string_bytes out.old ++ said.lines_text
-        (said.figures_lines (answer newest_rules register.now.lands (YearFigures year)))) }
+    ensures { OnOk result (string_bytes out.new ≡ string_bytes out.old ++ spec.lines_text
+        (spec.figures_lines (answer newest_rules register.now.lands (YearFigures year)))) }
 {
     let figures = register.answer(&Query::YearFigures { year })?;
     push_figures_in(alloc, out, &figures)

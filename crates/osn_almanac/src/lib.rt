@@ -13,3 +13,5 @@ mod heading;
 mod months;
 
 pub use almanac::almanac_text;
+pub use columns::push_line;
+pub use heading::name_in;

@@ -4,11 +4,10 @@ ghost use Rattle.osn_days.specs.Profile.{newest_rules};
 ghost use Rattle.osn_days.specs.declared.calendar.Calendar.TheVariants.{Gregorian};
 ghost use Rattle.osn_days.specs.Chain as chain;
 ghost use Rattle.osn_days.specs.DateText.{text_of_date};
-ghost use Rattle.osn_almanac.specs.Almanac as said;
+ghost use Rattle.osn_almanac.specs.Almanac as spec;
 
 use crate::columns::{push_absent, push_day};
-use osn_days::{Calendar, Day, date_of, date_text};
-use osn_lands::month_name;
+use osn_days::{Calendar, Day, date_of, date_text, month_name};
 use osn_register::{Answer, Found, Query, Register, Text};
 use std::alloc::{AllocError, Global};
 
@@ -32,7 +31,7 @@ fn push_month_day(
     found: &Found,
 ) -> Result<(), AllocError>
     ensures { OnOk result (string_bytes out.new ≡ string_bytes out.old
-        ++ said.lines_text (said.month_day_line month found.now ∷ [])) }
+        ++ spec.lines_text (spec.month_day_line month found.now ∷ [])) }
 {
     let date = gregorian_text(alloc, found.day)?;
     push_day(alloc, out, month_name(month), found.day, date.as_str())
@@ -41,7 +40,7 @@ fn push_month_day(
 /// Appends the line of each day that is the first of the month.
 fn push_days(alloc: Global, out: &mut String, month: u8, days: &[Found]) -> Result<(), AllocError>
     ensures { OnOk result (string_bytes out.new ≡ string_bytes out.old
-        ++ said.lines_text (map (said.month_day_line month) days.now)) }
+        ++ spec.lines_text (map (spec.month_day_line month) days.now)) }
 {
     for found in days {
         push_month_day(alloc, out, month, found)?;
@@ -57,7 +56,7 @@ fn push_month_in(
     reading: &Answer,
 ) -> Result<(), AllocError>
     ensures { OnOk result (string_bytes out.new ≡ string_bytes out.old
-        ++ said.lines_text (said.month_lines_of month reading.now)) }
+        ++ spec.lines_text (spec.month_lines_of month reading.now)) }
 {
     match reading {
         Answer::Reading { found, .. } if !found.as_slice().is_empty() => {
@@ -77,8 +76,8 @@ fn push_month(
     year: i64,
     month: u8,
 ) -> Result<(), AllocError>
-    ensures { OnOk result (string_bytes out.new ≡ string_bytes out.old ++ said.lines_text
-        (said.month_lines newest_rules register.now.lands code.now year month)) }
+    ensures { OnOk result (string_bytes out.new ≡ string_bytes out.old ++ spec.lines_text
+        (spec.month_lines newest_rules register.now.lands code.now year month)) }
 {
     let query = Query::Read {
         code: Text::from_str(alloc, code)?,
@@ -99,8 +98,8 @@ fn push_each(
     year: i64,
     months: &[u8],
 ) -> Result<(), AllocError>
-    ensures { OnOk result (string_bytes out.new ≡ string_bytes out.old ++ said.lines_text
-        (flat_map (said.month_lines newest_rules register.now.lands code.now year) months.now)) }
+    ensures { OnOk result (string_bytes out.new ≡ string_bytes out.old ++ spec.lines_text
+        (flat_map (spec.month_lines newest_rules register.now.lands code.now year) months.now)) }
 {
     for month in months {
         push_month(alloc, out, register, code, year, *month)?;
@@ -116,8 +115,8 @@ pub(crate) fn push_months(
     code: &str,
     year: i64,
 ) -> Result<(), AllocError>
-    ensures { OnOk result (string_bytes out.new ≡ string_bytes out.old ++ said.lines_text
-        (flat_map (said.month_lines newest_rules register.now.lands code.now year) said.months)) }
+    ensures { OnOk result (string_bytes out.new ≡ string_bytes out.old ++ spec.lines_text
+        (flat_map (spec.month_lines newest_rules register.now.lands code.now year) spec.months)) }
 {
     push_each(alloc, out, register, code, year, &MONTHS)
 }

@@ -6,7 +6,7 @@ use Rattle.std.proofs.lemmas.List.{drop_more, drop-take, take-take, take-append-
 use Rattle.osn_days.specs.Profile.{newest_rules}
 use Rattle.osn_register.specs.declared.edit.Edit.{Edit}
 use Rattle.osn_register.specs.declared.limits.Limits.{Limits}
-use Rattle.osn_register.specs.Plain.{PlainLand, applied_all}
+use Rattle.osn_register.specs.Plain.{LandModel, applied_all}
 use Rattle.osn_core.specs.Sequential.{joined}
 use Rattle.osn_core.proofs.Lawful.{applied_all-append}
 
@@ -16,7 +16,7 @@ pub left_from : {A : Type 0} (xs : List A) (i : ℕ) (x : A) → i < length xs �
 left_from xs i x within is = drop_more xs i x within ∙ ap (λ y. y ∷ drop (i + 1) xs) (sym is)
 
 -- one batch more is applied
-pub batch_more : (limits now : Limits) (old new all : List PlainLand) (bs : List (List Edit))
+pub batch_more : (limits now : Limits) (old new all : List LandModel) (bs : List (List Edit))
     (i : ℕ) (b : List Edit) → i < length bs → b ≡ get_or bs i b → now ≡ limits
     → new ≡ applied_all newest_rules now old b
     → applied_all newest_rules limits old (joined (drop i bs)) ≡ all
@@ -45,7 +45,7 @@ parts bs from to order =
 
 -- a register of the first batches, to which those between are applied, is that of more batches
 pub lands_on : (limits : Limits) (bs : List (List Edit)) (from to : ℕ)
-    (old new : List PlainLand) → from ≤ to
+    (old new : List LandModel) → from ≤ to
     → old ≡ applied_all newest_rules limits [] (joined (take from bs))
     → new ≡ applied_all newest_rules limits old (joined (slice_range bs from to))
     → new ≡ applied_all newest_rules limits [] (joined (take to bs))

@@ -16,7 +16,7 @@ use Rattle.osn_request.specs.QueryRequest.{query_of, query_by, reader_in}
 use Rattle.osn_request.specs.Op.{op_of}
 use Rattle.osn_request.specs.Request.{object_of}
 use Rattle.osn_files.specs.Questions.{most_readers, question_by, question_in}
-use Rattle.osn_audit.specs.Audit.{Entry, object_at, edition_of, entry_in}
+use Rattle.osn_audit.specs.Audit.{TranscriptLine, object_at, edition_of, entry_in}
 use Rattle.osn_audit.specs.Law.{entry_of}
 
 abbrev Counted : ℕ → Result (ℕ × Query) WireFault → Type 0
@@ -50,11 +50,11 @@ question_counted d (Ok ops.Publish) = tt
 question_counted d (Ok (ops.Query op)) = counted most_readers op d
 
 -- the reader of an entry is one of those that a transcript knows
-abbrev pub CountedEntry : Result Entry WireFault → Type 0
+abbrev pub CountedEntry : Result TranscriptLine WireFault → Type 0
 CountedEntry (Ok e) = (0 < e.reader) × (e.reader ≤ most_readers)
 CountedEntry (Err f) = Unit {0}
 
-abbrev entry_by : ℕ × Query → Data → Result ℕ WireFault → Result Entry WireFault
+abbrev entry_by : ℕ × Query → Data → Result ℕ WireFault → Result TranscriptLine WireFault
 entry_by asked reply edition = edition >>= λ k.
     Ok (record { reader = asked.0; query = asked.1; edition = k; reply = reply })
 

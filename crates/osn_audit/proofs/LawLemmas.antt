@@ -25,20 +25,21 @@ use Rattle.osn_reply.specs.ReplyText.{line_of}
 use Rattle.osn_files.specs.Journal.{load}
 use Rattle.osn_files.specs.declared.fault.LineFault.{LineFault}
 use Rattle.osn_files.specs.Turns.{on_read, go_on, in_turn}
-use Rattle.osn_audit.specs.Audit.{Entry, line_due, has_line, last_of, after_entry, entry_in}
+use Rattle.osn_audit.specs.Audit.{TranscriptLine, line_due, has_line, last_of, after_entry}
+use Rattle.osn_audit.specs.Audit.{entry_in}
 use Rattle.osn_audit.specs.Audit.{after_object, after_lines, no_replies, counted, agreed_lines}
 use Rattle.osn_audit.specs.Law.{Agrees, entry_of, IsAnswered, edition_told, editions_told}
 use Rattle.osn_audit.proofs.EntryLemmas.{CountedEntry, entry_counted}
 
 -- what an entry that agrees shows
-record Holds (p : Profile) (s : ObjectState) (last : List ℕ) (e : Entry) (next : List ℕ) :
+record Holds (p : Profile) (s : ObjectState) (last : List ℕ) (e : TranscriptLine) (next : List ℕ) :
     Type 0 where
   there : e.edition ≤ length s.batches
   forward : last_of last e.reader ≤ e.edition
   agrees : has_line e.reply (line_due p s e) ≡ true
   next_is : set last (e.reader - 1) e.edition ≡ next
 
-Holds-by : (p : Profile) (s : ObjectState) (last : List ℕ) (e : Entry) (next : List ℕ)
+Holds-by : (p : Profile) (s : ObjectState) (last : List ℕ) (e : TranscriptLine) (next : List ℕ)
     (a b c : Bool) → nat_lt (length s.batches) e.edition ≡ a
     → nat_lt e.edition (last_of last e.reader) ≡ b → has_line e.reply (line_due p s e) ≡ c
     → ((if a then Err UnknownEdition else (if b then Err EditionFell else Ok e.edition))
@@ -55,7 +56,7 @@ Holds-by p s last e next false false true there forward agrees h = record {
   next_is = cc;
 }
 
-Holds-entry : (p : Profile) (s : ObjectState) (last : List ℕ) (e : Entry) (next : List ℕ)
+Holds-entry : (p : Profile) (s : ObjectState) (last : List ℕ) (e : TranscriptLine) (next : List ℕ)
     → after_entry p s last e ≡ Ok next → Holds p s last e next
 Holds-entry p s last e next h = Holds-by p s last e next _ _ _ refl refl refl h
 
@@ -92,7 +93,7 @@ Follows p s last ls =
     × ((reader : ℕ) → NeverFalls (last_of last reader) (editions_told reader ls))
 
 -- a reader's editions don't fall by an entry
-forward_by : (reader : ℕ) (last : List ℕ) (e : Entry) (rest : List ℕ) (b : Bool)
+forward_by : (reader : ℕ) (last : List ℕ) (e : TranscriptLine) (rest : List ℕ) (b : Bool)
     → (e.reader == reader) ≡ b → e.reader - 1 < length last
     → last_of last e.reader ≤ e.edition
     → NeverFalls (last_of (set last (e.reader - 1) e.edition) reader) rest
@@ -111,7 +112,7 @@ forward_by reader last e rest false is within order h =
 
 -- an entry that agrees, and what follows it
 with_entry : (p : Profile) (s : ObjectState) (last next line : List ℕ) (ls : List (List ℕ))
-    (e : Entry) → length last ≡ 64 → entry_of line ≡ Ok e → Holds p s last e next
+    (e : TranscriptLine) → length last ≡ 64 → entry_of line ≡ Ok e → Holds p s last e next
     → Follows p s next ls → Follows p s last (line ∷ ls)
 with_entry p s last next line ls e count says holds rest =
     let known = subst CountedEntry says (entry_counted line) in
@@ -149,7 +150,7 @@ entry_made p s last (Ok d) = refl
 entry_made p s last (Err f) = refl
 
 by_next : (p : Profile) (s : ObjectState) (k : ℕ) (last final line : List ℕ) (ls : List (List ℕ))
-    (e : Entry) → length last ≡ 64 → entry_of line ≡ Ok e
+    (e : TranscriptLine) → length last ≡ 64 → entry_of line ≡ Ok e
     → ((next : List ℕ) → length next ≡ 64
     → agree_from p s (k + 1) next ls ≡ Ok final → Follows p s next ls)
     → (r : Result (List ℕ) WireFault) → after_entry p s last e ≡ r
@@ -166,7 +167,7 @@ by_entry : (p : Profile) (s : ObjectState) (k : ℕ) (last final line : List ℕ
     → length last ≡ 64
     → ((next : List ℕ) → length next ≡ 64
     → agree_from p s (k + 1) next ls ≡ Ok final → Follows p s next ls)
-    → (r : Result Entry WireFault) → entry_of line ≡ r
+    → (r : Result TranscriptLine WireFault) → entry_of line ≡ r
     → go_on k (on_read (r >>= after_entry p s last) Ok) (λ t. agree_from p s (k + 1) t ls)
     ≡ Ok final
     → Follows p s last (line ∷ ls)

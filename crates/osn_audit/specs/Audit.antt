@@ -8,7 +8,6 @@ use Rattle.serde_json.specs.Data.{Data}
 use Rattle.serde_json.specs.Find.{get, as_object}
 use Rattle.serde_json.specs.Written.{has_float}
 use Rattle.osn_days.specs.Profile.{Profile}
-use Rattle.osn_register.specs.declared.limits.Limits.{Limits}
 use Rattle.osn_register.specs.declared.query.Query.{Query}
 use Rattle.osn_core.specs.Sequential.{ObjectState, reply_at}
 use Rattle.osn_format.specs.declared.member.Member.{Member}
@@ -21,16 +20,13 @@ use Rattle.osn_format.specs.Member.{member_name}
 use Rattle.osn_format.specs.declared.version.Version.{Version}
 use Rattle.osn_format.specs.Version.{newest_version}
 use Rattle.osn_files.specs.declared.fault.LineFault.{LineFault}
-use Rattle.osn_files.specs.declared.fault.Role.{Role}
-use Rattle.osn_files.specs.declared.fault.Role.TheVariants.{Journal, Transcript}
-use Rattle.osn_files.specs.Journal.{load}
 use Rattle.osn_files.specs.Questions.{most_readers, question_in}
 use Rattle.osn_files.specs.Turns.{on_read, in_turn}
 use Rattle.osn_reply.specs.declared.outcome.Outcome.TheVariants.{Replied}
 use Rattle.osn_reply.specs.ReplyText.{line_of, reply_line}
 
 -- what a line of a transcript says: who asked what, the edition that the reply names, and the reply
-pub record Entry : Type 0 where
+pub record TranscriptLine : Type 0 where
   pub reader : ℕ
   pub query : Query
   pub edition : ℕ
@@ -53,7 +49,7 @@ abbrev pub edition_of : Data → Result ℕ WireFault
 edition_of reply = whole_at Edition reply >>= edition_in
 
 -- what the object of a line says
-unfoldable pub entry_in : Data → Result Entry WireFault
+unfoldable pub entry_in : Data → Result TranscriptLine WireFault
 entry_in d = do
   ask ← object_at Ask d
   asked ← question_in ask
@@ -68,7 +64,7 @@ known_edition editions last edition =
     else (if nat_lt edition last then Err EditionFell else Ok edition)
 
 -- the line of the reply to the query under the edition
-abbrev pub line_due : Profile → ObjectState → Entry → List ℕ
+abbrev pub line_due : Profile → ObjectState → TranscriptLine → List ℕ
 line_due p s e = reply_line
     (Replied e.reader (reply_at p s.limits (take e.edition s.batches) e.query))
 
@@ -85,7 +81,7 @@ abbrev pub last_of : List ℕ → ℕ → ℕ
 last_of last reader = slice_index last (reader - 1)
 
 -- the editions of the readers' last replies, with that of an entry, or why it is refused
-abbrev pub after_entry : Profile → ObjectState → List ℕ → Entry → Result (List ℕ) WireFault
+abbrev pub after_entry : Profile → ObjectState → List ℕ → TranscriptLine → Result (List ℕ) WireFault
 after_entry p s last e =
     known_edition (length s.batches) (last_of last e.reader) e.edition
     >>= λ edition. agreed e.reply (line_due p s e)
@@ -112,18 +108,3 @@ counted n (Err f) = Err f
 -- how many lines of a transcript agree, which is all of them, or the first fault
 abbrev pub agreed_lines : Profile → ObjectState → List (List ℕ) → Result ℕ (ℕ × LineFault)
 agreed_lines p s transcript = counted (length transcript) (after_lines p s transcript)
-
-abbrev pub in_transcript : Result ℕ (ℕ × LineFault) → Result ℕ (Role × ℕ × LineFault)
-in_transcript (Ok n) = Ok n
-in_transcript (Err f) = Err (Transcript, f.0, f.1)
-
-abbrev pub audited : Profile → List (List ℕ) → Result ObjectState (ℕ × LineFault)
-    → Result ℕ (Role × ℕ × LineFault)
-audited p transcript (Ok s) = in_transcript (agreed_lines p s transcript)
-audited p transcript (Err f) = Err (Journal, f.0, f.1)
-
--- how many lines agree, which is all of them; or the first fault, with the file and the number of
--- its line
-abbrev pub audit : Profile → Limits → List (List ℕ) → List (List ℕ)
-    → Result ℕ (Role × ℕ × LineFault)
-audit p limits journal transcript = audited p transcript (load p limits journal)

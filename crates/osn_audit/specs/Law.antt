@@ -11,23 +11,23 @@ use Rattle.osn_format.specs.declared.wire_fault.WireFault.{WireFault}
 use Rattle.osn_request.specs.Field.{◌>>=◌}
 use Rattle.osn_request.specs.Request.{object_of}
 use Rattle.osn_reply.specs.ReplyText.{line_of}
-use Rattle.osn_audit.specs.Audit.{Entry, entry_in, line_due}
+use Rattle.osn_audit.specs.Audit.{TranscriptLine, entry_in, line_due}
 
 -- what a line of a transcript says
-abbrev pub entry_of : List ℕ → Result Entry WireFault
+abbrev pub entry_of : List ℕ → Result TranscriptLine WireFault
 entry_of line = object_of line >>= entry_in
 
 -- a line is a query with a reply, and the reply, written with no space, is the line of the object's
 -- reply to the query after the first batches, as many as the edition that it names
 pub record IsAnswered (p : Profile) (s : ObjectState) (line : List ℕ) : Type 0 where
-  pub entry : Entry
+  pub entry : TranscriptLine
   pub says : entry_of line ≡ Ok entry
   pub there : entry.edition ≤ length s.batches
   pub no_float : has_float entry.reply ≡ false
   pub reply : line_of entry.reply ≡ line_due p s entry
 
 -- the editions that a reader is told in the lines, in order
-abbrev pub edition_told : ℕ → Result Entry WireFault → List ℕ
+abbrev pub edition_told : ℕ → Result TranscriptLine WireFault → List ℕ
 edition_told reader (Ok e) = if e.reader == reader then e.edition ∷ [] else []
 edition_told reader (Err f) = []
 

@@ -1,7 +1,6 @@
 pub mod Audit
 pub mod Law
 pub mod Files
-pub mod Reasons
 pub mod Standing
 pub mod Inside
 pub mod InsideFollower

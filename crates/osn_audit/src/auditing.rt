@@ -4,12 +4,12 @@ ghost use Rattle.std.specs.Prelude.{length, slice_set};
 ghost use Rattle.serde_json.specs.View.{view};
 ghost use Rattle.osn_days.specs.Profile.{newest_rules};
 ghost use Rattle.osn_request.specs.Request.{Fails};
-ghost use Rattle.osn_audit.specs.Audit as said;
+ghost use Rattle.osn_audit.specs.Audit as spec;
 ghost use Rattle.osn_audit.specs.Inside.{entry_shown};
 
-use crate::entry::{Entry, entry_in};
 use crate::float::has_float;
 use crate::followers::Followers;
+use crate::transcript_line::{TranscriptLine, entry_in};
 use osn_core::MOST_READERS;
 use osn_files::{LineFold, LineStop};
 use osn_format::{Version, WireFault};
@@ -20,7 +20,7 @@ use std::alloc::{AllocError, Global};
 
 /// Whether a reply, written with no space, has this line.
 fn has_line(alloc: Global, reply: &Value, line: &[u8]) -> Result<bool, AllocError>
-    ensures { IfOk result (λ b. b ≡ said.has_line (view reply.now) line.now) }
+    ensures { IfOk result (λ b. b ≡ spec.has_line (view reply.now) line.now) }
 {
     if has_float(reply) {
         return Ok(false);
@@ -31,14 +31,18 @@ fn has_line(alloc: Global, reply: &Value, line: &[u8]) -> Result<bool, AllocErro
 }
 
 /// The line of the reply that an entry should have. Its edition is the reader's last one then.
-fn line_due(alloc: Global, followers: &mut Followers, entry: &Entry) -> Result<Vec<u8>, AllocError>
+fn line_due(
+    alloc: Global,
+    followers: &mut Followers,
+    entry: &TranscriptLine,
+) -> Result<Vec<u8>, AllocError>
     requires counted { 0 < entry.now.reader }
     requires known { entry.now.reader ≤ MOST_READERS }
-    requires edition { said.known_edition (length followers.old.object.batches)
-        (said.last_of followers.old.last entry.now.reader) entry.now.edition
+    requires edition { spec.known_edition (length followers.old.object.batches)
+        (spec.last_of followers.old.last entry.now.reader) entry.now.edition
         ≡ Ok entry.now.edition }
     ensures line { IfOk result (λ line. line.items
-        ≡ said.line_due newest_rules followers.old.object (entry_shown entry.now)) }
+        ≡ spec.line_due newest_rules followers.old.object (entry_shown entry.now)) }
     ensures last { OnOk result (followers.new.last
         ≡ slice_set followers.old.last (entry.now.reader - 1) entry.now.edition) }
     ensures object { followers.new.object ≡ followers.old.object }
@@ -54,12 +58,16 @@ fn line_due(alloc: Global, followers: &mut Followers, entry: &Entry) -> Result<V
 }
 
 /// Holds an entry against the journal.
-fn take_entry(alloc: Global, followers: &mut Followers, entry: &Entry) -> Result<(), RequestError>
+fn take_entry(
+    alloc: Global,
+    followers: &mut Followers,
+    entry: &TranscriptLine,
+) -> Result<(), RequestError>
     requires counted { 0 < entry.now.reader }
     requires known { entry.now.reader ≤ MOST_READERS }
-    ensures ok { OnOk result (said.after_entry newest_rules followers.old.object followers.old.last
+    ensures ok { OnOk result (spec.after_entry newest_rules followers.old.object followers.old.last
         (entry_shown entry.now) ≡ Ok followers.new.last) }
-    ensures err { IfErr result (λ e. Fails e (said.after_entry newest_rules followers.old.object
+    ensures err { IfErr result (λ e. Fails e (spec.after_entry newest_rules followers.old.object
         followers.old.last (entry_shown entry.now))) }
     ensures object { OnOk result (followers.new.object ≡ followers.old.object) }
 {

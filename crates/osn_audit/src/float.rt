@@ -1,14 +1,14 @@
 //! Whether a JSON value has a number that is read as a float.
 ghost use Rattle.std.specs.Prelude.{◌≡◌};
 ghost use Rattle.serde_json.specs.View.{view, items_view, members_view};
-ghost use Rattle.serde_json.specs.Written as said;
+ghost use Rattle.serde_json.specs.Written as spec;
 
 use serde_json::{Map, Value};
 
 /// Whether a value has a number that is read as a float, however deep.
 #[cycle(has_float)]
 pub(crate) fn has_float(value: &Value) -> bool
-    ensures { result ≡ said.has_float (view value.now) }
+    ensures { result ≡ spec.has_float (view value.now) }
 {
     match value {
         Value::Null | Value::Bool(_) | Value::String(_) => false,
@@ -20,7 +20,7 @@ pub(crate) fn has_float(value: &Value) -> bool
 
 #[cycle(has_float)]
 fn items_have_float(items: &Vec<Value>) -> bool
-    ensures { result ≡ said.items_have_float (items_view items.now.items) }
+    ensures { result ≡ spec.items_have_float (items_view items.now.items) }
 {
     for item in items {
         if has_float(item) {
@@ -32,7 +32,7 @@ fn items_have_float(items: &Vec<Value>) -> bool
 
 #[cycle(has_float)]
 fn members_have_float(members: &Map<String, Value>) -> bool
-    ensures { result ≡ said.members_have_float (members_view members.now.entries) }
+    ensures { result ≡ spec.members_have_float (members_view members.now.entries) }
 {
     for (_, member) in members.iter() {
         if has_float(member) {

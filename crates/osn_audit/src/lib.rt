@@ -4,10 +4,10 @@
 #![tactic(auto)]
 
 mod auditing;
-mod entry;
 mod float;
 mod follower;
 mod followers;
 mod transcript;
+mod transcript_line;
 
 pub use transcript::audit;

@@ -6,7 +6,7 @@ ghost use Rattle.osn_lines.specs.Lines.{lines};
 ghost use Rattle.osn_files.specs.Files.{ReadsFile};
 ghost use Rattle.osn_files.specs.Journal.{load};
 ghost use Rattle.osn_files.specs.declared.fault.Role.TheVariants.{Transcript};
-ghost use Rattle.osn_audit.specs.Audit as said;
+ghost use Rattle.osn_audit.specs.Audit as spec;
 ghost use Rattle.osn_audit.specs.Files.{AuditsFiles};
 ghost use Rattle.osn_audit.specs.Law.{Agrees};
 
@@ -24,7 +24,7 @@ fn audit_lines<S: Source>(
     object: Object,
     transcript: &mut S,
 ) -> Result<u64, FileFault>
-    ensures { ReadsFile Transcript (said.agreed_lines newest_rules object) (λ n. n) result
+    ensures { ReadsFile Transcript (spec.agreed_lines newest_rules object) (λ n. n) result
         S.remaining S.has_failed transcript.old transcript.new }
 {
     let Ok(followers) = Followers::new(alloc, object) else {

@@ -1,4 +1,4 @@
-pub mod TellLemmas
+pub mod ReportLemmas
 pub mod FileLemmas
 pub mod PrintLemmas
 pub mod LineLemmas

@@ -2,7 +2,7 @@
 use Rattle.std.proofs.Common.{◌≡◌, ◌≤◌, ◌⊎◌, ℕ, Bool, true, List, Option, Some, None, Result, Ok}
 use Rattle.std.proofs.Common.{Err, IfOk, IfErr, length, take, sym, subst, inl, inr}
 use Rattle.std.specs.Io.KnownBytes.{Appends}
-use Rattle.osn_commands.proofs.TellLemmas.{write_is_no_refusal}
+use Rattle.osn_commands.proofs.ReportLemmas.{write_is_no_refusal}
 use Rattle.osn_lines.specs.Faults.{IsWriteFault}
 use Rattle.osn_commands.specs.Printing.{Prints, EndsPrinting}
 use Rattle.osn_commands.specs.Streams.{Output}

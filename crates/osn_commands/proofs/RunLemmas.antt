@@ -1,5 +1,5 @@
 -- A run of the program did what its contract says of that.
-use Rattle.std.proofs.Common.{◌≡◌, ◌≢◌, ◌⊎◌, ◌&&◌, ℕ, Bool, true, false, List, Option, Some, None}
+use Rattle.std.proofs.Common.{◌≡◌, ◌≢◌, ◌⊎◌, ◌&&◌, ℕ, Bool, false, List, Option, Some, None}
 use Rattle.std.proofs.Common.{IfSome, is_some, option_map, ap, refl, sym, subst, inl, inr}
 use Rattle.std.specs.Option.{option_map_or}
 use Rattle.clap.specs.Words.{HasKind, fault_of, kind_of}

@@ -1,7 +1,7 @@
 -- The almanac that a command prints, and why there is none.
 use Rattle.std.specs.Prelude.{◌≡◌, ◌⊎◌, ℕ, ℤ, List, None}
 use Rattle.osn_days.specs.Profile.{Profile}
-use Rattle.osn_register.specs.Plain.{PlainLand}
+use Rattle.osn_register.specs.Plain.{LandModel}
 use Rattle.osn_register.specs.declared.limits.Limits.{Limits}
 use Rattle.osn_core.specs.Sequential.{ObjectState, lands_of}
 use Rattle.osn_files.specs.Journal.{load}
@@ -15,11 +15,11 @@ use Rattle.osn_commands.specs.Streams.{Input, Output}
 use Rattle.osn_commands.specs.declared.status.Status.{Status}
 
 -- the territories that an object has published
-abbrev pub published : Profile → ObjectState → List PlainLand
+abbrev pub published : Profile → ObjectState → List LandModel
 published p s = lands_of p s.limits s.batches
 
 -- the text is the almanac of these territories
-abbrev pub IsAlmanacOf : Profile → List PlainLand → List ℕ → ℤ → List ℕ → Type 0
+abbrev pub IsAlmanacOf : Profile → List LandModel → List ℕ → ℤ → List ℕ → Type 0
 IsAlmanacOf p lands code year text =
     (almanac_refusal p lands code year ≡ None) × (text ≡ almanac p lands code year)
 

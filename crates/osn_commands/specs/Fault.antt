@@ -19,7 +19,9 @@ use Rattle.osn_service.specs.declared.fault.ServeFault.TheVariants as serve_faul
 use Rattle.osn_commands.specs.declared.fault.CommandFault.{CommandFault}
 use Rattle.osn_commands.specs.declared.fault.CommandFault.TheVariants.{BadLine, Refused, Desk}
 use Rattle.osn_commands.specs.declared.fault.CommandFault.TheVariants.{ReadFault, WriteFault}
-use Rattle.osn_commands.specs.declared.fault.CommandFault.TheVariants.{NoMemory}
+use Rattle.osn_commands.specs.declared.fault.CommandFault.TheVariants.{NoMemory, Misused}
+use Rattle.osn_commands.specs.declared.fault.Misuse.{Misuse}
+use Rattle.osn_commands.specs.declared.fault.Misuse.TheVariants.{Date, Weekday}
 use Rattle.osn_commands.specs.declared.status.Status.{Status}
 use Rattle.osn_commands.specs.declared.status.Status.TheVariants as statuses
 
@@ -28,6 +30,7 @@ abbrev pub fault_status : CommandFault → Status
 fault_status (BadLine role line why) = statuses.Refused
 fault_status (Refused refusal) = statuses.Refused
 fault_status (Desk fault) = statuses.Refused
+fault_status (Misused misuse) = statuses.Misused
 fault_status ReadFault = statuses.ReadFault
 fault_status WriteFault = statuses.WriteFault
 fault_status NoMemory = statuses.NoMemory
@@ -43,6 +46,13 @@ role_name Transcript = codes "transcript"
 abbrev pub refusal_end : ℕ → List ℕ → List ℕ
 refusal_end number name = decimal number ++ (codes " " ++ (name ++ codes "\n"))
 
+-- what an argument is not, and what to write
+abbrev pub misuse_line : Misuse → List ℕ
+misuse_line Date = codes
+    "oldstyle: DATE is no date: write 1731-02-11, \"11 February 1731\" or \"11 February 1731/2\"\n"
+misuse_line Weekday = codes
+    "oldstyle: DAY is no weekday: write its English name, as Friday\n"
+
 -- the line on standard error
 abbrev pub fault_line : CommandFault → List ℕ
 fault_line (BadLine role line why) =
@@ -52,6 +62,7 @@ fault_line (Refused refusal) =
     codes "oldstyle: " ++ refusal_end (refusal_number refusal) (refusal_name refusal)
 fault_line (Desk fault) =
     codes "oldstyle: " ++ refusal_end (desk_fault_number fault) (desk_fault_name fault)
+fault_line (Misused misuse) = misuse_line misuse
 fault_line ReadFault = codes "oldstyle: read fault\n"
 fault_line WriteFault = codes "oldstyle: write fault\n"
 fault_line NoMemory = codes "oldstyle: no memory\n"

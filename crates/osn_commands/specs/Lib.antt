@@ -8,8 +8,9 @@ pub mod Refused
 pub mod Journal
 pub mod Serving
 pub mod Almanac
+pub mod Reading
 pub mod Replay
 pub mod Transcript
 pub mod Audited
-pub mod Watched
+pub mod ProgressSource
 pub mod Run

@@ -4,13 +4,14 @@ use Rattle.osn_register.specs.declared.refusal.Refusal.{Refusal}
 use Rattle.osn_commands.specs.declared.fault.CommandFault.{CommandFault}
 use Rattle.osn_commands.specs.declared.fault.CommandFault.TheVariants.{BadLine, Refused, Desk}
 use Rattle.osn_commands.specs.declared.fault.CommandFault.TheVariants.{ReadFault, WriteFault}
-use Rattle.osn_commands.specs.declared.fault.CommandFault.TheVariants.{NoMemory}
+use Rattle.osn_commands.specs.declared.fault.CommandFault.TheVariants.{NoMemory, Misused}
 
 -- it is refused by what applies, or memory ran out
 abbrev pub IsRefusedBy : Option Refusal → CommandFault → Type 0
 IsRefusedBy refused (BadLine role line why) = ⊥
 IsRefusedBy refused (Refused refusal) = refused ≡ Some refusal
 IsRefusedBy refused (Desk fault) = ⊥
+IsRefusedBy refused (Misused misuse) = ⊥
 IsRefusedBy refused ReadFault = ⊥
 IsRefusedBy refused WriteFault = ⊥
 IsRefusedBy refused NoMemory = ⊤

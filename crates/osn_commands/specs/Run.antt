@@ -12,11 +12,12 @@ use Rattle.osn_folder.specs.Folder.{Leaves, path_if}
 use Rattle.osn_folder.specs.declared.fault.SaveFault.{SaveFault}
 use Rattle.osn_invocation.specs.Grammar.{command_line}
 use Rattle.osn_invocation.specs.Invocation.{InvocationModel, serving, replaying, working, printing}
-use Rattle.osn_invocation.specs.Invocation.{auditing, invocation_in}
+use Rattle.osn_invocation.specs.Invocation.{auditing, reading, invocation_in}
 use Rattle.osn_commands.specs.Almanac.{PrintsAlmanac}
 use Rattle.osn_commands.specs.Audited.{PrintsAudit}
 use Rattle.osn_commands.specs.Fault.{by_save}
 use Rattle.osn_commands.specs.Printing.{EndsPrinting}
+use Rattle.osn_commands.specs.Reading.{PrintsReading}
 use Rattle.osn_commands.specs.Replay.{PrintsReplay}
 use Rattle.osn_commands.specs.Serving.{Serves}
 use Rattle.osn_commands.specs.Streams.{Input, Output}
@@ -102,6 +103,7 @@ files_of (replaying readers schedule) = schedule ∷ []
 files_of (working script questions) = script ∷ questions ∷ []
 files_of (printing journal code year) = journal ∷ []
 files_of (auditing journal transcript) = journal ∷ transcript ∷ []
+files_of (reading journal code date weekday) = journal ∷ []
 
 -- the command that is asked for was run, with the files that the arguments name, and ended so: what
 -- it wrote to standard output, and what standard error was told
@@ -117,6 +119,8 @@ Runs (printing journal code year) CanFail d i o e status = ReadsOne journal CanF
     (λ file. PrintsAlmanac newest_rules standard_limits file code (pos year) o e status)
 Runs (auditing journal transcript) CanFail d i o e status = ReadsTwo journal transcript CanFail d
     (λ edits told. PrintsAudit newest_rules standard_limits edits told o e status)
+Runs (reading journal code date weekday) CanFail d i o e status = ReadsOne journal CanFail d
+    (λ file. PrintsReading newest_rules standard_limits file code date weekday o e status)
 
 -- ---- a run
 

@@ -22,7 +22,7 @@ fn agreed_line(alloc: Global, replies: u64) -> Result<String, AllocError>
 }
 
 /// How many replies agree.
-fn agreed<J: Source, K: Source>(
+fn count_agreeing<J: Source, K: Source>(
     alloc: Global,
     journal: &mut J,
     transcript: &mut K,
@@ -50,7 +50,7 @@ fn audit_text<J: Source, K: Source>(
         (input_of J.remaining J.has_failed journal.old journal.new)
         (input_of K.remaining K.has_failed transcript.old transcript.new)) }
 {
-    let replies = agreed(alloc, journal, transcript)?;
+    let replies = count_agreeing(alloc, journal, transcript)?;
     Ok(agreed_line(alloc, replies)?)
 }
 

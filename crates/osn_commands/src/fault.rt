@@ -1,6 +1,7 @@
 //! Why a command ended early, and how standard error is told.
 ghost use Rattle.std.specs.Prelude.{◌≡◌, ◌++◌, codes, Some, IfOk, OnErr, string_bytes};
 ghost use Rattle.osn_commands.specs.Fault.{fault_status, fault_line, refusal_end, role_name};
+ghost use Rattle.osn_commands.specs.Fault.{misuse_line};
 ghost use Rattle.osn_commands.specs.Fault.{by_service, by_file, by_desk, by_save};
 ghost use Rattle.osn_commands.specs.Streams.{output_of};
 ghost use Rattle.osn_commands.specs.Told.{WritesLine, EndsBy, Tells};
@@ -31,12 +32,38 @@ pub enum CommandFault {
     Refused(Refusal),
     /// A desk answered nothing, and not for want of memory.
     Desk(DeskFault),
+    /// An argument is not what its place asks for.
+    Misused(Misuse),
     /// A read failed, or a file could not be opened.
     ReadFault,
     /// A write failed.
     WriteFault,
     /// Memory ran out.
     NoMemory,
+}
+
+/// An argument that is not what its place asks for.
+#[derive(Clone, Copy, Debug, PartialEq, Eq)]
+pub enum Misuse {
+    /// What stands for a date is none.
+    Date,
+    /// What stands for a weekday is none.
+    Weekday,
+}
+
+impl Misuse {
+    /// The line on standard error, which says what is asked for.
+    fn line(self) -> &'static str
+        ensures { result.now ≡ misuse_line self }
+    {
+        match self {
+            Misuse::Date => {
+                "oldstyle: DATE is no date: write 1731-02-11, \"11 February 1731\" or \
+\"11 February 1731/2\"\n"
+            }
+            Misuse::Weekday => "oldstyle: DAY is no weekday: write its English name, as Friday\n",
+        }
+    }
 }
 
 fn name_of(role: Role) -> &'static str
@@ -160,7 +187,7 @@ fn tell_refusal<E: Sink>(errors: &mut E, line: Result<String, AllocError>) -> St
 }
 
 /// Tells standard error why a command ended early. Answers the status.
-pub(crate) fn tell<E: Sink>(alloc: Global, errors: &mut E, fault: CommandFault) -> Status
+pub(crate) fn report<E: Sink>(alloc: Global, errors: &mut E, fault: CommandFault) -> Status
     ensures { Tells (output_of E.contents E.has_failed errors.old errors.new) fault result }
 {
     match fault {
@@ -172,6 +199,10 @@ pub(crate) fn tell<E: Sink>(alloc: Global, errors: &mut E, fault: CommandFault) 
         }
         CommandFault::Desk(fault) => {
             tell_refusal(errors, refused(alloc, fault.number(), fault.name()))
+        }
+        CommandFault::Misused(misuse) => {
+            write_line(errors, misuse.line());
+            Status::Misused
         }
         CommandFault::ReadFault => {
             write_line(errors, "oldstyle: read fault\n");

@@ -6,6 +6,7 @@ ghost use Rattle.osn_register.specs.Limits.{standard_limits};
 ghost use Rattle.osn_folder.specs.Folder.{Changes, CannotOpen, MayFail, Saves, Leaves, path_if};
 ghost use Rattle.osn_commands.specs.Almanac.{PrintsAlmanac};
 ghost use Rattle.osn_commands.specs.Audited.{PrintsAudit};
+ghost use Rattle.osn_commands.specs.Reading.{PrintsReading};
 ghost use Rattle.osn_commands.specs.Replay.{PrintsReplay};
 ghost use Rattle.osn_commands.specs.Run.{EndsService, Finishes, ReadsOne, ReadsTwo, folders_of};
 ghost use Rattle.osn_commands.specs.Streams.{input_of, output_of};
@@ -13,11 +14,12 @@ ghost use Rattle.osn_commands.specs.Transcript.{PrintsTranscript};
 
 use crate::almanac::almanac_command;
 use crate::audited::audit_command;
+use crate::date_reading::read_command;
 use crate::desk::desk_command;
-use crate::fault::{CommandFault, tell};
-use crate::progress::Watched;
+use crate::fault::{CommandFault, report};
+use crate::progress::ProgressSource;
 use crate::replay::replay_command;
-use crate::serving::{Served, serve_command};
+use crate::serving::{ServeResult, serve_command};
 use crate::status::Status;
 use osn_folder::{Folder, OpenFailed, open_both, open_file, open_if, save_file};
 use osn_invocation::ServeOptions;
@@ -63,7 +65,7 @@ pub(crate) fn serve<D: Folder, R: Source, W: Sink, E: Sink>(
 fn finish<D: Folder, E: Sink>(
     alloc: Global,
     folder: &mut D,
-    served: Served,
+    served: ServeResult,
     path: Option<&str>,
     errors: &mut E,
 ) -> Status
@@ -80,7 +82,7 @@ fn finish<D: Folder, E: Sink>(
     };
     match save_file(folder, alloc, path, journal.as_str()) {
         Ok(()) => served.status,
-        Err(fault) => tell(alloc, errors, CommandFault::from(fault)),
+        Err(fault) => report(alloc, errors, CommandFault::from(fault)),
     }
 }
 
@@ -151,6 +153,31 @@ pub(crate) fn almanac<D: Folder, W: Sink, E: Sink>(
     Ok(almanac_command(alloc, &mut file, code, year, output, errors))
 }
 
+/// Opens the journal, and prints which day a written date means in what it published.
+pub(crate) fn read<D: Folder, W: Sink, E: Sink>(
+    alloc: Global,
+    folder: &mut D,
+    journal: &str,
+    code: &str,
+    date: &str,
+    weekday: Option<&str>,
+    output: &mut W,
+    errors: &mut E,
+) -> Result<Status, OpenFailed>
+    ensures ok { IfOk result (λ status. ReadsOne journal.now (MayFail D.File.has_failed)
+        (folders_of D.known folder.old folder.new)
+        (λ file. PrintsReading newest_rules standard_limits file code.now date.now
+        (option_map (λ name. name.now) weekday.entry)
+        (output_of W.contents W.has_failed output.old output.new)
+        (output_of E.contents E.has_failed errors.old errors.new) status)) }
+    ensures err { OnErr result (CannotOpen (journal.now ∷ [])
+        (D.known folder.old) (D.known folder.new)
+        × (output.new ≡ output.old) × (errors.new ≡ errors.old)) }
+{
+    let mut file = open_file(folder, journal)?;
+    Ok(read_command(alloc, &mut file, code, date, weekday, output, errors))
+}
+
 /// Opens the journal and then the transcript, and audits that. A terminal, where there is one, is
 /// told how much of the transcript was read.
 pub(crate) fn audit<D: Folder, W: Sink, E: Sink, T: Sink + Drop>(
@@ -172,6 +199,6 @@ pub(crate) fn audit<D: Folder, W: Sink, E: Sink, T: Sink + Drop>(
         × (output.new ≡ output.old) × (errors.new ≡ errors.old)) }
 {
     let (mut journal, told) = open_both(folder, journal, transcript)?;
-    let mut transcript = Watched::new(alloc, told, terminal);
+    let mut transcript = ProgressSource::new(alloc, told, terminal);
     Ok(audit_command(alloc, &mut journal, &mut transcript, output, errors))
 }

@@ -6,6 +6,7 @@
 
 mod almanac;
 mod audited;
+mod date_reading;
 mod desk;
 mod fault;
 mod in_folder;
@@ -21,10 +22,11 @@ mod transcript;
 
 pub use almanac::almanac_command;
 pub use audited::audit_command;
+pub use date_reading::read_command;
 pub use desk::desk_command;
-pub use fault::CommandFault;
+pub use fault::{CommandFault, Misuse};
 pub use program::run;
 pub use replay::replay_command;
-pub use serving::{Served, serve_command};
+pub use serving::{ServeResult, serve_command};
 pub use shown::tell_no_words;
 pub use status::Status;

@@ -4,7 +4,7 @@ ghost use Rattle.osn_commands.specs.Printing.{EndsPrinting};
 ghost use Rattle.osn_commands.specs.Streams.{output_of};
 ghost use Rattle.osn_commands.specs.Told.{Tells};
 
-use crate::fault::{CommandFault, tell};
+use crate::fault::{CommandFault, report};
 use crate::status::Status;
 use osn_lines::{Sink, write_all};
 use std::alloc::Global;
@@ -27,8 +27,8 @@ pub(crate) fn print<W: Sink, E: Sink>(
     match made {
         Ok(text) => match write_all(output, text.as_bytes()) {
             Ok(()) => Status::Done,
-            Err(_) => tell(alloc, errors, CommandFault::WriteFault),
+            Err(_) => report(alloc, errors, CommandFault::WriteFault),
         },
-        Err(fault) => tell(alloc, errors, fault),
+        Err(fault) => report(alloc, errors, fault),
     }
 }

@@ -5,8 +5,8 @@ ghost use Rattle.osn_invocation.specs.Invocation.{model_of};
 ghost use Rattle.osn_commands.specs.Run.{Runs, RunsArgs, files_of, folders_of};
 ghost use Rattle.osn_commands.specs.Streams.{input_of, output_of};
 
-use crate::fault::{CommandFault, tell};
-use crate::in_folder::{almanac, audit, desk, replay, serve};
+use crate::fault::{CommandFault, report};
+use crate::in_folder::{almanac, audit, desk, read, replay, serve};
 use crate::shown::show;
 use crate::status::Status;
 use osn_folder::{Folder, OpenFailed};
@@ -42,7 +42,7 @@ where
     match parse_args(alloc, args) {
         Ok(invocation) => match execute(rt, folder, invocation, input, output, errors, terminal) {
             Ok(status) => status,
-            Err(_) => tell(alloc, errors, CommandFault::ReadFault),
+            Err(_) => report(alloc, errors, CommandFault::ReadFault),
         },
         Err(shown) => show(alloc, &shown, output, errors),
     }
@@ -88,5 +88,11 @@ where
             journal,
             transcript,
         } => audit(alloc, folder, journal, transcript, output, errors, terminal),
+        Invocation::Read {
+            journal,
+            code,
+            date,
+            weekday,
+        } => read(alloc, folder, journal, code, date, weekday, output, errors),
     }
 }

@@ -10,7 +10,7 @@ const STEP: u64 = 64;
 
 /// A source that tells a terminal, where there is one, how much of it was read.
 #[derive(Drop)]
-pub(crate) struct Watched<S, P> {
+pub(crate) struct ProgressSource<S, P> {
     alloc: Global,
     source: S,
     /// The bytes that were read.
@@ -18,15 +18,15 @@ pub(crate) struct Watched<S, P> {
     terminal: Option<P>,
 }
 
-impl<S, P: Sink> Watched<S, P> {
+impl<S, P: Sink> ProgressSource<S, P> {
     ghost use Rattle.std.specs.Prelude.{◌≡◌};
-    ghost use Rattle.osn_commands.specs.Watched.{source_of};
+    ghost use Rattle.osn_commands.specs.ProgressSource.{source_of};
 
     /// One of which nothing was read.
-    pub(crate) fn new(alloc: Global, source: S, terminal: Option<P>) -> Watched<S, P>
+    pub(crate) fn new(alloc: Global, source: S, terminal: Option<P>) -> ProgressSource<S, P>
         ensures { source_of result ≡ source }
     {
-        Watched {
+        ProgressSource {
             alloc,
             source,
             read: 0,
@@ -52,8 +52,8 @@ impl<S, P: Sink> Watched<S, P> {
     }
 }
 
-impl<S: Source, P: Sink> Source for Watched<S, P> {
-    ghost use Rattle.osn_commands.specs.Watched.{source_of};
+impl<S: Source, P: Sink> Source for ProgressSource<S, P> {
+    ghost use Rattle.osn_commands.specs.ProgressSource.{source_of};
 
     ghost remaining = { λ w. S.remaining (source_of w) };
 

@@ -10,7 +10,7 @@ ghost use Rattle.osn_commands.specs.Streams.{output_of};
 ghost use Rattle.osn_commands.specs.Told.{EndsBy};
 ghost use Rattle.osn_commands.specs.declared.fault.CommandFault.{CommandFault};
 
-use crate::fault::{CommandFault, tell};
+use crate::fault::{CommandFault, report};
 use crate::reading::journal_object;
 use crate::status::Status;
 use osn_core::Object;
@@ -22,7 +22,7 @@ use std::alloc::Global;
 
 /// What the service of a command line leaves.
 #[derive(Debug, Drop)]
-pub struct Served {
+pub struct ServeResult {
     /// How it ended.
     pub status: Status,
     /// The journal, where it is to be saved and all lines were answered.
@@ -30,7 +30,7 @@ pub struct Served {
 }
 
 /// The object of the journal, where there is one, or else an empty one.
-fn begun<J: Source>(alloc: Global, journal: &mut Option<J>) -> Result<Object, CommandFault>
+fn initial_object<J: Source>(alloc: Global, journal: &mut Option<J>) -> Result<Object, CommandFault>
     ensures ok { IfOk result
         (Begins newest_rules standard_limits (option_map J.remaining journal.old)) }
     ensures err { IfErr result
@@ -87,7 +87,7 @@ fn serve_lines<J: Source, R: Source, W: Sink>(
         (output_of W.contents W.has_failed output.old output.new) bytes
         (R.has_failed input.new) None (Some fault))) }
 {
-    let mut object = begun(alloc, journal)?;
+    let mut object = initial_object(alloc, journal)?;
     answer(alloc, &mut object, readers, saves, input, output)
 }
 
@@ -105,7 +105,7 @@ pub fn serve_command<J: Source, R: Source, W: Sink, E: Sink>(
     input: &mut R,
     output: &mut W,
     errors: &mut E,
-) -> Served
+) -> ServeResult
     ensures { (ending : Option CommandFault)
         × EndsBy (output_of E.contents E.has_failed errors.old errors.new) ending
         result.status
@@ -117,12 +117,12 @@ pub fn serve_command<J: Source, R: Source, W: Sink, E: Sink>(
         (R.has_failed input.new) (option_map string_bytes result.journal) ending) }
 {
     match serve_lines(alloc, journal, readers, saves, input, output) {
-        Ok(journal) => Served {
+        Ok(journal) => ServeResult {
             status: Status::Done,
             journal,
         },
-        Err(fault) => Served {
-            status: tell(alloc, errors, fault),
+        Err(fault) => ServeResult {
+            status: report(alloc, errors, fault),
             journal: None,
         },
     }

@@ -1,6 +1,6 @@
 //! The lines of what readers asked and were told.
 ghost use Rattle.std.specs.Prelude.{◌≡◌, ◌≤◌, ◌++◌, length, IfOk, OnOk, string_bytes};
-ghost use Rattle.osn_commands.specs.Transcript as said;
+ghost use Rattle.osn_commands.specs.Transcript as spec;
 
 use osn_core::Reply;
 use osn_register::Query;
@@ -16,7 +16,7 @@ fn push_reader(
     replies: &[Reply],
 ) -> Result<(), AllocError>
     ensures { OnOk result (string_bytes text.new
-        ≡ string_bytes text.old ++ said.reader_lines reader questions.now replies.now) }
+        ≡ string_bytes text.old ++ spec.reader_lines reader questions.now replies.now) }
 {
     for (question, reply) in questions.iter().zip(replies) {
         let line = transcript_text(alloc, reader, question, reply)?;
@@ -33,7 +33,7 @@ pub(crate) fn transcript(
 ) -> Result<String, AllocError>
     requires { length lists.now ≤ 64 }
     ensures { IfOk result
-        (λ text. string_bytes text ≡ said.transcript_from 1 lists.now told.now) }
+        (λ text. string_bytes text ≡ spec.transcript_from 1 lists.now told.now) }
 {
     let mut text = String::new(alloc);
     let mut reader = 0u32;

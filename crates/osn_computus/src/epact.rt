@@ -1,5 +1,5 @@
 ghost use Rattle.std.specs.Prelude.{◌≡◌, IfOk, string_bytes};
-ghost use Rattle.osn_computus.specs.FigureTexts as said;
+ghost use Rattle.osn_computus.specs.FigureTexts as spec;
 
 use std::alloc::{AllocError, Global};
 
@@ -20,7 +20,7 @@ pub struct Epact {
 /// Want of memory, and nothing else.
 #[tactic(auto, unfolding(crate::specs::FigureTexts::epact_text))]
 pub fn epact_text(alloc: Global, epact: Epact) -> Result<String, AllocError>
-    ensures { IfOk result (λ s. string_bytes s ≡ said.epact_text epact) }
+    ensures { IfOk result (λ s. string_bytes s ≡ spec.epact_text epact) }
 {
     if epact.number == 0 {
         String::from_str(alloc, "*")

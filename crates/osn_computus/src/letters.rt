@@ -7,7 +7,7 @@ ghost use Rattle.osn_days.specs.Chain as chain;
 ghost use Rattle.osn_days.specs.declared.calendar.Calendar.TheVariants.{Swedish};
 ghost use Rattle.osn_computus.specs.declared.letter.Letter.TheVariants.{D};
 ghost use Rattle.osn_computus.specs.Letters.{letter_number, letters_of, AreSundayLetters};
-ghost use Rattle.osn_computus.specs.FigureTexts as said;
+ghost use Rattle.osn_computus.specs.FigureTexts as spec;
 
 use crate::letter::Letter;
 use crate::year_date::date_in;
@@ -74,7 +74,7 @@ pub fn sunday_letters(calendar: Calendar, year: Year) -> Option<Letters>
 /// Want of memory, and nothing else.
 #[tactic(auto, unfolding(crate::specs::FigureTexts::letters_text))]
 pub fn letters_text(alloc: Global, letters: Letters) -> Result<String, AllocError>
-    ensures { IfOk result (λ s. string_bytes s ≡ said.letters_text letters) }
+    ensures { IfOk result (λ s. string_bytes s ≡ spec.letters_text letters) }
 {
     let mut text = String::with_capacity(alloc, 2)?;
     text.push_str(letters.january.name())?;

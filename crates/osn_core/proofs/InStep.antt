@@ -12,11 +12,11 @@ use Rattle.osn_register.specs.declared.edit.Edit.{Edit}
 use Rattle.osn_register.specs.declared.refusal.Refusal.{Refusal}
 use Rattle.osn_register.specs.declared.refusal.Refusal.TheVariants.{NothingPending, JournalFull}
 use Rattle.osn_register.specs.declared.refusal.Refusal.TheVariants.{EditionsFull}
-use Rattle.osn_register.specs.Plain.{PlainLand, PlainRegister, refusal, effect, applied_all}
+use Rattle.osn_register.specs.Plain.{LandModel, RegisterModel, refusal, effect, applied_all}
 use Rattle.osn_core.specs.Sequential.{ObjectState, joined, last_batch, draft_lands, edits_in}
 use Rattle.osn_core.specs.Sequential.{stage_refusal, publish_refusal, with_pending, with_edition}
 use Rattle.osn_core.specs.Sequential.{without_last, AreLawful}
-use Rattle.osn_core.specs.CopiesInside.{CopiesState, AreInStep, lagging_lands}
+use Rattle.osn_core.specs.LiveAndStandbyInside.{CopiesState, AreInStep, lagging_lands}
 use Rattle.osn_core.proofs.Batches.{joined-push, last_batch-push, NoneEmpty-push, without_none}
 use Rattle.osn_core.proofs.Batches.{without_part, split_last}
 use Rattle.osn_core.proofs.Draft.{or_else-none, lawful_in_draft, draft_with, edits_with}
@@ -32,7 +32,7 @@ test_failed : (b : Bool) (f : Refusal) (r : Option Refusal) → cond b (Some f) 
 test_failed true f r h = absurd (false≢true (sym (ap is_some h)))
 test_failed false f r h = (refl, h)
 
-abbrev register_of : Limits → List PlainLand → PlainRegister
+abbrev register_of : Limits → List LandModel → RegisterModel
 register_of limits lands = record { limits = limits; lands = lands }
 
 abbrev copies_of : ObjectState → ℕ → CopiesState
@@ -45,17 +45,17 @@ has_all s lag none = ap (applied_all newest_rules s.limits [])
     (without_none (joined s.batches ++ s.pending) lag none)
 
 -- an edit that may be staged is lawful in a standby that lacks nothing
-pub lawful_staged : (s : ObjectState) (live standby : PlainRegister) (lag edits : ℕ) (e : Edit) →
+pub lawful_staged : (s : ObjectState) (live standby : RegisterModel) (lag edits : ℕ) (e : Edit) →
     AreInStep (copies_of s lag) live standby edits → lag ≡ 0 → stage_refusal newest_rules s e
     ≡ None →
     refusal newest_rules standby.limits standby.lands e ≡ None
 lawful_staged s live standby lag edits e h none lawful =
-    ap (λ (r : PlainRegister). refusal newest_rules r.limits r.lands e) h.standby_is
+    ap (λ (r : RegisterModel). refusal newest_rules r.limits r.lands e) h.standby_is
     ∙ ap (λ ls. refusal newest_rules s.limits ls e) (has_all s lag none)
     ∙ lawful_in_draft newest_rules s e lawful
 
 -- an edit is staged in a standby that lacks nothing
-pub one_staged : (s : ObjectState) (live standby after : PlainRegister) (lag edits : ℕ) (e : Edit) →
+pub one_staged : (s : ObjectState) (live standby after : RegisterModel) (lag edits : ℕ) (e : Edit) →
     AreInStep (copies_of s lag) live standby edits → lag ≡ 0 → stage_refusal newest_rules s e
     ≡ None →
     after ≡ record standby { lands = effect standby.lands e } →
@@ -75,7 +75,7 @@ one_staged s live standby after lag edits e h none lawful is =
       live_is = h.live_is;
       standby_is =
           is
-          ∙ ap (λ (r : PlainRegister). register_of r.limits (effect r.lands e)) h.standby_is
+          ∙ ap (λ (r : RegisterModel). register_of r.limits (effect r.lands e)) h.standby_is
           ∙ ap (register_of s.limits) lands;
       lag_is_of_last = h.lag_is_of_last;
       caught_up = inr none;
@@ -93,7 +93,7 @@ one_staged s live standby after lag edits e h none lawful is =
     }
 
 -- the standby becomes the live register, and the other one lacks the batch
-pub one_published : (s : ObjectState) (live standby : PlainRegister) (lag edits : ℕ) →
+pub one_published : (s : ObjectState) (live standby : RegisterModel) (lag edits : ℕ) →
     AreInStep (copies_of s lag) live standby edits → publish_refusal s ≡ None →
     AreInStep (copies_of (with_edition s) (length s.pending)) standby live edits
 one_published s live standby lag edits h lawful =
@@ -163,7 +163,7 @@ next_in (c ∷ bs) pending lag e none some within at = (
   ap (λ es. joined (c ∷ bs) ++ es) none ∙ append-nil (joined (c ∷ bs)) ∙ split_last c bs,
 )
 
-next : (s : ObjectState) (live standby : PlainRegister) (lag edits : ℕ) (e : Edit) →
+next : (s : ObjectState) (live standby : RegisterModel) (lag edits : ℕ) (e : Edit) →
     AreInStep (copies_of s lag) live standby edits → 0 < lag →
     e ≡ get_or (last_batch s.batches) (length (last_batch s.batches) - lag) e → IsNext s lag e
 next s live standby lag edits e h some at =
@@ -175,7 +175,7 @@ next s live standby lag edits e h some at =
     record { within = there.0; is = there.1; more = there.2 }
 
 -- as it is read: in a slice of the batches
-pub next_read : (s : ObjectState) (live standby : PlainRegister) (lag edits : ℕ)
+pub next_read : (s : ObjectState) (live standby : RegisterModel) (lag edits : ℕ)
     (bs : List (List Edit)) (e : Edit) → AreInStep (copies_of s lag) live standby edits → 0 < lag →
     bs ≡ s.batches → e ≡ get_or (last_batch bs) (length (last_batch bs) - lag) e → IsNext s lag e
 next_read s live standby lag edits bs e h some all at =
@@ -184,16 +184,16 @@ next_read s live standby lag edits bs e h some all at =
     all at)
 
 -- it is lawful there
-pub lawful_next : (s : ObjectState) (live standby : PlainRegister) (lag edits : ℕ) (e : Edit) →
+pub lawful_next : (s : ObjectState) (live standby : RegisterModel) (lag edits : ℕ) (e : Edit) →
     AreInStep (copies_of s lag) live standby edits → IsNext s lag e →
     refusal newest_rules standby.limits standby.lands e ≡ None
 lawful_next s live standby lag edits e h at =
     let all = joined s.batches ++ s.pending in
-    ap (λ (r : PlainRegister). refusal newest_rules r.limits r.lands e) h.standby_is
+    ap (λ (r : RegisterModel). refusal newest_rules r.limits r.lands e) h.standby_is
     ∙ lawful_at newest_rules s.limits [] all (length all - lag) e at.within at.is h.sound.lawful
 
 -- the standby has taken it
-pub one_absorbed : (s : ObjectState) (live standby after : PlainRegister) (lag edits : ℕ) (e : Edit)
+pub one_absorbed : (s : ObjectState) (live standby after : RegisterModel) (lag edits : ℕ) (e : Edit)
     → AreInStep (copies_of s lag) live standby edits → IsNext s lag e →
     after ≡ record standby { lands = effect standby.lands e } →
     AreInStep (copies_of s (lag - 1)) live after edits
@@ -203,7 +203,7 @@ one_absorbed s live standby after lag edits e h at is =
       live_is = h.live_is;
       standby_is =
           is
-          ∙ ap (λ (r : PlainRegister). register_of r.limits (effect r.lands e)) h.standby_is
+          ∙ ap (λ (r : RegisterModel). register_of r.limits (effect r.lands e)) h.standby_is
           ∙ ap (register_of s.limits)
           (applied_at newest_rules s.limits [] all
           (length all - lag) e at.within at.is h.sound.lawful

@@ -5,22 +5,22 @@ use Rattle.std.proofs.lemmas.List.{drop_more, take_more, take-append-drop}
 use Rattle.osn_days.specs.Profile.{Profile}
 use Rattle.osn_register.specs.declared.limits.Limits.{Limits}
 use Rattle.osn_register.specs.declared.edit.Edit.{Edit}
-use Rattle.osn_register.specs.Plain.{PlainLand, refusal, effect, applied, applied_all}
+use Rattle.osn_register.specs.Plain.{LandModel, refusal, effect, applied, applied_all}
 use Rattle.osn_register.specs.Plain.{unless_refused}
 use Rattle.osn_core.specs.Sequential.{AreLawful}
 
-pub applied_all-append : (p : Profile) (limits : Limits) (lands : List PlainLand)
+pub applied_all-append : (p : Profile) (limits : Limits) (lands : List LandModel)
     (es fs : List Edit) →
     applied_all p limits lands (es ++ fs) ≡ applied_all p limits (applied_all p limits lands es) fs
 applied_all-append p limits lands [] fs = refl
 applied_all-append p limits lands (e ∷ es) fs = applied_all-append p limits
     (applied p limits lands e) es fs
 
-pub applied-lawful : (p : Profile) (limits : Limits) (lands : List PlainLand) (e : Edit) →
+pub applied-lawful : (p : Profile) (limits : Limits) (lands : List LandModel) (e : Edit) →
     refusal p limits lands e ≡ None → applied p limits lands e ≡ effect lands e
 applied-lawful p limits lands e none = ap (λ r. unless_refused r (effect lands e) lands) none
 
-pub AreLawful-push : (p : Profile) (limits : Limits) (lands : List PlainLand) (es : List Edit)
+pub AreLawful-push : (p : Profile) (limits : Limits) (lands : List LandModel) (es : List Edit)
     (e : Edit) → AreLawful p limits lands es → refusal p limits (applied_all p limits lands es) e ≡
     None → AreLawful p limits lands (es ++ e ∷ [])
 AreLawful-push p limits lands [] e lawful none = (none, tt)
@@ -32,7 +32,7 @@ AreLawful-push p limits lands (d ∷ es) e lawful none = (
 )
 
 -- edits that are lawful in turn are so behind those before them
-AreLawful-behind : (p : Profile) (limits : Limits) (lands : List PlainLand) (es fs : List Edit) →
+AreLawful-behind : (p : Profile) (limits : Limits) (lands : List LandModel) (es fs : List Edit) →
     AreLawful p limits lands (es ++ fs) → AreLawful p limits (applied_all p limits lands es) fs
 AreLawful-behind p limits lands [] fs lawful = lawful
 AreLawful-behind p limits lands (e ∷ es) fs lawful =
@@ -41,7 +41,7 @@ AreLawful-behind p limits lands (e ∷ es) fs lawful =
     lawful.1)
 
 -- the edit at a place is lawful behind those before it
-pub lawful_at : (p : Profile) (limits : Limits) (lands : List PlainLand) (es : List Edit) (i : ℕ)
+pub lawful_at : (p : Profile) (limits : Limits) (lands : List LandModel) (es : List Edit) (i : ℕ)
     (e : Edit) → i < length es → get_or es i e ≡ e → AreLawful p limits lands es →
     refusal p limits (applied_all p limits lands (take i es)) e ≡ None
 lawful_at p limits lands es i e within is lawful =
@@ -52,7 +52,7 @@ lawful_at p limits lands es i e within is lawful =
     (subst (AreLawful p limits (applied_all p limits lands (take i es))) left behind).0
 
 -- with it, they lead to its effect on what those before it lead to
-pub applied_at : (p : Profile) (limits : Limits) (lands : List PlainLand) (es : List Edit) (i : ℕ)
+pub applied_at : (p : Profile) (limits : Limits) (lands : List LandModel) (es : List Edit) (i : ℕ)
     (e : Edit) → i < length es → get_or es i e ≡ e → AreLawful p limits lands es →
     effect (applied_all p limits lands (take i es)) e
     ≡ applied_all p limits lands (take (i + 1) es)

@@ -7,7 +7,7 @@ use Rattle.std.proofs.lemmas.Bool.{false≢true}
 use Rattle.std.proofs.lemmas.Bool.Decides.{nat_tests}
 use Rattle.std.proofs.lemmas.List.{take_all}
 use Rattle.osn_days.specs.Profile.{newest_rules}
-use Rattle.osn_register.specs.Plain.{PlainLand, applied_all}
+use Rattle.osn_register.specs.Plain.{LandModel, applied_all}
 use Rattle.osn_register.specs.declared.query.Query.{Query}
 use Rattle.osn_core.specs.declared.phase.Phase.{Phase}
 use Rattle.osn_core.specs.declared.phase.Phase.TheVariants.{Ready, Draining, Claimed}
@@ -17,8 +17,8 @@ use Rattle.osn_core.specs.declared.reader.ReaderState.TheVariants.{Answered}
 use Rattle.osn_core.specs.Sequential.{ObjectState, joined, lands_of, without_last}
 use Rattle.osn_core.specs.Control.{reader_at, look, pin, check, leave, entering, marks, is_marked}
 use Rattle.osn_core.specs.Machine.{CoreState}
-use Rattle.osn_core.specs.Copies.{standby_lands, side_lands, edition_lands, IsSeenBy}
-use Rattle.osn_core.specs.CopiesInside.{lagging_lands}
+use Rattle.osn_core.specs.LiveAndStandby.{standby_lands, side_lands, edition_lands, IsSeenBy}
+use Rattle.osn_core.specs.LiveAndStandbyInside.{lagging_lands}
 use Rattle.osn_core.specs.CoreInside.{IsLag, IsIn, IsPlaced, IsCore}
 use Rattle.osn_core.proofs.Batches.{without_none, without_batch}
 use Rattle.osn_core.proofs.Standing.{test_same, test_other}
@@ -200,7 +200,7 @@ seen_in c side s k h there same = elim there [
       ∙ draining_is c.object c.control.lag c.control.phase k h.lag draining all
 ]
 
-seen_at : (c : CoreState) (side : ℕ) (lands : List PlainLand) (at : Option ReaderState) →
+seen_at : (c : CoreState) (side : ℕ) (lands : List LandModel) (at : Option ReaderState) →
     IsCore c → lands ≡ side_lands newest_rules c side →
     IsPlaced c.control.side c.control.phase (length c.object.batches) at →
     IsSeenBy newest_rules c.object side lands at
@@ -213,7 +213,7 @@ seen_at c side lands (Some (Entered q s k)) h is there =
 seen_at c side lands (Some (Answered s k)) h is there =
     λ same. is ∙ seen_in c side s k h there same
 
-pub seen_by : (c : CoreState) (side : ℕ) (lands : List PlainLand) (reader : ℕ) → IsCore c →
+pub seen_by : (c : CoreState) (side : ℕ) (lands : List LandModel) (reader : ℕ) → IsCore c →
     lands ≡ side_lands newest_rules c side →
     IsSeenBy newest_rules c.object side lands (reader_at c.control.readers reader)
 seen_by c side lands reader h is =

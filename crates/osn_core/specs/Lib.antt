@@ -2,7 +2,7 @@ pub mod Sequential
 pub mod Script
 pub mod Control
 pub mod Machine
-pub mod Copies
-pub mod CopiesInside
+pub mod LiveAndStandby
+pub mod LiveAndStandbyInside
 pub mod CoreInside
 pub mod History

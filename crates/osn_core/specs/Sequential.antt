@@ -10,7 +10,7 @@ use Rattle.osn_register.specs.declared.refusal.Refusal.{Refusal}
 use Rattle.osn_register.specs.declared.refusal.Refusal.TheVariants.{NothingPending, JournalFull}
 use Rattle.osn_register.specs.declared.refusal.Refusal.TheVariants.{EditionsFull}
 use Rattle.osn_register.specs.Refusal.{or_else}
-use Rattle.osn_register.specs.Plain.{PlainLand, refusal, effect, applied_all}
+use Rattle.osn_register.specs.Plain.{LandModel, refusal, effect, applied_all}
 use Rattle.osn_register.specs.Answer.{answer}
 use Rattle.osn_core.specs.declared.step.Reply.{Reply}
 use Rattle.osn_core.specs.declared.step.Out.{Out}
@@ -38,11 +38,11 @@ abbrev pub without_last : ℕ → List Edit → List Edit
 without_last count edits = take (length edits - count) edits
 
 -- the territories of the published edits
-abbrev pub lands_of : Profile → Limits → List (List Edit) → List PlainLand
+abbrev pub lands_of : Profile → Limits → List (List Edit) → List LandModel
 lands_of p limits batches = applied_all p limits [] (joined batches)
 
 -- the territories of all published and pending edits
-abbrev pub draft_lands : Profile → ObjectState → List PlainLand
+abbrev pub draft_lands : Profile → ObjectState → List LandModel
 draft_lands p s = applied_all p s.limits [] (joined s.batches ++ s.pending)
 
 -- how many edits there are, published and pending
@@ -95,7 +95,7 @@ reply_at p limits batches q =
     record { edition = length batches; answer = answer p (lands_of p limits batches) q }
 
 -- each edit is lawful where it stands, from these territories on
-abbrev pub AreLawful : Profile → Limits → List PlainLand → List Edit → Type 0
+abbrev pub AreLawful : Profile → Limits → List LandModel → List Edit → Type 0
 AreLawful p limits lands [] = Unit {0}
 AreLawful p limits lands (e ∷ es) =
     (refusal p limits lands e ≡ None) × AreLawful p limits (effect lands e) es

@@ -5,7 +5,7 @@
 
 mod batch;
 mod command;
-mod copies;
+mod live_and_standby;
 mod machine;
 mod object;
 mod phase;

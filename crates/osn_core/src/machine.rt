@@ -2,11 +2,11 @@ ghost use Rattle.std.specs.Prelude.{◌≡◌, ◌<◌, ℕ, true, None, IfOk, I
 ghost use Rattle.osn_register.specs.Refusal.{IsRefusalOrNoMemory};
 ghost use Rattle.osn_days.specs.Profile.{newest_rules};
 ghost use Rattle.osn_core.specs.Control.{reader_at};
-ghost use Rattle.osn_core.specs.Copies.{side_lands, IsSeenBy};
+ghost use Rattle.osn_core.specs.LiveAndStandby.{side_lands, IsSeenBy};
 ghost use Rattle.osn_core.specs.Machine.{first_core, out_of, core_after, step_takes_memory};
 ghost use Rattle.osn_core.specs.Machine.{readers_refusal};
 
-use crate::copies::Copies;
+use crate::live_and_standby::LiveAndStandby;
 use crate::phase::Phase;
 use crate::reader::ReaderState;
 use crate::readers::Readers;
@@ -25,7 +25,7 @@ pub const MOST_READERS: u32 = 64;
 /// waits until the last of them has left.
 #[derive(Drop)]
 pub struct Core {
-    copies: Copies,
+    copies: LiveAndStandby,
     /// The side that is live, 0 or 1.
     side: u8,
     phase: Phase,
@@ -59,7 +59,7 @@ impl Core {
         }
         let readers = Readers::new(alloc, readers)?;
         Ok(Core {
-            copies: Copies::new(alloc, limits),
+            copies: LiveAndStandby::new(alloc, limits),
             side: 0,
             phase: Phase::Ready,
             readers,

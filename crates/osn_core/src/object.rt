@@ -6,7 +6,7 @@ ghost use Rattle.osn_core.specs.Sequential.{opened, with_pending, with_edition, 
 ghost use Rattle.osn_core.specs.Sequential.{publish_refusal, reply_at, lands_of, IsSound};
 
 use crate::batch::Batch;
-use crate::copies::Copies;
+use crate::live_and_standby::LiveAndStandby;
 use crate::step::Reply;
 use osn_register::{Edit, Limits, Query, Refusal, Register};
 use std::alloc::{AllocError, Global};
@@ -18,7 +18,7 @@ use std::marker::Model;
 /// register is, and what the other one lacks then is applied at the next stage.
 #[derive(Drop)]
 pub struct Object {
-    copies: Copies,
+    copies: LiveAndStandby,
 }
 
 impl Model for Object {
@@ -35,7 +35,7 @@ impl Object {
         ensures { result ≡ opened limits }
     {
         Object {
-            copies: Copies::new(alloc, limits),
+            copies: LiveAndStandby::new(alloc, limits),
         }
     }
 

@@ -40,11 +40,11 @@ pub fn replay(
         (reader : ℕ) → NeverFalls 0 (editions_to reader outs.items)) }
 {
     let mut core = Core::new(alloc, limits, readers)?;
-    taken(alloc, &mut core, steps)
+    run_steps(alloc, &mut core, steps)
 }
 
 /// What each step gives, from a state of the core on, or `NoMemory`.
-fn taken(alloc: Global, core: &mut Core, steps: &[Step]) -> Result<Vec<Out>, Refusal>
+fn run_steps(alloc: Global, core: &mut Core, steps: &[Step]) -> Result<Vec<Out>, Refusal>
     ensures outs { IfOk result (λ outs. outs.items ≡ outs_of newest_rules core.old steps.now) }
     ensures refused { IfErr result (λ f. f ≡ NoMemory) }
 {

@@ -1,6 +1,6 @@
 //! Dates, and how they are written.
 ghost use Rattle.std.specs.Prelude.{◌≡◌, ◌+◌, ◌<◌, IfOk, string_bytes, IsUtf8};
-ghost use Rattle.osn_days.specs.DateText as said;
+ghost use Rattle.osn_days.specs.DateText as spec;
 
 use std::alloc::{AllocError, Global};
 
@@ -20,7 +20,7 @@ pub struct Date {
 ///
 /// Want of memory, and nothing else.
 pub fn date_text(alloc: Global, year: i32, month: u8, day: u8) -> Result<String, AllocError>
-    ensures { IfOk result (λ s. string_bytes s ≡ said.date_text year month day) }
+    ensures { IfOk result (λ s. string_bytes s ≡ spec.date_text year month day) }
 {
     format!(in alloc; "{:04}-{:02}-{:02}", year.unsigned_abs(), month, day)
 }
@@ -37,7 +37,7 @@ pub fn date_digits(year: u32, month: u32, day: u32) -> [u8; 10]
     requires year { year < 10_000 }
     requires month { month < 100 }
     requires day { day < 100 }
-    ensures value { result ≡ said.date_digits year month day }
+    ensures value { result ≡ spec.date_digits year month day }
     ensures utf8 { IsUtf8 result }
 {
     let decades = year / 10;

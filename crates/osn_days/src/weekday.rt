@@ -1,5 +1,5 @@
 ghost use Rattle.std.specs.Prelude.{◌≡◌};
-ghost use Rattle.osn_days.specs.Weekday.{weekday_name};
+ghost use Rattle.osn_days.specs.Weekday.{weekday_name, weekday_named};
 
 /// A day of the week.
 #[derive(Clone, Copy, Debug, PartialEq, Eq, Hash)]
@@ -26,6 +26,22 @@ impl Weekday {
             Weekday::Thursday => "Thursday",
             Weekday::Friday => "Friday",
             Weekday::Saturday => "Saturday",
+        }
+    }
+
+    /// The weekday of an English name, as `Sunday`.
+    pub fn from_name(name: &str) -> Option<Weekday>
+        ensures { result ≡ weekday_named name.now }
+    {
+        match name {
+            "Sunday" => Some(Weekday::Sunday),
+            "Monday" => Some(Weekday::Monday),
+            "Tuesday" => Some(Weekday::Tuesday),
+            "Wednesday" => Some(Weekday::Wednesday),
+            "Thursday" => Some(Weekday::Thursday),
+            "Friday" => Some(Weekday::Friday),
+            "Saturday" => Some(Weekday::Saturday),
+            _ => None,
         }
     }
 }

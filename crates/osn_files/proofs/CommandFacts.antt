@@ -9,12 +9,12 @@ use Rattle.serde_json.specs.Data.{Data, object, Members}
 use Rattle.serde_json.specs.Read.{of_json}
 use Rattle.serde_json.specs.Written.{compact_text, outline}
 use Rattle.osn_days.specs.Profile.{newest_rules}
-use Rattle.osn_lands.specs.Territory.{PlainTerritory}
+use Rattle.osn_lands.specs.Territory.{TerritoryModel}
 use Rattle.osn_lines.specs.Lines.{lines}
 use Rattle.osn_register.specs.declared.refusal.Refusal.{Refusal}
 use Rattle.osn_register.specs.Code.{is_code}
 use Rattle.osn_register.specs.Plain as plain
-use Rattle.osn_register.specs.Plain.{PlainLand, refusal}
+use Rattle.osn_register.specs.Plain.{LandModel, refusal}
 use Rattle.osn_register.specs.Refusal.{or_else}
 use Rattle.osn_core.specs.declared.command.Command.{Command}
 use Rattle.osn_request.specs.Request.{object_of}
@@ -57,12 +57,12 @@ both_none None b h = (refl, h)
 both_none (Some f) b h = absurd (false≢true (sym (ap is_some h)))
 
 -- a lawful edit of a territory has a code, and the territory doesn't refuse it
-pub record IsLawfulIn (code : List ℕ) (refused : PlainTerritory → Option Refusal) : Type 0 where
+pub record IsLawfulIn (code : List ℕ) (refused : TerritoryModel → Option Refusal) : Type 0 where
   pub code_is : is_code code ≡ true
-  pub territory : PlainTerritory
+  pub territory : TerritoryModel
   pub lawful : refused territory ≡ None
 
-found_lawful : (code : List ℕ) (o : Option PlainLand) (refused : PlainTerritory → Option Refusal)
+found_lawful : (code : List ℕ) (o : Option LandModel) (refused : TerritoryModel → Option Refusal)
     → is_code code ≡ true → is_none o ≡ false
     → plain.inside refused (option_map (λ l. l.territory) o) ≡ None → IsLawfulIn code refused
 found_lawful code None refused c h e = absurd (false≢true (sym h))
@@ -72,7 +72,7 @@ found_lawful code (Some l) refused c h e = record {
   lawful = e;
 }
 
-pub lawful_in : (lands : List PlainLand) (code : List ℕ) (refused : PlainTerritory → Option Refusal)
+pub lawful_in : (lands : List LandModel) (code : List ℕ) (refused : TerritoryModel → Option Refusal)
     → plain.refusal_in lands code refused ≡ None → IsLawfulIn code refused
 lawful_in lands code refused h =
     let parts = both_none (plain.code_refusal lands code) _ h in

@@ -9,7 +9,7 @@ use Rattle.osn_register.specs.declared.edit.Edit.{Edit}
 use Rattle.osn_register.specs.declared.limits.Limits.{Limits}
 use Rattle.osn_register.specs.declared.refusal.Refusal.{Refusal}
 use Rattle.osn_register.specs.declared.refusal.Refusal.TheVariants.{JournalFull}
-use Rattle.osn_register.specs.Plain.{PlainRegister, refusal, applied_all}
+use Rattle.osn_register.specs.Plain.{RegisterModel, refusal, applied_all}
 use Rattle.osn_register.specs.Refusal.{or_else}
 use Rattle.osn_core.specs.declared.command.Command.{Command}
 use Rattle.osn_core.specs.declared.command.Command.TheVariants.{Stage, Publish}
@@ -60,7 +60,7 @@ same_front limits s es fs old are =
     let lawful =
     lawful_front first_rules limits [] es fs
     (subst (AreLawful first_rules limits []) are old.lawful) in
-    ap (λ lands. let r : PlainRegister = record { limits = limits; lands = lands } in r)
+    ap (λ lands. let r : RegisterModel = record { limits = limits; lands = lands } in r)
     (applied_passes first_rules newest_rules limits [] es newest_longer fixed lawful)
 
 same_all : (limits : Limits) (s : ObjectState) → IsOld limits s

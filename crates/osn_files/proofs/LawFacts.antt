@@ -15,7 +15,7 @@ use Rattle.osn_register.specs.declared.edit.Edit.{Edit}
 use Rattle.osn_register.specs.declared.limits.Limits.{Limits}
 use Rattle.osn_register.specs.declared.refusal.Refusal.TheVariants.{NothingPending, JournalFull}
 use Rattle.osn_register.specs.declared.refusal.Refusal.TheVariants.{EditionsFull}
-use Rattle.osn_register.specs.Plain.{PlainLand, refusal, effect, applied, applied_all}
+use Rattle.osn_register.specs.Plain.{LandModel, refusal, effect, applied, applied_all}
 use Rattle.osn_register.specs.Plain.{unless_refused}
 use Rattle.osn_register.specs.Refusal.{or_else}
 use Rattle.osn_core.specs.declared.command.Command.{Command}
@@ -41,29 +41,29 @@ run n s ls = in_turn (after_object newest_rules) n (Some newest_version) s ls
 abbrev pub at : Limits → List (List Edit) → List Edit → ObjectState
 at limits done pend = record { limits = limits; batches = done; pending = pend }
 
-abbrev lands_at : Limits → List Edit → List PlainLand
+abbrev lands_at : Limits → List Edit → List LandModel
 lands_at limits es = applied_all newest_rules limits [] es
 
-applied_all-append : (limits : Limits) (lands : List PlainLand) (es fs : List Edit)
+applied_all-append : (limits : Limits) (lands : List LandModel) (es fs : List Edit)
     → applied_all newest_rules limits lands (es ++ fs)
     ≡ applied_all newest_rules limits (applied_all newest_rules limits lands es) fs
 applied_all-append limits lands [] fs = refl
 applied_all-append limits lands (e ∷ es) fs =
     applied_all-append limits (applied newest_rules limits lands e) es fs
 
-applied-lawful : (limits : Limits) (lands : List PlainLand) (e : Edit)
+applied-lawful : (limits : Limits) (lands : List LandModel) (e : Edit)
     → refusal newest_rules limits lands e ≡ None
     → applied newest_rules limits lands e ≡ effect lands e
 applied-lawful limits lands e none = ap (λ r. unless_refused r (effect lands e) lands) none
 
 -- the first of edits that are lawful in turn are so
-pub lawful_front : (p : Profile) (limits : Limits) (lands : List PlainLand) (es fs : List Edit)
+pub lawful_front : (p : Profile) (limits : Limits) (lands : List LandModel) (es fs : List Edit)
     → AreLawful p limits lands (es ++ fs) → AreLawful p limits lands es
 lawful_front p limits lands [] fs h = tt
 lawful_front p limits lands (e ∷ es) fs h = (h.0, lawful_front p limits (effect lands e) es fs h.1)
 
 -- and so are the others behind them
-pub lawful_rest : (limits : Limits) (lands : List PlainLand) (es fs : List Edit)
+pub lawful_rest : (limits : Limits) (lands : List LandModel) (es fs : List Edit)
     → AreLawful newest_rules limits lands (es ++ fs)
     → AreLawful newest_rules limits (applied_all newest_rules limits lands es) fs
 lawful_rest limits lands [] fs h = h

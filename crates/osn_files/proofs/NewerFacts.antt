@@ -9,7 +9,7 @@ use Rattle.osn_days.specs.Profile.{Profile}
 use Rattle.osn_lands.specs.declared.regime.Regime.{Regime}
 use Rattle.osn_lands.specs.Style.{is_julian}
 use Rattle.osn_lands.specs.Changes.{starts_on}
-use Rattle.osn_lands.specs.Territory.{PlainTerritory}
+use Rattle.osn_lands.specs.Territory.{TerritoryModel}
 use Rattle.osn_register.specs.declared.edit.Edit.{Edit}
 use Rattle.osn_register.specs.declared.edit.Edit.TheVariants.{AddLand, AddChange, AlterChange}
 use Rattle.osn_register.specs.declared.edit.Edit.TheVariants.{DropChange, AddException}
@@ -18,7 +18,7 @@ use Rattle.osn_register.specs.declared.limits.Limits.{Limits}
 use Rattle.osn_register.specs.declared.refusal.Refusal.{Refusal}
 use Rattle.osn_register.specs.Code.{is_code, is_name}
 use Rattle.osn_register.specs.Plain as plain
-use Rattle.osn_register.specs.Plain.{PlainLand, refusal, effect, applied_all, folded}
+use Rattle.osn_register.specs.Plain.{LandModel, refusal, effect, applied_all, folded}
 use Rattle.osn_register.specs.Refusal.{or_else}
 use Rattle.osn_core.specs.Sequential.{AreLawful}
 use Rattle.osn_core.proofs.Lawful.{applied-lawful}
@@ -57,21 +57,21 @@ style_passes q r fixed =
     ap (λ easter. q.tests_style && (easter && not (is_julian r.calendar r.rule))) fixed
     ∙ and_false q.tests_style
 
-inside_passes : (f g : PlainTerritory → Option Refusal)
-    → ((t : PlainTerritory) → f t ≡ None → g t ≡ None) → (o : Option PlainTerritory)
+inside_passes : (f g : TerritoryModel → Option Refusal)
+    → ((t : TerritoryModel) → f t ≡ None → g t ≡ None) → (o : Option TerritoryModel)
     → plain.inside f o ≡ None → plain.inside g o ≡ None
 inside_passes f g each None h = refl
 inside_passes f g each (Some t) h = each t h
 
-territory_passes : (lands : List PlainLand) (code : List ℕ) (f g : PlainTerritory → Option Refusal)
-    → ((t : PlainTerritory) → f t ≡ None → g t ≡ None) → plain.refusal_in lands code f ≡ None
+territory_passes : (lands : List LandModel) (code : List ℕ) (f g : TerritoryModel → Option Refusal)
+    → ((t : TerritoryModel) → f t ≡ None → g t ≡ None) → plain.refusal_in lands code f ≡ None
     → plain.refusal_in lands code g ≡ None
 territory_passes lands code f g each h =
     let parts = both_none (plain.code_refusal lands code) _ h in
     ap (λ r. or_else r (plain.inside g (plain.territory_of code lands))) parts.0
     ∙ inside_passes f g each (plain.territory_of code lands) parts.1
 
-add_land_passes : (p q : Profile) (limits : Limits) (lands : List PlainLand) (code name : List ℕ)
+add_land_passes : (p q : Profile) (limits : Limits) (lands : List LandModel) (code name : List ℕ)
     (r : Regime) → IsFixed r → plain.add_land_refusal p limits lands code name r ≡ None
     → plain.add_land_refusal q limits lands code name r ≡ None
 add_land_passes p q limits lands code name r fixed h =
@@ -81,7 +81,7 @@ add_land_passes p q limits lands code name r fixed h =
     let d = next_test (plain.is_style_refused p r) _ _ c.1 in
     rw (a.0, b.0, c.0, style_passes q r fixed) d.1
 
-add_change_passes : (p q : Profile) (limits : Limits) (day : ℤ) (r : Regime) (t : PlainTerritory)
+add_change_passes : (p q : Profile) (limits : Limits) (day : ℤ) (r : Regime) (t : TerritoryModel)
     → IsLonger p q → IsFixed r → plain.add_change_refusal p limits day r t ≡ None
     → plain.add_change_refusal q limits day r t ≡ None
 add_change_passes p q limits day r t longer fixed h =
@@ -91,7 +91,7 @@ add_change_passes p q limits day r t longer fixed h =
     let d = next_test (plain.is_style_refused p r) _ _ c.1 in
     rw (on_line p q day longer a.0, b.0, c.0, style_passes q r fixed) d.1
 
-alter_change_passes : (p q : Profile) (day : ℤ) (r : Regime) (t : PlainTerritory) → IsLonger p q
+alter_change_passes : (p q : Profile) (day : ℤ) (r : Regime) (t : TerritoryModel) → IsLonger p q
     → IsFixed r → plain.alter_change_refusal p day r t ≡ None
     → plain.alter_change_refusal q day r t ≡ None
 alter_change_passes p q day r t longer fixed h =
@@ -99,12 +99,12 @@ alter_change_passes p q day r t longer fixed h =
     let b = next_test (not (starts_on t (unsigned_abs day))) _ _ a.1 in
     rw (on_line p q day longer a.0, b.0, style_passes q r fixed) refl
 
-drop_change_passes : (p q : Profile) (day : ℤ) (t : PlainTerritory) → IsLonger p q
+drop_change_passes : (p q : Profile) (day : ℤ) (t : TerritoryModel) → IsLonger p q
     → plain.drop_change_refusal p day t ≡ None → plain.drop_change_refusal q day t ≡ None
 drop_change_passes p q day t longer h =
     let a = next_test (plain.is_off_line p day) _ _ h in rw (on_line p q day longer a.0) a.1
 
-add_exception_passes : (p q : Profile) (limits : Limits) (year day : ℤ) (t : PlainTerritory)
+add_exception_passes : (p q : Profile) (limits : Limits) (year day : ℤ) (t : TerritoryModel)
     → IsLonger p q → plain.add_exception_refusal p limits year day t ≡ None
     → plain.add_exception_refusal q limits year day t ≡ None
 add_exception_passes p q limits year day t longer h =
@@ -112,13 +112,13 @@ add_exception_passes p q limits year day t longer h =
     let b = next_test (plain.is_off_years p year) _ _ a.1 in
     rw (on_line p q day longer a.0, in_years p q year longer b.0) b.1
 
-drop_exception_passes : (p q : Profile) (year : ℤ) (t : PlainTerritory) → IsLonger p q
+drop_exception_passes : (p q : Profile) (year : ℤ) (t : TerritoryModel) → IsLonger p q
     → plain.drop_exception_refusal p year t ≡ None → plain.drop_exception_refusal q year t ≡ None
 drop_exception_passes p q year t longer h =
     let a = next_test (plain.is_off_years p year) _ _ h in rw (in_years p q year longer a.0) a.1
 
 -- an edit that rules don't refuse
-pub refusal_passes : (p q : Profile) (limits : Limits) (lands : List PlainLand) (e : Edit)
+pub refusal_passes : (p q : Profile) (limits : Limits) (lands : List LandModel) (e : Edit)
     → IsLonger p q → HasFixed e → refusal p limits lands e ≡ None → refusal q limits lands e ≡ None
 refusal_passes p q limits lands (AddLand code name r) longer fixed h =
     add_land_passes p q limits lands code name r fixed h
@@ -134,7 +134,7 @@ refusal_passes p q limits lands (DropException code year) longer fixed h =
     territory_passes lands code _ _ (λ t. drop_exception_passes p q year t longer) h
 
 -- edits that are lawful in turn
-pub lawful_passes : (p q : Profile) (limits : Limits) (lands : List PlainLand) (es : List Edit)
+pub lawful_passes : (p q : Profile) (limits : Limits) (lands : List LandModel) (es : List Edit)
     → IsLonger p q → HaveFixed es → AreLawful p limits lands es → AreLawful q limits lands es
 lawful_passes p q limits lands [] longer fixed h = tt
 lawful_passes p q limits lands (e ∷ es) longer fixed h = (
@@ -143,7 +143,7 @@ lawful_passes p q limits lands (e ∷ es) longer fixed h = (
 )
 
 -- edits that are lawful under both do the same under both
-applied-both : (p q : Profile) (limits : Limits) (lands : List PlainLand) (es : List Edit)
+applied-both : (p q : Profile) (limits : Limits) (lands : List LandModel) (es : List Edit)
     → AreLawful p limits lands es → AreLawful q limits lands es
     → applied_all p limits lands es ≡ applied_all q limits lands es
 applied-both p q limits lands [] h k = refl
@@ -153,7 +153,7 @@ applied-both p q limits lands (e ∷ es) h k =
     ∙ sym (ap (λ ls. applied_all q limits ls es) (applied-lawful q limits lands e k.0)))
 
 -- so do edits that are lawful under the rules of the shorter line
-pub applied_passes : (p q : Profile) (limits : Limits) (lands : List PlainLand) (es : List Edit)
+pub applied_passes : (p q : Profile) (limits : Limits) (lands : List LandModel) (es : List Edit)
     → IsLonger p q → HaveFixed es → AreLawful p limits lands es
     → applied_all p limits lands es ≡ applied_all q limits lands es
 applied_passes p q limits lands es longer fixed h =

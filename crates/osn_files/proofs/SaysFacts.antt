@@ -15,7 +15,7 @@ use Rattle.osn_register.specs.declared.edit.Edit.TheVariants.{DropChange, AddExc
 use Rattle.osn_register.specs.declared.edit.Edit.TheVariants.{DropException}
 use Rattle.osn_register.specs.declared.limits.Limits.{Limits}
 use Rattle.osn_register.specs.Code.{is_code, is_name}
-use Rattle.osn_register.specs.Plain.{PlainLand, refusal}
+use Rattle.osn_register.specs.Plain.{LandModel, refusal}
 use Rattle.osn_core.specs.declared.command.Command.TheVariants.{Stage, Publish}
 use Rattle.osn_request.specs.EditRequest.{add_land_of, add_change_of, alter_change_of}
 use Rattle.osn_request.specs.EditRequest.{drop_change_of, add_exception_of, drop_exception_of}
@@ -135,7 +135,7 @@ Says-drop_exception code y c early =
     }
 
 -- the line of a lawful edit says the edit
-pub Says-lawful : (limits : Limits) (lands : List PlainLand) (e : Edit)
+pub Says-lawful : (limits : Limits) (lands : List LandModel) (e : Edit)
     → refusal newest_rules limits lands e ≡ None → Says (edit_data e) (Stage e)
 Says-lawful limits lands (AddLand code name r) h =
     let code_good = next_test (not (is_code code)) _ _ h in

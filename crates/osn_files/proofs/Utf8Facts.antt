@@ -4,20 +4,20 @@ use Rattle.std.proofs.lemmas.Str.{IsUtf8-append, IsUtf8-nil}
 use Rattle.osn_days.specs.Profile.{newest_rules}
 use Rattle.osn_register.specs.declared.edit.Edit.{Edit}
 use Rattle.osn_register.specs.declared.limits.Limits.{Limits}
-use Rattle.osn_register.specs.Plain.{PlainLand, effect, applied_all}
+use Rattle.osn_register.specs.Plain.{LandModel, effect, applied_all}
 use Rattle.osn_core.specs.Sequential.{ObjectState, joined, AreLawful, IsSound}
 use Rattle.osn_files.specs.JournalText.{edits_text, batches_text, journal_text}
 use Rattle.osn_files.proofs.LawFacts.{lawful_front, lawful_rest}
 use Rattle.osn_files.proofs.SaysFacts.{Says-publish, Says-lawful, IsLine-head}
 
-utf8_edits : (limits : Limits) (lands : List PlainLand) (es : List Edit)
+utf8_edits : (limits : Limits) (lands : List LandModel) (es : List Edit)
     → AreLawful newest_rules limits lands es → IsUtf8 (edits_text es)
 utf8_edits limits lands [] h = IsUtf8-nil
 utf8_edits limits lands (e ∷ es) h =
     IsUtf8-append _ (edits_text es) (Says-lawful limits lands e h.0).line.utf8
     (utf8_edits limits (effect lands e) es h.1)
 
-utf8_batches : (limits : Limits) (lands : List PlainLand) (bs : List (List Edit)) (pend : List Edit)
+utf8_batches : (limits : Limits) (lands : List LandModel) (bs : List (List Edit)) (pend : List Edit)
     → AreLawful newest_rules limits lands (joined bs ++ pend) → IsUtf8 (batches_text bs)
 utf8_batches limits lands [] pend h = IsUtf8-nil
 utf8_batches limits lands (b ∷ bs) pend h =

@@ -2,7 +2,7 @@
 ghost use Rattle.serde_json.specs.View.{view};
 ghost use Rattle.osn_request.specs.Request.{Gives};
 ghost use Rattle.osn_format.specs.Version.{rules_of};
-ghost use Rattle.osn_files.specs.Commands as said;
+ghost use Rattle.osn_files.specs.Commands as spec;
 
 use osn_core::Command;
 use osn_format::{Version, WireFault};
@@ -19,7 +19,7 @@ pub(crate) fn command_in(
     version: Version,
     value: &Value,
 ) -> Result<Command, RequestError>
-    ensures { Gives result (said.command_in (rules_of version) (view value.now)) }
+    ensures { Gives result (spec.command_in (rules_of version) (view value.now)) }
 {
     match op_of(value)? {
         Op::Edit(op) => Ok(Command::Stage(edit_of(alloc, version, op, value)?)),

@@ -2,7 +2,7 @@
 ghost use Rattle.std.specs.Prelude.{◌≤◌, IfOk};
 ghost use Rattle.serde_json.specs.View.{view};
 ghost use Rattle.osn_request.specs.Request.{Gives};
-ghost use Rattle.osn_files.specs.Questions as said;
+ghost use Rattle.osn_files.specs.Questions as spec;
 
 use osn_core::MOST_READERS;
 use osn_format::WireFault;
@@ -17,7 +17,7 @@ use std::alloc::Global;
 /// The first fault of the object, which is that of a request, and `NotAQuery` for an edit or a
 /// publish; want of memory.
 pub fn question_in(alloc: Global, value: &Value) -> Result<(u32, Query), RequestError>
-    ensures question { Gives result (said.question_in (view value.now)) }
+    ensures question { Gives result (spec.question_in (view value.now)) }
     ensures among { IfOk result (λ asked. (1 ≤ asked.0) × (asked.0 ≤ MOST_READERS)) }
 {
     match op_of(value)? {

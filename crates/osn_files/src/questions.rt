@@ -1,7 +1,7 @@
 //! Reads a question file.
 ghost use Rattle.std.specs.Prelude.{map};
 ghost use Rattle.osn_files.specs.Files.{ReadsFile};
-ghost use Rattle.osn_files.specs.Questions as said;
+ghost use Rattle.osn_files.specs.Questions as spec;
 ghost use Rattle.osn_files.specs.declared.fault.Role.TheVariants.{Questions};
 
 use crate::fault::{FileFault, Role};
@@ -23,7 +23,7 @@ pub fn read_questions<R: Source>(
     alloc: Global,
     source: &mut R,
 ) -> Result<Vec<Vec<Query>>, FileFault>
-    ensures { ReadsFile Questions said.questions (λ lists. map (λ qs. qs.items) lists.items) result
+    ensures { ReadsFile Questions spec.questions (λ lists. map (λ qs. qs.items) lists.items) result
         R.remaining R.has_failed source.old source.new }
 {
     let version = Some(Version::newest());

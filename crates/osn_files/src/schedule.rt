@@ -1,6 +1,6 @@
 //! Reads a schedule.
 ghost use Rattle.osn_files.specs.Files.{ReadsFile};
-ghost use Rattle.osn_files.specs.Schedule as said;
+ghost use Rattle.osn_files.specs.Schedule as spec;
 ghost use Rattle.osn_files.specs.declared.fault.Role.TheVariants.{Schedule};
 
 use crate::fault::{FileFault, Role};
@@ -56,7 +56,7 @@ pub fn read_schedule<R: Source>(
     readers: u32,
     source: &mut R,
 ) -> Result<Vec<Step>, FileFault>
-    ensures { ReadsFile Schedule (said.schedule readers) (λ steps. steps.items) result
+    ensures { ReadsFile Schedule (spec.schedule readers) (λ steps. steps.items) result
         R.remaining R.has_failed source.old source.new }
 {
     let version = Some(Version::newest());

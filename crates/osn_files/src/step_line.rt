@@ -3,7 +3,7 @@ ghost use Rattle.std.specs.Prelude.{◌≡◌};
 ghost use Rattle.serde_json.specs.View.{view};
 ghost use Rattle.osn_request.specs.Request.{Gives};
 ghost use Rattle.osn_format.specs.Version.{rules_of};
-ghost use Rattle.osn_files.specs.Schedule as said;
+ghost use Rattle.osn_files.specs.Schedule as spec;
 
 use osn_core::Step;
 use osn_format::{Member, Version, WireFault};
@@ -26,7 +26,7 @@ pub(crate) enum StepKind {
 }
 
 fn kind_named(word: &str) -> Option<StepKind>
-    ensures { result ≡ said.kind_named word.now }
+    ensures { result ≡ spec.kind_named word.now }
 {
     match word {
         "look" => Some(StepKind::Look),
@@ -43,7 +43,7 @@ fn kind_named(word: &str) -> Option<StepKind>
 }
 
 fn kind_of(value: &Value) -> Result<StepKind, WireFault>
-    ensures { result ≡ said.kind_of (view value.now) }
+    ensures { result ≡ spec.kind_of (view value.now) }
 {
     match kind_named(text_at(value, Member::Step)?) {
         Some(kind) => Ok(kind),
@@ -52,13 +52,13 @@ fn kind_of(value: &Value) -> Result<StepKind, WireFault>
 }
 
 fn reader_of(readers: u32, value: &Value) -> Result<u32, WireFault>
-    ensures { result ≡ said.reader_of readers (view value.now) }
+    ensures { result ≡ spec.reader_of readers (view value.now) }
 {
     reader_in(readers, whole_at(value, Member::Reader)?)
 }
 
 fn look_of(alloc: Global, readers: u32, value: &Value) -> Result<Step, RequestError>
-    ensures { Gives result (said.look_of readers (view value.now)) }
+    ensures { Gives result (spec.look_of readers (view value.now)) }
 {
     match op_of(value)? {
         Op::Query(op) => {
@@ -70,7 +70,7 @@ fn look_of(alloc: Global, readers: u32, value: &Value) -> Result<Step, RequestEr
 }
 
 fn stage_of(alloc: Global, version: Version, value: &Value) -> Result<Step, RequestError>
-    ensures { Gives result (said.stage_of (rules_of version) (view value.now)) }
+    ensures { Gives result (spec.stage_of (rules_of version) (view value.now)) }
 {
     match op_of(value)? {
         Op::Edit(op) => Ok(Step::Stage(edit_of(alloc, version, op, value)?)),
@@ -86,7 +86,7 @@ fn step_by(
     kind: StepKind,
     value: &Value,
 ) -> Result<Step, RequestError>
-    ensures { Gives result (said.step_by (rules_of version) readers (view value.now) kind) }
+    ensures { Gives result (spec.step_by (rules_of version) readers (view value.now) kind) }
 {
     match kind {
         StepKind::Look => look_of(alloc, readers, value),
@@ -119,7 +119,7 @@ pub(crate) fn step_in(
     readers: u32,
     value: &Value,
 ) -> Result<Step, RequestError>
-    ensures { Gives result (said.step_in (rules_of version) readers (view value.now)) }
+    ensures { Gives result (spec.step_in (rules_of version) readers (view value.now)) }
 {
     step_by(alloc, version, readers, kind_of(value)?, value)
 }

@@ -8,7 +8,7 @@ ghost use Rattle.osn_register.specs.declared.edit.Edit.TheVariants as edits;
 ghost use Rattle.osn_format.specs.Json.{value_tokens, member_tokens};
 ghost use Rattle.osn_format.specs.Version.{newest_version};
 ghost use Rattle.osn_files.specs.Journal.{load};
-ghost use Rattle.osn_files.specs.JournalText as said;
+ghost use Rattle.osn_files.specs.JournalText as spec;
 ghost use Rattle.osn_files.specs.Version.{head_data};
 
 use json::Writer;
@@ -29,7 +29,7 @@ fn write_add_land(
     regime: Regime,
 ) -> Result<(), AllocError>
     ensures tokens { OnOk result (out.new.tokens ≡ out.old.tokens
-        ++ value_tokens (said.edit_data (edits.AddLand code.now name.now regime))) }
+        ++ value_tokens (spec.edit_data (edits.AddLand code.now name.now regime))) }
     ensures before { out.new.before ≡ out.old.before }
 {
     out.begin_object()?;
@@ -51,7 +51,7 @@ fn write_change(
     regime: Regime,
 ) -> Result<(), AllocError>
     ensures tokens { OnOk result (out.new.tokens ≡ out.old.tokens
-        ++ value_tokens (said.change_data op.now code.now day regime)) }
+        ++ value_tokens (spec.change_data op.now code.now day regime)) }
     ensures before { out.new.before ≡ out.old.before }
 {
     out.begin_object()?;
@@ -66,7 +66,7 @@ fn write_change(
 
 fn write_drop_change(out: &mut Writer, code: &Text, day: i64) -> Result<(), AllocError>
     ensures tokens { OnOk result (out.new.tokens ≡ out.old.tokens
-        ++ value_tokens (said.edit_data (edits.DropChange code.now day))) }
+        ++ value_tokens (spec.edit_data (edits.DropChange code.now day))) }
     ensures before { out.new.before ≡ out.old.before }
 {
     out.begin_object()?;
@@ -78,7 +78,7 @@ fn write_drop_change(out: &mut Writer, code: &Text, day: i64) -> Result<(), Allo
 
 fn write_add_exception(out: &mut Writer, code: &Text, year: i64, day: i64) -> Result<(), AllocError>
     ensures tokens { OnOk result (out.new.tokens ≡ out.old.tokens
-        ++ value_tokens (said.edit_data (edits.AddException code.now year day))) }
+        ++ value_tokens (spec.edit_data (edits.AddException code.now year day))) }
     ensures before { out.new.before ≡ out.old.before }
 {
     out.begin_object()?;
@@ -91,7 +91,7 @@ fn write_add_exception(out: &mut Writer, code: &Text, year: i64, day: i64) -> Re
 
 fn write_drop_exception(out: &mut Writer, code: &Text, year: i64) -> Result<(), AllocError>
     ensures tokens { OnOk result (out.new.tokens ≡ out.old.tokens
-        ++ value_tokens (said.edit_data (edits.DropException code.now year))) }
+        ++ value_tokens (spec.edit_data (edits.DropException code.now year))) }
     ensures before { out.new.before ≡ out.old.before }
 {
     out.begin_object()?;
@@ -103,7 +103,7 @@ fn write_drop_exception(out: &mut Writer, code: &Text, year: i64) -> Result<(), 
 
 fn write_edit(out: &mut Writer, edit: &Edit) -> Result<(), AllocError>
     ensures tokens { OnOk result (out.new.tokens ≡ out.old.tokens
-        ++ value_tokens (said.edit_data edit.now)) }
+        ++ value_tokens (spec.edit_data edit.now)) }
     ensures before { out.new.before ≡ out.old.before }
 {
     match edit {
@@ -122,7 +122,7 @@ fn write_edit(out: &mut Writer, edit: &Edit) -> Result<(), AllocError>
 
 fn write_publish(out: &mut Writer) -> Result<(), AllocError>
     ensures tokens { OnOk result (out.new.tokens ≡ out.old.tokens
-        ++ value_tokens said.publish_data) }
+        ++ value_tokens spec.publish_data) }
     ensures before { out.new.before ≡ out.old.before }
 {
     out.begin_object()?;
@@ -143,7 +143,7 @@ fn write_head(out: &mut Writer, version: Version) -> Result<(), AllocError>
 /// Ends the line of a value that was written behind other bytes.
 fn end_line(out: Writer) -> Result<Vec<u8>, AllocError>
     ensures { IfOk result (λ bytes. (d : Data) → out.tokens ≡ value_tokens d →
-        bytes.items ≡ out.before ++ said.line_text d) }
+        bytes.items ≡ out.before ++ spec.line_text d) }
 {
     let mut bytes = out.into_inner();
     bytes.push(b'\n')?;
@@ -153,7 +153,7 @@ fn end_line(out: Writer) -> Result<Vec<u8>, AllocError>
 /// The head of a journal.
 fn head_line(alloc: Global, room: usize) -> Result<Vec<u8>, AllocError>
     ensures { IfOk result (λ bytes.
-        bytes.items ≡ said.line_text (head_data newest_version)) }
+        bytes.items ≡ spec.line_text (head_data newest_version)) }
 {
     let mut out = Writer::new(Vec::with_capacity(alloc, room)?);
     write_head(&mut out, Version::newest())?;
@@ -163,7 +163,7 @@ fn head_line(alloc: Global, room: usize) -> Result<Vec<u8>, AllocError>
 /// The bytes, and an edit behind them.
 fn with_edit(bytes: Vec<u8>, edit: &Edit) -> Result<Vec<u8>, AllocError>
     ensures { IfOk result (λ more.
-        more.items ≡ bytes.items ++ said.line_text (said.edit_data edit.now)) }
+        more.items ≡ bytes.items ++ spec.line_text (spec.edit_data edit.now)) }
 {
     let mut out = Writer::new(bytes);
     write_edit(&mut out, edit)?;
@@ -173,7 +173,7 @@ fn with_edit(bytes: Vec<u8>, edit: &Edit) -> Result<Vec<u8>, AllocError>
 /// The bytes, and a publish behind them.
 fn with_publish(bytes: Vec<u8>) -> Result<Vec<u8>, AllocError>
     ensures { IfOk result (λ more.
-        more.items ≡ bytes.items ++ said.line_text said.publish_data) }
+        more.items ≡ bytes.items ++ spec.line_text spec.publish_data) }
 {
     let mut out = Writer::new(bytes);
     write_publish(&mut out)?;
@@ -182,7 +182,7 @@ fn with_publish(bytes: Vec<u8>) -> Result<Vec<u8>, AllocError>
 
 /// The bytes, and edits behind them.
 fn with_edits(bytes: Vec<u8>, edits: &[Edit]) -> Result<Vec<u8>, AllocError>
-    ensures { IfOk result (λ more. more.items ≡ bytes.items ++ said.edits_text edits.now) }
+    ensures { IfOk result (λ more. more.items ≡ bytes.items ++ spec.edits_text edits.now) }
 {
     let mut more = bytes;
     for edit in edits {
@@ -193,7 +193,7 @@ fn with_edits(bytes: Vec<u8>, edits: &[Edit]) -> Result<Vec<u8>, AllocError>
 
 /// The bytes, and batches behind them, each with its publish.
 fn with_batches(bytes: Vec<u8>, batches: &[Batch]) -> Result<Vec<u8>, AllocError>
-    ensures { IfOk result (λ more. more.items ≡ bytes.items ++ said.batches_text batches.now) }
+    ensures { IfOk result (λ more. more.items ≡ bytes.items ++ spec.batches_text batches.now) }
 {
     let mut more = bytes;
     for batch in batches {
@@ -204,7 +204,7 @@ fn with_batches(bytes: Vec<u8>, batches: &[Batch]) -> Result<Vec<u8>, AllocError
 
 /// The bytes of the journal of an object.
 fn journal_bytes(alloc: Global, object: &Object) -> Result<Vec<u8>, AllocError>
-    ensures text { IfOk result (λ bytes. bytes.items ≡ said.journal_text object.now) }
+    ensures text { IfOk result (λ bytes. bytes.items ≡ spec.journal_text object.now) }
     ensures sound { IsSound newest_rules object.now }
 {
     let batches = object.batches();
@@ -221,10 +221,10 @@ fn journal_bytes(alloc: Global, object: &Object) -> Result<Vec<u8>, AllocError>
 ///
 /// Only where no memory is found.
 pub fn journal_text(alloc: Global, object: &Object) -> Result<String, AllocError>
-    ensures text { IfOk result (λ text. string_bytes text ≡ said.journal_text object.now) }
-    ensures law { load newest_rules object.now.limits (lines (said.journal_text object.now))
+    ensures text { IfOk result (λ text. string_bytes text ≡ spec.journal_text object.now) }
+    ensures law { load newest_rules object.now.limits (lines (spec.journal_text object.now))
         ≡ Ok object.now }
 {
     let bytes = journal_bytes(alloc, object)?;
-    Ok(String::from_utf8(bytes).unwrap())
+    Ok(unsafe { String::from_utf8_unchecked(bytes) })
 }

@@ -1,7 +1,7 @@
 //! The versions of the rules, and of the form of journals and scripts.
 ghost use Rattle.std.specs.Prelude.{◌≡◌};
 ghost use Rattle.osn_lands.specs.StyleWords.{has_style};
-ghost use Rattle.osn_format.specs.Version as said;
+ghost use Rattle.osn_format.specs.Version as spec;
 
 use osn_lands::Style;
 
@@ -17,14 +17,14 @@ pub enum Version {
 impl Version {
     /// The version that is written, and by which requests are read.
     pub fn newest() -> Version
-        ensures { result ≡ said.newest_version }
+        ensures { result ≡ spec.newest_version }
     {
         Self::Second
     }
 
     /// The number in a head.
     pub fn number(self) -> u32
-        ensures { result ≡ said.version_number self }
+        ensures { result ≡ spec.version_number self }
     {
         match self {
             Version::First => 1,
@@ -34,7 +34,7 @@ impl Version {
 
     /// The version of a number, if any has it.
     pub fn numbered(number: i64) -> Option<Version>
-        ensures { result ≡ said.version_numbered number }
+        ensures { result ≡ spec.version_numbered number }
     {
         match number {
             1 => Some(Version::First),
@@ -45,7 +45,7 @@ impl Version {
 
     /// Whether a line may have the style's word by the rules of this version.
     pub fn has_style(self, style: Style) -> bool
-        ensures { result ≡ has_style (said.rules_of self) style }
+        ensures { result ≡ has_style (spec.rules_of self) style }
     {
         match self {
             Version::First => match style {

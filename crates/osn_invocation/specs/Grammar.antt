@@ -10,9 +10,9 @@ use Rattle.clap.specs.declared.builder.command.Command.TheViews.{out-Command}
 use Rattle.clap.specs.declared.builder.value_parser.ValueParser.TheVariants.{Signed}
 use Rattle.clap.specs.declared.parser.matches.ArgMatches.{ArgMatches}
 
--- an option that names a file, `--journal FILE`
-abbrev pub file_option : Text → Rule
-file_option name = record (new_rule name) { long = Some name; value_names = 1 }
+-- an option with a value, `--journal FILE`
+abbrev pub value_option : Text → Rule
+value_option name = record (new_rule name) { long = Some name; value_names = 1 }
 
 -- the option `--readers N`: N is 1 to 64
 abbrev pub readers_option : Rule
@@ -34,8 +34,8 @@ year_arg =
 -- `serve [--journal FILE] [--save FILE] [--readers N]`
 abbrev pub serve_grammar : App
 serve_grammar = with_rule (with_rule
-    (with_rule (new_app (codes "serve")) (file_option (codes "journal")))
-    (file_option (codes "save"))) readers_option
+    (with_rule (new_app (codes "serve")) (value_option (codes "journal")))
+    (value_option (codes "save"))) readers_option
 
 -- `replay --readers N SCHEDULE`
 abbrev pub replay_grammar : App
@@ -55,6 +55,12 @@ almanac_grammar = with_rule (with_rule
     (with_rule (new_app (codes "almanac")) (required_arg (codes "journal")))
     (required_arg (codes "code"))) year_arg
 
+-- `read JOURNAL CODE DATE [--weekday DAY]`
+abbrev pub read_grammar : App
+read_grammar = with_rule (with_rule (with_rule
+    (with_rule (new_app (codes "read")) (required_arg (codes "journal")))
+    (required_arg (codes "code"))) (required_arg (codes "date"))) (value_option (codes "weekday"))
+
 -- `audit JOURNAL TRANSCRIPT`
 abbrev pub audit_grammar : App
 audit_grammar = with_rule
@@ -69,8 +75,8 @@ program_grammar = on_top (λ s. record s { has_version = true }) (new_app (codes
 -- and `help COMMAND`
 abbrev pub command_line : App
 command_line = with_subcommand (with_subcommand (with_subcommand (with_subcommand
-    (with_subcommand program_grammar serve_grammar.top) replay_grammar.top) desk_grammar.top)
-    almanac_grammar.top) audit_grammar.top
+    (with_subcommand (with_subcommand program_grammar read_grammar.top) serve_grammar.top)
+    replay_grammar.top) desk_grammar.top) almanac_grammar.top) audit_grammar.top
 
 -- the argument has this rule, at its own command alone
 abbrev pub IsArg : Rule → Arg → Type 0

@@ -10,17 +10,19 @@ use Rattle.clap.specs.Words.{Row, Text, first_of, matches_of, one_of, subcommand
 use Rattle.osn_invocation.specs.Grammar.{command_line}
 use Rattle.osn_invocation.specs.declared.invocation.Invocation.{Invocation}
 use Rattle.osn_invocation.specs.declared.invocation.Invocation.TheVariants.{Serve, Replay, Desk}
-use Rattle.osn_invocation.specs.declared.invocation.Invocation.TheVariants.{Almanac, Audit}
+use Rattle.osn_invocation.specs.declared.invocation.Invocation.TheVariants.{Almanac, Audit, Read}
 
 -- what a command line asks for: the service by a journal, where to save it and readers; a replay by
 -- readers and a schedule; a desk by a script and questions; an almanac by a journal, a code and a
--- year; an audit by a journal and a transcript. Files are named by their paths
+-- year; an audit by a journal and a transcript; the reading of a date by a journal, a code, the
+-- date, and the weekday that it is said to be. Files are named by their paths
 pub data InvocationModel : Type 0 where
   serving : Option Text → Option Text → ℕ → InvocationModel
   replaying : ℕ → Text → InvocationModel
   working : Text → Text → InvocationModel
   printing : Text → Text → ℕ → InvocationModel
   auditing : Text → Text → InvocationModel
+  reading : Text → Text → Text → Option Text → InvocationModel
 
 -- decimal digits, of a number below 2 ^ 32
 abbrev pub is_number : Text → Bool
@@ -62,6 +64,10 @@ abbrev pub audit_invocation : List Row → InvocationModel
 audit_invocation given =
     auditing (text_of (codes "journal") given) (text_of (codes "transcript") given)
 
+abbrev pub read_invocation : List Row → InvocationModel
+read_invocation given = reading (text_of (codes "journal") given) (text_of (codes "code") given)
+    (text_of (codes "date") given) (first_of (codes "weekday") given)
+
 -- what a command asks for, by its name
 abbrev pub command_invocation : Text → List Row → InvocationModel
 command_invocation name given =
@@ -69,7 +75,8 @@ command_invocation name given =
     else (if bytes_eq name (codes "desk") then desk_invocation given
     else (if bytes_eq name (codes "almanac") then almanac_invocation given
     else (if bytes_eq name (codes "audit") then audit_invocation given
-    else serve_invocation given)))
+    else (if bytes_eq name (codes "read") then read_invocation given
+    else serve_invocation given))))
 
 -- of no command, what `serve` asks for
 abbrev pub invocation_by : List Row → Option (Text × List Row) → InvocationModel
@@ -90,3 +97,5 @@ model_of (Replay readers schedule) = replaying readers schedule.now
 model_of (Desk script questions) = working script.now questions.now
 model_of (Almanac journal code year) = printing journal.now code.now year
 model_of (Audit journal transcript) = auditing journal.now transcript.now
+model_of (Read journal code date weekday) =
+    reading journal.now code.now date.now (option_map (λ name. name.now) weekday)

@@ -2,9 +2,9 @@
 
 ghost use Rattle.std.specs.Prelude.{◌≡◌, IfOk};
 ghost use Rattle.osn_invocation.specs.Grammar.{IsArg, IsCommand, almanac_grammar, audit_grammar};
-ghost use Rattle.osn_invocation.specs.Grammar.{command_line, desk_grammar, file_option};
+ghost use Rattle.osn_invocation.specs.Grammar.{command_line, desk_grammar, read_grammar};
 ghost use Rattle.osn_invocation.specs.Grammar.{readers_option, replay_grammar, required_arg};
-ghost use Rattle.osn_invocation.specs.Grammar.{serve_grammar, year_arg};
+ghost use Rattle.osn_invocation.specs.Grammar.{serve_grammar, value_option, year_arg};
 
 use clap::{Arg, Command, value_parser};
 use std::alloc::{AllocError, Global};
@@ -37,11 +37,11 @@ fn required_arg<'a>(alloc: Global, id: &'a str, shown: &'a str) -> Arg<'a>
     Arg::new(alloc, id).value_name(shown).required(true)
 }
 
-/// An option that names a file.
-fn file_arg<'a>(alloc: Global, id: &'a str) -> Arg<'a>
-    ensures { IsArg (file_option id.now) result }
+/// An option with a value, which help shows by this name.
+fn option_arg<'a>(alloc: Global, id: &'a str, shown: &'a str) -> Arg<'a>
+    ensures { IsArg (value_option id.now) result }
 {
-    Arg::new(alloc, id).long(id).value_name("FILE")
+    Arg::new(alloc, id).long(id).value_name(shown)
 }
 
 /// The year of an almanac.
@@ -58,10 +58,10 @@ fn serve_grammar<'a>(alloc: Global) -> Result<Command<'a>, AllocError>
     Command::new(alloc, "serve")
         .about("Answers request lines on standard input (so does the program without words)")
         .after_help(SERVE_EXAMPLE)
-        .arg(file_arg(alloc, "journal").help(
+        .arg(option_arg(alloc, "journal", "FILE").help(
             "The journal to begin with; else there are no territories",
         ))?
-        .arg(file_arg(alloc, "save").help(
+        .arg(option_arg(alloc, "save", "FILE").help(
             "Where the journal is saved at the end of the input, unless a fault ended it",
         ))?
         .arg(readers_arg(alloc).help("How many readers ask, 1 to 64 [default: 8]"))
@@ -71,6 +71,28 @@ const SERVE_EXAMPLE: &str = "Example:
   ./oldstyle serve --journal examples/samples.journal --save new.journal < examples/added.jsonl
 
 Requests and replies are JSON lines. The journal is saved only where all lines were answered.";
+
+/// The command `read`, its arguments and its option.
+fn read_grammar<'a>(alloc: Global) -> Result<Command<'a>, AllocError>
+    ensures { IfOk result (IsCommand read_grammar) }
+{
+    Command::new(alloc, "read")
+        .about("Says which day a written date means in a territory, or why it never was")
+        .after_help(READ_EXAMPLE)
+        .arg(required_arg(alloc, "journal", "JOURNAL").help("The file of the journal"))?
+        .arg(required_arg(alloc, "code", "CODE").help("The code of the territory"))?
+        .arg(required_arg(alloc, "date", "DATE").help("The date as the document has it"))?
+        .arg(option_arg(alloc, "weekday", "DAY").help(
+            "The weekday that the document names, as Friday, to compare",
+        ))
+}
+
+const READ_EXAMPLE: &str = "Examples:
+  ./oldstyle read examples/samples.journal GB \"11 February 1731/2\" --weekday Friday
+  ./oldstyle read examples/samples.journal GB 1752-09-05
+
+A date is 1731-02-11, \"11 February 1731\" or \"11 February 1731/2\". Its year is that of the
+document; the last form has both years, and finds a day only where the territory had them.";
 
 /// The command `replay`, its option and its argument.
 fn replay_grammar<'a>(alloc: Global) -> Result<Command<'a>, AllocError>
@@ -151,6 +173,7 @@ pub(crate) fn command_line<'a>(alloc: Global) -> Result<Command<'a>, AllocError>
         .version("0.1.0")
         .about(ABOUT)
         .after_help(STATUSES)
+        .subcommand(read_grammar(alloc)?)?
         .subcommand(serve_grammar(alloc)?)?
         .subcommand(replay_grammar(alloc)?)?
         .subcommand(desk_grammar(alloc)?)?

@@ -8,7 +8,7 @@ ghost use Rattle.osn_invocation.specs.Grammar.{HasMatches, command_line};
 ghost use Rattle.osn_invocation.specs.Invocation.{almanac_invocation, audit_invocation};
 ghost use Rattle.osn_invocation.specs.Invocation.{command_invocation, desk_invocation};
 ghost use Rattle.osn_invocation.specs.Invocation.{invocation_by, invocation_in, model_of};
-ghost use Rattle.osn_invocation.specs.Invocation.{number_of, replay_invocation};
+ghost use Rattle.osn_invocation.specs.Invocation.{number_of, read_invocation, replay_invocation};
 ghost use Rattle.osn_invocation.specs.Invocation.{serve_invocation, text_of};
 
 use crate::grammar::command_line;
@@ -65,6 +65,17 @@ pub enum Invocation<'a> {
         /// The file of what readers asked and were told.
         transcript: &'a str,
     },
+    /// To say which day a written date means in a territory.
+    Read {
+        /// The file of the journal.
+        journal: &'a str,
+        /// The code of the territory.
+        code: &'a str,
+        /// The date as the document has it.
+        date: &'a str,
+        /// The name of the weekday that the document has, if any.
+        weekday: Option<&'a str>,
+    },
 }
 
 /// What the grammar finds in the arguments of a command line.
@@ -113,6 +124,7 @@ fn command_of<'a>(name: &str, given: &ArgMatches<'a>) -> Invocation<'a>
         "desk" => desk_of(given),
         "almanac" => almanac_of(given),
         "audit" => audit_of(given),
+        "read" => read_of(given),
         _ => serve_of(given),
     }
 }
@@ -122,8 +134,8 @@ fn serve_of<'a>(given: &ArgMatches<'a>) -> Invocation<'a>
     ensures { model_of result ≡ serve_invocation (rows_of (found_of given.now)) }
 {
     Invocation::Serve(ServeOptions {
-        journal: path_of(given, "journal"),
-        save: path_of(given, "save"),
+        journal: value_of(given, "journal"),
+        save: value_of(given, "save"),
         readers: number_of(given, "readers", READERS),
     })
 }
@@ -169,9 +181,21 @@ fn audit_of<'a>(given: &ArgMatches<'a>) -> Invocation<'a>
     }
 }
 
-/// The path that stands behind an option, if any.
-fn path_of<'a>(given: &ArgMatches<'a>, id: &str) -> Option<&'a str>
-    ensures { option_map (λ path. path.now) result
+/// What the arguments of `read` ask for.
+fn read_of<'a>(given: &ArgMatches<'a>) -> Invocation<'a>
+    ensures { model_of result ≡ read_invocation (rows_of (found_of given.now)) }
+{
+    Invocation::Read {
+        journal: text_of(given, "journal"),
+        code: text_of(given, "code"),
+        date: text_of(given, "date"),
+        weekday: value_of(given, "weekday"),
+    }
+}
+
+/// The text that stands behind an option, if any.
+fn value_of<'a>(given: &ArgMatches<'a>, id: &str) -> Option<&'a str>
+    ensures { option_map (λ text. text.now) result
         ≡ first_of id.now (rows_of (found_of given.now)) }
 {
     given.get_str(id)

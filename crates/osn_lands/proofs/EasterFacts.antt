@@ -16,7 +16,7 @@ use Rattle.osn_days.specs.Profile.{Profile}
 use Rattle.osn_days.specs.Line.{line, IsDay, weekday}
 use Rattle.osn_days.proofs.ChainFacts.{not_true}
 use Rattle.osn_days.proofs.FilterFacts.{filter_none, filter_one, filter_is}
-use Rattle.osn_lands.specs.Territory.{PlainTerritory, regime_at}
+use Rattle.osn_lands.specs.Territory.{TerritoryModel, regime_at}
 use Rattle.osn_lands.specs.Easters.{is_on, is_easter, easters_by_rule, unless_listed, easters}
 use Rattle.osn_lands.specs.Exceptions.{exception_of}
 use Rattle.osn_lands.specs.Inside.{is_rule, easters_in_force, days_in_order}
@@ -71,7 +71,7 @@ is_that_day : (p : Profile) (rule : Rule) (y e d : ℕ) → easter_of p rule y �
 is_that_day p rule y e d is = ap (λ o. is_on o d) is
 
 -- the Easter of a rule, on a day on which it is in force
-pub in_force : (p : Profile) (t : PlainTerritory) (rule : Rule) (y e : ℕ) →
+pub in_force : (p : Profile) (t : TerritoryModel) (rule : Rule) (y e : ℕ) →
     easter_of p rule y ≡ Some e → is_rule (regime_at t e).rule rule ≡ true → e
     ∷ [] ≡ easters_in_force p t rule y
 unfolding easters_in_force line
@@ -88,7 +88,7 @@ in_force p t rule y e is held =
     elim apart [ inl before ↦ omega arith | inr after ↦ omega arith ])))
 
 -- and on one on which it is not
-pub not_in_force : (p : Profile) (t : PlainTerritory) (rule : Rule) (y e : ℕ) →
+pub not_in_force : (p : Profile) (t : TerritoryModel) (rule : Rule) (y e : ℕ) →
     easter_of p rule y ≡ Some e → is_rule (regime_at t e).rule rule ≡ false →
     [] ≡ easters_in_force p t rule y
 unfolding easters_in_force line
@@ -195,7 +195,7 @@ not_both Julian first second = let clash : false ≡ true = second in cc
 not_both Gregorian first second = let clash : false ≡ true = first in cc
 
 -- so where none is listed, the Easters are those two
-pub easters_are : (p : Profile) (t : PlainTerritory) (y : ℕ) (one other : Option ℕ) →
+pub easters_are : (p : Profile) (t : TerritoryModel) (y : ℕ) (one other : Option ℕ) →
     exception_of t y ≡ None → option_to_list one ≡ easters_in_force p t Julian y →
     option_to_list other ≡ easters_in_force p t Gregorian y →
     days_in_order one other ≡ easters p t y

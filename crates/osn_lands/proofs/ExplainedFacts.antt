@@ -13,7 +13,7 @@ use Rattle.osn_lands.specs.declared.regime.Regime.{Regime}
 use Rattle.osn_lands.specs.declared.label.Label.{Label}
 use Rattle.osn_lands.specs.declared.period.Period.{Period}
 use Rattle.osn_lands.specs.Label.{days_with_label}
-use Rattle.osn_lands.specs.Territory.{PlainTerritory, Covers, IsExplained, regime_at, reading}
+use Rattle.osn_lands.specs.Territory.{TerritoryModel, Covers, IsExplained, regime_at, reading}
 use Rattle.osn_lands.specs.Territory.{is_empty, is_skipped_at, skipped_after, skipped_among}
 use Rattle.osn_lands.specs.Territory.{skipped}
 use Rattle.osn_lands.specs.Inside.{start_of, has_label}
@@ -28,7 +28,7 @@ IsAhead p label q =
     ⊎ (list_any (λ d. nat_le (q.last + 1) d) (days_with_label p q.regime label) ≡ true)
 
 -- a label that is not read has no day from the first of the period on that is not behind it
-ahead_from : (p : Profile) (t : PlainTerritory) (label : Label) (q : Period) (d : ℕ) →
+ahead_from : (p : Profile) (t : TerritoryModel) (label : Label) (q : Period) (d : ℕ) →
     is_empty (reading p t label) ≡ true →
     ((e : ℕ) → q.first ≤ e → e ≤ q.last → regime_at t e ≡ q.regime) → 1 ≤ d → d ≤ p.high →
     has_label p label q.regime d ≡ true → q.first ≤ d → IsAhead p label q
@@ -43,7 +43,7 @@ ahead_from p t label q d none inside low high has from =
           high (ap (λ r. has_label p label r d) (inside d from within) ∙ has))
     ]
 
-ahead_at_start : (p : Profile) (t : PlainTerritory) (label : Label) (q : Period) →
+ahead_at_start : (p : Profile) (t : TerritoryModel) (label : Label) (q : Period) →
     is_empty (reading p t label) ≡ true →
     ((e : ℕ) → q.first ≤ e → e ≤ q.last → regime_at t e ≡ q.regime) → q.first ≡ 1 →
     IsAhead p label q
@@ -60,7 +60,7 @@ ahead_at_start p t label q none inside first =
     ]
 
 -- no day before the period, but one some
-ahead_past : (p : Profile) (t : PlainTerritory) (label : Label) (q : Period) →
+ahead_past : (p : Profile) (t : TerritoryModel) (label : Label) (q : Period) →
     is_empty (reading p t label) ≡ true →
     ((e : ℕ) → q.first ≤ e → e ≤ q.last → regime_at t e ≡ q.regime) →
     list_any (λ d. nat_lt d q.first) (days_with_label p q.regime label) ≡ false →
@@ -104,7 +104,7 @@ second_or_third a b c d is_a is_d all =
 
 -- where the label is not skipped at a change: the second condition fails, or it has no day under
 -- either regime
-failed : (p : Profile) (t : PlainTerritory) (label : Label) (old new : Period) →
+failed : (p : Profile) (t : TerritoryModel) (label : Label) (old new : Period) →
     is_empty (reading p t label) ≡ true → new.first ≡ old.last + 1 → IsAhead p label old →
     is_skipped_at p t label old new ≡ false →
     ((list_any (λ d. nat_lt d new.first) (days_with_label p new.regime label)
@@ -133,7 +133,7 @@ failed p t label old new none next ahead is =
       | inr third ↦ inr (not-false both third)
     ]
 
-ahead_next : (p : Profile) (t : PlainTerritory) (label : Label) (old new : Period) →
+ahead_next : (p : Profile) (t : TerritoryModel) (label : Label) (old new : Period) →
     is_empty (reading p t label) ≡ true →
     ((e : ℕ) → new.first ≤ e → e ≤ new.last → regime_at t e ≡ new.regime) →
     new.first ≡ old.last + 1 → IsAhead p label old → is_skipped_at p t label old new ≡ false →
@@ -147,7 +147,7 @@ ahead_next p t label old new none inside next ahead is =
       | inr both ↦ inl (and_parts (is_empty olds) (is_empty news) both).1
     ]
 
-no_days_back : (p : Profile) (t : PlainTerritory) (label : Label) (old new : Period) →
+no_days_back : (p : Profile) (t : TerritoryModel) (label : Label) (old new : Period) →
     is_empty (reading p t label) ≡ true → new.first ≡ old.last + 1 → IsAhead p label old →
     is_skipped_at p t label old new ≡ false → is_empty (days_with_label p new.regime label) ≡ true →
     is_empty (days_with_label p old.regime label) ≡ true
@@ -170,7 +170,7 @@ is_dated_among p label starts = list_any (λ s. not (is_empty (days_with_label p
 
 -- no regime has the label, from a period on behind which it has its days or none, where no change
 -- is named
-undated_after : (p : Profile) (t : PlainTerritory) (label : Label) (first : ℕ) (old : Period)
+undated_after : (p : Profile) (t : TerritoryModel) (label : Label) (first : ℕ) (old : Period)
     (rest : List Period) → Covers first p.high (old ∷ rest) → Agrees (regime_at t) (old ∷ rest) →
     is_empty (reading p t label) ≡ true → IsAhead p label old →
     skipped_after p t label old rest ≡ [] →
@@ -192,7 +192,7 @@ undated_after p t label first old (new ∷ rest) covers agree none ahead nothing
     (no_days_back p t label old new none covers.2.0 ahead here.0
     (not-false (is_empty (days_with_label p new.regime label)) new_one.0))) more
 
-undated_among : (p : Profile) (t : PlainTerritory) (label : Label) (ps : List Period) →
+undated_among : (p : Profile) (t : TerritoryModel) (label : Label) (ps : List Period) →
     Covers 1 p.high ps → Agrees (regime_at t) ps → is_empty (reading p t label) ≡ true →
     skipped_among p t label ps ≡ [] → is_dated_among p label (map start_of ps) ≡ false
 undated_among p t label [] covers agree none nothing = refl
@@ -204,7 +204,7 @@ explained : (es : List (ℕ × ℕ)) (p : Profile) (label : Label) (ps : List Pe
     Covers 1 p.high ps → IsExplained p (record { starts = map start_of ps; exceptions = es }) label
     (skipped p (record { starts = map start_of ps; exceptions = es }) label)
 explained es p label ps covers none dated =
-    let t : PlainTerritory = record { starts = map start_of ps; exceptions = es } in
+    let t : TerritoryModel = record { starts = map start_of ps; exceptions = es } in
     false_from_ne_true (is_empty (skipped p t label)) (λ none_at_all.
     let nothing : skipped_among p t label ps ≡ [] =
     ap (skipped_among p t label) (sym (periods_back 1 p.high ps covers))
@@ -212,7 +212,7 @@ explained es p label ps covers none dated =
     both_ways (is_dated_among p label (map start_of ps))
     (undated_among p t label ps covers (agrees es 1 p.high ps covers) none nothing) dated)
 
-pub explained_is : (es : List (ℕ × ℕ)) (p : Profile) (t : PlainTerritory) (label : Label)
+pub explained_is : (es : List (ℕ × ℕ)) (p : Profile) (t : TerritoryModel) (label : Label)
     (found : List ℕ) (ps : List Period) → record { starts = map start_of ps; exceptions = es } ≡ t →
     Covers 1 p.high ps → found ≡ skipped p t label → IsExplained p t label found
 explained_is es p t label found ps view covers same =

@@ -15,9 +15,9 @@ use Rattle.osn_days.proofs.KeptYears.{kept_year}
 use Rattle.osn_lands.specs.declared.regime.Regime.{Regime}
 use Rattle.osn_lands.specs.declared.label.Label.{Label}
 use Rattle.osn_lands.specs.Style.{is_before, year_by, style_year}
-use Rattle.osn_lands.specs.Label.{local, same_label}
+use Rattle.osn_lands.specs.Label.{local_label, same_label}
 use Rattle.osn_lands.specs.Dual.{date_text, dual_text}
-use Rattle.osn_lands.specs.Territory.{PlainTerritory, regime_at, reading}
+use Rattle.osn_lands.specs.Territory.{TerritoryModel, regime_at, reading}
 use Rattle.osn_lands.specs.Exceptions.{exception_of}
 use Rattle.osn_lands.specs.Easters.{is_on, is_easter, easters_by_rule, unless_listed, easters}
 use Rattle.osn_lands.specs.Kept.{days_of_line, KeepsReading}
@@ -46,7 +46,7 @@ kept_style_year r d until =
 
 -- so its label
 pub kept_local : (r : Regime) (d : ℕ) → d ≤ first_rules.high
-    → local first_rules r d ≡ local newest_rules r d
+    → local_label first_rules r d ≡ local_label newest_rules r d
 kept_local r d until =
     let date = date_of r.calendar d in
     ap (λ (y : ℤ). let l : Label = record { year = y; month = date.month; day = date.day } in l)
@@ -68,13 +68,13 @@ within_line p q f g longer same =
     ∙ filter_same f g 1 p.high (λ d low high. same d (low, omega arith))
 
 -- the days of the first rules that are read are those that they read
-pub kept_reading : (t : PlainTerritory) (label : Label)
+pub kept_reading : (t : TerritoryModel) (label : Label)
     → KeepsReading first_rules t label (reading newest_rules t label)
 unfolding reading
 kept_reading t label =
     within_line first_rules newest_rules
-    (λ d. same_label (local newest_rules (regime_at t d) d) label)
-    (λ d. same_label (local first_rules (regime_at t d) d) label) (omega arith)
+    (λ d. same_label (local_label newest_rules (regime_at t d) d) label)
+    (λ d. same_label (local_label first_rules (regime_at t d) d) label) (omega arith)
     (λ d on. ap (λ l. same_label l label) (sym (kept_local (regime_at t d) d on.1)))
 
 -- a filter that passes no day of a longer line alone
@@ -96,7 +96,7 @@ none_behind rule y d year behind =
     let kept = kept_easter rule y year in
     ap (λ o. is_on o d) kept.newest ∙ not_that_day kept.day d (omega (arith, kept.within, behind))
 
-kept_by_rule : (t : PlainTerritory) (y : ℕ) → IsYear first_rules y
+kept_by_rule : (t : TerritoryModel) (y : ℕ) → IsYear first_rules y
     → easters_by_rule newest_rules t y ≡ easters_by_rule first_rules t y
 unfolding easters_by_rule
 kept_by_rule t y year =
@@ -107,6 +107,6 @@ kept_by_rule t y year =
     (λ d on. ap (λ o. is_on o d) (sym (same_easter (regime_at t d).rule y year)))
 
 -- the Easters of a year that the first rules have
-pub kept_easters : (t : PlainTerritory) (y : ℕ) → IsYear first_rules y
+pub kept_easters : (t : TerritoryModel) (y : ℕ) → IsYear first_rules y
     → easters newest_rules t y ≡ easters first_rules t y
 kept_easters t y year = ap (unless_listed (exception_of t y)) (kept_by_rule t y year)

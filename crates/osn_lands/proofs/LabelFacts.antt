@@ -31,7 +31,7 @@ use Rattle.osn_lands.specs.declared.regime.Regime.{Regime}
 use Rattle.osn_lands.specs.declared.label.Label.{Label}
 use Rattle.osn_lands.specs.Style.{is_before_25_march, is_from_25_december, is_from_september}
 use Rattle.osn_lands.specs.Style.{is_before, is_before_easter, year_by, style_year, is_from_easter}
-use Rattle.osn_lands.specs.Label.{local, same_label, days_with_label}
+use Rattle.osn_lands.specs.Label.{local_label, same_label, days_with_label}
 use Rattle.osn_lands.specs.Territory.{is_empty}
 use Rattle.osn_lands.specs.Inside.{has_label, days_in_year, date_in, is_dated_before, year_in}
 use Rattle.osn_lands.proofs.EarlierFacts.{earlier_day}
@@ -192,7 +192,8 @@ pub in_three_years : (p : Profile) (r : Regime) (l : Label) (d : ℕ) → has_la
     ⊎ (int_eq (date_of r.calendar d).year (l.year +ℤ pos 1) ≡ true))
 in_three_years p r l d has =
     let date = date_of r.calendar d in
-    let counted : style_year p r d ≡ l.year = ((same_label_decides (local p r d) l).0 has).0 in
+    let counted : style_year p r d ≡ l.year =
+    ((same_label_decides (local_label p r d) l).0 has).0 in
     elim (style_is_near r.style date (is_before_easter p date.year d)) [
       | inl before ↦ inl (int_eq_of _ _ (before ∙ ap (λ y. y -ℤ pos 1) counted))
       | inr (inl same) ↦ inr (inl (int_eq_of _ _ (same ∙ counted)))
@@ -280,7 +281,7 @@ pub in_year_date : (p : Profile) (r : Regime) (l : Label) (y : ℤ) (d : ℕ) �
     (date_of r.calendar d ≡ date_in y l) × (year_in p r (date_of r.calendar d) ≡ l.year)
 in_year_date p r l y d low is =
     let both = and_parts (int_eq (date_of r.calendar d).year y) (has_label p l r d) is in
-    let parts = (same_label_decides (local p r d) l).0 both.1 in (
+    let parts = (same_label_decides (local_label p r d) l).0 both.1 in (
       date_is (date_of r.calendar d) (date_in y l) (in_year_year p r l y d is) parts.1.0 parts.1.1,
       sym (year_of_day p r d low) ∙ parts.0,
     )
@@ -304,7 +305,7 @@ in_year_is p r l y d low counted =
       (λ is. (in_year_date p r l y d low is).0),
       (λ same. and_from (int_eq date.year y) (has_label p l r d)
           (int_eq_of _ _ (ap (λ (e : Date). e.year) same))
-          ((same_label_decides (local p r d) l).1 (
+          ((same_label_decides (local_label p r d) l).1 (
             year_of_day p r d low ∙ ap (year_in p r) same ∙ counted,
             (ap (λ (e : Date). e.month) same, ap (λ (e : Date). e.day) same),
           ))),
@@ -360,7 +361,7 @@ counted_in : (p : Profile) (r : Regime) (l : Label) (y : ℤ) (d : ℕ) → in_y
     ((date_of r.calendar d).year ≡ y) × (style_year p r d ≡ l.year)
 counted_in p r l y d is =
     let both = and_parts (int_eq (date_of r.calendar d).year y) (has_label p l r d) is in
-    (in_year_year p r l y d is, ((same_label_decides (local p r d) l).0 both.1).0)
+    (in_year_year p r l y d is, ((same_label_decides (local_label p r d) l).0 both.1).0)
 
 not_on_both_sides : (p : Profile) (r : Regime) (l : Label) (d e : ℕ) →
     in_year p r l (l.year -ℤ pos 1) d ≡ true → in_year p r l (l.year +ℤ pos 1) e ≡ true → ⊥

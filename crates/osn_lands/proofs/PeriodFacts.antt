@@ -3,7 +3,7 @@ use Rattle.std.proofs.Common.{◌≡◌, ℕ, ◌+◌, List, [], ◌∷◌, map,
 use Rattle.osn_days.specs.Profile.{Profile}
 use Rattle.osn_lands.specs.declared.regime.Regime.{Regime}
 use Rattle.osn_lands.specs.declared.period.Period.{Period}
-use Rattle.osn_lands.specs.Territory.{PlainTerritory, Covers, last_before, periods_from, periods_of}
+use Rattle.osn_lands.specs.Territory.{TerritoryModel, Covers, last_before, periods_from, periods_of}
 use Rattle.osn_lands.specs.Inside.{start_of}
 
 -- the last day of a period that these follow
@@ -21,7 +21,7 @@ periods_back first last (p ∷ ps) covers =
     ∙ ap (λ qs. p ∷ qs) (periods_back (p.last + 1) last ps covers.2)
 
 -- the periods of a territory are those that it keeps
-pub periods_kept : (es : List (ℕ × ℕ)) (p : Profile) (t : PlainTerritory) (items ps : List Period) →
+pub periods_kept : (es : List (ℕ × ℕ)) (p : Profile) (t : TerritoryModel) (items ps : List Period) →
     items ≡ ps → record { starts = map start_of ps; exceptions = es } ≡ t → Covers 1 p.high ps →
     items ≡ periods_of p t
 periods_kept es p t items ps same view covers = same ∙ sym (periods_back 1 p.high ps covers)

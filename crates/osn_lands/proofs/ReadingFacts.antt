@@ -13,7 +13,7 @@ use Rattle.osn_lands.specs.declared.regime.Regime.{Regime}
 use Rattle.osn_lands.specs.declared.label.Label.{Label}
 use Rattle.osn_lands.specs.declared.period.Period.{Period}
 use Rattle.osn_lands.specs.Label.{days_with_label}
-use Rattle.osn_lands.specs.Territory.{PlainTerritory, Covers, regime_at, reading}
+use Rattle.osn_lands.specs.Territory.{TerritoryModel, Covers, regime_at, reading}
 use Rattle.osn_lands.specs.Inside.{start_of, has_label, is_held, days_read}
 use Rattle.osn_lands.proofs.OrderFacts.{range_split, filter_same, filter_within}
 use Rattle.osn_lands.proofs.RegimeFacts.{Agrees, agrees}
@@ -70,7 +70,7 @@ in_territory label es p ps covers =
     ∙ rw whole refl
 
 -- all periods have been read
-pub reading_is : (es : List (ℕ × ℕ)) (p : Profile) (t : PlainTerritory) (label : Label)
+pub reading_is : (es : List (ℕ × ℕ)) (p : Profile) (t : TerritoryModel) (label : Label)
     (found : List ℕ) (items ps : List Period) (i : ℕ) → items ≡ ps →
     record { starts = map start_of ps; exceptions = es } ≡ t → Covers 1 p.high ps →
     length items ≤ i →

@@ -7,7 +7,7 @@ use Rattle.std.specs.List.{HoldsAt}
 use Rattle.osn_days.specs.Profile.{Profile}
 use Rattle.osn_lands.specs.declared.regime.Regime.{Regime}
 use Rattle.osn_lands.specs.declared.period.Period.{Period}
-use Rattle.osn_lands.specs.Territory.{PlainTerritory, Covers, CoversLine, no_start, periods_of}
+use Rattle.osn_lands.specs.Territory.{TerritoryModel, Covers, CoversLine, no_start, periods_of}
 use Rattle.osn_lands.specs.Territory.{regime_at}
 use Rattle.osn_lands.specs.Inside.{start_of}
 use Rattle.osn_lands.proofs.CoverFacts.{at_place}
@@ -72,7 +72,7 @@ pub agrees : (es : List (ℕ × ℕ)) (first last : ℕ) (ps : List Period) → 
 agrees es first last ps covers = agrees_after first last ps (λ d. no_start) covers
 
 -- the regime in force on a day, by the place of the period that holds it
-pub regime_found : (p : Profile) (t : PlainTerritory) (qs : List Period) (i : ℕ) (q : Period)
+pub regime_found : (p : Profile) (t : TerritoryModel) (qs : List Period) (i : ℕ) (q : Period)
     (d : ℕ) → qs ≡ periods_of p t → CoversLine p qs → i < length (periods_of p t) →
     HoldsAt (λ r. (r.first ≤ d) × (d ≤ r.last)) (periods_of p t) i → q ≡ get_or qs i q →
     q.regime ≡ regime_at t d

@@ -18,8 +18,8 @@ use Rattle.osn_lands.specs.declared.label_table.LabelTable.{LabelTable}
 use Rattle.osn_lands.specs.Style.{is_from_easter}
 use Rattle.osn_lands.specs.Label.{days_with_label}
 use Rattle.osn_lands.specs.Territory.{is_empty}
-use Rattle.osn_lands.specs.Inside.{has_label, days_read, is_held, is_named}
-use Rattle.osn_lands.specs.Inside.{AreBetween, IsEven, IsKnown, AreKnown, IsForFew, years_of}
+use Rattle.osn_lands.specs.Inside.{has_label, days_read, is_held, is_skipped_by_days}
+use Rattle.osn_lands.specs.Inside.{AreBetween, AllOrNone, IsKnown, AreKnown, IsForFew, years_of}
 use Rattle.osn_lands.specs.Inside.{most_for_one, most_tested, is_calendar, goes_by, is_used}
 use Rattle.osn_lands.specs.Inside.{three_if}
 use Rattle.osn_lands.proofs.MemberFacts.{any_in}
@@ -79,10 +79,11 @@ named_third a b c d is = sym (and_right a (b && (not c && not d))
 -- a change over which none of the days can lie is not named, where both years begin on a fixed date
 pub names_none : (p : Profile) (l : Label) (old new : Period) (table : Option LabelTable)
     (first last : ℕ) → IsKnown table old.regime → IsKnown table new.regime → 1 < new.first →
-    new.first ≤ p.high → AreBetween p l table first last → IsEven p l table first last →
+    new.first ≤ p.high → AreBetween p l table first last → AllOrNone p l table first last →
     is_from_easter old.regime.style ≡ false → is_from_easter new.regime.style ≡ false →
     (nat_lt first new.first && nat_le new.first last) ≡ false →
-    false ≡ is_named old new (days_with_label p old.regime l) (days_with_label p new.regime l)
+    false ≡ is_skipped_by_days old new (days_with_label p old.regime l)
+    (days_with_label p new.regime l)
 names_none p l old new table first last known_old known_new later most between
     (inl some) fixed_old fixed_new out =
     let olds = days_with_label p old.regime l in

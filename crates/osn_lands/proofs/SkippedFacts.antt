@@ -12,9 +12,9 @@ use Rattle.osn_days.specs.Line.{line}
 use Rattle.osn_lands.specs.declared.label.Label.{Label}
 use Rattle.osn_lands.specs.declared.period.Period.{Period}
 use Rattle.osn_lands.specs.Label.{days_with_label}
-use Rattle.osn_lands.specs.Territory.{PlainTerritory, Covers, regime_at, reading, is_empty}
+use Rattle.osn_lands.specs.Territory.{TerritoryModel, Covers, regime_at, reading, is_empty}
 use Rattle.osn_lands.specs.Territory.{is_skipped_at, skipped_after, skipped_among, skipped}
-use Rattle.osn_lands.specs.Inside.{start_of, has_label, is_held, is_named}
+use Rattle.osn_lands.specs.Inside.{start_of, has_label, is_held, is_skipped_by_days}
 use Rattle.osn_lands.proofs.MemberFacts.{any_in, any_from}
 use Rattle.osn_lands.proofs.PeriodFacts.{periods_back}
 use Rattle.osn_lands.proofs.RegimeFacts.{Agrees, agrees}
@@ -77,18 +77,18 @@ read_there f g h n old new next some_old some_new in_old in_new =
 
 -- the test of two neighbours by the days of their regimes
 abbrev pub is_named_at : Profile → Label → Period → Period → Bool
-is_named_at p label old new = is_named old new (days_with_label p old.regime label)
+is_named_at p label old new = is_skipped_by_days old new (days_with_label p old.regime label)
     (days_with_label p new.regime label)
 
 pub named_at : (p : Profile) (label : Label) (old new : Period) (olds news : List ℕ)
     (answer : Bool) → olds ≡ days_with_label p old.regime label →
-    news ≡ days_with_label p new.regime label → answer ≡ is_named old new olds news →
+    news ≡ days_with_label p new.regime label → answer ≡ is_skipped_by_days old new olds news →
     answer ≡ is_named_at p label old new
 named_at p label old new olds news answer is_olds is_news is =
-    is ∙ ap (λ ds. is_named old new ds news) is_olds
-    ∙ ap (is_named old new (days_with_label p old.regime label)) is_news
+    is ∙ ap (λ ds. is_skipped_by_days old new ds news) is_olds
+    ∙ ap (is_skipped_by_days old new (days_with_label p old.regime label)) is_news
 
-is_named_skipped : (p : Profile) (t : PlainTerritory) (label : Label) (old new : Period) →
+is_named_skipped : (p : Profile) (t : TerritoryModel) (label : Label) (old new : Period) →
     new.first ≡ old.last + 1 → old.first ≤ old.last → new.first ≤ new.last →
     ((d : ℕ) → old.first ≤ d → d ≤ old.last → regime_at t d ≡ old.regime) →
     ((d : ℕ) → new.first ≤ d → d ≤ new.last → regime_at t d ≡ new.regime) →
@@ -116,7 +116,7 @@ abbrev pub named_among : Profile → Label → List Period → List ℕ
 named_among p label [] = []
 named_among p label (opening ∷ rest) = named_after p label opening rest
 
-named_skipped_after : (p : Profile) (t : PlainTerritory) (label : Label) (first last : ℕ)
+named_skipped_after : (p : Profile) (t : TerritoryModel) (label : Label) (first last : ℕ)
     (old : Period) (rest : List Period) → Covers first last (old ∷ rest) →
     Agrees (regime_at t) (old ∷ rest) → named_after p label old rest ≡ skipped_after p t label old
     rest
@@ -127,7 +127,7 @@ named_skipped_after p t label first last old (new ∷ rest) covers agree =
     ∙ ap (λ ds. if is_skipped_at p t label old new then new.first ∷ ds else ds)
     (named_skipped_after p t label (old.last + 1) last new rest covers.2 agree.1)
 
-named_skipped_among : (p : Profile) (t : PlainTerritory) (label : Label) (ps : List Period) →
+named_skipped_among : (p : Profile) (t : TerritoryModel) (label : Label) (ps : List Period) →
     Covers 1 p.high ps → Agrees (regime_at t) ps → named_among p label ps ≡ skipped_among p t label
     ps
 named_skipped_among p t label [] covers agree = refl
@@ -196,7 +196,7 @@ named_last p label (q ∷ []) one = refl
 named_last p label (q ∷ r ∷ ps) one = absurd (omega (arith, one))
 
 -- all changes have been seen
-pub skipped_is : (es : List (ℕ × ℕ)) (p : Profile) (t : PlainTerritory) (label : Label)
+pub skipped_is : (es : List (ℕ × ℕ)) (p : Profile) (t : TerritoryModel) (label : Label)
     (found : List ℕ) (items ps : List Period) (i : ℕ) → items ≡ ps →
     record { starts = map start_of ps; exceptions = es } ≡ t → Covers 1 p.high ps → 1 ≤ i →
     length items ≤ i → found ++ named_among p label (drop (i - 1) items) ≡ named_among p label

@@ -1,11 +1,11 @@
 -- The days of a label by calendar: those of a regime are the days of its calendar that its style
 -- counts in the label's year.
 use Rattle.std.proofs.Common.{◌≡◌, ℕ, ◌≤◌, inl, inr, Bool, true, false, ◌&&◌, List}
-use Rattle.std.proofs.Common.{[], ◌∷◌, Option, Some, None, refl, sym, ap, ◌∙◌}
+use Rattle.std.proofs.Common.{[], ◌∷◌, ◌++◌, Option, Some, None, refl, sym, ap, ◌∙◌}
 use Rattle.std.proofs.Common.{arith, ℤ, pos, ◌+ℤ◌, ◌-ℤ◌, filter}
 use Rattle.std.proofs.lemmas.Bool.{and_parts, and_from}
 use Rattle.std.proofs.lemmas.Int.{ints}
-use Rattle.std.specs.Prelude.{is_none, IsSome, IsSomeAnd, IfSome}
+use Rattle.std.specs.Prelude.{IsSome, IsSomeAnd, IfSome}
 use Rattle.std.specs.List.{list_any, range_with_len}
 use Rattle.std.specs.Option.{option_to_list}
 use Rattle.osn_days.specs.declared.date.Date.{Date}
@@ -20,13 +20,13 @@ use Rattle.osn_days.proofs.LineFacts.{year_of_line, no_day, no_day_with_date, da
 use Rattle.osn_days.proofs.LineFacts.{date_of_injective}
 use Rattle.osn_lands.specs.declared.regime.Regime.{Regime}
 use Rattle.osn_lands.specs.declared.label.Label.{Label}
-use Rattle.osn_lands.specs.declared.label_table.YearDays.{YearDays}
+use Rattle.osn_lands.specs.declared.three_days.ThreeDays.{ThreeDays}
 use Rattle.osn_lands.specs.declared.label_table.LabelTable.{LabelTable}
 use Rattle.osn_lands.specs.Style.{is_from_easter}
-use Rattle.osn_lands.specs.Label.{local, days_with_label}
+use Rattle.osn_lands.specs.Label.{local_label, days_with_label}
 use Rattle.osn_lands.specs.Territory.{is_empty}
 use Rattle.osn_lands.specs.Inside.{has_label, days_in_year, date_in, years_of, are_none_in, year_in}
-use Rattle.osn_lands.specs.Inside.{AreInYears, AreAllWithin, IsTable, AreBetween, IsEven}
+use Rattle.osn_lands.specs.Inside.{AreInYears, AreAllWithin, IsTable, AreBetween, AllOrNone}
 use Rattle.osn_lands.proofs.LabelFacts.{in_year, in_year_date, in_three_years, later_year}
 use Rattle.osn_lands.proofs.LabelFacts.{same_label_decides, three_years_found, some_year_counts}
 use Rattle.osn_lands.proofs.LabelFacts.{year_of_day}
@@ -41,16 +41,6 @@ no_date_off_the_years c l y z same off =
     let at_z : (date_of c n).year ≡ z = ap (λ (d : Date). d.year) is ∙ sym same in
     let none : false ≡ true = off (rw at_z at there.0, rw at_z at there.1) in
     absurd cc)
-
--- a date with a day is in a year of the line
-pub year_of_dated : (c : Calendar) (l : Label) (y z : ℤ) (d : ℕ) (found : Option ℕ) →
-    found ≡ Some d → option_to_list found ≡ days_with_date newest_rules c (date_in y l) → z ≡ y →
-    IsYearNumber newest_rules z
-year_of_dated c l y z d found is days same =
-    let dated = day_with_date newest_rules c (date_in y l) d (ap option_to_list (sym is) ∙ days) in
-    let there = year_of_line c d dated.0 in
-    let at_z : (date_of c d).year ≡ z = ap (λ (e : Date). e.year) dated.1 ∙ sym same in
-    (rw at_z at there.0, rw at_z at there.1)
 
 -- a date without a day is no day's, however the style counts it
 pub none_counted : (p : Profile) (r : Regime) (l : Label) (y : ℤ) (found : Option ℕ) →
@@ -95,7 +85,7 @@ full_of p c l first last (Some x) None z before same after low some high =
     let none : false ≡ true = some in absurd cc
 full_of p c l first last None y z before same after low some high = absurd low
 
-full : (p : Profile) (c : Calendar) (l : Label) (first last : ℕ) (f : YearDays) →
+full : (p : Profile) (c : Calendar) (l : Label) (first last : ℕ) (f : ThreeDays) →
     AreInYears p c l f → AreAllWithin first last f → IsFull p c l first last
 full p c l first last f days within =
     full_of p c l first last f.before f.same f.after days.0 days.1 days.2 within.0 within.1 within.2
@@ -153,7 +143,7 @@ some_day : (p : Profile) (r : Regime) (l : Label) (y : ℤ) (d : ℕ) →
 unfolding days_with_label line
 some_day p r l y d day counts =
     let dated = day_with_date p r.calendar (date_in y l) d day in
-    let has : has_label p l r d ≡ true = (same_label_decides (local p r d) l).1 (
+    let has : has_label p l r d ≡ true = (same_label_decides (local_label p r d) l).1 (
       year_of_day p r d dated.0.0 ∙ ap (year_in p r) dated.1 ∙ counts,
       (ap (λ (e : Date). e.month) dated.1, ap (λ (e : Date). e.day) dated.1),
     ) in
@@ -174,7 +164,7 @@ some_full p r l first last fixed three =
     ]
 
 -- the same of days that the table has
-full_in : (p : Profile) (c : Calendar) (l : Label) (first last : ℕ) (o : Option YearDays) →
+full_in : (p : Profile) (c : Calendar) (l : Label) (first last : ℕ) (o : Option ThreeDays) →
     IfSome o (AreInYears p c l) → IfSome o (AreAllWithin first last) → IsSome o →
     IsFull p c l first last
 full_in p c l first last None days within some = let none : false ≡ true = some in absurd cc
@@ -192,14 +182,18 @@ between_ends p l t first last table within r d known on has =
 
 pub even_ends : (p : Profile) (l : Label) (t : LabelTable) (first last : ℕ) → IsTable p l t →
     ((c : Calendar) → IfSome (years_of t c) (AreAllWithin first last)) →
-    IsEven p l (Some t) first last
+    AllOrNone p l (Some t) first last
 even_ends p l t first last table within = inl (λ r known fixed. some_full p r l first last fixed
     (full_in p r.calendar l first last (years_of t r.calendar) (table r.calendar)
     (within r.calendar) known))
 
-is_none_none : (x : Option ℕ) → is_none x ≡ true → x ≡ None
-is_none_none None is = refl
-is_none_none (Some d) is = let none : false ≡ true = is in absurd cc
+none_of : (a b e : Option ℕ) →
+    is_empty (option_to_list a ++ (option_to_list b ++ option_to_list e)) ≡ true →
+    (a ≡ None) × (b ≡ None) × (e ≡ None)
+none_of None None None empty = (refl, refl, refl)
+none_of None None (Some d) empty = let none : false ≡ true = empty in absurd cc
+none_of None (Some d) e empty = let none : false ≡ true = empty in absurd cc
+none_of (Some d) b e empty = let none : false ≡ true = empty in absurd cc
 
 none_in : (t : LabelTable) (c : Calendar) → (are_none_in t.julian
     && (are_none_in t.gregorian && are_none_in t.swedish)) ≡ true →
@@ -210,23 +204,22 @@ none_in t Gregorian all = (and_parts (are_none_in t.gregorian) (are_none_in t.sw
 none_in t Swedish all = (and_parts (are_none_in t.gregorian) (are_none_in t.swedish)
     (and_parts (are_none_in t.julian) _ all).1).1
 
-no_days : (p : Profile) (r : Regime) (l : Label) (o : Option YearDays) → IsSome o →
+no_days : (p : Profile) (r : Regime) (l : Label) (o : Option ThreeDays) → IsSome o →
     IfSome o (AreInYears p r.calendar l) → are_none_in o ≡ true → [] ≡ days_with_label p r l
 no_days p r l None some days none = let nothing : false ≡ true = some in absurd cc
 no_days p r l (Some f) some days none =
-    let first = and_parts (is_none f.before) (is_none f.same && is_none f.after) none in
-    let rest = and_parts (is_none f.same) (is_none f.after) first.1 in
+    let each = none_of f.before f.same f.after none in
     three_years_found p r l [] [] [] (l.year -ℤ pos 1) l.year (l.year +ℤ pos 1)
-    (none_counted p r l (l.year -ℤ pos 1) f.before (is_none_none f.before first.0) days.0)
-    (none_counted p r l l.year f.same (is_none_none f.same rest.0) days.1)
-    (none_counted p r l (l.year +ℤ pos 1) f.after (is_none_none f.after rest.1) days.2)
+    (none_counted p r l (l.year -ℤ pos 1) f.before each.0 days.0)
+    (none_counted p r l l.year f.same each.1 days.1)
+    (none_counted p r l (l.year +ℤ pos 1) f.after each.2 days.2)
     refl refl refl
 
 -- where no calendar of the table has a day
 
 pub even_none : (p : Profile) (l : Label) (t : LabelTable) (first last : ℕ) → IsTable p l t →
     (are_none_in t.julian && (are_none_in t.gregorian && are_none_in t.swedish)) ≡ true →
-    IsEven p l (Some t) first last
+    AllOrNone p l (Some t) first last
 even_none p l t first last table none = inr (inl (λ r known. ap is_empty (sym (no_days p r l
     (years_of t r.calendar) known (table r.calendar) (none_in t r.calendar none)))))
 

@@ -9,10 +9,10 @@ use Rattle.osn_lands.specs.declared.fault.LandFault.TheVariants.{ChangeExists, N
 use Rattle.osn_lands.specs.declared.fault.LandFault.TheVariants.{OpeningPeriod}
 use Rattle.osn_lands.specs.declared.fault.LandFault.TheVariants.{StyleNeedsJulian}
 use Rattle.osn_lands.specs.Style.{lacks_julian}
-use Rattle.osn_lands.specs.Territory.{PlainTerritory}
+use Rattle.osn_lands.specs.Territory.{TerritoryModel}
 
 -- a period starts on the day
-abbrev pub starts_on : PlainTerritory → ℕ → Bool
+abbrev pub starts_on : TerritoryModel → ℕ → Bool
 starts_on t d = list_any (λ s. s.0 == d) t.starts
 
 -- why no period has a regime, if none has
@@ -20,17 +20,17 @@ abbrev pub regime_fault : Regime → Option LandFault
 regime_fault r = if lacks_julian r then Some StyleNeedsJulian else None
 
 -- why a change to a regime is not added on a day, if it is not
-abbrev pub add_fault : PlainTerritory → ℕ → Regime → Option LandFault
+abbrev pub add_fault : TerritoryModel → ℕ → Regime → Option LandFault
 add_fault t d r =
     if d == 1 then Some OpeningPeriod
     else (if starts_on t d then Some ChangeExists else regime_fault r)
 
 -- why the regime that starts on a day is not altered
-abbrev pub alter_fault : PlainTerritory → ℕ → Regime → Option LandFault
+abbrev pub alter_fault : TerritoryModel → ℕ → Regime → Option LandFault
 alter_fault t d r = if starts_on t d then regime_fault r else Some NoSuchChange
 
 -- why the change on a day is not dropped
-abbrev pub drop_fault : PlainTerritory → ℕ → Option LandFault
+abbrev pub drop_fault : TerritoryModel → ℕ → Option LandFault
 drop_fault t d =
     if d == 1 then Some OpeningPeriod else (if starts_on t d then None else Some NoSuchChange)
 
@@ -41,14 +41,14 @@ with_start d regime (s ∷ rest) =
     if nat_lt d s.0 then (d, regime) ∷ s ∷ rest else s ∷ with_start d regime rest
 
 -- a further regime from a day on
-abbrev pub with_change : PlainTerritory → ℕ → Regime → PlainTerritory
+abbrev pub with_change : TerritoryModel → ℕ → Regime → TerritoryModel
 with_change t d regime = record t { starts = with_start d regime t.starts }
 
 -- another regime from the same day on
-abbrev pub with_altered : PlainTerritory → ℕ → Regime → PlainTerritory
+abbrev pub with_altered : TerritoryModel → ℕ → Regime → TerritoryModel
 with_altered t d regime =
     record t { starts = map (λ s. if s.0 == d then (d, regime) else s) t.starts }
 
 -- no change on that day, so that the regime before it goes on
-abbrev pub without_change : PlainTerritory → ℕ → PlainTerritory
+abbrev pub without_change : TerritoryModel → ℕ → TerritoryModel
 without_change t d = record t { starts = filter (λ s. not (s.0 == d)) t.starts }

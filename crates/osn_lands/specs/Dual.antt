@@ -3,25 +3,10 @@ use Rattle.std.specs.Prelude.{ℕ, ℤ, int_lt, ◌==◌, if◌then◌else◌, L
 use Rattle.std.specs.Fmt.{decimal, signed_decimal}
 use Rattle.osn_days.specs.declared.date.Date.{Date}
 use Rattle.osn_days.specs.Chain.{date_of}
+use Rattle.osn_days.specs.Month.{month_name}
 use Rattle.osn_days.specs.Profile.{Profile}
 use Rattle.osn_lands.specs.declared.regime.Regime.{Regime}
 use Rattle.osn_lands.specs.Style.{style_year}
-
--- the English name of a month
-abbrev pub month_name : ℕ → List ℕ
-month_name m =
-    if m == 1 then codes "January"
-    else (if m == 2 then codes "February"
-    else (if m == 3 then codes "March"
-    else (if m == 4 then codes "April"
-    else (if m == 5 then codes "May"
-    else (if m == 6 then codes "June"
-    else (if m == 7 then codes "July"
-    else (if m == 8 then codes "August"
-    else (if m == 9 then codes "September"
-    else (if m == 10 then codes "October"
-    else (if m == 11 then codes "November"
-    else codes "December"))))))))))
 
 -- a number's digits from the first that differs from those of a number as long
 abbrev pub from_difference : List ℕ → List ℕ → List ℕ

@@ -4,7 +4,7 @@ use Rattle.osn_computus.specs.declared.rule.Rule.{Rule}
 use Rattle.osn_computus.specs.Easter.{easter_of}
 use Rattle.osn_days.specs.Profile.{Profile}
 use Rattle.osn_days.specs.Line.{line}
-use Rattle.osn_lands.specs.Territory.{PlainTerritory, regime_at}
+use Rattle.osn_lands.specs.Territory.{TerritoryModel, regime_at}
 use Rattle.osn_lands.specs.Exceptions.{exception_of}
 
 abbrev pub is_on : Option ℕ → ℕ → Bool
@@ -17,7 +17,7 @@ is_easter p rule y d = is_on (easter_of p rule y) d
 
 -- the days that are Easter of the year by the rule in force on that very day, in order: none, one
 -- or two
-unfoldable pub easters_by_rule : Profile → PlainTerritory → ℕ → List ℕ
+unfoldable pub easters_by_rule : Profile → TerritoryModel → ℕ → List ℕ
 easters_by_rule p t y = filter (λ d. is_easter p (regime_at t d).rule y d) (line p)
 
 abbrev pub unless_listed : Option ℕ → List ℕ → List ℕ
@@ -25,5 +25,5 @@ unless_listed None by_rule = by_rule
 unless_listed (Some d) by_rule = d ∷ []
 
 -- the Easters of a year in a territory: the listed day alone where one is, else those by the rules
-abbrev pub easters : Profile → PlainTerritory → ℕ → List ℕ
+abbrev pub easters : Profile → TerritoryModel → ℕ → List ℕ
 easters p t y = unless_listed (exception_of t y) (easters_by_rule p t y)

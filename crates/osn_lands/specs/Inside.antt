@@ -1,7 +1,7 @@
 -- How a territory keeps its starts and its exceptions, and what is found period by period.
 use Rattle.std.specs.Prelude.{ℕ, ◌+◌, ◌-◌, ◌≤◌, ◌==◌, ◌&&◌, ◌||◌, nat_le, nat_lt, ℤ, Bool, true}
 use Rattle.std.specs.Prelude.{false, not, if◌then◌else◌, Option, Some, None, List, [], ◌∷◌, ◌++◌}
-use Rattle.std.specs.Prelude.{filter, map, ◌≡◌, ◌⊎◌, ◌*◌, ◌+ℤ◌, ◌-ℤ◌, pos, is_none, int_lt}
+use Rattle.std.specs.Prelude.{filter, map, ◌≡◌, ◌⊎◌, ◌*◌, ◌+ℤ◌, ◌-ℤ◌, pos, int_lt}
 use Rattle.std.specs.Prelude.{unsigned_abs, length}
 use Rattle.std.specs.Prelude.{IsSome, IsSomeAnd, IfSome}
 use Rattle.std.specs.List.{range_with_len, list_any}
@@ -18,15 +18,14 @@ use Rattle.osn_days.specs.Line.{line, IsDay}
 use Rattle.osn_days.specs.Chain.{date_of, days_with_date}
 use Rattle.osn_lands.specs.declared.regime.Regime.{Regime}
 use Rattle.osn_lands.specs.declared.label.Label.{Label}
-use Rattle.osn_lands.specs.declared.label_days.LabelDays.{LabelDays}
-use Rattle.osn_lands.specs.declared.label_table.YearDays.{YearDays}
+use Rattle.osn_lands.specs.declared.three_days.ThreeDays.{ThreeDays}
 use Rattle.osn_lands.specs.declared.label_table.LabelTable.{LabelTable}
 use Rattle.osn_lands.specs.declared.label_search.LabelSearch.{LabelSearch}
 use Rattle.osn_lands.specs.declared.period.Period.{Period}
 use Rattle.osn_lands.specs.declared.territory.Territory.TheInside.{Inside}
 use Rattle.osn_lands.specs.Style.{year_by, is_from_easter}
-use Rattle.osn_lands.specs.Label.{local, same_label, days_with_label}
-use Rattle.osn_lands.specs.Territory.{PlainTerritory, CoversLine, is_empty, regime_at, periods_of}
+use Rattle.osn_lands.specs.Label.{local_label, same_label, days_with_label}
+use Rattle.osn_lands.specs.Territory.{TerritoryModel, CoversLine, is_empty, regime_at, periods_of}
 use Rattle.osn_lands.specs.Easters.{is_easter}
 
 abbrev pub start_of : Period → ℕ × Regime
@@ -44,7 +43,7 @@ with_regime d regime starts = map (λ s. if s.0 == d then (d, regime) else s) st
 abbrev pub without_start : ℕ → List (ℕ × Regime) → List (ℕ × Regime)
 without_start d starts = filter (λ s. not (s.0 == d)) starts
 
-abbrev pub territory_in : Inside → PlainTerritory
+abbrev pub territory_in : Inside → TerritoryModel
 territory_in t = record { starts = map start_of t.periods.items; exceptions = t.exceptions.entries }
 
 -- from day 1 to the end of the line, each day in one period, in order
@@ -80,7 +79,7 @@ year_in p r date = year_by r.style date (is_dated_before_easter p r.calendar dat
 
 -- the day has the label under the regime
 abbrev pub has_label : Profile → Label → Regime → ℕ → Bool
-has_label p label r d = same_label (local p r d) label
+has_label p label r d = same_label (local_label p r d) label
 
 -- the days of a period that have the label under its regime
 abbrev pub days_read : Profile → Label → Period → List ℕ
@@ -98,27 +97,28 @@ date_in y l = record { year = y; month = l.month; day = l.day }
 
 -- these are the days of a calendar with the label's month and day, in the year before the label's,
 -- in that year and in the one after
-abbrev pub AreInYears : Profile → Calendar → Label → YearDays → Type 0
+abbrev pub AreInYears : Profile → Calendar → Label → ThreeDays → Type 0
 AreInYears p c l f =
     (option_to_list f.before ≡ days_with_date p c (date_in (l.year -ℤ pos 1) l))
     × (option_to_list f.same ≡ days_with_date p c (date_in l.year l))
     × (option_to_list f.after ≡ days_with_date p c (date_in (l.year +ℤ pos 1) l))
 
--- there is none of them
-abbrev pub are_none : YearDays → Bool
-are_none f = is_none f.before && (is_none f.same && is_none f.after)
+-- the days that were found for a label, in order
+abbrev pub days_found : ThreeDays → List ℕ
+days_found f = option_to_list f.before ++ (option_to_list f.same ++ option_to_list f.after)
 
-abbrev pub are_none_in : Option YearDays → Bool
+-- there is none of them
+abbrev pub are_none_in : Option ThreeDays → Bool
 are_none_in None = true
-are_none_in (Some f) = are_none f
+are_none_in (Some f) = is_empty (days_found f)
 
 -- there are three, from the first day to the last
-abbrev pub AreAllWithin : ℕ → ℕ → YearDays → Type 0
+abbrev pub AreAllWithin : ℕ → ℕ → ThreeDays → Type 0
 AreAllWithin first last f =
     IsSomeAnd f.before (λ d. first ≤ d) × IsSome f.same × IsSomeAnd f.after (λ d. d ≤ last)
 
 -- the days of one calendar, where the table has it
-abbrev pub years_of : LabelTable → Calendar → Option YearDays
+abbrev pub years_of : LabelTable → Calendar → Option ThreeDays
 years_of t calendars.Julian = t.julian
 years_of t calendars.Gregorian = t.gregorian
 years_of t calendars.Swedish = t.swedish
@@ -145,8 +145,8 @@ AreBetween p l table first last =
 
 -- every known regime whose year begins on a fixed date has the label on a day, or no known regime
 -- has, or the first and the last are the line's
-abbrev pub IsEven : Profile → Label → Option LabelTable → ℕ → ℕ → Type 0
-IsEven p l table first last =
+abbrev pub AllOrNone : Profile → Label → Option LabelTable → ℕ → ℕ → Type 0
+AllOrNone p l table first last =
     ((r : Regime) → IsKnown table r → is_from_easter r.style ≡ false →
     is_empty (days_with_label p r l) ≡ false)
     ⊎ (((r : Regime) → IsKnown table r → is_empty (days_with_label p r l) ≡ true)
@@ -161,7 +161,7 @@ IsTableIn p l (Some t) = IsTable p l t
 abbrev pub IsSearch : Profile → LabelSearch → Type 0
 IsSearch p s =
     IsTableIn p s.label s.table × AreBetween p s.label s.table s.first s.last
-    × IsEven p s.label s.table s.first s.last
+    × AllOrNone p s.label s.table s.first s.last
 
 -- without a table there is one period at most
 abbrev pub IsForFew : Option LabelTable → ℕ → Type 0
@@ -169,7 +169,7 @@ IsForFew None periods = periods ≤ 1
 IsForFew (Some t) periods = Unit {0}
 
 -- what a search in a territory knows: all of its regimes, by a table unless there is one period
-abbrev pub IsSearchIn : PlainTerritory → LabelSearch → Type 0
+abbrev pub IsSearchIn : TerritoryModel → LabelSearch → Type 0
 IsSearchIn t s =
     IsSearch newest_rules s × AreKnown s.table (periods_of newest_rules t)
     × IsForFew s.table (length (periods_of newest_rules t))
@@ -207,14 +207,10 @@ abbrev pub three_if : Bool → ℕ
 three_if true = 3
 three_if false = 0
 
--- the days that were found for a label, in order
-abbrev pub days_found : LabelDays → List ℕ
-days_found f = option_to_list f.before ++ (option_to_list f.same ++ option_to_list f.after)
-
 -- the label is skipped at the change, where the two regimes have it on these days: the fourth
 -- condition asks of each regime's days only those in its own period
-abbrev pub is_named : Period → Period → List ℕ → List ℕ → Bool
-is_named old new old_days new_days =
+abbrev pub is_skipped_by_days : Period → Period → List ℕ → List ℕ → Bool
+is_skipped_by_days old new old_days new_days =
     (list_any (λ d. nat_le new.first d) old_days || is_empty old_days)
     && ((list_any (λ d. nat_lt d new.first) new_days || is_empty new_days)
     && (not (is_empty old_days && is_empty new_days)
@@ -228,7 +224,7 @@ is_rule Gregorian Julian = false
 is_rule Gregorian Gregorian = true
 
 -- the days that are Easter of the year by the rule, which is in force on them
-unfoldable pub easters_in_force : Profile → PlainTerritory → Rule → ℕ → List ℕ
+unfoldable pub easters_in_force : Profile → TerritoryModel → Rule → ℕ → List ℕ
 easters_in_force p t rule y =
     filter (λ d. is_rule (regime_at t d).rule rule && is_easter p rule y d) (line p)
 

@@ -3,7 +3,7 @@ use Rattle.std.specs.Prelude.{◌≡◌, ℕ, nat_le, List, filter}
 use Rattle.osn_days.specs.Profile.{Profile}
 use Rattle.osn_days.specs.Line.{IsYear}
 use Rattle.osn_lands.specs.declared.label.Label.{Label}
-use Rattle.osn_lands.specs.Territory.{PlainTerritory, reading}
+use Rattle.osn_lands.specs.Territory.{TerritoryModel, reading}
 use Rattle.osn_lands.specs.Easters.{easters}
 
 -- of these days, those that the line of the rules has
@@ -11,9 +11,9 @@ abbrev pub days_of_line : Profile → List ℕ → List ℕ
 days_of_line p days = filter (λ d. nat_le d p.high) days
 
 -- those of the days that the line of the rules has are what is read by these rules
-abbrev pub KeepsReading : Profile → PlainTerritory → Label → List ℕ → Type 0
+abbrev pub KeepsReading : Profile → TerritoryModel → Label → List ℕ → Type 0
 KeepsReading p t label days = days_of_line p days ≡ reading p t label
 
 -- where the rules have the year, the days are its Easters by these rules
-abbrev pub KeepsEasters : Profile → PlainTerritory → ℕ → List ℕ → Type 0
+abbrev pub KeepsEasters : Profile → TerritoryModel → ℕ → List ℕ → Type 0
 KeepsEasters p t y days = IsYear p y → days ≡ easters p t y

@@ -9,8 +9,8 @@ use Rattle.osn_lands.specs.declared.label.Label.{Label}
 use Rattle.osn_lands.specs.Style.{style_year}
 
 -- the label of a day: the year by the regime's style, month and day by its calendar
-abbrev pub local : Profile → Regime → ℕ → Label
-local p regime d = record {
+abbrev pub local_label : Profile → Regime → ℕ → Label
+local_label p regime d = record {
   year = style_year p regime d;
   month = (date_of regime.calendar d).month;
   day = (date_of regime.calendar d).day;
@@ -22,7 +22,7 @@ same_label a b = int_eq a.year b.year && ((a.month == b.month) && (a.day == b.da
 
 -- the days of the line that have the label
 unfoldable pub days_with_label : Profile → Regime → Label → List ℕ
-days_with_label p regime label = filter (λ d. same_label (local p regime d) label) (line p)
+days_with_label p regime label = filter (λ d. same_label (local_label p regime d) label) (line p)
 
 -- the least of days in order, then the other one
 abbrev pub first_two : List ℕ → List (Option ℕ)

@@ -11,16 +11,16 @@ use Rattle.osn_lands.specs.declared.style.Style.TheVariants as Style
 use Rattle.osn_lands.specs.declared.regime.Regime.{Regime}
 use Rattle.osn_lands.specs.declared.label.Label.{Label}
 use Rattle.osn_lands.specs.declared.period.Period.{Period}
-use Rattle.osn_lands.specs.Label.{local, same_label, days_with_label}
+use Rattle.osn_lands.specs.Label.{local_label, same_label, days_with_label}
 
 -- the start days in ascending order, each with the regime that comes into force, the first on day
 -- 1; and the years with a listed exception in ascending order, each with the day that is its Easter
-pub record PlainTerritory : Type 0 where
+pub record TerritoryModel : Type 0 where
   pub starts : List (ℕ × Regime)
   pub exceptions : List (ℕ × ℕ)
 
 -- a territory with one regime on every day
-abbrev pub opened : Regime → PlainTerritory
+abbrev pub opened : Regime → TerritoryModel
 opened regime = record { starts = (1, regime) ∷ []; exceptions = [] }
 
 -- the regime where no start is, which no territory has
@@ -28,7 +28,7 @@ abbrev pub no_start : Regime
 no_start = record { calendar = Calendar.Gregorian; style = Style.January; rule = Easter.Gregorian }
 
 -- the regime in force on a day: that of the greatest start day not after it
-abbrev pub regime_at : PlainTerritory → ℕ → Regime
+abbrev pub regime_at : TerritoryModel → ℕ → Regime
 regime_at t d = fold (λ before s. if nat_le s.0 d then s.1 else before) no_start t.starts
 
 -- the last day of a period that these starts follow
@@ -43,7 +43,7 @@ periods_from high (s ∷ rest) =
 
 -- the periods, in order: each from its start to the day before the next start, or to the end of the
 -- line
-abbrev pub periods_of : Profile → PlainTerritory → List Period
+abbrev pub periods_of : Profile → TerritoryModel → List Period
 periods_of p t = periods_from p.high t.starts
 
 -- the period holds the day
@@ -64,8 +64,8 @@ abbrev pub IsWithinBinaryDigits : ℕ → ℕ → Type 0
 IsWithinBinaryDigits count n = 2 ^ count ≤ 2 * n
 
 -- the days that the territory dates with the label, in order
-unfoldable pub reading : Profile → PlainTerritory → Label → List ℕ
-reading p t label = filter (λ d. same_label (local p (regime_at t d) d) label) (line p)
+unfoldable pub reading : Profile → TerritoryModel → Label → List ℕ
+reading p t label = filter (λ d. same_label (local_label p (regime_at t d) d) label) (line p)
 
 abbrev pub is_empty : List ℕ → Bool
 is_empty [] = true
@@ -80,32 +80,32 @@ is_skipped_between old new old_days new_days read_days =
     && (not (is_empty old_days && is_empty new_days)
     && not (list_any (λ d. nat_le old.first d && nat_le d new.last) read_days)))
 
-abbrev pub is_skipped_at : Profile → PlainTerritory → Label → Period → Period → Bool
+abbrev pub is_skipped_at : Profile → TerritoryModel → Label → Period → Period → Bool
 is_skipped_at p t label old new =
     is_skipped_between old new (days_with_label p old.regime label)
     (days_with_label p new.regime label) (reading p t label)
 
 -- the start days, of the periods that follow an old one, at which the label is skipped
-abbrev pub skipped_after : Profile → PlainTerritory → Label → Period → List Period → List ℕ
+abbrev pub skipped_after : Profile → TerritoryModel → Label → Period → List Period → List ℕ
 skipped_after p t label old [] = []
 skipped_after p t label old (new ∷ rest) =
     if is_skipped_at p t label old new then new.first ∷ skipped_after p t label new rest
     else skipped_after p t label new rest
 
-abbrev pub skipped_among : Profile → PlainTerritory → Label → List Period → List ℕ
+abbrev pub skipped_among : Profile → TerritoryModel → Label → List Period → List ℕ
 skipped_among p t label [] = []
 skipped_among p t label (opening ∷ rest) = skipped_after p t label opening rest
 
 -- the days of the changes at which the label is skipped, in order
-abbrev pub skipped : Profile → PlainTerritory → Label → List ℕ
+abbrev pub skipped : Profile → TerritoryModel → Label → List ℕ
 skipped p t label = skipped_among p t label (periods_of p t)
 
 -- the regime of some period has the label on some day of the line
-abbrev pub is_dated : Profile → PlainTerritory → Label → Bool
+abbrev pub is_dated : Profile → TerritoryModel → Label → Bool
 is_dated p t label = list_any (λ s. not (is_empty (days_with_label p s.1 label))) t.starts
 
 -- a date that is missing is explained: one that is read on no day, and that some regime of the
 -- territory has, is skipped at a change
-abbrev pub IsExplained : Profile → PlainTerritory → Label → List ℕ → Type 0
+abbrev pub IsExplained : Profile → TerritoryModel → Label → List ℕ → Type 0
 IsExplained p t label skipped_at =
     is_empty (reading p t label) ≡ true → is_dated p t label ≡ true → is_empty skipped_at ≡ false

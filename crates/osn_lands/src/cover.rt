@@ -36,15 +36,6 @@ pub(crate) fn find_period(periods: &[Period], day: Day) -> (usize, u32)
     (low, tested)
 }
 
-/// The place of the period that holds the day.
-fn place_of(periods: &[Period], day: Day) -> usize
-    requires { CoversLine newest_rules periods.now }
-    ensures within { result < length periods.now }
-    ensures holds { HoldsAt (Holds day) periods.now result }
-{
-    find_period(periods, day).0
-}
-
 /// The place of the period that starts on the day. It is not the first where the day is not day 1.
 fn place_of_start(periods: &[Period], day: Day) -> usize
     requires covers { CoversLine newest_rules periods.now }
@@ -53,7 +44,7 @@ fn place_of_start(periods: &[Period], day: Day) -> usize
     ensures starts { HoldsAt (λ p. p.first ≡ day) periods.now result }
     ensures later { 1 < day → 0 < result }
 {
-    place_of(periods, day)
+    find_period(periods, day).0
 }
 
 /// The place of the period within which the day can begin another one.
@@ -63,15 +54,7 @@ fn place_to_split(periods: &[Period], day: Day) -> usize
     ensures within { result < length periods.now }
     ensures holds { HoldsAt (λ p. (p.first < day) × (day ≤ p.last)) periods.now result }
 {
-    place_of(periods, day)
-}
-
-/// The day before a day that is not the first.
-fn day_before(day: Day) -> Day
-    requires { 1 < day }
-    ensures { result + 1 ≡ day }
-{
-    Day::on_line(day.number() as i64 - 1)
+    find_period(periods, day).0
 }
 
 /// Whether a period starts on the day.
@@ -79,7 +62,7 @@ pub(crate) fn is_start(periods: &[Period], day: Day) -> bool
     requires { CoversLine newest_rules periods.now }
     ensures { result ≡ has_start day periods.now }
 {
-    periods[place_of(periods, day)].first == day
+    periods[find_period(periods, day).0].first == day
 }
 
 /// Ends the period that holds the day on the day before, and begins another one there that lasts as
@@ -101,7 +84,7 @@ pub(crate) fn split(periods: &mut Vec<Period>, day: Day, regime: Regime) -> Resu
     };
     periods.insert(place + 1, started)?;
     let ended = &mut periods[place];
-    ended.last = day_before(day);
+    ended.last = Day::on_line(day.number() as i64 - 1);
     Ok(())
 }
 

@@ -5,28 +5,8 @@ ghost use Rattle.osn_lands.specs.Dual as dual;
 
 use crate::regime::Regime;
 use crate::style_year::date_and_year;
-use osn_days::Day;
+use osn_days::{Day, month_name};
 use std::alloc::{AllocError, Global};
-
-/// The English name of a month from 1 to 12. Any other number is taken for 12.
-pub fn month_name(month: u8) -> &'static str
-    ensures { result.now ≡ dual.month_name month }
-{
-    match month {
-        1 => "January",
-        2 => "February",
-        3 => "March",
-        4 => "April",
-        5 => "May",
-        6 => "June",
-        7 => "July",
-        8 => "August",
-        9 => "September",
-        10 => "October",
-        11 => "November",
-        _ => "December",
-    }
-}
 
 /// The later of two years from its first digit that differs from the earlier one's, or in full
 /// where their lengths differ: 2 for 1731 and 1732, 700 for 1699 and 1700, 10 for 9 and 10.

@@ -17,13 +17,8 @@ pub(crate) fn push_in_order(
         (None, None) => Ok(()),
         (Some(day), None) | (None, Some(day)) => Ok(days.push(day)?),
         (Some(one), Some(other)) => {
-            if one <= other {
-                days.push(one)?;
-                Ok(days.push(other)?)
-            } else {
-                days.push(other)?;
-                Ok(days.push(one)?)
-            }
+            days.push(one.min(other))?;
+            Ok(days.push(one.max(other))?)
         }
     }
 }

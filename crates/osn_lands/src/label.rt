@@ -1,11 +1,13 @@
-ghost use Rattle.std.specs.Prelude.{◌≡◌, ◌≤◌, length};
+ghost use Rattle.std.specs.Prelude.{◌≡◌, ◌↔◌, ◌≤◌, IsSome, IfSome, length};
+ghost use Rattle.osn_days.specs.Line.{IsYearNumber};
 ghost use Rattle.osn_days.specs.Profile.{first_rules, newest_rules};
-ghost use Rattle.osn_lands.specs.Label.{local, days_with_label, first_two};
+ghost use Rattle.osn_lands.specs.Inside.{date_in};
+ghost use Rattle.osn_lands.specs.Label.{local_label, days_with_label, first_two};
 
 use crate::label_days::days_of_label;
 use crate::regime::Regime;
 use crate::style_year::date_and_year;
-use osn_days::Day;
+use osn_days::{Date, Day, Year};
 
 /// A date as a territory writes it: the style's year, the month and the day of the month. The
 /// numbers may be any; the label of a day of the line has a year from 0 to 10000.
@@ -18,9 +20,9 @@ pub struct Label {
 
 /// The label of a day under a regime.
 pub fn label_of(regime: Regime, day: Day) -> Label
-    ensures value { result ≡ local newest_rules regime day }
+    ensures value { result ≡ local_label newest_rules regime day }
     // as a law: a day of the first rules' line keeps its label
-    ensures kept { day ≤ first_rules.high → result ≡ local first_rules regime day }
+    ensures kept { day ≤ first_rules.high → result ≡ local_label first_rules regime day }
 {
     let (date, year) = date_and_year(regime, day);
     Label {
@@ -30,6 +32,19 @@ pub fn label_of(regime: Regime, day: Day) -> Label
     }
 }
 
+/// The date of the label's month and day in a year counted from 1 January.
+pub(crate) fn date_in_year(label: Label, year: i64) -> Option<Date>
+    ensures in_range { IsSome result ↔ IsYearNumber newest_rules year }
+    ensures value { IfSome result (λ date. date ≡ date_in year label) }
+{
+    let year = Year::new(year)?;
+    Some(Date {
+        year: year.number() as i32,
+        month: label.month,
+        day: label.day,
+    })
+}
+
 /// The days that have the label under the regime: the least one, then the other one. Each is `None`
 /// exactly where there is no such day, so the second is there only where the first is. A year from
 /// Easter to Easter alone may have a date twice; no label has three days.
@@ -37,5 +52,5 @@ pub fn day_of_label(regime: Regime, label: Label) -> [Option<Day>; 2]
     ensures days { result ≡ first_two (days_with_label newest_rules regime label) }
     ensures no_third { length (days_with_label newest_rules regime label) ≤ 2 }
 {
-    days_of_label(regime, label).pair()
+    days_of_label(regime, label).0.pair()
 }

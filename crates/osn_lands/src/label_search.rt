@@ -7,10 +7,11 @@ ghost use Rattle.osn_lands.specs.Inside.{days_found, most_for_one, most_tested, 
 ghost use Rattle.osn_lands.specs.Inside.{IsKnown, AreKnown, IsForFew};
 
 use crate::label::Label;
-use crate::label_days::{LabelDays, days_of_label};
+use crate::label_days::days_of_label;
 use crate::label_table::LabelTable;
 use crate::period::Period;
 use crate::regime::Regime;
+use crate::three_days::ThreeDays;
 use osn_days::Day;
 
 /// From so many periods on the days of all regimes are found at once, by three dates for each
@@ -38,43 +39,37 @@ impl LabelSearch {
         ensures tested { result.tested ≤ most_tested result.table (length periods.now) 0 }
         ensures few { IsForFew result.table (length periods.now) }
     {
-        let mut tested = 0;
-        if periods.len() < PERIODS_FOR_A_TABLE {
-            return LabelSearch {
-                label,
-                table: None,
-                first: Day::FIRST,
-                last: Day::LAST,
-                tested,
-            };
-        }
-        let table = LabelTable::new(label, periods, &mut tested);
-        let (first, last) = table.reach(label);
-        LabelSearch {
+        let mut search = LabelSearch {
             label,
-            table: Some(table),
-            first,
-            last,
-            tested,
+            table: None,
+            first: Day::FIRST,
+            last: Day::LAST,
+            tested: 0,
+        };
+        if periods.len() >= PERIODS_FOR_A_TABLE {
+            let table = LabelTable::new(label, periods, &mut search.tested);
+            (search.first, search.last) = table.span(label);
+            search.table = Some(table);
         }
+        search
     }
 
     /// The days that have the label under a regime of the territory, and how many dates were tested
     /// to find them.
-    pub fn days(&self, regime: Regime) -> LabelDays
+    pub fn days(&self, regime: Regime) -> (ThreeDays, u32)
         requires search { IsSearch newest_rules self.now }
         requires known { IsKnown self.now.table regime }
-        ensures value { days_found result ≡ days_with_label newest_rules regime self.now.label }
-        ensures tested { result.tested ≤ most_for_one self.now.table }
+        ensures value { days_found result.0 ≡ days_with_label newest_rules regime self.now.label }
+        ensures tested { result.1 ≤ most_for_one self.now.table }
     {
         match &self.table {
-            Some(table) => table.days(regime, self.label),
+            Some(table) => (table.days(regime, self.label), 0),
             None => days_of_label(regime, self.label),
         }
     }
 
     /// Whether days of the period are from the first to the last.
-    pub fn reaches_into(&self, period: &Period) -> bool
+    pub fn overlaps(&self, period: &Period) -> bool
         ensures { result ≡ (nat_le self.now.first period.now.last
             && nat_le period.now.first self.now.last) }
     {
@@ -82,7 +77,7 @@ impl LabelSearch {
     }
 
     /// Whether a change is behind the first day, and not behind the last.
-    pub fn reaches_over(&self, change: Day) -> bool
+    pub fn straddles(&self, change: Day) -> bool
         ensures { result ≡ (nat_lt self.now.first change && nat_le change self.now.last) }
     {
         self.first < change && change <= self.last

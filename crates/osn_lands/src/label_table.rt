@@ -6,34 +6,24 @@ ghost use Rattle.osn_days.specs.Profile.{newest_rules};
 ghost use Rattle.osn_days.specs.Chain.{days_with_date};
 ghost use Rattle.osn_lands.specs.Label.{days_with_label};
 ghost use Rattle.osn_lands.specs.Inside.{date_in, days_in_year, days_found, years_of};
-ghost use Rattle.osn_lands.specs.Inside.{are_none, are_none_in, AreAllWithin, AreInYears, IsTable};
-ghost use Rattle.osn_lands.specs.Inside.{IsKnown, AreKnown, AreBetween, IsEven, is_used, three_if};
+ghost use Rattle.osn_lands.specs.Inside.{are_none_in, AreAllWithin, AreInYears, IsTable};
+ghost use Rattle.osn_lands.specs.Inside.{IsKnown, AreKnown, AreBetween, AllOrNone};
+ghost use Rattle.osn_lands.specs.Inside.{is_used, three_if};
 ghost use Rattle.osn_days.specs.declared.calendar.Calendar.{Calendar};
 
-use crate::label::Label;
-use crate::label_days::LabelDays;
+use crate::label::{Label, date_in_year};
 use crate::period::Period;
 use crate::regime::Regime;
 use crate::style_year::year_of;
-use osn_days::{Calendar, Date, Day, Year, day_of};
-
-/// The days of one calendar with the label's month and day, in three years counted from 1 January.
-#[derive(Clone, Copy)]
-pub(crate) struct YearDays {
-    /// The day in the year before the label's.
-    pub before: Option<Day>,
-    /// The day in the label's year.
-    pub same: Option<Day>,
-    /// The day in the year after it.
-    pub after: Option<Day>,
-}
+use crate::three_days::ThreeDays;
+use osn_days::{Calendar, Day, day_of};
 
 /// The days of each calendar that some period of a territory goes by.
 #[derive(Clone, Copy)]
 pub(crate) struct LabelTable {
-    pub julian: Option<YearDays>,
-    pub gregorian: Option<YearDays>,
-    pub swedish: Option<YearDays>,
+    pub julian: Option<ThreeDays>,
+    pub gregorian: Option<ThreeDays>,
+    pub swedish: Option<ThreeDays>,
 }
 
 /// The day of a calendar with the label's month and day in a year. The date is tested, and counted
@@ -44,31 +34,9 @@ fn dated_day(calendar: Calendar, label: Label, year: i64, tested: &mut u32) -> O
         ≡ days_with_date newest_rules calendar (date_in year label) }
     ensures tested { tested.new ≤ tested.old + 1 }
 {
-    let year = Year::new(year)?;
+    let date = date_in_year(label, year)?;
     *tested += 1;
-    let date = Date {
-        year: year.number() as i32,
-        month: label.month,
-        day: label.day,
-    };
     day_of(calendar, date)
-}
-
-/// The days of a calendar.
-fn year_days(calendar: Calendar, label: Label, tested: &mut u32) -> YearDays
-    requires { tested.old ≤ 6 }
-    ensures value { AreInYears newest_rules calendar label result }
-    ensures tested { tested.new ≤ tested.old + 3 }
-{
-    let year = label.year as i64;
-    let before = dated_day(calendar, label, year - 1, tested);
-    let same = dated_day(calendar, label, year, tested);
-    let after = dated_day(calendar, label, year + 1, tested);
-    YearDays {
-        before,
-        same,
-        after,
-    }
 }
 
 /// Whether some period goes by the calendar.
@@ -78,39 +46,37 @@ fn is_used(calendar: Calendar, periods: &[Period]) -> bool
     periods.iter().any(|period| period.goes_by(calendar))
 }
 
-/// The days of a calendar, where some period goes by it.
+/// The days of a calendar with the label's month and day, where some period goes by it.
 fn used_days(
     calendar: Calendar,
     label: Label,
     periods: &[Period],
     tested: &mut u32,
-) -> Option<YearDays>
+) -> Option<ThreeDays>
     requires { tested.old ≤ 6 }
     ensures value { IfSome result (AreInYears newest_rules calendar label) }
     ensures used { is_some result ≡ is_used calendar periods.now }
     ensures tested { tested.new ≤ tested.old + three_if (is_used calendar periods.now) }
 {
-    if is_used(calendar, periods) {
-        Some(year_days(calendar, label, tested))
-    } else {
-        None
+    if !is_used(calendar, periods) {
+        return None;
     }
+    let year = label.year as i64;
+    Some(ThreeDays {
+        before: dated_day(calendar, label, year - 1, tested),
+        same: dated_day(calendar, label, year, tested),
+        after: dated_day(calendar, label, year + 1, tested),
+    })
 }
 
 /// The day that was found in a year, where the regime's style counts its date as the label's.
-fn counted(found: Option<Day>, regime: Regime, label: Label, year: i64) -> Option<Day>
+fn day_of_label_year(found: Option<Day>, regime: Regime, label: Label, year: i64) -> Option<Day>
     requires { option_to_list found
         ≡ days_with_date newest_rules regime.calendar (date_in year label) }
     ensures { option_to_list result ≡ days_in_year newest_rules regime label year }
 {
-    let Some(day) = found else {
-        return None;
-    };
-    let date = Date {
-        year: year as i32,
-        month: label.month,
-        day: label.day,
-    };
+    let day = found?;
+    let date = date_in_year(label, year)?;
     if year_of(regime, date) == label.year {
         Some(day)
     } else {
@@ -118,28 +84,9 @@ fn counted(found: Option<Day>, regime: Regime, label: Label, year: i64) -> Optio
     }
 }
 
-impl YearDays {
-    /// The first and the last of them, where there are three.
-    fn ends(&self) -> Option<(Day, Day)>
-        ensures { IfSome result (λ e. AreAllWithin e.0 e.1 self.now) }
-    {
-        match (self.before, self.same, self.after) {
-            (Some(first), Some(_), Some(last)) => Some((first, last)),
-            _ => None,
-        }
-    }
-
-    /// Whether there is none.
-    fn is_empty(&self) -> bool
-        ensures { result ≡ are_none self.now }
-    {
-        self.before.is_none() && self.same.is_none() && self.after.is_none()
-    }
-}
-
 /// The first and the last of days, if there are three. Where no period goes by the calendar, no day
 /// counts: the first is behind all days then, and the last before them.
-fn ends_of(days: Option<YearDays>) -> Option<(Day, Day)>
+fn ends_of(days: Option<ThreeDays>) -> Option<(Day, Day)>
     ensures { IfSome result (λ e. IfSome days (AreAllWithin e.0 e.1)) }
 {
     match days {
@@ -149,7 +96,7 @@ fn ends_of(days: Option<YearDays>) -> Option<(Day, Day)>
 }
 
 /// Whether there is none of them.
-fn are_none(days: Option<YearDays>) -> bool
+fn are_none(days: Option<ThreeDays>) -> bool
     ensures { result ≡ are_none_in days }
 {
     match days {
@@ -159,7 +106,7 @@ fn are_none(days: Option<YearDays>) -> bool
 }
 
 /// The earlier of two first days, and the later of two last ones.
-fn wider(one: (Day, Day), other: (Day, Day)) -> (Day, Day)
+fn union(one: (Day, Day), other: (Day, Day)) -> (Day, Day)
     ensures first { (result.0 ≤ one.0) × (result.0 ≤ other.0) }
     ensures last { (one.1 ≤ result.1) × (other.1 ≤ result.1) }
 {
@@ -183,7 +130,7 @@ impl LabelTable {
     }
 
     /// The days of one calendar, where the table has it.
-    fn in_calendar(&self, calendar: Calendar) -> Option<YearDays>
+    fn in_calendar(&self, calendar: Calendar) -> Option<ThreeDays>
         ensures { result ≡ years_of self.now calendar }
     {
         match calendar {
@@ -195,19 +142,17 @@ impl LabelTable {
 
     /// The days that have the label under a regime whose calendar the table has. No date is tested
     /// for them.
-    pub fn days(&self, regime: Regime, label: Label) -> LabelDays
+    pub fn days(&self, regime: Regime, label: Label) -> ThreeDays
         requires table { IsTable newest_rules label self.now }
         requires known { IsKnown (Some self.now) regime }
-        ensures value { days_found result ≡ days_with_label newest_rules regime label }
-        ensures tested { result.tested ≡ 0 }
+        ensures { days_found result ≡ days_with_label newest_rules regime label }
     {
         let days = self.in_calendar(regime.calendar).unwrap();
         let year = label.year as i64;
-        LabelDays {
-            before: counted(days.before, regime, label, year - 1),
-            same: counted(days.same, regime, label, year),
-            after: counted(days.after, regime, label, year + 1),
-            tested: 0,
+        ThreeDays {
+            before: day_of_label_year(days.before, regime, label, year - 1),
+            same: day_of_label_year(days.same, regime, label, year),
+            after: day_of_label_year(days.after, regime, label, year + 1),
         }
     }
 
@@ -219,7 +164,7 @@ impl LabelTable {
         let julian = ends_of(self.julian)?;
         let gregorian = ends_of(self.gregorian)?;
         let swedish = ends_of(self.swedish)?;
-        Some(wider(julian, wider(gregorian, swedish)))
+        Some(union(julian, union(gregorian, swedish)))
     }
 
     /// Whether no calendar has a day.
@@ -233,10 +178,10 @@ impl LabelTable {
     /// Two days from one of which to the other all days lie that have the label under some regime
     /// whose calendar the table has. They are the ends of the line unless every such regime whose
     /// year begins on a fixed date has the label, or none has it.
-    pub fn reach(&self, label: Label) -> (Day, Day)
+    pub fn span(&self, label: Label) -> (Day, Day)
         requires { IsTable newest_rules label self.now }
         ensures between { AreBetween newest_rules label (Some self.now) result.0 result.1 }
-        ensures even { IsEven newest_rules label (Some self.now) result.0 result.1 }
+        ensures even { AllOrNone newest_rules label (Some self.now) result.0 result.1 }
     {
         if self.is_empty() {
             return (Day::FIRST, Day::FIRST);

@@ -18,8 +18,9 @@ mod regime;
 mod style;
 mod style_year;
 mod territory;
+mod three_days;
 
-pub use dual::{dual_text, month_name};
+pub use dual::dual_text;
 pub use fault::LandFault;
 pub use label::{Label, day_of_label, label_of};
 pub use period::Period;

@@ -24,11 +24,6 @@ impl Period {
     pub(crate) fn goes_by(&self, calendar: Calendar) -> bool
         ensures { result ≡ goes_by calendar self.now }
     {
-        match (self.regime.calendar, calendar) {
-            (Calendar::Julian, Calendar::Julian)
-            | (Calendar::Gregorian, Calendar::Gregorian)
-            | (Calendar::Swedish, Calendar::Swedish) => true,
-            _ => false,
-        }
+        self.regime.calendar == calendar
     }
 }

@@ -3,12 +3,12 @@ ghost use Rattle.std.specs.Prelude.{◌≡◌, ◌++◌, ◌≤◌, ◌<◌, ◌
 ghost use Rattle.osn_days.specs.Profile.{newest_rules};
 ghost use Rattle.osn_lands.specs.Label.{days_with_label};
 ghost use Rattle.osn_lands.specs.Style.{is_from_easter};
-ghost use Rattle.osn_lands.specs.Inside.{IsWithinLine, IsSearch, days_found, days_read, is_named};
-ghost use Rattle.osn_lands.specs.Inside.{most_for_one, IsKnown};
+ghost use Rattle.osn_lands.specs.Inside.{IsWithinLine, IsSearch, days_found, days_read};
+ghost use Rattle.osn_lands.specs.Inside.{is_skipped_by_days, most_for_one, IsKnown};
 
-use crate::label_days::LabelDays;
 use crate::label_search::LabelSearch;
 use crate::period::Period;
+use crate::three_days::ThreeDays;
 use osn_days::Day;
 use std::alloc::AllocError;
 
@@ -26,12 +26,12 @@ pub(crate) fn read_period(
         ≡ days.old.items ++ days_read newest_rules search.now.label period.now) }
     ensures tested { IfOk result (λ n. n ≤ most_for_one search.now.table) }
 {
-    if !search.reaches_into(period) {
+    if !search.overlaps(period) {
         return Ok(0);
     }
-    let found = search.days(period.regime);
+    let (found, tested) = search.days(period.regime);
     found.push_in(period, days)?;
-    Ok(found.tested)
+    Ok(tested)
 }
 
 /// Whether a label is skipped at the change from one period to the next, of whose regimes the days
@@ -40,11 +40,11 @@ pub(crate) fn read_period(
 pub(crate) fn is_skipped_between(
     old: &Period,
     new: &Period,
-    old_days: &LabelDays,
-    new_days: &LabelDays,
+    old_days: &ThreeDays,
+    new_days: &ThreeDays,
 ) -> bool
     ensures { result
-        ≡ is_named old.now new.now (days_found old_days.now) (days_found new_days.now) }
+        ≡ is_skipped_by_days old.now new.now (days_found old_days.now) (days_found new_days.now) }
 {
     let change = new.first;
     (old_days.has_from(change) || old_days.is_empty())
@@ -69,14 +69,14 @@ pub(crate) fn is_skipped_at(search: &LabelSearch, old: &Period, new: &Period) ->
     requires new { IsKnown search.now.table new.now.regime }
     requires table { IsSome search.now.table }
     requires line { (1 < new.now.first) × (new.now.first ≤ newest_rules.high) }
-    ensures { result ≡ is_named old.now new.now
+    ensures { result ≡ is_skipped_by_days old.now new.now
         (days_with_label newest_rules old.now.regime search.now.label)
         (days_with_label newest_rules new.now.regime search.now.label) }
 {
-    if !search.reaches_over(new.first) && has_fixed_beginnings(old, new) {
+    if !search.straddles(new.first) && has_fixed_beginnings(old, new) {
         return false;
     }
-    let old_days = search.days(old.regime);
-    let new_days = search.days(new.regime);
+    let (old_days, _) = search.days(old.regime);
+    let (new_days, _) = search.days(new.regime);
     is_skipped_between(old, new, &old_days, &new_days)
 }

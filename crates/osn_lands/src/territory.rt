@@ -1,5 +1,4 @@
-ghost use Rattle.std.specs.Prelude.{◌≡◌, ◌≤◌, ◌<◌, ◌*◌, Some, None, IfOk, IfErr, OnOk, OnErr};
-ghost use Rattle.std.specs.Prelude.{length};
+ghost use Rattle.std.specs.Prelude.{◌≡◌, ◌<◌, Some, None, IfOk, IfErr, OnOk, OnErr, length};
 ghost use Rattle.std.specs.List.{HoldsAt};
 ghost use Rattle.std.specs.Option.{option_to_list};
 ghost use Rattle.osn_days.specs.Profile.{first_rules, newest_rules};
@@ -34,9 +33,9 @@ pub struct Territory {
 }
 
 impl Model for Territory {
-    ghost use Rattle.osn_lands.specs.Territory.{PlainTerritory};
+    ghost use Rattle.osn_lands.specs.Territory.{TerritoryModel};
 
-    ghost Value = { PlainTerritory };
+    ghost Value = { TerritoryModel };
 
     ghost use Rattle.osn_lands.specs.Inside.{territory_in, IsWhole};
 

@@ -5,7 +5,8 @@ ghost use Rattle.std.specs.Io.KnownBytes.{IsAtEnd};
 ghost use Rattle.osn_lines.specs.Faults.{MatchFault, IsReadFault};
 ghost use Rattle.osn_lines.specs.Inside.{IsKept};
 ghost use Rattle.osn_lines.specs.Lines.{lines};
-ghost use Rattle.osn_lines.specs.Taking.{Takes, Stops, TakesAll, TakesFirst, TakesEnded, StopsAfter};
+ghost use Rattle.osn_lines.specs.Taking.{Takes, Stops, TakesAll, TakesFirst, TakesEnded};
+ghost use Rattle.osn_lines.specs.Taking.{StopsAfter};
 
 use crate::cut::{take_line, take_piece};
 use crate::fault::{Interrupted, TakeFault};

@@ -6,9 +6,9 @@ use mathlib.Core.Option.{some}
 use lib.ListN.{get_elem?}
 use Rattle.crossbeam_utils.specs.Register.{Admits, TurnsAt, Forks, Merges}
 use Rattle.atomic_table.proofs.Lists.{at_set, at_snoc}
-use Rattle.osn_live.specs.declared.rule.Origin.{Origin}
+use Rattle.osn_live.specs.declared.protocol.Origin.{Origin}
 use Rattle.osn_live.specs.Running.{EditionState, origin_of}
-use Rattle.osn_live.specs.InsideRule.{Agrees, Keeps, Finds}
+use Rattle.osn_live.specs.InsideProtocol.{Agrees, Keeps, Finds}
 
 abbrev View : Type 0
 View = Option Origin

@@ -7,7 +7,7 @@ use Rattle.osn_register.specs.declared.query.Query.{Query}
 use Rattle.osn_core.specs.declared.step.Reply.{Reply}
 use Rattle.osn_live.specs.declared.faults.DeskFault.{DeskFault}
 use Rattle.osn_live.specs.declared.faults.DeskFault.TheVariants as Desk
-use Rattle.osn_live.specs.declared.rule.Origin.{Origin}
+use Rattle.osn_live.specs.declared.protocol.Origin.{Origin}
 use Rattle.osn_live.specs.Faults.{IsOfGate}
 use Rattle.osn_live.specs.declared.work.Worked.{Worked}
 use Rattle.osn_live.specs.declared.work.Works.{Works}

@@ -7,7 +7,7 @@ use Rattle.osn_register.specs.declared.query.Query.{Query}
 use Rattle.osn_register.specs.Answer.{takes_memory}
 use Rattle.osn_core.specs.declared.step.Reply.{Reply}
 use Rattle.osn_core.specs.Sequential.{reply_at}
-use Rattle.osn_live.specs.declared.rule.Origin.{Origin}
+use Rattle.osn_live.specs.declared.protocol.Origin.{Origin}
 use Rattle.osn_live.specs.Certificate.{CertificateState}
 use Rattle.osn_live.specs.declared.reader.Reader.TheInside.{Inside}
 use Rattle.osn_live.specs.Running.{ReaderState, edition_of, origin_of}

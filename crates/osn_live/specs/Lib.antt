@@ -5,7 +5,7 @@ pub mod Faults
 pub mod Desk
 pub mod InsideHistory
 pub mod InsideCertificate
-pub mod InsideRule
+pub mod InsideProtocol
 pub mod InsideEdition
 pub mod InsideReader
 pub mod InsideEditor

@@ -4,7 +4,7 @@ use Rattle.std.specs.Prelude.{◌≡◌, List, []}
 use Rattle.osn_register.specs.declared.limits.Limits.{Limits}
 use Rattle.osn_register.specs.declared.edit.Edit.{Edit}
 use Rattle.osn_core.specs.Sequential.{ObjectState}
-use Rattle.osn_live.specs.declared.rule.Origin.{Origin}
+use Rattle.osn_live.specs.declared.protocol.Origin.{Origin}
 use Rattle.osn_live.specs.Certificate.{CertificateState}
 
 -- an edition that is shown to readers

@@ -3,7 +3,7 @@ ghost use Rattle.std.specs.Prelude.{◌≡◌, ◌≤◌, length, vec_len, IfOk,
 ghost use Rattle.std.specs.List.{All};
 ghost use Rattle.osn_days.specs.Profile.{newest_rules};
 ghost use Rattle.osn_core.specs.Script.{script_after, editions_of};
-ghost use Rattle.osn_live.specs.declared.rule.Origin.{Origin};
+ghost use Rattle.osn_live.specs.declared.protocol.Origin.{Origin};
 ghost use Rattle.osn_live.specs.Desk.{AreReplies, AreAll};
 ghost use Rattle.osn_live.specs.Faults.{IsBadCount, IsDeskFault, IsOfGate};
 ghost use Rattle.osn_live.specs.InsideDesk.{IsFaultAt, IsFaultOf, IsOfTheirGate, AreStarted, AreAt};
@@ -80,7 +80,7 @@ fn edit_all<R: Wait, G: Gate>(
 {
     for command in commands {
         turns.begin()?;
-        let Ok(()) = editor.carry_out(rt, command) else {
+        let Ok(()) = editor.execute(rt, command) else {
             return Err(DeskFault::NoMemory);
         };
         turns.end();
@@ -89,7 +89,7 @@ fn edit_all<R: Wait, G: Gate>(
 }
 
 /// What one reader was told, against what was published in the end.
-fn settle(
+fn check_against_note(
     worked: Worked,
     note: Note,
     who: u32,
@@ -138,7 +138,7 @@ fn collect<R: Threads, G: Gate>(
     for (list, handle) in lists.iter().zip(handles) {
         who += 1;
         let worked = handle.join(rt);
-        let replies = settle(worked, editor.note(), who, list.as_slice())?;
+        let replies = check_against_note(worked, editor.note(), who, list.as_slice())?;
         let Ok(()) = all.push(replies) else {
             return Err(DeskFault::NoMemory);
         };

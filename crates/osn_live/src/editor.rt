@@ -15,8 +15,8 @@ use crate::edition::Edition;
 use crate::faults::PublishFault;
 use crate::history::{Certificate, History};
 use crate::note::Note;
+use crate::protocol::{FindOrigin, OneOrigin, ShareOrigin, View};
 use crate::reader::Reader;
-use crate::rule::{Find, HandOn, OneOrigin, View};
 use core::mem::replace_with;
 use left_right::writer::Writer;
 use osn_core::Command;
@@ -26,10 +26,10 @@ use std::marker::Model;
 use std::sync::{Arc, Wait};
 
 /// The two copies of what is published.
-pub type Copies = Writer<Edition, Edition, View, OneOrigin>;
+pub type EditionWriter = Writer<Edition, Edition, View, OneOrigin>;
 
 /// The copies after a publish, and whether it showed what it was to show.
-pub type Turned = (Copies, Result<(), AllocError>);
+pub type Turned = (EditionWriter, Result<(), AllocError>);
 
 /// The one editor. It stands for the sequential object.
 ///
@@ -37,7 +37,7 @@ pub type Turned = (Copies, Result<(), AllocError>);
 pub struct Editor {
     alloc: Global,
     limits: Limits,
-    copies: Copies,
+    copies: EditionWriter,
     history: History,
     certificate: Certificate,
     /// The register of all published and pending edits.
@@ -59,7 +59,7 @@ impl Model for Editor {
 }
 
 /// Shows readers the next edition, at one moment.
-pub(crate) fn show<R: Wait>(copies: Copies, next: Edition, rt: &R) -> Turned
+pub(crate) fn show<R: Wait>(copies: EditionWriter, next: Edition, rt: &R) -> Turned
     requires { origin_of next ≡ origin_of copies.desk.shown.value }
     ensures ok { OnOk result.1 ((result.0.desk.shown.value ≡ next)
         × (view result.0.desk.place ≡ Some (origin_of next))) }
@@ -73,29 +73,29 @@ pub(crate) fn show<R: Wait>(copies: Copies, next: Edition, rt: &R) -> Turned
     let Ok(()) = copies.append(next) else {
         return (copies, Err(AllocError));
     };
-    let (copies, shown) = copies.publish_as::<Find, R>(rt);
+    let (copies, shown) = copies.publish_as::<FindOrigin, R>(rt);
     match shown {
-        Ok(()) => (level(copies, rt), Ok(())),
+        Ok(()) => (align_copies(copies, rt), Ok(())),
         Err(failed) => (copies, Err(failed)),
     }
 }
 
 /// Makes the copy that readers leave like the one that they are shown, so that both share one
 /// register. It waits for those that still read the edition before.
-fn level<R: Wait>(copies: Copies, rt: &R) -> Copies
+fn align_copies<R: Wait>(copies: EditionWriter, rt: &R) -> EditionWriter
     requires none { drop copies.behind copies.log.items ≡ [] }
     requires known { view copies.desk.place ≡ Some (origin_of copies.desk.shown.value) }
     ensures shown { result.desk.shown.value ≡ copies.desk.shown.value }
     ensures known { view result.desk.place ≡ view copies.desk.place }
 {
-    copies.publish_as::<Find, R>(rt).0
+    copies.publish_as::<FindOrigin, R>(rt).0
 }
 
 impl Editor {
     pub(crate) fn begin(
         alloc: Global,
         limits: Limits,
-        copies: Copies,
+        copies: EditionWriter,
         history: History,
         certificate: Certificate,
     ) -> Editor
@@ -125,7 +125,7 @@ impl Editor {
         ensures seen { IfOk result (λ r. r.seen ≡ self.old.object.batches) }
     {
         let mut place = self.copies.factory().reader()?;
-        place.learn::<HandOn>(self.copies.tell::<HandOn>());
+        place.learn::<ShareOrigin>(self.copies.tell::<ShareOrigin>());
         Ok(Reader::new(self.limits, place, self.certificate.again()))
     }
 
@@ -268,7 +268,7 @@ impl Editor {
         let turned = replace_with(
             &mut self.copies,
             (next, rt),
-            |copies: Copies, with: (Edition, &R)| -> Turned
+            |copies: EditionWriter, with: (Edition, &R)| -> Turned
                 requires { origin_of with.0 ≡ origin_of copies.desk.shown.value }
             { show(copies, with.0, with.1) },
         );
@@ -285,7 +285,7 @@ impl Editor {
     /// # Errors
     ///
     /// Only where no memory is found. Nothing has changed then.
-    pub(crate) fn carry_out<R: Wait>(&mut self, rt: &R, command: &Command) -> Result<(), AllocError>
+    pub(crate) fn execute<R: Wait>(&mut self, rt: &R, command: &Command) -> Result<(), AllocError>
         ensures ok { OnOk result (self.new
             ≡ record self.old { object = command_after newest_rules self.old.object command.now }) }
         ensures err { OnErr result (self.new ≡ self.old) }

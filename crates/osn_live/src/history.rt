@@ -10,12 +10,12 @@ use osn_register::Edit;
 use std::marker::Model;
 
 /// What a batch is to the history. No value of it is made.
-pub type Entry = [Edit; 0];
+pub type HistoryCell = [Edit; 0];
 
 /// The rule of the history: it is as long as its first word says.
 pub struct Counted;
 
-impl Rule<Entry, u64> for Counted {
+impl Rule<HistoryCell, u64> for Counted {
     ghost use Rattle.std.specs.Prelude.{[]};
     ghost use base.Fml.{ftrue};
     ghost use Rattle.osn_live.specs.InsideHistory.{IsCounted};
@@ -36,7 +36,7 @@ impl Rule<Entry, u64> for Counted {
 /// What one who adds a batch keeps of it: nothing.
 pub struct Nothing;
 
-impl Gain<Entry, u64> for Nothing {
+impl Gain<HistoryCell, u64> for Nothing {
     ghost use base.Fml.{ftrue};
 
     ghost after = { λ names about answer. ftrue };
@@ -45,13 +45,13 @@ impl Gain<Entry, u64> for Nothing {
 /// The step that adds a batch, if the history is as long as was thought.
 pub struct Add;
 
-impl Play<Entry, u64> for Add {
+impl Play<HistoryCell, u64> for Add {
     ghost use Rattle.osn_live.specs.InsideHistory.{Adds};
 
     ghost then = { Adds };
 }
 
-impl Plain<Vec<Edit>, Entry, u64> for Add {
+impl Plain<Vec<Edit>, HistoryCell, u64> for Add {
     ghost use Rattle.std.specs.Prelude.{None};
 
     ghost ask = { λ batch. batch.items };
@@ -62,7 +62,7 @@ impl Plain<Vec<Edit>, Entry, u64> for Add {
 /// The right to add to the history. Whoever has none cannot make a batch known.
 #[derive(Drop)]
 pub struct History {
-    head: Word<Entry, u64, Counted>,
+    head: Word<HistoryCell, u64, Counted>,
 }
 
 impl Model for History {
@@ -81,7 +81,7 @@ impl Model for History {
 #[derive(Drop)]
 pub struct Certificate {
     count: u32,
-    seen: Seen<Entry, u64, Counted>,
+    seen: Seen<HistoryCell, u64, Counted>,
 }
 
 impl Model for Certificate {
@@ -118,9 +118,11 @@ impl History {
             c ≡ record known.now { batches = known.now.batches ++ batch.now.items ∷ [] }) }
     {
         let mut seen = known.seen.again();
-        let mut offer: Offer<Entry, u64, Counted, Nothing> = seen.plain::<Nothing, Vec<Edit>, Add>(
-            batch,
-        );
+        let mut offer: Offer<HistoryCell, u64, Counted, Nothing> = seen.plain::<
+            Nothing,
+            Vec<Edit>,
+            Add,
+        >(batch);
         let mut pen = seen.no_pen();
         let count = known.count as u64;
         let found = self

@@ -11,8 +11,8 @@ mod gate;
 mod history;
 mod note;
 mod opening;
+mod protocol;
 mod reader;
-mod rule;
 mod turns;
 mod work;
 

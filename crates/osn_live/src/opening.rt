@@ -5,7 +5,7 @@ ghost use Rattle.osn_live.specs.Faults.{IsBadCount};
 ghost use Rattle.osn_live.specs.Running.{IsNew};
 
 use crate::edition::Edition;
-use crate::editor::{Copies, Editor, show};
+use crate::editor::{EditionWriter, Editor, show};
 use crate::faults::OpenFault;
 use crate::history::begin;
 use crate::reader::Reader;
@@ -27,7 +27,7 @@ fn start<R: Wait>(rt: &R, alloc: Global, limits: Limits, readers: u32) -> Result
     let first = Edition::new(limits, register, certificate.again());
     let second = first.share()?;
     let third = first.share()?;
-    let copies: Copies = Writer::new(alloc, first, second, readers as usize)?;
+    let copies: EditionWriter = Writer::new(alloc, first, second, readers as usize)?;
     let (copies, shown) = show(copies, third, rt);
     match shown {
         Ok(()) => Ok(Editor::begin(alloc, limits, copies, history, certificate)),

@@ -3,7 +3,7 @@ ghost use Rattle.left_right.specs.Sides.{view};
 ghost use Rattle.osn_days.specs.Profile.{newest_rules};
 ghost use Rattle.osn_register.specs.Answer.{takes_memory};
 ghost use Rattle.osn_core.specs.Sequential.{reply_at};
-ghost use Rattle.osn_live.specs.declared.rule.Origin.{Origin};
+ghost use Rattle.osn_live.specs.declared.protocol.Origin.{Origin};
 ghost use Rattle.osn_live.specs.Batches.{Begins, IsLater};
 ghost use Rattle.osn_live.specs.Running.{edition_of, origin_of};
 ghost use Rattle.osn_live.specs.InsideReader.{IsAnswerAt};
@@ -12,7 +12,7 @@ use crate::edition::Edition;
 use crate::faults::AskFault;
 use crate::history::Certificate;
 use crate::note::Note;
-use crate::rule::{Find, OneOrigin, View};
+use crate::protocol::{FindOrigin, OneOrigin, View};
 use core::mem::replace_with;
 use osn_core::Reply;
 use osn_register::{Limits, Query};
@@ -47,13 +47,13 @@ impl Model for Reader {
 type Look = (Certificate, Result<Reply, AllocError>);
 
 /// The place once it was left, and what was read there, if the reader was let in.
-type Looked = (Place, Option<Look>);
+type ReadResult = (Place, Option<Look>);
 
-fn look(place: Place, query: &Query) -> Looked
+fn look(place: Place, query: &Query) -> ReadResult
     ensures origin { (o : Origin) → view place.place ≡ Some o → view result.0.place ≡ Some o }
     ensures answer { (o : Origin) → view place.place ≡ Some o → IsAnswerAt o query.now result.1 }
 {
-    match place.enter_as::<Find>() {
+    match place.enter_as::<FindOrigin>() {
         Ok(reading) => {
             let certificate = reading.get().certificate();
             let answer = reading.get().ask(query);
@@ -96,7 +96,7 @@ impl Reader {
         let looked = replace_with(
             &mut self.place,
             query,
-            |place: Place, query: &Query| -> Looked
+            |place: Place, query: &Query| -> ReadResult
                 ensures origin { (o : Origin) →
                     view place.place ≡ Some o → view result.0.place ≡ Some o }
                 ensures answer { (o : Origin) →

@@ -10,13 +10,13 @@ use Rattle.std.specs.declared.result.Result.{Result}
 use Rattle.std.specs.Map.{lookup}
 use Rattle.std.specs.Result.{OnErr}
 use Rattle.osn_days.specs.Profile.{Profile}
-use Rattle.osn_lands.specs.Territory.{PlainTerritory}
+use Rattle.osn_lands.specs.Territory.{TerritoryModel}
 use Rattle.osn_register.specs.declared.limits.Limits.{Limits}
-use Rattle.osn_register.specs.Plain.{PlainLand, PlainRegister, land_of, territory_of, AreDistinct}
+use Rattle.osn_register.specs.Plain.{LandModel, RegisterModel, land_of, territory_of, AreDistinct}
 use Rattle.osn_register.specs.Plain.{IsSoundTerritory, AreSound, IsWellFormed}
 use Rattle.osn_register.specs.Inside.{land_in}
 
-module _ {K V : Type 0} (text : K → List ℕ) (name : V → List ℕ) (territory : V → PlainTerritory)
+module _ {K V : Type 0} (text : K → List ℕ) (name : V → List ℕ) (territory : V → TerritoryModel)
   where
     pub land_of-map : (code : List ℕ) (es : List (K × V)) →
         is_some (land_of code (map (land_in text name territory) es)) ≡ is_some
@@ -36,7 +36,7 @@ module _ {K V : Type 0} (text : K → List ℕ) (name : V → List ℕ) (territo
         (lookup (λ k. bytes_eq code (text k)) es)
     territory_of-map code [] = refl
     territory_of-map code (e ∷ es) =
-        elim (bytes_eq code (text e.0)) as (λ b. option_map (λ (l : PlainLand). l.territory)
+        elim (bytes_eq code (text e.0)) as (λ b. option_map (λ (l : LandModel). l.territory)
         (cond b (Some (land_in text name territory e))
         (land_of code (map (land_in text name territory) es))) ≡ option_map territory
         (cond b (Some e.1) (lookup (λ k. bytes_eq code (text k)) es))) [
@@ -68,7 +68,7 @@ other_way x y h = by (bytes_eq y x) refl
         (sym ((bytes_eq-Decides y x).0 e))))
     by false e = refl
 
-pub apart_first : (code : List ℕ) (l : PlainLand) (ls : List PlainLand) →
+pub apart_first : (code : List ℕ) (l : LandModel) (ls : List LandModel) →
     land_of code (l ∷ ls) ≡ None → (bytes_eq code l.code ≡ false) × (land_of code ls ≡ None)
 apart_first code l ls none = by (bytes_eq code l.code) refl none
   where
@@ -77,7 +77,7 @@ apart_first code l ls none = by (bytes_eq code l.code) refl none
     by true e h = absurd (false≢true (sym (ap is_some h)))
     by false e h = (e, h)
 
-land_of-push : (code : List ℕ) (ls : List PlainLand) (l : PlainLand) → land_of code ls ≡ None →
+land_of-push : (code : List ℕ) (ls : List LandModel) (l : LandModel) → land_of code ls ≡ None →
     bytes_eq code l.code ≡ false → land_of code (ls ++ l ∷ []) ≡ None
 land_of-push code [] l none apart = ap (λ b. cond b (Some l) None) apart
 land_of-push code (k ∷ ls) l none apart =
@@ -85,7 +85,7 @@ land_of-push code (k ∷ ls) l none apart =
     ap (λ b. cond b (Some k) (land_of code (ls ++ l ∷ []))) first.0 ∙ land_of-push code ls l first.1
     apart
 
-AreDistinct-push : (ls : List PlainLand) (l : PlainLand) → AreDistinct ls →
+AreDistinct-push : (ls : List LandModel) (l : LandModel) → AreDistinct ls →
     land_of l.code ls ≡ None → AreDistinct (ls ++ l ∷ [])
 AreDistinct-push [] l distinct none = (refl, tt)
 AreDistinct-push (k ∷ ls) l distinct none =
@@ -95,13 +95,13 @@ AreDistinct-push (k ∷ ls) l distinct none =
           distinct.1 first.1,
     )
 
-AreSound-push : (p : Profile) (limits : Limits) (ls : List PlainLand) (l : PlainLand) →
+AreSound-push : (p : Profile) (limits : Limits) (ls : List LandModel) (l : LandModel) →
     AreSound p limits ls → IsSoundTerritory p limits l.territory → AreSound p limits (ls ++ l ∷ [])
 AreSound-push p limits [] l few here = (here, tt)
 AreSound-push p limits (k ∷ ls) l few here = (few.0, AreSound-push p limits ls l few.1 here)
 
 -- a new territory under a new code keeps a register well formed
-pub IsWellFormed-push : (p : Profile) (r : PlainRegister) (l : PlainLand) → IsWellFormed p r →
+pub IsWellFormed-push : (p : Profile) (r : RegisterModel) (l : LandModel) → IsWellFormed p r →
     land_of l.code r.lands ≡ None → length r.lands < r.limits.lands →
     IsSoundTerritory p r.limits l.territory → IsWellFormed p
     (record r { lands = r.lands ++ l ∷ [] })
@@ -112,9 +112,9 @@ IsWellFormed-push p r l w none room few = record {
 }
 
 -- what is kept after one new key, seen as the plain list
-module _ {K V : Type 0} (text : K → List ℕ) (name : V → List ℕ) (territory : V → PlainTerritory)
+module _ {K V : Type 0} (text : K → List ℕ) (name : V → List ℕ) (territory : V → TerritoryModel)
   where
-    pub kept_new : (old new : List (K × V)) (k : K) (v : V) (l : PlainLand) →
+    pub kept_new : (old new : List (K × V)) (k : K) (v : V) (l : LandModel) →
         new ≡ old ++ (k, v) ∷ [] → text k ≡ l.code → name v ≡ l.name → territory v ≡ l.territory →
         map (land_in text name territory) new ≡ map (land_in text name territory) old ++ l ∷ []
     kept_new old new k v l e code called land =
@@ -123,17 +123,17 @@ module _ {K V : Type 0} (text : K → List ℕ) (name : V → List ℕ) (territo
         { code = c; name = name v; territory = territory v } ∷ []) code
         ∙ ap (λ (n : List ℕ). map (land_in text name territory) old ++ record
         { code = l.code; name = n; territory = territory v } ∷ []) called
-        ∙ ap (λ (t : PlainTerritory). map (land_in text name territory) old ++ record
+        ∙ ap (λ (t : TerritoryModel). map (land_in text name territory) old ++ record
         { code = l.code; name = l.name; territory = t } ∷ []) land
 
-apart_within : (code : List ℕ) (front : List PlainLand) (l : PlainLand) (rest : List PlainLand) →
+apart_within : (code : List ℕ) (front : List LandModel) (l : LandModel) (rest : List LandModel) →
     land_of code (front ++ l ∷ rest) ≡ None → bytes_eq code l.code ≡ false
 apart_within code [] l rest none = (apart_first code l rest none).0
 apart_within code (k ∷ front) l rest none = apart_within code front l rest
     (apart_first code k (front ++ l ∷ rest) none).1
 
 -- of territories with distinct codes, none before one has its code
-pub AreDistinct-within : (front : List PlainLand) (l : PlainLand) (rest : List PlainLand) →
+pub AreDistinct-within : (front : List LandModel) (l : LandModel) (rest : List LandModel) →
     AreDistinct (front ++ l ∷ rest) → land_of l.code front ≡ None
 AreDistinct-within [] l rest distinct = refl
 AreDistinct-within (k ∷ front) l rest distinct =
@@ -142,37 +142,37 @@ AreDistinct-within (k ∷ front) l rest distinct =
     ∙ AreDistinct-within front l rest distinct.1
 
 -- a copy so far, with a territory and what follows it, is all
-pub copied_absent : (copied : List PlainLand) (l : PlainLand) (rest lands : List PlainLand)
+pub copied_absent : (copied : List LandModel) (l : LandModel) (rest lands : List LandModel)
     (code : List ℕ) → copied ++ l ∷ rest ≡ lands → AreDistinct lands → code ≡ l.code →
     land_of code copied ≡ None
 copied_absent copied l rest lands code e distinct same =
     subst (λ c. land_of c copied ≡ None) (sym same) (AreDistinct-within copied l rest
     (subst AreDistinct (sym e) distinct))
 
-pub copied_room : (copied : List PlainLand) (l : PlainLand) (rest lands : List PlainLand)
+pub copied_room : (copied : List LandModel) (l : LandModel) (rest lands : List LandModel)
     (limit room : ℕ) → copied ++ l ∷ rest ≡ lands → length lands ≤ limit → room ≡ limit →
     length copied < room
 copied_room copied l rest lands limit room e within same = omega
     (arith, ap length e, length-append copied (l ∷ rest))
 
-pub copied_some : (copied : List PlainLand) (l : PlainLand) (rest lands : List PlainLand) →
+pub copied_some : (copied : List LandModel) (l : LandModel) (rest lands : List LandModel) →
     copied ++ l ∷ rest ≡ lands → 0 < length lands
 copied_some copied l rest lands e = omega (arith, ap length e, length-append copied (l ∷ rest))
 
-AreSound-within : (p : Profile) (limits : Limits) (front : List PlainLand) (l : PlainLand)
-    (rest : List PlainLand) → AreSound p limits (front ++ l ∷ rest) →
+AreSound-within : (p : Profile) (limits : Limits) (front : List LandModel) (l : LandModel)
+    (rest : List LandModel) → AreSound p limits (front ++ l ∷ rest) →
     IsSoundTerritory p limits l.territory
 AreSound-within p limits [] l rest few = few.0
 AreSound-within p limits (k ∷ front) l rest few = AreSound-within p limits front l rest few.1
 
-pub copied_within : (p : Profile) (copied : List PlainLand) (l : PlainLand)
-    (rest lands : List PlainLand) (limits room : Limits) → copied ++ l ∷ rest ≡ lands →
+pub copied_within : (p : Profile) (copied : List LandModel) (l : LandModel)
+    (rest lands : List LandModel) (limits room : Limits) → copied ++ l ∷ rest ≡ lands →
     AreSound p limits lands → room ≡ limits → IsSoundTerritory p room l.territory
 copied_within p copied l rest lands limits room e few same =
     subst (λ m. IsSoundTerritory p m l.territory) (sym same) (AreSound-within p limits copied l rest
     (subst (AreSound p limits) (sym e) few))
 
-pub copied_more : (copied : List PlainLand) (l : PlainLand) (rest lands : List PlainLand)
+pub copied_more : (copied : List LandModel) (l : LandModel) (rest lands : List LandModel)
     (code : List ℕ) → copied ++ l ∷ rest ≡ lands → code ≡ l.code →
     (copied ++ record { code = code; name = l.name; territory = l.territory } ∷ []) ++ rest ≡ lands
 copied_more copied l rest lands code e same =
@@ -181,10 +181,10 @@ copied_more copied l rest lands code e same =
     rest) same
     ∙ e
 
-pub same_register : (a b : PlainRegister) → a.limits ≡ b.limits → a.lands ++ [] ≡ b.lands → a ≡ b
+pub same_register : (a b : RegisterModel) → a.limits ≡ b.limits → a.lands ++ [] ≡ b.lands → a ≡ b
 same_register a b limits lands =
-    ap (λ (m : Limits). let r : PlainRegister = record { limits = m; lands = a.lands } in r) limits
-    ∙ ap (λ (ls : List PlainLand). let r : PlainRegister = record { limits = b.limits; lands = ls }
+    ap (λ (m : Limits). let r : RegisterModel = record { limits = m; lands = a.lands } in r) limits
+    ∙ ap (λ (ls : List LandModel). let r : RegisterModel = record { limits = b.limits; lands = ls }
     in r) (sym (append-nil a.lands) ∙ lands)
 
 -- what holds anyway holds where a call fails

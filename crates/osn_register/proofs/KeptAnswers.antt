@@ -15,9 +15,9 @@ use Rattle.osn_days.specs.Line.{line, IsOnLine, IsYear, IsYearNumber}
 use Rattle.osn_lands.specs.declared.regime.Regime.{Regime}
 use Rattle.osn_lands.specs.declared.label.Label.{Label}
 use Rattle.osn_lands.specs.declared.period.Period.{Period}
-use Rattle.osn_lands.specs.Label.{local}
+use Rattle.osn_lands.specs.Label.{local_label}
 use Rattle.osn_lands.specs.Dual.{dual_text}
-use Rattle.osn_lands.specs.Territory.{PlainTerritory, regime_at, periods_of, periods_from, reading}
+use Rattle.osn_lands.specs.Territory.{TerritoryModel, regime_at, periods_of, periods_from, reading}
 use Rattle.osn_lands.specs.Exceptions.{exception_of}
 use Rattle.osn_lands.specs.Easters.{is_easter, easters_by_rule, unless_listed}
 use Rattle.osn_lands.specs.Kept.{days_of_line}
@@ -33,7 +33,7 @@ use Rattle.osn_register.specs.declared.refusal.Refusal.{Refusal}
 use Rattle.osn_register.specs.declared.refusal.Refusal.TheVariants.{DayOffLine, YearOffRange}
 use Rattle.osn_register.specs.declared.refusal.Refusal.TheVariants.{BadDate}
 use Rattle.osn_register.specs.Refusal.{first_refusal, or_else}
-use Rattle.osn_register.specs.Plain.{PlainLand, territory_of, code_refusal, is_between}
+use Rattle.osn_register.specs.Plain.{LandModel, territory_of, code_refusal, is_between}
 use Rattle.osn_register.specs.Answer.{answer, unless, found_under, found_on, period_on}
 use Rattle.osn_register.specs.Answer.{on_day, day_answer, reading_answer, easters_answer}
 use Rattle.osn_register.specs.Answer.{figures_of, periods_answer, label_from}
@@ -64,7 +64,7 @@ same_years y year =
     ap (λ b. first_refusal ((not b, YearOffRange) ∷ []))
     (both_between 1 first_rules.last_year newest_rules.last_year y (omega arith) year)
 
-same_days : (lands : List PlainLand) (code : List ℕ) (day : ℤ) → IsOnLine first_rules day
+same_days : (lands : List LandModel) (code : List ℕ) (day : ℤ) → IsOnLine first_rules day
     → day_refusal newest_rules lands code day ≡ day_refusal first_rules lands code day
 same_days lands code day on =
     ap (λ b. or_else (code_refusal lands code) (first_refusal ((not b, DayOffLine) ∷ [])))
@@ -91,11 +91,11 @@ kept_found r d until =
     } in f) (sym (kept_local r d until))
     ∙ ap (λ (text : List ℕ). let f : Found = record {
       day = d;
-      label = local first_rules r d;
+      label = local_label first_rules r d;
       dual = text;
     } in f) (sym (kept_text r d until))
 
-kept_step : (t : PlainTerritory) (d : ℕ) (days rest : List ℕ) (here : Bool)
+kept_step : (t : TerritoryModel) (d : ℕ) (days rest : List ℕ) (here : Bool)
     → nat_le d first_rules.high ≡ here
     → found_until first_rules (map (found_on newest_rules t) days)
     ≡ map (found_on first_rules t) rest
@@ -109,7 +109,7 @@ kept_step t d days rest true here later =
     (kept_found (regime_at t d) d (leb-true d first_rules.high here))
 kept_step t d days rest false here later = later
 
-kept_days : (t : PlainTerritory) (days : List ℕ)
+kept_days : (t : TerritoryModel) (days : List ℕ)
     → found_until first_rules (map (found_on newest_rules t) days)
     ≡ map (found_on first_rules t) (days_of_line first_rules days)
 kept_days t [] = refl
@@ -119,7 +119,7 @@ kept_days t (d ∷ days) =
 
 -- a reading
 
-reading_kept : (t : Option PlainTerritory) (label : Label)
+reading_kept : (t : Option TerritoryModel) (label : Label)
     → KeepsReading first_rules (reading_answer first_rules t label)
     (reading_answer newest_rules t label)
 reading_kept None label = (refl, refl)
@@ -172,7 +172,7 @@ on_day_kept (Some p) (Some q) found before same named =
 on_day_kept None (Some q) found before same named = absurd cc
 on_day_kept (Some p) None found before same named = absurd cc
 
-day_kept : (t : Option PlainTerritory) (d : ℕ) → d ≤ first_rules.high
+day_kept : (t : Option TerritoryModel) (d : ℕ) → d ≤ first_rules.high
     → KeepsDay (day_answer first_rules t d) (day_answer newest_rules t d)
 day_kept None d until = (refl, refl, refl)
 day_kept (Some t) d until =
@@ -188,7 +188,7 @@ day_unless (Some f) (Some g) now before same kept = (same, refl, refl)
 day_unless None (Some g) now before same kept = absurd cc
 day_unless (Some f) None now before same kept = absurd cc
 
-periods_kept : (t : Option PlainTerritory)
+periods_kept : (t : Option TerritoryModel)
     → KeepsDay (periods_answer first_rules t) (periods_answer newest_rules t)
 periods_kept None = (refl, refl, refl)
 periods_kept (Some t) = (
@@ -199,12 +199,12 @@ periods_kept (Some t) = (
 
 -- Easters
 
-one_named : (t : PlainTerritory) (d : ℕ) → d ≤ first_rules.high
+one_named : (t : TerritoryModel) (d : ℕ) → d ≤ first_rules.high
     → map (found_on newest_rules t) (d ∷ []) ≡ map (found_on first_rules t) (d ∷ [])
 one_named t d until = ap (λ f. f ∷ []) (kept_found (regime_at t d) d until)
 
 -- the days of a range are named alike where each is a day of the first rules
-step_named : (t : PlainTerritory) (a : ℕ) (here : Bool) (days : List ℕ)
+step_named : (t : TerritoryModel) (a : ℕ) (here : Bool) (days : List ℕ)
     → a ≤ first_rules.high
     → map (found_on newest_rules t) days ≡ map (found_on first_rules t) days
     → map (found_on newest_rules t) (if here then a ∷ days else days)
@@ -214,7 +214,7 @@ step_named t a true days until later =
     ∙ ap (λ f. f ∷ map (found_on first_rules t) days) (kept_found (regime_at t a) a until)
 step_named t a false days until later = later
 
-range_named : (t : PlainTerritory) (test : ℕ → Bool) (a n : ℕ) → a + n ≤ first_rules.high + 1
+range_named : (t : TerritoryModel) (test : ℕ → Bool) (a n : ℕ) → a + n ≤ first_rules.high + 1
     → map (found_on newest_rules t) (filter test (range_with_len a n))
     ≡ map (found_on first_rules t) (filter test (range_with_len a n))
 range_named t test a zero until = refl
@@ -222,27 +222,27 @@ range_named t test a (suc n) until =
     step_named t a (test a) (filter test (range_with_len (a + 1) n)) (omega arith)
     (range_named t test (a + 1) n (omega arith))
 
-line_named : (p : Profile) (t : PlainTerritory) (test : ℕ → Bool) → p.high ≤ first_rules.high
+line_named : (p : Profile) (t : TerritoryModel) (test : ℕ → Bool) → p.high ≤ first_rules.high
     → map (found_on newest_rules t) (filter test (line p))
     ≡ map (found_on first_rules t) (filter test (line p))
 unfolding line
 line_named p t test until = range_named t test 1 p.high (omega arith)
 
-rules_named : (t : PlainTerritory) (y : ℕ)
+rules_named : (t : TerritoryModel) (y : ℕ)
     → map (found_on newest_rules t) (easters_by_rule first_rules t y)
     ≡ map (found_on first_rules t) (easters_by_rule first_rules t y)
 unfolding easters_by_rule
 rules_named t y =
     line_named first_rules t (λ d. is_easter first_rules (regime_at t d).rule y d) (omega arith)
 
-easters_named : (t : PlainTerritory) (y : ℕ) (listed : Option ℕ)
+easters_named : (t : TerritoryModel) (y : ℕ) (listed : Option ℕ)
     → IfSome listed (λ d. d ≤ first_rules.high)
     → map (found_on newest_rules t) (unless_listed listed (easters_by_rule first_rules t y))
     ≡ map (found_on first_rules t) (unless_listed listed (easters_by_rule first_rules t y))
 easters_named t y None until = rules_named t y
 easters_named t y (Some d) until = one_named t d until
 
-easters_kept : (t : Option PlainTerritory) (y : ℕ) → IsYear first_rules y
+easters_kept : (t : Option TerritoryModel) (y : ℕ) → IsYear first_rules y
     → IsListedUntil first_rules y t
     → easters_answer newest_rules t y ≡ easters_answer first_rules t y
 easters_kept None y year listed = refl
@@ -269,7 +269,7 @@ same_unless now_refused refused now before same kept = ap (λ r. unless r now) s
     ∙ ap (unless refused) kept
 
 -- what is answered to a query keeps what the first rules answer
-pub kept_answer : (lands : List PlainLand) (q : Query)
+pub kept_answer : (lands : List LandModel) (q : Query)
     → KeepsAnswer first_rules lands q (answer newest_rules lands q)
 kept_answer lands (queries.Read code year month day) =
     λ within. reading_unless first_rules (read_refusal newest_rules lands code year month day)

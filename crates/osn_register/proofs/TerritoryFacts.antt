@@ -13,16 +13,17 @@ use Rattle.std.specs.declared.cmp.Ordering.TheVariants.{Less, Equal, Greater}
 use Rattle.std.specs.Ordering.{match_ordering, nat_cmp}
 use Rattle.osn_days.specs.Profile.{Profile}
 use Rattle.osn_lands.specs.declared.regime.Regime.{Regime}
-use Rattle.osn_lands.specs.Territory.{PlainTerritory}
+use Rattle.osn_lands.specs.Territory.{TerritoryModel}
 use Rattle.osn_lands.specs.Changes.{with_start, starts_on}
 use Rattle.osn_lands.specs.Exceptions.{exception_of}
 use Rattle.osn_register.specs.declared.limits.Limits.{Limits}
-use Rattle.osn_register.specs.declared.change.Change.{Change}
-use Rattle.osn_register.specs.declared.change.Change.TheVariants.{Add, Alter, Drop, AddException}
-use Rattle.osn_register.specs.declared.change.Change.TheVariants.{DropException}
+use Rattle.osn_register.specs.declared.change.TerritoryEdit.{TerritoryEdit}
+use Rattle.osn_register.specs.declared.change.TerritoryEdit.TheVariants.{Add, Alter, Drop}
+use Rattle.osn_register.specs.declared.change.TerritoryEdit.TheVariants.{AddException}
+use Rattle.osn_register.specs.declared.change.TerritoryEdit.TheVariants.{DropException}
 use Rattle.osn_register.specs.declared.refusal.Refusal.{Refusal}
 use Rattle.osn_register.specs.Code.{is_code}
-use Rattle.osn_register.specs.Plain.{PlainLand, PlainRegister, land_of, territory_of, code_refusal}
+use Rattle.osn_register.specs.Plain.{LandModel, RegisterModel, land_of, territory_of, code_refusal}
 use Rattle.osn_register.specs.Plain.{is_off_line, is_off_years, refusal_in, inside, with_territory}
 use Rattle.osn_register.specs.Plain.{AreDistinct, IsSoundTerritory, AreSound, IsWellFormed}
 use Rattle.osn_register.specs.Plain.{is_style_refused}
@@ -40,9 +41,9 @@ not_none : {X Y : Type 0} {x : X} → Some x ≡ None → Y
 not_none h = absurd (false≢true (sym (ap is_some h)))
 
 -- what is written under a key, seen as the plain list
-module _ {K V : Type 0} (text : K → List ℕ) (name : V → List ℕ) (territory : V → PlainTerritory)
+module _ {K V : Type 0} (text : K → List ℕ) (name : V → List ℕ) (territory : V → TerritoryModel)
   where
-    pub map-set_value : (code : List ℕ) (f : PlainTerritory → PlainTerritory) (es : List (K × V))
+    pub map-set_value : (code : List ℕ) (f : TerritoryModel → TerritoryModel) (es : List (K × V))
         (v w : V) → lookup (λ k. bytes_eq code (text k)) es ≡ Some v → name w ≡ name v →
         territory w ≡ f (territory v) → map (land_in text name territory)
         (set_value (λ k. bytes_eq code (text k)) es w) ≡ with_territory code f
@@ -56,10 +57,10 @@ module _ {K V : Type 0} (text : K → List ℕ) (name : V → List ℕ) (territo
         (record (land_in text name territory e) { territory = f (territory e.1) } ∷ map
         (land_in text name territory) es) (land_in text name territory e ∷ with_territory code f
         (map (land_in text name territory) es))) [
-          | true ↦ λ h. ap (λ (n : List ℕ). let l : PlainLand = record
+          | true ↦ λ h. ap (λ (n : List ℕ). let l : LandModel = record
               { code = text e.0; name = n; territory = territory w } in l ∷ map
               (land_in text name territory) es) (called ∙ ap name (sym (some_is h)))
-              ∙ ap (λ (t : PlainTerritory). let l : PlainLand = record
+              ∙ ap (λ (t : TerritoryModel). let l : LandModel = record
               { code = text e.0; name = name e.1; territory = t } in l ∷ map
               (land_in text name territory) es) (land ∙ ap (λ x. f (territory x))
               (sym (some_is h)))
@@ -67,7 +68,7 @@ module _ {K V : Type 0} (text : K → List ℕ) (name : V → List ℕ) (territo
               (map-set_value code f es v w h called land)
         ] found
 
-land_of-with : (code other : List ℕ) (f : PlainTerritory → PlainTerritory) (ls : List PlainLand) →
+land_of-with : (code other : List ℕ) (f : TerritoryModel → TerritoryModel) (ls : List LandModel) →
     land_of other ls ≡ None → land_of other (with_territory code f ls) ≡ None
 land_of-with code other f [] none = refl
 land_of-with code other f (l ∷ ls) none =
@@ -80,7 +81,7 @@ land_of-with code other f (l ∷ ls) none =
           land_of-with code other f ls first.1
     ]
 
-AreDistinct-with : (code : List ℕ) (f : PlainTerritory → PlainTerritory) (ls : List PlainLand) →
+AreDistinct-with : (code : List ℕ) (f : TerritoryModel → TerritoryModel) (ls : List LandModel) →
     AreDistinct ls → AreDistinct (with_territory code f ls)
 AreDistinct-with code f [] distinct = tt
 AreDistinct-with code f (l ∷ ls) distinct =
@@ -90,7 +91,7 @@ AreDistinct-with code f (l ∷ ls) distinct =
       | false ↦ (land_of-with code l.code f ls distinct.0, AreDistinct-with code f ls distinct.1)
     ]
 
-length-with : (code : List ℕ) (f : PlainTerritory → PlainTerritory) (ls : List PlainLand) →
+length-with : (code : List ℕ) (f : TerritoryModel → TerritoryModel) (ls : List LandModel) →
     length (with_territory code f ls) ≡ length ls
 length-with code f [] = refl
 length-with code f (l ∷ ls) =
@@ -101,13 +102,13 @@ length-with code f (l ∷ ls) =
     ]
 
 AreSound-with : (p : Profile) (limits : Limits) (code : List ℕ)
-    (f : PlainTerritory → PlainTerritory) (ls : List PlainLand) → AreSound p limits ls →
-    ((t : PlainTerritory) → territory_of code ls ≡ Some t → IsSoundTerritory p limits t →
+    (f : TerritoryModel → TerritoryModel) (ls : List LandModel) → AreSound p limits ls →
+    ((t : TerritoryModel) → territory_of code ls ≡ Some t → IsSoundTerritory p limits t →
     IsSoundTerritory p limits (f t)) → AreSound p limits (with_territory code f ls)
 AreSound-with p limits code f [] few still = tt
 AreSound-with p limits code f (l ∷ ls) few still =
-    elim (bytes_eq code l.code) as (λ b. ((t : PlainTerritory) →
-    option_map (λ (k : PlainLand). k.territory) (cond b (Some l) (land_of code ls)) ≡ Some t →
+    elim (bytes_eq code l.code) as (λ b. ((t : TerritoryModel) →
+    option_map (λ (k : LandModel). k.territory) (cond b (Some l) (land_of code ls)) ≡ Some t →
     IsSoundTerritory p limits t → IsSoundTerritory p limits (f t)) →
     AreSound p limits (cond b (record l { territory = f l.territory } ∷ ls)
     (l ∷ with_territory code f ls))) [
@@ -116,9 +117,9 @@ AreSound-with p limits code f (l ∷ ls) few still =
     ] still
 
 -- a register stays well formed where one of its territories is changed within the limit
-pub IsWellFormed-with : (p : Profile) (r : PlainRegister) (code : List ℕ)
-    (f : PlainTerritory → PlainTerritory) → IsWellFormed p r →
-    ((t : PlainTerritory) → territory_of code r.lands ≡ Some t → IsSoundTerritory p r.limits t →
+pub IsWellFormed-with : (p : Profile) (r : RegisterModel) (code : List ℕ)
+    (f : TerritoryModel → TerritoryModel) → IsWellFormed p r →
+    ((t : TerritoryModel) → territory_of code r.lands ≡ Some t → IsSoundTerritory p r.limits t →
     IsSoundTerritory p r.limits (f t)) → IsWellFormed p (record r
     { lands = with_territory code f r.lands })
 IsWellFormed-with p r code f w still = record {
@@ -128,27 +129,27 @@ IsWellFormed-with p r code f w still = record {
 }
 
 -- what is lawful in a territory of a known code
-pub lawful_in : (lands : List PlainLand) (code : List ℕ) (refused : PlainTerritory → Option Refusal)
-    → refusal_in lands code refused ≡ None → (t : PlainTerritory) →
+pub lawful_in : (lands : List LandModel) (code : List ℕ) (refused : TerritoryModel → Option Refusal)
+    → refusal_in lands code refused ≡ None → (t : TerritoryModel) →
     territory_of code lands ≡ Some t → refused t ≡ None
 lawful_in lands code refused h t known = by (code_refusal lands code) (territory_of code lands) h
     known
   where
-    by : (o : Option Refusal) (u : Option PlainTerritory) → or_else o (inside refused u) ≡ None →
+    by : (o : Option Refusal) (u : Option TerritoryModel) → or_else o (inside refused u) ≡ None →
         u ≡ Some t → refused t ≡ None
     by (Some f) u h known = not_none h
     by None u h known = rw known at h
 
 -- a known code has a territory
-pub no_territory : (lands : List PlainLand) (code : List ℕ)
-    (refused : PlainTerritory → Option Refusal) → refusal_in lands code refused ≡ None →
+pub no_territory : (lands : List LandModel) (code : List ℕ)
+    (refused : TerritoryModel → Option Refusal) → refusal_in lands code refused ≡ None →
     territory_of code lands ≡ None → ⊥
 no_territory lands code refused h none = by (not (is_code code)) (land_of code lands) h none
   where
-    by : (b : Bool) (o : Option PlainLand) → or_else (if b then Some Refusal.BadCode else
+    by : (b : Bool) (o : Option LandModel) → or_else (if b then Some Refusal.BadCode else
         (if is_none o then Some Refusal.UnknownLand else None))
         (inside refused (option_map (λ l. l.territory) o)) ≡ None →
-        option_map (λ (l : PlainLand). l.territory) o ≡ None → ⊥
+        option_map (λ (l : LandModel). l.territory) o ≡ None → ⊥
     by true o h none = not_none h
     by false None h none = not_none h
     by false (Some l) h none = not_none none
@@ -210,7 +211,7 @@ length-remove_entry test (e ∷ es) =
     ]
 
 -- a lawful change leaves the territory sound
-pub still_sound : (p : Profile) (limits : Limits) (change : Change) (t : PlainTerritory) →
+pub still_sound : (p : Profile) (limits : Limits) (change : TerritoryEdit) (t : TerritoryModel) →
     change_refusal p limits change t ≡ None → IsSoundTerritory p limits t →
     IsSoundTerritory p limits (territory_after change t)
 still_sound p limits (Add d regime) t lawful sound =
@@ -270,7 +271,7 @@ still_sound p limits (DropException y) t lawful sound =
       periods = sound.periods;
     }
 
-pub with_same : (code : List ℕ) (ls : List PlainLand) → with_territory code (λ t. t) ls ≡ ls
+pub with_same : (code : List ℕ) (ls : List LandModel) → with_territory code (λ t. t) ls ≡ ls
 with_same code [] = refl
 with_same code (l ∷ ls) =
     elim (bytes_eq code l.code) as (λ b. cond b (l ∷ ls) (l ∷ with_territory code (λ t. t) ls) ≡ l ∷
@@ -281,8 +282,8 @@ with_same code (l ∷ ls) =
 
 -- the register once a territory was written under its key
 pub register-with : {K V : Type 0} (text : K → List ℕ) (name : V → List ℕ)
-    (territory : V → PlainTerritory) (limits : Limits) (es new : List (K × V)) (now : PlainRegister)
-    (code : List ℕ) (f : PlainTerritory → PlainTerritory) (v w : V) →
+    (territory : V → TerritoryModel) (limits : Limits) (es new : List (K × V)) (now : RegisterModel)
+    (code : List ℕ) (f : TerritoryModel → TerritoryModel) (v w : V) →
     record { limits = limits; lands = map (land_in text name territory) es } ≡ now →
     new ≡ set_value (λ k. bytes_eq code (text k)) es w →
     lookup (λ k. bytes_eq code (text k)) es ≡ Some v → name w ≡ name v →
@@ -292,8 +293,8 @@ pub register-with : {K V : Type 0} (text : K → List ℕ) (name : V → List �
           (land_in text name territory) new;
     } ≡ record now { lands = with_territory code f now.lands }
 register-with text name territory limits es new now code f v w is written found called land =
-    ap (λ (ls : List PlainLand). let r : PlainRegister = record { limits = limits; lands = ls } in
+    ap (λ (ls : List LandModel). let r : RegisterModel = record { limits = limits; lands = ls } in
     r)
     (ap (map (land_in text name territory)) written ∙ map-set_value text name territory code f es v
     w found called land)
-    ∙ ap (λ (r : PlainRegister). record r { lands = with_territory code f r.lands }) is
+    ∙ ap (λ (r : RegisterModel). record r { lands = with_territory code f r.lands }) is

@@ -10,10 +10,10 @@ use Rattle.osn_computus.specs.Letters.{letters_of}
 use Rattle.osn_computus.specs.Easter.{easter_of}
 use Rattle.osn_lands.specs.declared.regime.Regime.{Regime}
 use Rattle.osn_lands.specs.declared.label.Label.{Label}
-use Rattle.osn_lands.specs.Label.{local}
+use Rattle.osn_lands.specs.Label.{local_label}
 use Rattle.osn_lands.specs.Dual.{dual_text}
 use Rattle.osn_lands.specs.declared.period.Period.{Period}
-use Rattle.osn_lands.specs.Territory.{PlainTerritory, regime_at, periods_of, reading, skipped}
+use Rattle.osn_lands.specs.Territory.{TerritoryModel, regime_at, periods_of, reading, skipped}
 use Rattle.osn_lands.specs.Exceptions.{exception_of}
 use Rattle.osn_lands.specs.Easters.{easters}
 use Rattle.osn_register.specs.declared.query.Query.{Query}
@@ -27,7 +27,7 @@ use Rattle.osn_register.specs.declared.refusal.Refusal.{Refusal}
 use Rattle.osn_register.specs.declared.refusal.Refusal.TheVariants.{UnknownLand, DayOffLine}
 use Rattle.osn_register.specs.declared.refusal.Refusal.TheVariants.{YearOffRange, BadDate}
 use Rattle.osn_register.specs.Refusal.{first_refusal, or_else}
-use Rattle.osn_register.specs.Plain.{PlainLand, territory_of, code_refusal, is_between, is_off_line}
+use Rattle.osn_register.specs.Plain.{LandModel, territory_of, code_refusal, is_between, is_off_line}
 use Rattle.osn_register.specs.Plain.{is_off_years}
 
 -- why a reading is refused for its date
@@ -38,12 +38,12 @@ date_refusal p year month day = first_refusal (
     ∷ [])
 
 -- why a reading is refused, if it is
-abbrev pub read_refusal : Profile → List PlainLand → List ℕ → ℤ → ℤ → ℤ → Option Refusal
+abbrev pub read_refusal : Profile → List LandModel → List ℕ → ℤ → ℤ → ℤ → Option Refusal
 read_refusal p lands code year month day =
     or_else (code_refusal lands code) (date_refusal p year month day)
 
 -- why a query of a day is refused
-abbrev pub day_refusal : Profile → List PlainLand → List ℕ → ℤ → Option Refusal
+abbrev pub day_refusal : Profile → List LandModel → List ℕ → ℤ → Option Refusal
 day_refusal p lands code day =
     or_else (code_refusal lands code) (first_refusal ((is_off_line p day, DayOffLine) ∷ []))
 
@@ -52,11 +52,11 @@ abbrev pub year_refusal : Profile → ℤ → Option Refusal
 year_refusal p year = first_refusal ((is_off_years p year, YearOffRange) ∷ [])
 
 -- why a query of a territory's Easters is refused
-abbrev pub easter_refusal : Profile → List PlainLand → List ℕ → ℤ → Option Refusal
+abbrev pub easter_refusal : Profile → List LandModel → List ℕ → ℤ → Option Refusal
 easter_refusal p lands code year = or_else (code_refusal lands code) (year_refusal p year)
 
 -- why a query is refused, if it is
-abbrev pub query_refusal : Profile → List PlainLand → Query → Option Refusal
+abbrev pub query_refusal : Profile → List LandModel → Query → Option Refusal
 query_refusal p lands (queries.Read code year month day) = read_refusal p lands code year month day
 query_refusal p lands (queries.DayIn code day) = day_refusal p lands code day
 query_refusal p lands (queries.Easter code year) = easter_refusal p lands code year
@@ -66,17 +66,17 @@ query_refusal p lands (queries.Periods code) = code_refusal lands code
 
 -- a day as a regime names it
 abbrev pub found_under : Profile → Regime → ℕ → Found
-found_under p r d = record { day = d; label = local p r d; dual = dual_text p r d }
+found_under p r d = record { day = d; label = local_label p r d; dual = dual_text p r d }
 
 -- a day as the territory names it, by the regime in force on it
-abbrev pub found_on : Profile → PlainTerritory → ℕ → Found
+abbrev pub found_on : Profile → TerritoryModel → ℕ → Found
 found_on p t d = found_under p (regime_at t d) d
 
 abbrev pub label_from : ℤ → ℤ → ℤ → Label
 label_from year month day =
     record { year = year; month = unsigned_abs month; day = unsigned_abs day }
 
-abbrev pub reading_answer : Profile → Option PlainTerritory → Label → Answer
+abbrev pub reading_answer : Profile → Option TerritoryModel → Label → Answer
 reading_answer p None label = Refused UnknownLand
 reading_answer p (Some t) label = Reading (map (found_on p t) (reading p t label))
     (skipped p t label)
@@ -92,12 +92,12 @@ abbrev pub on_day : Option Period → Found → Answer
 on_day None found = Refused DayOffLine
 on_day (Some period) found = OnDay found period
 
-abbrev pub day_answer : Profile → Option PlainTerritory → ℕ → Answer
+abbrev pub day_answer : Profile → Option TerritoryModel → ℕ → Answer
 day_answer p None d = Refused UnknownLand
 day_answer p (Some t) d = on_day (period_on (periods_of p t) d) (found_on p t d)
 
 -- the Easters of a year, and whether they are listed
-abbrev pub easters_answer : Profile → Option PlainTerritory → ℕ → Answer
+abbrev pub easters_answer : Profile → Option TerritoryModel → ℕ → Answer
 easters_answer p None y = Refused UnknownLand
 easters_answer p (Some t) y =
     Easters (map (found_on p t) (easters p t y)) (is_some (exception_of t y))
@@ -118,7 +118,7 @@ figures_of p y = figures_with y
     (letters_of p calendar.Julian y) (letters_of p calendar.Gregorian y)
     (easter_of p rule.Julian y) (easter_of p rule.Gregorian y)
 
-abbrev pub periods_answer : Profile → Option PlainTerritory → Answer
+abbrev pub periods_answer : Profile → Option TerritoryModel → Answer
 periods_answer p None = Refused UnknownLand
 periods_answer p (Some t) = Periods (periods_of p t)
 
@@ -126,20 +126,20 @@ abbrev pub unless : Option Refusal → Answer → Answer
 unless None answer = answer
 unless (Some f) answer = Refused f
 
-abbrev pub listed : PlainLand → Land
+abbrev pub listed : LandModel → Land
 listed l = record { code = l.code; name = l.name }
 
-abbrev pub read_answer : Profile → List PlainLand → List ℕ → ℤ → ℤ → ℤ → Answer
+abbrev pub read_answer : Profile → List LandModel → List ℕ → ℤ → ℤ → ℤ → Answer
 read_answer p lands code year month day =
     unless (read_refusal p lands code year month day)
     (reading_answer p (territory_of code lands) (label_from year month day))
 
-abbrev pub day_in_answer : Profile → List PlainLand → List ℕ → ℤ → Answer
+abbrev pub day_in_answer : Profile → List LandModel → List ℕ → ℤ → Answer
 day_in_answer p lands code day =
     unless (day_refusal p lands code day)
     (day_answer p (territory_of code lands) (unsigned_abs day))
 
-abbrev pub easter_answer : Profile → List PlainLand → List ℕ → ℤ → Answer
+abbrev pub easter_answer : Profile → List LandModel → List ℕ → ℤ → Answer
 easter_answer p lands code year =
     unless (easter_refusal p lands code year)
     (easters_answer p (territory_of code lands) (unsigned_abs year))
@@ -147,12 +147,12 @@ easter_answer p lands code year =
 abbrev pub figures_answer : Profile → ℤ → Answer
 figures_answer p year = unless (year_refusal p year) (figures_of p (unsigned_abs year))
 
-abbrev pub periods_in_answer : Profile → List PlainLand → List ℕ → Answer
+abbrev pub periods_in_answer : Profile → List LandModel → List ℕ → Answer
 periods_in_answer p lands code =
     unless (code_refusal lands code) (periods_answer p (territory_of code lands))
 
 -- what is answered to a query
-abbrev pub answer : Profile → List PlainLand → Query → Answer
+abbrev pub answer : Profile → List LandModel → Query → Answer
 answer p lands (queries.Read code year month day) = read_answer p lands code year month day
 answer p lands (queries.DayIn code day) = day_in_answer p lands code day
 answer p lands (queries.Easter code year) = easter_answer p lands code year

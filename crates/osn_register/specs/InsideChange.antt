@@ -1,19 +1,20 @@
 -- How the register makes a lawful edit of a territory, and how it fails to answer a query.
 use Rattle.std.specs.Prelude.{pos, Bool, true, false, Option}
 use Rattle.osn_days.specs.Profile.{Profile}
-use Rattle.osn_lands.specs.Territory.{PlainTerritory}
+use Rattle.osn_lands.specs.Territory.{TerritoryModel}
 use Rattle.osn_lands.specs.Changes.{with_change, with_altered, without_change}
 use Rattle.osn_lands.specs.Exceptions.{with_exception, without_exception}
-use Rattle.osn_register.specs.declared.change.Change.{Change}
-use Rattle.osn_register.specs.declared.change.Change.TheVariants.{Add, Alter, Drop, AddException}
-use Rattle.osn_register.specs.declared.change.Change.TheVariants.{DropException}
+use Rattle.osn_register.specs.declared.change.TerritoryEdit.{TerritoryEdit}
+use Rattle.osn_register.specs.declared.change.TerritoryEdit.TheVariants.{Add, Alter, Drop}
+use Rattle.osn_register.specs.declared.change.TerritoryEdit.TheVariants.{AddException}
+use Rattle.osn_register.specs.declared.change.TerritoryEdit.TheVariants.{DropException}
 use Rattle.osn_register.specs.declared.limits.Limits.{Limits}
 use Rattle.osn_register.specs.declared.refusal.Refusal.{Refusal}
 use Rattle.osn_register.specs.Plain.{add_change_refusal, alter_change_refusal, drop_change_refusal}
 use Rattle.osn_register.specs.Plain.{add_exception_refusal, drop_exception_refusal}
 
 -- why a change is refused by what the territory holds
-abbrev pub change_refusal : Profile → Limits → Change → PlainTerritory → Option Refusal
+abbrev pub change_refusal : Profile → Limits → TerritoryEdit → TerritoryModel → Option Refusal
 change_refusal p limits (Add day regime) t = add_change_refusal p limits (pos day) regime t
 change_refusal p limits (Alter day regime) t = alter_change_refusal p (pos day) regime t
 change_refusal p limits (Drop day) t = drop_change_refusal p (pos day) t
@@ -21,14 +22,14 @@ change_refusal p limits (AddException year day) t =
     add_exception_refusal p limits (pos year) (pos day) t
 change_refusal p limits (DropException year) t = drop_exception_refusal p (pos year) t
 
-abbrev pub territory_after : Change → PlainTerritory → PlainTerritory
+abbrev pub territory_after : TerritoryEdit → TerritoryModel → TerritoryModel
 territory_after (Add day regime) t = with_change t day regime
 territory_after (Alter day regime) t = with_altered t day regime
 territory_after (Drop day) t = without_change t day
 territory_after (AddException year day) t = with_exception t year day
 territory_after (DropException year) t = without_exception t year
 
-abbrev pub change_takes_memory : Change → Bool
+abbrev pub change_takes_memory : TerritoryEdit → Bool
 change_takes_memory (Add day regime) = true
 change_takes_memory (Alter day regime) = false
 change_takes_memory (Drop day) = false

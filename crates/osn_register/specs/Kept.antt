@@ -5,14 +5,14 @@ use Rattle.osn_days.specs.Profile.{Profile}
 use Rattle.osn_days.specs.Line.{IsOnLine, IsYearNumber}
 use Rattle.osn_lands.specs.declared.regime.Regime.{Regime}
 use Rattle.osn_lands.specs.declared.period.Period.{Period}
-use Rattle.osn_lands.specs.Territory.{PlainTerritory}
+use Rattle.osn_lands.specs.Territory.{TerritoryModel}
 use Rattle.osn_lands.specs.Exceptions.{exception_of}
 use Rattle.osn_register.specs.declared.query.Query.{Query}
 use Rattle.osn_register.specs.declared.query.Query.TheVariants as queries
 use Rattle.osn_register.specs.declared.answer.Answer.{Answer}
 use Rattle.osn_register.specs.declared.answer.Answer.TheVariants.{Reading, OnDay, Easters, Periods}
 use Rattle.osn_register.specs.declared.answer.Found.{Found}
-use Rattle.osn_register.specs.Plain.{PlainLand, territory_of}
+use Rattle.osn_register.specs.Plain.{LandModel, territory_of}
 use Rattle.osn_register.specs.Answer.{answer, refusal_in}
 
 -- the days that an answer has found, each as it is named
@@ -41,7 +41,7 @@ abbrev pub IsLabelYear : Profile → ℤ → Type 0
 IsLabelYear p y = (pos 0 ≤ℤ y) × (y ≤ℤ pos p.last_label_year)
 
 -- a day that is listed as the Easter of the year is one that the rules have
-abbrev pub IsListedUntil : Profile → ℕ → Option PlainTerritory → Type 0
+abbrev pub IsListedUntil : Profile → ℕ → Option TerritoryModel → Type 0
 IsListedUntil p y t = IfSome t (λ t. IfSome (exception_of t y) (λ d. d ≤ p.high))
 
 -- refused alike, and of the days found now, those that the line of the rules has are those of
@@ -60,7 +60,7 @@ KeepsDay before now =
 -- what an answer keeps of the answer of these rules to the same query, where they have its year or
 -- its day: the Easters and the figures of a year and the territories are the same; a reading and a
 -- day keep what the rules' own line has; and periods, their starts
-abbrev pub KeepsAnswer : Profile → List PlainLand → Query → Answer → Type 0
+abbrev pub KeepsAnswer : Profile → List LandModel → Query → Answer → Type 0
 KeepsAnswer p lands (queries.Read code year month day) now =
     IsLabelYear p year
     → KeepsReading p (answer p lands (queries.Read code year month day)) now

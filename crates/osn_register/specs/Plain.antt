@@ -8,7 +8,7 @@ use Rattle.std.specs.Str.{bytes_eq}
 use Rattle.osn_days.specs.Profile.{Profile}
 use Rattle.osn_lands.specs.declared.regime.Regime.{Regime}
 use Rattle.osn_lands.specs.Style.{lacks_julian}
-use Rattle.osn_lands.specs.Territory.{PlainTerritory, opened, periods_of, CoversLine}
+use Rattle.osn_lands.specs.Territory.{TerritoryModel, opened, periods_of, CoversLine}
 use Rattle.osn_lands.specs.Changes.{starts_on, with_change, with_altered, without_change}
 use Rattle.osn_lands.specs.Exceptions.{exception_of, with_exception, without_exception}
 use Rattle.osn_register.specs.declared.limits.Limits.{Limits}
@@ -30,21 +30,21 @@ use Rattle.osn_register.specs.Refusal.{first_refusal, or_else}
 use Rattle.osn_register.specs.Code.{is_code, is_name}
 
 -- a territory with its code and name
-pub record PlainLand : Type 0 where
+pub record LandModel : Type 0 where
   pub code : List ℕ
   pub name : List ℕ
-  pub territory : PlainTerritory
+  pub territory : TerritoryModel
 
 -- the territories under limits
-pub record PlainRegister : Type 0 where
+pub record RegisterModel : Type 0 where
   pub limits : Limits
-  pub lands : List PlainLand
+  pub lands : List LandModel
 
 -- the territory of a code
-abbrev pub land_of : List ℕ → List PlainLand → Option PlainLand
+abbrev pub land_of : List ℕ → List LandModel → Option LandModel
 land_of code lands = find (λ l. bytes_eq code l.code) lands
 
-abbrev pub territory_of : List ℕ → List PlainLand → Option PlainTerritory
+abbrev pub territory_of : List ℕ → List LandModel → Option TerritoryModel
 territory_of code lands = option_map (λ l. l.territory) (land_of code lands)
 
 abbrev pub is_between : ℤ → ℤ → ℤ → Bool
@@ -54,7 +54,7 @@ is_between low high n = int_le low n && int_le n high
 abbrev pub is_style_refused : Profile → Regime → Bool
 is_style_refused p regime = p.tests_style && lacks_julian regime
 
-abbrev pub add_land_refusal : Profile → Limits → List PlainLand → List ℕ → List ℕ → Regime
+abbrev pub add_land_refusal : Profile → Limits → List LandModel → List ℕ → List ℕ → Regime
     → Option Refusal
 add_land_refusal p limits lands code name regime = first_refusal (
     (not (is_code code), BadCode)
@@ -65,7 +65,7 @@ add_land_refusal p limits lands code name regime = first_refusal (
     ∷ [])
 
 -- why an edit or a query of a territory is refused for its code
-abbrev pub code_refusal : List PlainLand → List ℕ → Option Refusal
+abbrev pub code_refusal : List LandModel → List ℕ → Option Refusal
 code_refusal lands code =
     first_refusal ((not (is_code code), BadCode) ∷ (is_none (land_of code lands), UnknownLand) ∷ [])
 
@@ -76,7 +76,7 @@ is_off_line p day = not (is_between (pos 1) (pos p.high) day)
 abbrev pub is_off_years : Profile → ℤ → Bool
 is_off_years p year = not (is_between (pos 1) (pos p.last_year) year)
 
-abbrev pub add_change_refusal : Profile → Limits → ℤ → Regime → PlainTerritory → Option Refusal
+abbrev pub add_change_refusal : Profile → Limits → ℤ → Regime → TerritoryModel → Option Refusal
 add_change_refusal p limits day regime t = first_refusal (
     (is_off_line p day, DayOffLine)
     ∷ (unsigned_abs day == 1, OpeningPeriod)
@@ -85,21 +85,21 @@ add_change_refusal p limits day regime t = first_refusal (
     ∷ (nat_lt limits.changes (length t.starts), TooManyChanges)
     ∷ [])
 
-abbrev pub alter_change_refusal : Profile → ℤ → Regime → PlainTerritory → Option Refusal
+abbrev pub alter_change_refusal : Profile → ℤ → Regime → TerritoryModel → Option Refusal
 alter_change_refusal p day regime t = first_refusal (
     (is_off_line p day, DayOffLine)
     ∷ (not (starts_on t (unsigned_abs day)), NoSuchChange)
     ∷ (is_style_refused p regime, StyleNeedsJulian)
     ∷ [])
 
-abbrev pub drop_change_refusal : Profile → ℤ → PlainTerritory → Option Refusal
+abbrev pub drop_change_refusal : Profile → ℤ → TerritoryModel → Option Refusal
 drop_change_refusal p day t = first_refusal (
     (is_off_line p day, DayOffLine)
     ∷ (unsigned_abs day == 1, OpeningPeriod)
     ∷ (not (starts_on t (unsigned_abs day)), NoSuchChange)
     ∷ [])
 
-abbrev pub add_exception_refusal : Profile → Limits → ℤ → ℤ → PlainTerritory → Option Refusal
+abbrev pub add_exception_refusal : Profile → Limits → ℤ → ℤ → TerritoryModel → Option Refusal
 add_exception_refusal p limits year day t = first_refusal (
     (is_off_line p day, DayOffLine)
     ∷ (is_off_years p year, YearOffRange)
@@ -107,23 +107,23 @@ add_exception_refusal p limits year day t = first_refusal (
     ∷ (nat_le limits.exceptions (length t.exceptions), TooManyExceptions)
     ∷ [])
 
-abbrev pub drop_exception_refusal : Profile → ℤ → PlainTerritory → Option Refusal
+abbrev pub drop_exception_refusal : Profile → ℤ → TerritoryModel → Option Refusal
 drop_exception_refusal p year t = first_refusal (
     (is_off_years p year, YearOffRange)
     ∷ (is_none (exception_of t (unsigned_abs year)), NoSuchException)
     ∷ [])
 
-abbrev pub inside : (PlainTerritory → Option Refusal) → Option PlainTerritory → Option Refusal
+abbrev pub inside : (TerritoryModel → Option Refusal) → Option TerritoryModel → Option Refusal
 inside refused None = None
 inside refused (Some t) = refused t
 
 -- for its code, and else by what the territory of the code holds
-abbrev pub refusal_in : List PlainLand → List ℕ → (PlainTerritory → Option Refusal) → Option Refusal
+abbrev pub refusal_in : List LandModel → List ℕ → (TerritoryModel → Option Refusal) → Option Refusal
 refusal_in lands code refused =
     or_else (code_refusal lands code) (inside refused (territory_of code lands))
 
 -- why an edit is refused, if it is
-abbrev pub refusal : Profile → Limits → List PlainLand → Edit → Option Refusal
+abbrev pub refusal : Profile → Limits → List LandModel → Edit → Option Refusal
 refusal p limits lands (AddLand code name regime) =
     add_land_refusal p limits lands code name regime
 refusal p limits lands (AddChange code day regime) =
@@ -147,19 +147,19 @@ takes_memory (DropException code year) = false
 
 -- the territories, with a change of the one that has the code
 abbrev pub with_territory : List ℕ
-    → (PlainTerritory → PlainTerritory) → List PlainLand → List PlainLand
+    → (TerritoryModel → TerritoryModel) → List LandModel → List LandModel
 with_territory code change [] = []
 with_territory code change (l ∷ ls) =
     if bytes_eq code l.code then record l { territory = change l.territory } ∷ ls
     else l ∷ with_territory code change ls
 
 -- the territories, with one more
-abbrev pub with_land : List PlainLand → List ℕ → List ℕ → PlainTerritory → List PlainLand
+abbrev pub with_land : List LandModel → List ℕ → List ℕ → TerritoryModel → List LandModel
 with_land lands code name territory =
     lands ++ record { code = code; name = name; territory = territory } ∷ []
 
 -- the territories after a lawful edit
-abbrev pub effect : List PlainLand → Edit → List PlainLand
+abbrev pub effect : List LandModel → Edit → List LandModel
 effect lands (AddLand code name regime) = with_land lands code name (opened regime)
 effect lands (AddChange code day regime) =
     with_territory code (λ t. with_change t (unsigned_abs day) regime) lands
@@ -172,51 +172,51 @@ effect lands (AddException code year day) =
 effect lands (DropException code year) =
     with_territory code (λ t. without_exception t (unsigned_abs year)) lands
 
-abbrev pub unless_refused : Option Refusal → List PlainLand → List PlainLand → List PlainLand
+abbrev pub unless_refused : Option Refusal → List LandModel → List LandModel → List LandModel
 unless_refused None new old = new
 unless_refused (Some f) new old = old
 
 -- the territories after an edit. A refused one has no effect
-abbrev pub applied : Profile → Limits → List PlainLand → Edit → List PlainLand
+abbrev pub applied : Profile → Limits → List LandModel → Edit → List LandModel
 applied p limits lands e = unless_refused (refusal p limits lands e) (effect lands e) lands
 
 -- the territories after edits in turn
-abbrev pub applied_all : Profile → Limits → List PlainLand → List Edit → List PlainLand
+abbrev pub applied_all : Profile → Limits → List LandModel → List Edit → List LandModel
 applied_all p limits lands es = fold (applied p limits) lands es
 
 -- the register of edits in turn, from the empty one
-abbrev pub folded : Profile → Limits → List Edit → PlainRegister
+abbrev pub folded : Profile → Limits → List Edit → RegisterModel
 folded p limits es = record { limits = limits; lands = applied_all p limits [] es }
 
 -- whether applying an edit takes memory: a lawful one that adds
-abbrev pub apply_takes_memory : Profile → Limits → List PlainLand → Edit → Bool
+abbrev pub apply_takes_memory : Profile → Limits → List LandModel → Edit → Bool
 apply_takes_memory p limits lands e = is_none (refusal p limits lands e) && takes_memory e
 
 -- whether applying edits in turn takes memory
-abbrev pub fold_takes_memory : Profile → Limits → List PlainLand → List Edit → Bool
+abbrev pub fold_takes_memory : Profile → Limits → List LandModel → List Edit → Bool
 fold_takes_memory p limits lands [] = false
 fold_takes_memory p limits lands (e ∷ es) =
     apply_takes_memory p limits lands e || fold_takes_memory p limits (applied p limits lands e) es
 
 -- no two territories have one code
-abbrev pub AreDistinct : List PlainLand → Type 0
+abbrev pub AreDistinct : List LandModel → Type 0
 AreDistinct [] = Unit {0}
 AreDistinct (l ∷ ls) = (land_of l.code ls ≡ None) × AreDistinct ls
 
 -- what holds of every territory of a register
-pub record IsSoundTerritory (p : Profile) (limits : Limits) (t : PlainTerritory) : Type 0 where
+pub record IsSoundTerritory (p : Profile) (limits : Limits) (t : TerritoryModel) : Type 0 where
   -- it has one period more than changes
   pub changes : length t.starts ≤ limits.changes + 1
   pub exceptions : length t.exceptions ≤ limits.exceptions
   pub periods : CoversLine p (periods_of p t)
 
-abbrev pub AreSound : Profile → Limits → List PlainLand → Type 0
+abbrev pub AreSound : Profile → Limits → List LandModel → Type 0
 AreSound p limits [] = Unit {0}
 AreSound p limits (l ∷ ls) = IsSoundTerritory p limits l.territory × AreSound p limits ls
 
 -- codes are distinct; the territories, their changes and their exceptions are within their limits;
 -- and the periods of each territory cover the line
-pub record IsWellFormed (p : Profile) (r : PlainRegister) : Type 0 where
+pub record IsWellFormed (p : Profile) (r : RegisterModel) : Type 0 where
   pub distinct : AreDistinct r.lands
   pub within : length r.lands ≤ r.limits.lands
   pub territories : AreSound p r.limits r.lands

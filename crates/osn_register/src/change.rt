@@ -11,7 +11,7 @@ use std::alloc::AllocError;
 
 /// What a lawful edit does in one territory.
 #[derive(Clone, Copy)]
-pub(crate) enum Change {
+pub(crate) enum TerritoryEdit {
     Add(Day, Regime),
     Alter(Day, Regime),
     Drop(Day),
@@ -19,7 +19,7 @@ pub(crate) enum Change {
     DropException(Year),
 }
 
-impl Change {
+impl TerritoryEdit {
     /// Makes the change. Without memory nothing has changed.
     pub(crate) fn make(self, territory: &mut Territory) -> Result<(), AllocError>
         requires { (limits : Limits) × (change_refusal newest_rules limits self territory.old
@@ -29,17 +29,17 @@ impl Change {
         ensures memory { OnErr result (change_takes_memory self ≡ true) }
     {
         match self {
-            Change::Add(day, regime) => territory.insert_change(day, regime),
-            Change::Alter(day, regime) => {
+            TerritoryEdit::Add(day, regime) => territory.insert_change(day, regime),
+            TerritoryEdit::Alter(day, regime) => {
                 territory.set_regime(day, regime);
                 Ok(())
             }
-            Change::Drop(day) => {
+            TerritoryEdit::Drop(day) => {
                 territory.remove_change(day);
                 Ok(())
             }
-            Change::AddException(year, day) => territory.insert_exception(year, day),
-            Change::DropException(year) => {
+            TerritoryEdit::AddException(year, day) => territory.insert_exception(year, day),
+            TerritoryEdit::DropException(year) => {
                 territory.remove_exception(year);
                 Ok(())
             }

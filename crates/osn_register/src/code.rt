@@ -38,10 +38,7 @@ pub(crate) fn is_code(code: &str) -> bool
     ensures { result ≡ form.is_code code.now }
 {
     let bytes = code.as_bytes();
-    if bytes.len() < 2 || bytes.len() > 8 {
-        return false;
-    }
-    is_capital(bytes[0]) && are_code_bytes(bytes)
+    bytes.len() >= 2 && bytes.len() <= 8 && is_capital(bytes[0]) && are_code_bytes(bytes)
 }
 
 /// Whether a territory may have the name: 1 to 64 bytes, none a control byte.

@@ -19,10 +19,7 @@ pub(crate) fn day_on_line(number: i64) -> Result<Day, Refusal>
         (λ d. (is_off_line newest_rules number ≡ false) × (d ≡ unsigned_abs number))
         (λ f. (is_off_line newest_rules number ≡ true) × (f ≡ DayOffLine)) }
 {
-    match Day::new(number) {
-        Some(day) => Ok(day),
-        None => Err(Refusal::DayOffLine),
-    }
+    Day::new(number).ok_or(Refusal::DayOffLine)
 }
 
 /// The year of a number, where it has figures, an Easter and exceptions.
@@ -31,10 +28,7 @@ pub(crate) fn year_in_range(number: i64) -> Result<Year, Refusal>
         (λ y. (is_off_years newest_rules number ≡ false) × (y ≡ unsigned_abs number))
         (λ f. (is_off_years newest_rules number ≡ true) × (f ≡ YearOffRange)) }
 {
-    match Year::new(number) {
-        Some(year) => Ok(year),
-        None => Err(Refusal::YearOffRange),
-    }
+    Year::new(number).ok_or(Refusal::YearOffRange)
 }
 
 /// The label of a date that is asked for, where it may be one.

@@ -12,10 +12,10 @@ ghost use Rattle.osn_register.specs.Refusal.{IsTestOf, IsRefusalOrNoMemory};
 ghost use Rattle.osn_register.specs.InsideChange.{change_refusal, territory_after};
 ghost use Rattle.osn_register.specs.InsideChange.{change_takes_memory};
 
-mod copies;
+mod copy;
 mod queries;
 
-use crate::change::Change;
+use crate::change::TerritoryEdit;
 use crate::code::{is_code, is_name};
 use crate::edit::Edit;
 use crate::edit_checks::{
@@ -33,27 +33,27 @@ use std::marker::Model;
 
 /// A territory with its name, kept by its code.
 #[derive(Drop)]
-struct Entry {
+struct NamedTerritory {
     name: Text,
     territory: Territory,
 }
 
-impl Entry {
+impl NamedTerritory {
     /// A territory that opens with a regime.
-    fn new(alloc: Global, name: &Text, regime: Regime) -> Result<Entry, AllocError>
+    fn new(alloc: Global, name: &Text, regime: Regime) -> Result<NamedTerritory, AllocError>
         requires { regime_fault regime ≡ None }
         ensures { IfOk result (λ e. (e.name ≡ name.now) × (e.territory ≡ opened regime)) }
     {
-        Ok(Entry {
+        Ok(NamedTerritory {
             name: name.copy()?,
             territory: Territory::open(alloc, regime)?,
         })
     }
 
-    fn copy(&self) -> Result<Entry, AllocError>
+    fn copy(&self) -> Result<NamedTerritory, AllocError>
         ensures { IfOk result (λ e. e ≡ self.now) }
     {
-        Ok(Entry {
+        Ok(NamedTerritory {
             name: self.name.copy()?,
             territory: self.territory.copy()?,
         })
@@ -65,14 +65,14 @@ impl Entry {
 pub struct Register {
     alloc: Global,
     limits: Limits,
-    lands: IndexMap<String, Entry>,
+    lands: IndexMap<String, NamedTerritory>,
 }
 
 impl Model for Register {
     ghost use Rattle.osn_days.specs.Profile.{newest_rules};
-    ghost use Rattle.osn_register.specs.Plain.{PlainRegister, IsWellFormed};
+    ghost use Rattle.osn_register.specs.Plain.{RegisterModel, IsWellFormed};
 
-    ghost Value = { PlainRegister };
+    ghost Value = { RegisterModel };
 
     ghost use Rattle.osn_register.specs.Inside.{register_in};
 
@@ -123,10 +123,7 @@ impl Register {
         if !is_code(code) {
             return Err(Refusal::BadCode);
         }
-        match self.territory(code) {
-            Some(territory) => Ok(territory),
-            None => Err(Refusal::UnknownLand),
-        }
+        self.territory(code).ok_or(Refusal::UnknownLand)
     }
 }
 
@@ -243,26 +240,35 @@ impl Register {
         match edit {
             Edit::AddLand { code, name, regime } => self.add_land(code, name, *regime),
             Edit::AddChange { code, day, regime } => {
-                self.change(code.as_str(), Change::Add(Day::on_line(*day), *regime))
+                self.change(
+                    code.as_str(),
+                    TerritoryEdit::Add(Day::on_line(*day), *regime),
+                )
             }
             Edit::AlterChange { code, day, regime } => {
-                self.change(code.as_str(), Change::Alter(Day::on_line(*day), *regime))
+                self.change(
+                    code.as_str(),
+                    TerritoryEdit::Alter(Day::on_line(*day), *regime),
+                )
             }
             Edit::DropChange { code, day } => {
-                self.change(code.as_str(), Change::Drop(Day::on_line(*day)))
+                self.change(code.as_str(), TerritoryEdit::Drop(Day::on_line(*day)))
             }
             Edit::AddException { code, year, day } => {
-                let change = Change::AddException(Year::in_range(*year), Day::on_line(*day));
+                let change = TerritoryEdit::AddException(Year::in_range(*year), Day::on_line(*day));
                 self.change(code.as_str(), change)
             }
             Edit::DropException { code, year } => {
-                self.change(code.as_str(), Change::DropException(Year::in_range(*year)))
+                self.change(
+                    code.as_str(),
+                    TerritoryEdit::DropException(Year::in_range(*year)),
+                )
             }
         }
     }
 
     /// Makes a lawful change in the territory of a code.
-    fn change(&mut self, code: &str, change: Change) -> Result<(), AllocError>
+    fn change(&mut self, code: &str, change: TerritoryEdit) -> Result<(), AllocError>
         requires { refusal_in self.old.lands code.now
             (change_refusal newest_rules self.old.limits change) ≡ None }
         ensures ok { OnOk result (self.new ≡ record self.old {
@@ -285,10 +291,10 @@ impl Register {
         ensures err { OnErr result (self.new ≡ self.old) }
     {
         let key = String::from_str(self.alloc, code.as_str())?;
-        self.insert(key, Entry::new(self.alloc, name, regime)?)
+        self.insert(key, NamedTerritory::new(self.alloc, name, regime)?)
     }
 
-    fn insert(&mut self, code: String, entry: Entry) -> Result<(), AllocError>
+    fn insert(&mut self, code: String, entry: NamedTerritory) -> Result<(), AllocError>
         requires absent { land_of (string_bytes code) self.old.lands ≡ None }
         requires room { length self.old.lands < self.old.limits.lands }
         requires territory { IsSoundTerritory newest_rules self.old.limits entry.territory }

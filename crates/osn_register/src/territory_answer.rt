@@ -2,8 +2,8 @@
 ghost use Rattle.std.specs.Prelude.{◌≡◌, true, Some, None, IfOk, OnErr, All, map};
 ghost use Rattle.osn_days.specs.Profile.{newest_rules};
 ghost use Rattle.osn_lands.specs.Territory.{regime_at, periods_of};
-ghost use Rattle.osn_lands.specs.Label.{local};
-ghost use Rattle.osn_register.specs.Answer as said;
+ghost use Rattle.osn_lands.specs.Label.{local_label};
+ghost use Rattle.osn_register.specs.Answer as spec;
 
 use crate::answer::{Answer, Found};
 use crate::listing::Listing;
@@ -14,7 +14,7 @@ use std::alloc::{AllocError, Global};
 
 /// The period that holds a day.
 fn period_on(territory: &Territory, day: Day) -> Period
-    ensures value { said.period_on (periods_of newest_rules territory.now) day ≡ Some result }
+    ensures value { spec.period_on (periods_of newest_rules territory.now) day ≡ Some result }
     ensures regime { result.regime ≡ regime_at territory.now day }
 {
     let (place, _) = territory.period_at(day);
@@ -23,8 +23,8 @@ fn period_on(territory: &Territory, day: Day) -> Period
 
 /// A day as a regime names it, with its label.
 fn found_under(alloc: Global, regime: Regime, day: Day, label: Label) -> Result<Found, AllocError>
-    requires { label ≡ local newest_rules regime day }
-    ensures { IfOk result (λ f. f ≡ said.found_under newest_rules regime day) }
+    requires { label ≡ local_label newest_rules regime day }
+    ensures { IfOk result (λ f. f ≡ spec.found_under newest_rules regime day) }
 {
     Ok(Found {
         day,
@@ -35,7 +35,7 @@ fn found_under(alloc: Global, regime: Regime, day: Day, label: Label) -> Result<
 
 /// Days as the territory names them.
 fn found_days(alloc: Global, territory: &Territory, days: &[Day]) -> Result<Vec<Found>, AllocError>
-    ensures { IfOk result (λ v. v.items ≡ map (said.found_on newest_rules territory.now) days.now) }
+    ensures { IfOk result (λ v. v.items ≡ map (spec.found_on newest_rules territory.now) days.now) }
 {
     let mut found = Vec::with_capacity(alloc, days.len())?;
     for day in days {
@@ -52,8 +52,8 @@ fn read_days(
     days: &[Day],
     label: Label,
 ) -> Result<Vec<Found>, AllocError>
-    requires { All (λ d. label ≡ local newest_rules (regime_at territory.now d) d) days.now }
-    ensures { IfOk result (λ v. v.items ≡ map (said.found_on newest_rules territory.now) days.now) }
+    requires { All (λ d. label ≡ local_label newest_rules (regime_at territory.now d) d) days.now }
+    ensures { IfOk result (λ v. v.items ≡ map (spec.found_on newest_rules territory.now) days.now) }
 {
     let mut found = Vec::with_capacity(alloc, days.len())?;
     for day in days {
@@ -64,10 +64,10 @@ fn read_days(
 
 /// A day as a territory names it, with the period that holds it.
 pub(crate) fn on_day(alloc: Global, territory: &Territory, day: Day) -> Result<Answer, AllocError>
-    ensures value { IfOk result (λ a. a ≡ said.day_answer newest_rules (Some territory.now) day) }
-    ensures answered { IfOk result (λ a. said.refusal_in a ≡ None) }
+    ensures value { IfOk result (λ a. a ≡ spec.day_answer newest_rules (Some territory.now) day) }
+    ensures answered { IfOk result (λ a. spec.refusal_in a ≡ None) }
     ensures memory { OnErr result
-        (said.takes_memory (said.day_answer newest_rules (Some territory.now) day) ≡ true) }
+        (spec.takes_memory (spec.day_answer newest_rules (Some territory.now) day) ≡ true) }
 {
     let period = period_on(territory, day);
     let label = label_of(period.regime, day);
@@ -79,7 +79,7 @@ pub(crate) fn on_day(alloc: Global, territory: &Territory, day: Day) -> Result<A
 
 /// The periods of a territory.
 pub(crate) fn periods(alloc: Global, territory: &Territory) -> Result<Answer, AllocError>
-    ensures { IfOk result (λ a. a ≡ said.periods_answer newest_rules (Some territory.now)) }
+    ensures { IfOk result (λ a. a ≡ spec.periods_answer newest_rules (Some territory.now)) }
 {
     Ok(Answer::Periods(Listing::new(territory.periods().to_vec(alloc)?)))
 }
@@ -90,7 +90,7 @@ pub(crate) fn easters(
     territory: &Territory,
     year: Year,
 ) -> Result<Answer, AllocError>
-    ensures { IfOk result (λ a. a ≡ said.easters_answer newest_rules (Some territory.now) year) }
+    ensures { IfOk result (λ a. a ≡ spec.easters_answer newest_rules (Some territory.now) year) }
 {
     let days = territory.easters(year)?;
     let found = found_days(alloc, territory, days.as_slice())?;
@@ -106,7 +106,7 @@ pub(crate) fn reading(
     territory: &Territory,
     label: Label,
 ) -> Result<Answer, AllocError>
-    ensures { IfOk result (λ a. a ≡ said.reading_answer newest_rules (Some territory.now) label) }
+    ensures { IfOk result (λ a. a ≡ spec.reading_answer newest_rules (Some territory.now) label) }
 {
     let (days, skipped, _) = territory.read_and_skipped(label)?;
     let found = read_days(alloc, territory, days.as_slice(), label)?;

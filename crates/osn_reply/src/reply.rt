@@ -8,22 +8,22 @@ ghost use Rattle.osn_reply.specs.Transcript.{transcript_line};
 ghost use Rattle.osn_format.specs.Json.{value_tokens};
 
 mod answer;
-mod asked;
 mod date;
 mod figures;
 mod found;
 mod period;
 mod step_out;
+mod transcript_record;
 mod write_json;
 
 use crate::outcome::Outcome;
 use answer::write_reply;
-use asked::Asked;
 use json::Writer;
 use osn_core::{Out, Reply};
 use osn_format::{WireFault, write_number, write_text};
 use osn_register::Query;
 use std::alloc::{AllocError, Global};
+use transcript_record::TranscriptRecord;
 use write_json::WriteJson;
 
 /// The room that a reply line gets at first: that of a day takes some 300 bytes.
@@ -107,6 +107,14 @@ fn line_bytes<J: WriteJson>(alloc: Global, value: &J) -> Result<Vec<u8>, AllocEr
     Ok(line)
 }
 
+/// A value's line as a text.
+fn line_text<J: WriteJson>(alloc: Global, value: &J) -> Result<String, AllocError>
+    ensures { IfOk result (λ s. string_bytes s ≡ line_of (J.shown value.now)) }
+{
+    let line = line_bytes(alloc, value)?;
+    Ok(unsafe { String::from_utf8_unchecked(line) })
+}
+
 /// The reply line of an outcome, with its line feed.
 ///
 /// # Errors
@@ -115,8 +123,7 @@ fn line_bytes<J: WriteJson>(alloc: Global, value: &J) -> Result<Vec<u8>, AllocEr
 pub fn reply_text(alloc: Global, outcome: &Outcome) -> Result<String, AllocError>
     ensures { IfOk result (λ s. string_bytes s ≡ reply_line outcome.now) }
 {
-    let line = line_bytes(alloc, outcome)?;
-    Ok(String::from_utf8(line).unwrap())
+    line_text(alloc, outcome)
 }
 
 /// The line of what a step of the core gave, with its line feed.
@@ -127,8 +134,7 @@ pub fn reply_text(alloc: Global, outcome: &Outcome) -> Result<String, AllocError
 pub fn out_text(alloc: Global, out: &Out) -> Result<String, AllocError>
     ensures { IfOk result (λ s. string_bytes s ≡ out_line out.now) }
 {
-    let line = line_bytes(alloc, out)?;
-    Ok(String::from_utf8(line).unwrap())
+    line_text(alloc, out)
 }
 
 /// The line of a transcript, with its line feed: the query of a reader, and the reply to it.
@@ -145,13 +151,12 @@ pub fn transcript_text(
     ensures { IfOk result (λ s.
         string_bytes s ≡ transcript_line reader query.now reply.now) }
 {
-    let asked = Asked {
+    let asked = TranscriptRecord {
         reader,
         query,
         reply,
     };
-    let line = line_bytes(alloc, &asked)?;
-    Ok(String::from_utf8(line).unwrap())
+    line_text(alloc, &asked)
 }
 
 /// Appends the reply line of an outcome, or leaves what is there as it was.

@@ -4,7 +4,7 @@ ghost use Rattle.std.specs.Str.{IsUtf8};
 ghost use Rattle.serde_json.specs.View.{view};
 ghost use Rattle.osn_days.specs.Profile.{newest_rules};
 ghost use Rattle.osn_lines.specs.Lines.{IsLine};
-ghost use Rattle.osn_request.specs.Request as said;
+ghost use Rattle.osn_request.specs.Request as spec;
 ghost use Rattle.osn_request.specs.declared.request.RequestError.TheVariants.{NoMemory};
 ghost use Rattle.osn_format.specs.Version.{rules_of};
 
@@ -72,8 +72,8 @@ fn value_of(alloc: Global, line: &[u8]) -> Result<Value, RequestError>
         (λ _. IsUtf8 line.now × (0 < length line.now))
         (λ e. e ≡ NoMemory → IsUtf8 line.now × (0 < length line.now)) }
     ensures value { MatchResult result
-        (λ v. said.value_of line.now ≡ Some (view v))
-        (λ e. said.Fails e (said.no_value (said.value_of line.now))) }
+        (λ v. spec.value_of line.now ≡ Some (view v))
+        (λ e. spec.Fails e (spec.no_value (spec.value_of line.now))) }
 {
     let Ok(text) = str::from_utf8(line) else {
         return Err(RequestError::Fault(WireFault::NotJson));
@@ -88,8 +88,8 @@ fn value_of(alloc: Global, line: &[u8]) -> Result<Value, RequestError>
 /// The object of a line that is not too long.
 fn object_of_whole(alloc: Global, line: &[u8]) -> Result<Value, RequestError>
     ensures object { MatchResult result
-        (λ v. said.object_in (said.value_of line.now) ≡ Ok (view v))
-        (λ e. said.Fails e (said.object_in (said.value_of line.now))) }
+        (λ v. spec.object_in (spec.value_of line.now) ≡ Ok (view v))
+        (λ e. spec.Fails e (spec.object_in (spec.value_of line.now))) }
     ensures memory { MatchResult result
         (λ _. IsUtf8 line.now × (0 < length line.now))
         (λ e. e ≡ NoMemory → IsUtf8 line.now × (0 < length line.now)) }
@@ -107,11 +107,11 @@ fn object_of_whole(alloc: Global, line: &[u8]) -> Result<Value, RequestError>
 /// Memory is taken for the value of a line alone that is a text and not too long.
 pub fn object_of(alloc: Global, line: Line<'_>) -> Result<Value, RequestError>
     ensures object { (whole : List ℕ) → IsLine line.entry whole → MatchResult result
-        (λ v. said.object_of whole ≡ Ok (view v))
-        (λ e. said.Fails e (said.object_of whole)) }
+        (λ v. spec.object_of whole ≡ Ok (view v))
+        (λ e. spec.Fails e (spec.object_of whole)) }
     ensures memory { (whole : List ℕ) → IsLine line.entry whole → MatchResult result
-        (λ _. said.IsReadable whole)
-        (λ e. e ≡ NoMemory → said.IsReadable whole) }
+        (λ _. spec.IsReadable whole)
+        (λ e. e ≡ NoMemory → spec.IsReadable whole) }
 {
     match line {
         Line::Whole(bytes) => object_of_whole(alloc, bytes),
@@ -126,7 +126,7 @@ fn request_of(
     readers: u32,
     value: &Value,
 ) -> Result<Request, RequestError>
-    ensures { said.Gives result (said.request_of (rules_of version) readers (view value.now)) }
+    ensures { spec.Gives result (spec.request_of (rules_of version) readers (view value.now)) }
 {
     match op_of(value)? {
         Op::Edit(op) => Ok(Request::Stage(edit_of(alloc, version, op, value)?)),
@@ -145,9 +145,9 @@ fn request_of(
 /// one and not too long.
 pub fn request_of_line(alloc: Global, readers: u32, line: Line<'_>) -> Result<Request, RequestError>
     ensures request { (whole : List ℕ) → IsLine line.entry whole →
-        said.Gives result (said.request newest_rules readers whole) }
+        spec.Gives result (spec.request newest_rules readers whole) }
     ensures memory { (whole : List ℕ) → IsLine line.entry whole →
-        IfErr result (λ e. e ≡ NoMemory → said.IsReadable whole) }
+        IfErr result (λ e. e ≡ NoMemory → spec.IsReadable whole) }
 {
     let value = object_of(alloc, line)?;
     request_of(alloc, Version::newest(), readers, &value)
@@ -159,8 +159,8 @@ pub fn request_of_line(alloc: Global, readers: u32, line: Line<'_>) -> Result<Re
 /// The first fault of the line; or want of memory, for a line alone that is a text, not an empty
 /// one and not too long.
 pub fn read_request(alloc: Global, readers: u32, line: &[u8]) -> Result<Request, RequestError>
-    ensures request { said.Gives result (said.request newest_rules readers line.now) }
-    ensures memory { IfErr result (λ e. e ≡ NoMemory → said.IsReadable line.now) }
+    ensures request { spec.Gives result (spec.request newest_rules readers line.now) }
+    ensures memory { IfErr result (λ e. e ≡ NoMemory → spec.IsReadable line.now) }
 {
     if line.len() > LONGEST_LINE {
         return request_of_line(alloc, readers, Line::TooLong);

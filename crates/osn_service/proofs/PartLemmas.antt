@@ -11,7 +11,7 @@ use Rattle.std.proofs.lemmas.List.Sums.{fold-append, sum_by-cons}
 use Rattle.std.proofs.lemmas.List.{take-append-le}
 use Rattle.std.specs.Io.KnownBytes.{Appends}
 use Rattle.osn_lines.proofs.ByteLemmas.{Appends-then}
-use Rattle.osn_service.specs.declared.waiting.Waiting.{Waiting}
+use Rattle.osn_service.specs.declared.reply_buffer.ReplyBuffer.{ReplyBuffer}
 use Rattle.osn_service.specs.Replies.{replies}
 use Rattle.osn_service.specs.ServiceInside.{ends_from, ChangesNothing, ChangesFirst, Waits}
 use Rattle.osn_service.specs.ServiceInside.{WritesSome, InPart}
@@ -128,7 +128,7 @@ pub record PartOf {S : Type 0} (text : S → List ℕ → List ℕ) (after : S �
 
 -- some of what waited was written
 pub PartOf-from : {S : Type 0} (text : S → List ℕ → List ℕ) (after : S → List ℕ → S) (begun now : S)
-    (lines : List (List ℕ)) (a b c : Option (List ℕ)) (w : Waiting) (unwritten : ℕ) →
+    (lines : List (List ℕ)) (a b c : Option (List ℕ)) (w : ReplyBuffer) (unwritten : ℕ) →
     Waits text after begun now lines a b w → WritesSome b c w unwritten →
     PartOf text after begun now lines a c unwritten
 PartOf-from {S} text after begun now lines a b c w unwritten h k =

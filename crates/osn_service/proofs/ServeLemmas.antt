@@ -11,8 +11,8 @@ use Rattle.osn_lines.specs.Taking.{TakesAll, TakesFirst, StopsAfter}
 use Rattle.osn_service.specs.declared.session.Session.{Session}
 use Rattle.osn_service.specs.declared.stop.Stop.{Stop}
 use Rattle.osn_service.specs.declared.stop.Stop.TheVariants.{NoMemory, WriteFailed}
-use Rattle.osn_service.specs.declared.stop.Unfinished.{Unfinished}
-use Rattle.osn_service.specs.declared.waiting.Waiting.{Waiting}
+use Rattle.osn_service.specs.declared.stop.UnwrittenReplies.{UnwrittenReplies}
+use Rattle.osn_service.specs.declared.reply_buffer.ReplyBuffer.{ReplyBuffer}
 use Rattle.osn_service.specs.Served.{line_text, outputs}
 use Rattle.osn_service.specs.ServiceInside.{WritesSome, Adds, Settles, InPart}
 use Rattle.osn_service.specs.Session.{line_after}
@@ -39,7 +39,7 @@ IsSame-then h k = record {
 
 -- nothing was written, or all that waited, and then again
 pub Serving-settle : {W : Type 0} (contents : W → Option (List ℕ)) (has_failed : W → Bool)
-    (begun s t : Session W) (lines : List (List ℕ)) (mid : Option (List ℕ)) (w : Waiting) →
+    (begun s t : Session W) (lines : List (List ℕ)) (mid : Option (List ℕ)) (w : ReplyBuffer) →
     Serving contents has_failed begun lines s → IsSame s t → t.object.now ≡ s.object.now →
     Settles (contents s.sink.now) mid s.waiting.now w →
     Settles mid (contents t.sink.now) w t.waiting.now →
@@ -61,7 +61,7 @@ Serving-settle contents has_failed begun s t lines mid w h lent same settled aga
 -- a line was answered, behind what was settled
 pub Serving-add : {W : Type 0} (contents : W → Option (List ℕ)) (has_failed : W → Bool)
     (begun s t : Session W) (before : List (List ℕ)) (line : List ℕ) (mid : Option (List ℕ))
-    (w : Waiting) → Serving contents has_failed begun before s → IsSame s t →
+    (w : ReplyBuffer) → Serving contents has_failed begun before s → IsSame s t →
     Settles (contents s.sink.now) mid s.waiting.now w →
     Adds s.object.now t.object.now (line_text newest_rules s.readers s.object.now line) mid
     (contents t.sink.now) w t.waiting.now →
@@ -91,7 +91,7 @@ Serving-add contents has_failed begun s t before line mid w h lent settled adds 
 -- a write failed, behind what was settled
 pub Failing-from : {W : Type 0} (contents : W → Option (List ℕ)) (has_failed : W → Bool)
     (begun s t : Session W) (lines : List (List ℕ)) (unwritten : ℕ) (mid : Option (List ℕ))
-    (failed : Bool) (w : Waiting) → Serving contents has_failed begun lines s → IsSame s t →
+    (failed : Bool) (w : ReplyBuffer) → Serving contents has_failed begun lines s → IsSame s t →
     t.object.now ≡ s.object.now → Settles (contents s.sink.now) mid s.waiting.now w →
     failed ≡ has_failed s.sink.now → WritesSome mid (contents t.sink.now) w unwritten →
     WriteFails failed (has_failed t.sink.now) w.text.items →
@@ -232,7 +232,7 @@ AnswersFirst-stopped {W} {contents} {has_failed} {s} {t} {input} {n} {why} text 
     }
 
 pub Fails-stopped : {W : Type 0} {contents : W → Option (List ℕ)} {has_failed : W → Bool}
-    {s t : Session W} {input : Option (List ℕ)} {n : ℕ} {why : Stop} {failed : Unfinished} →
+    {s t : Session W} {input : Option (List ℕ)} {n : ℕ} {why : Stop} {failed : UnwrittenReplies} →
     s.waiting.now.text.items ≡ [] → s.waiting.now.ends.items ≡ [] → why ≡ WriteFailed failed →
     StopsAfter (Serving contents has_failed) (λ begun taken at now why. StopsServing contents
     has_failed begun taken now why) s t input n why →

@@ -3,7 +3,7 @@ use Rattle.std.proofs.Common.{◌≡◌, ℕ, Result, Ok, Err, OnOk, OnErr, IfEr
 use Rattle.osn_lines.proofs.InputLemmas.{if_err_at}
 use Rattle.osn_service.specs.declared.stop.Stop.{Stop}
 use Rattle.osn_service.specs.declared.stop.Stop.TheVariants.{NoMemory, WriteFailed}
-use Rattle.osn_service.specs.declared.stop.Unfinished.{Unfinished}
+use Rattle.osn_service.specs.declared.stop.UnwrittenReplies.{UnwrittenReplies}
 use Rattle.osn_service.specs.Stop.{MatchStop}
 
 pub two_on_ok : {T E P Q R : Type 0} (r : Result T E) → OnOk r P → OnOk r Q → (P → Q → R) → OnOk r R
@@ -16,7 +16,7 @@ three_on_ok (Ok x) p q s f = f p q s
 three_on_ok (Err e) p q s f = tt
 
 -- a failed write that is passed on
-pub if_err_passed : {T : Type 0} (r : Result T Stop) (given : Stop) (failed : Unfinished)
+pub if_err_passed : {T : Type 0} (r : Result T Stop) (given : Stop) (failed : UnwrittenReplies)
     (Z : Stop → Type 0) → r ≡ Err given → given ≡ WriteFailed failed → Z (WriteFailed failed) →
     IfErr r Z
 if_err_passed r given failed Z is_err same h =
@@ -26,7 +26,8 @@ if_err_passed r given failed Z is_err same h =
 pub if_err_either : {T K A B F : Type 0} (Some : ℕ → Type 0) (r : Result T Stop)
     (Z : Stop → Type 0) → IfErr r (λ stop. MatchStop stop A Some) → OnErr r K →
     IfErr r (λ stop. MatchStop stop B (λ _. F)) → (A → K → B → Z NoMemory) →
-    ((failed : Unfinished) → Some failed.unwritten → K → F → Z (WriteFailed failed)) → IfErr r Z
+    ((failed : UnwrittenReplies) → Some failed.unwritten → K → F → Z (WriteFailed failed)) →
+    IfErr r Z
 if_err_either Some (Ok x) Z h kept why f k = tt
 if_err_either Some (Err NoMemory) Z h kept why f k = f h kept why
 if_err_either Some (Err (WriteFailed failed)) Z h kept why f k = k failed h kept why

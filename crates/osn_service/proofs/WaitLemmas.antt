@@ -4,7 +4,7 @@ use Rattle.std.proofs.Common.{subst, ◌∙◌, append_assoc, append-nil, length
 use Rattle.std.proofs.lemmas.List.Sums.{fold-append}
 use Rattle.std.specs.Io.KnownBytes.{Appends}
 use Rattle.osn_lines.proofs.ByteLemmas.{Appends-nothing, Appends-then}
-use Rattle.osn_service.specs.declared.waiting.Waiting.{Waiting}
+use Rattle.osn_service.specs.declared.reply_buffer.ReplyBuffer.{ReplyBuffer}
 use Rattle.osn_service.specs.Replies.{replies}
 use Rattle.osn_service.specs.ServiceInside.{ends_from, ChangesNothing, ChangesFirst, Waits, Writes}
 use Rattle.osn_service.specs.ServiceInside.{Adds, Settles}
@@ -59,7 +59,7 @@ ChangesFirst-append after s (x ∷ xs) line h e =
 
 -- nothing is answered yet
 pub Waits-nothing : {S : Type 0} (text : S → List ℕ → List ℕ) (after : S → List ℕ → S) (s : S)
-    (a : Option (List ℕ)) (w : Waiting) → w.text.items ≡ [] → w.ends.items ≡ [] →
+    (a : Option (List ℕ)) (w : ReplyBuffer) → w.text.items ≡ [] → w.ends.items ≡ [] →
     Waits text after s s [] a a w
 Waits-nothing text after s a w none no_ends = record {
   done = [];
@@ -74,7 +74,7 @@ Waits-nothing text after s a w none no_ends = record {
 
 -- what was written and what waits are the replies to all lines
 pub Waits-all : {S : Type 0} (text : S → List ℕ → List ℕ) (after : S → List ℕ → S) (begun now : S)
-    (lines : List (List ℕ)) (a b : Option (List ℕ)) (w : Waiting)
+    (lines : List (List ℕ)) (a b : Option (List ℕ)) (w : ReplyBuffer)
     (h : Waits text after begun now lines a b w) →
     replies text after begun h.done ++ w.text.items ≡ replies text after begun lines
 Waits-all text after begun now lines a b w h =
@@ -84,14 +84,14 @@ Waits-all text after begun now lines a b w h =
 
 -- what stands after the lines that were written and those whose replies wait
 pub Waits-at : {S : Type 0} (text : S → List ℕ → List ℕ) (after : S → List ℕ → S) (begun now : S)
-    (lines : List (List ℕ)) (a b : Option (List ℕ)) (w : Waiting)
+    (lines : List (List ℕ)) (a b : Option (List ℕ)) (w : ReplyBuffer)
     (h : Waits text after begun now lines a b w) → now ≡ fold after (fold after begun h.done) h.rest
 Waits-at text after begun now lines a b w h =
     h.reached ∙ (ap (fold after begun) h.split ∙ fold-append after begun h.done h.rest)
 
 -- all that waits is written
 pub Waits-written : {S : Type 0} (text : S → List ℕ → List ℕ) (after : S → List ℕ → S)
-    (begun now : S) (lines : List (List ℕ)) (a b c : Option (List ℕ)) (w : Waiting) →
+    (begun now : S) (lines : List (List ℕ)) (a b c : Option (List ℕ)) (w : ReplyBuffer) →
     Waits text after begun now lines a b w → Appends b c w.text.items →
     Appends a c (replies text after begun lines)
 Waits-written text after begun now lines a b c w h k =
@@ -99,7 +99,7 @@ Waits-written text after begun now lines a b c w h k =
     (Appends-then a b c (replies text after begun h.done) w.text.items h.written k)
 
 pub Waits-write : {S : Type 0} (text : S → List ℕ → List ℕ) (after : S → List ℕ → S) (begun now : S)
-    (lines : List (List ℕ)) (a b c : Option (List ℕ)) (w w' : Waiting) →
+    (lines : List (List ℕ)) (a b c : Option (List ℕ)) (w w' : ReplyBuffer) →
     Waits text after begun now lines a b w → Writes b c w w' →
     Waits text after begun now lines a c w'
 Waits-write text after begun now lines a b c w w' h k = record {
@@ -114,7 +114,7 @@ Waits-write text after begun now lines a b c w w' h k = record {
 }
 
 pub Waits-settle : {S : Type 0} (text : S → List ℕ → List ℕ) (after : S → List ℕ → S)
-    (begun now u : S) (lines : List (List ℕ)) (a b c : Option (List ℕ)) (w w' : Waiting) →
+    (begun now u : S) (lines : List (List ℕ)) (a b c : Option (List ℕ)) (w w' : ReplyBuffer) →
     Waits text after begun now lines a b w → Settles b c w w' → u ≡ now →
     Waits text after begun u lines a c w'
 Waits-settle {S} text after begun now u lines a b c w w' h settled same =
@@ -144,7 +144,7 @@ after_one after begun s u lines line h e =
 
 -- a reply more that changes nothing
 Waits-behind : {S : Type 0} (text : S → List ℕ → List ℕ) (after : S → List ℕ → S) (begun s u : S)
-    (lines : List (List ℕ)) (line : List ℕ) (a b c : Option (List ℕ)) (w w' : Waiting) →
+    (lines : List (List ℕ)) (line : List ℕ) (a b c : Option (List ℕ)) (w w' : ReplyBuffer) →
     Waits text after begun s lines a b w → u ≡ s → c ≡ b →
     w'.text.items ≡ w.text.items ++ text s line →
     w'.ends.items ≡ w.ends.items ++ length w'.text.items ∷ [] → u ≡ after s line →
@@ -179,7 +179,7 @@ Waits-behind text after begun s u lines line a b c w w' h same kept pushed ended
 
 -- what waited was written before a reply more
 Waits-first : {S : Type 0} (text : S → List ℕ → List ℕ) (after : S → List ℕ → S) (begun s u : S)
-    (lines : List (List ℕ)) (line : List ℕ) (a b c : Option (List ℕ)) (w w' : Waiting) →
+    (lines : List (List ℕ)) (line : List ℕ) (a b c : Option (List ℕ)) (w w' : ReplyBuffer) →
     Waits text after begun s lines a b w → Appends b c w.text.items → w'.text.items ≡ text s line →
     w'.ends.items ≡ length (text s line) ∷ [] → u ≡ after s line →
     Waits text after begun u (lines ++ line ∷ []) a c w'
@@ -199,7 +199,7 @@ Waits-first text after begun s u lines line a b c w w' h k texts ends e =
 
 pub Waits-add : {S : Type 0} (text : S → List ℕ → List ℕ) (after : S → List ℕ → S) (begun s u : S)
     (reply : List ℕ) (lines : List (List ℕ)) (line : List ℕ) (a b c : Option (List ℕ))
-    (w w' : Waiting) → Waits text after begun s lines a b w → Adds s u reply b c w w' →
+    (w w' : ReplyBuffer) → Waits text after begun s lines a b w → Adds s u reply b c w w' →
     reply ≡ text s line → u ≡ after s line → Waits text after begun u (lines ++ line ∷ []) a c w'
 Waits-add text after begun s u reply lines line a b c w w' h adds is_reply e =
     ⊎_elim

@@ -4,7 +4,7 @@ use Rattle.std.specs.Prelude.{◌≡◌, ◌≤◌, ◌<◌, ◌+◌, ◌⊎◌,
 use Rattle.std.specs.Prelude.{Option, length, take, fold}
 use Rattle.std.specs.List.{count_by}
 use Rattle.std.specs.Io.KnownBytes.{Appends}
-use Rattle.osn_service.specs.declared.waiting.Waiting.{Waiting}
+use Rattle.osn_service.specs.declared.reply_buffer.ReplyBuffer.{ReplyBuffer}
 use Rattle.osn_service.specs.Replies.{replies}
 
 -- with so many bytes what waits is written
@@ -32,7 +32,7 @@ ChangesFirst after s (line ∷ rest) = ChangesNothing after (after s line) rest
 -- the lines were answered; the replies to the last of them wait, and of those lines only the first
 -- has changed anything
 pub record Waits {S : Type 0} (text : S → List ℕ → List ℕ) (after : S → List ℕ → S) (begun now : S)
-    (lines : List (List ℕ)) (old new : Option (List ℕ)) (waiting : Waiting) : Type 0 where
+    (lines : List (List ℕ)) (old new : Option (List ℕ)) (waiting : ReplyBuffer) : Type 0 where
   pub done : List (List ℕ)
   pub rest : List (List ℕ)
   pub split : lines ≡ done ++ rest
@@ -43,18 +43,18 @@ pub record Waits {S : Type 0} (text : S → List ℕ → List ℕ) (after : S �
   pub changes : ChangesFirst after (fold after begun done) rest
 
 -- a reply more waits
-pub record Pushes (old new : Waiting) (reply : List ℕ) : Type 0 where
+pub record Pushes (old new : ReplyBuffer) (reply : List ℕ) : Type 0 where
   pub text : new.text.items ≡ old.text.items ++ reply
   pub ends : new.ends.items ≡ old.ends.items ++ length new.text.items ∷ []
 
 -- what waited is written, and nothing waits
-pub record Writes (written now : Option (List ℕ)) (old new : Waiting) : Type 0 where
+pub record Writes (written now : Option (List ℕ)) (old new : ReplyBuffer) : Type 0 where
   pub all : Appends written now old.text.items
   pub text : new.text.items ≡ []
   pub ends : new.ends.items ≡ []
 
 -- some bytes of what waited are written, and so many replies of it not whole
-pub record WritesSome (written now : Option (List ℕ)) (waiting : Waiting)
+pub record WritesSome (written now : Option (List ℕ)) (waiting : ReplyBuffer)
     (unwritten : ℕ) : Type 0 where
   pub bytes : ℕ
   pub within : bytes ≤ length waiting.text.items
@@ -63,15 +63,15 @@ pub record WritesSome (written now : Option (List ℕ)) (waiting : Waiting)
       ≡ length waiting.ends.items
 
 -- a reply was added that changes nothing, or what waited was written before it
-abbrev pub Adds : {S : Type 0} → S → S → List ℕ → Option (List ℕ) → Option (List ℕ) → Waiting →
-    Waiting → Type 0
+abbrev pub Adds : {S : Type 0} → S → S → List ℕ → Option (List ℕ) → Option (List ℕ) → ReplyBuffer →
+    ReplyBuffer → Type 0
 Adds s u reply written now old new =
     ((u ≡ s) × (now ≡ written) × Pushes old new reply)
     ⊎ (Appends written now old.text.items × (new.text.items ≡ reply)
     × (new.ends.items ≡ length reply ∷ []))
 
 -- nothing was written, or all that waited
-abbrev pub Settles : Option (List ℕ) → Option (List ℕ) → Waiting → Waiting → Type 0
+abbrev pub Settles : Option (List ℕ) → Option (List ℕ) → ReplyBuffer → ReplyBuffer → Type 0
 Settles written now old new =
     ((now ≡ written) × (new.text.items ≡ old.text.items) × (new.ends.items ≡ old.ends.items))
     ⊎ Writes written now old new

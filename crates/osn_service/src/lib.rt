@@ -4,10 +4,10 @@
 #![tactic(auto)]
 
 mod fault;
+mod reply_buffer;
 mod service;
 mod session;
 mod stop;
-mod waiting;
 
 pub use fault::ServeFault;
 pub use service::{serve, serve_from};

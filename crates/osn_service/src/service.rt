@@ -7,9 +7,9 @@ ghost use Rattle.osn_service.specs.Serves.{Serves};
 ghost use Rattle.osn_service.specs.SessionInside.{IsSame, AnswersFirst, AnswersInPart, EndsTaking};
 
 use crate::fault::ServeFault;
+use crate::reply_buffer::ReplyBuffer;
 use crate::session::Session;
-use crate::stop::{Stop, Unfinished};
-use crate::waiting::Waiting;
+use crate::stop::{Stop, UnwrittenReplies};
 use osn_core::Object;
 use osn_lines::{Interrupted, Sink, Source, TakeFault, take_lines};
 use osn_register::Limits;
@@ -17,7 +17,7 @@ use std::alloc::Global;
 
 /// How many lines were taken, and why no more, where some were not and no write failed.
 #[derive(Clone, Copy)]
-struct Taken {
+struct LinesTaken {
     lines: u64,
     fault: Option<ServeFault>,
 }
@@ -26,7 +26,7 @@ struct Taken {
 fn take_all<R: Source, W: Sink>(
     session: &mut Session<'_, W>,
     source: &mut R,
-) -> Result<Taken, Interrupted<ServeFault>>
+) -> Result<LinesTaken, Interrupted<ServeFault>>
     requires text { session.old.waiting.now.text.items ≡ [] }
     requires ends { session.old.waiting.now.ends.items ≡ [] }
     ensures ok { IfOk result (λ taken. AnswersFirst W.contents W.has_failed session.old session.new
@@ -38,22 +38,22 @@ fn take_all<R: Source, W: Sink>(
         W.has_failed session.old session.new (R.remaining source.old) end.lines)) }
 {
     match take_lines(session.alloc, session, source) {
-        Ok(lines) => Ok(Taken { lines, fault: None }),
+        Ok(lines) => Ok(LinesTaken { lines, fault: None }),
         Err(Interrupted { lines, cause }) => match cause {
-            TakeFault::NoMemory => Ok(Taken {
+            TakeFault::NoMemory => Ok(LinesTaken {
                 lines,
                 fault: Some(ServeFault::NoMemory),
             }),
-            TakeFault::ReadFault => Ok(Taken {
+            TakeFault::ReadFault => Ok(LinesTaken {
                 lines,
                 fault: Some(ServeFault::ReadFault),
             }),
             TakeFault::Stopped(stop) => match stop {
-                Stop::NoMemory => Ok(Taken {
+                Stop::NoMemory => Ok(LinesTaken {
                     lines,
                     fault: Some(ServeFault::NoMemory),
                 }),
-                Stop::WriteFailed(Unfinished { unwritten }) => Err(Interrupted {
+                Stop::WriteFailed(UnwrittenReplies { unwritten }) => Err(Interrupted {
                     lines: lines - unwritten,
                     cause: ServeFault::WriteFault,
                 }),
@@ -77,8 +77,8 @@ fn run<R: Source, W: Sink>(
         (W.has_failed session.old.sink.now) (W.has_failed session.new.sink.now)
         (W.holds_back session.new.sink.now) result }
 {
-    let Taken { lines, fault } = take_all(session, source)?;
-    if let Err(Unfinished { unwritten }) = session.waiting.write(session.sink) {
+    let LinesTaken { lines, fault } = take_all(session, source)?;
+    if let Err(UnwrittenReplies { unwritten }) = session.waiting.write(session.sink) {
         return Err(Interrupted {
             lines: lines - unwritten,
             cause: ServeFault::WriteFault,
@@ -117,7 +117,7 @@ pub fn serve_from<R: Source, W: Sink>(
         (W.contents sink.old) (W.contents sink.new)
         (W.has_failed sink.old) (W.has_failed sink.new) (W.holds_back sink.new) result }
 {
-    let mut waiting = Waiting::new(alloc);
+    let mut waiting = ReplyBuffer::new(alloc);
     let mut session = Session {
         alloc,
         readers,

@@ -10,11 +10,11 @@ ghost use Rattle.osn_lines.specs.Lines.{IsLine};
 ghost use Rattle.osn_reply.specs.ReplyText.{reply_line};
 ghost use Rattle.osn_service.specs.ServiceInside.{full, Pushes, Adds, Settles, WritesSome};
 ghost use Rattle.osn_service.specs.Served.{line_text};
-ghost use Rattle.osn_service.specs.Session as said;
+ghost use Rattle.osn_service.specs.Session as spec;
 ghost use Rattle.osn_service.specs.Stop.{MatchStop};
 
-use crate::stop::{Stop, Unfinished};
-use crate::waiting::Waiting;
+use crate::reply_buffer::ReplyBuffer;
+use crate::stop::{Stop, UnwrittenReplies};
 use osn_core::Object;
 use osn_lines::{Line, LineTaker, Sink};
 use osn_register::{Edit, Query};
@@ -26,7 +26,7 @@ use std::alloc::{AllocError, Global};
 fn write_and_push<W: Sink>(
     alloc: Global,
     sink: &mut W,
-    waiting: &mut Waiting,
+    waiting: &mut ReplyBuffer,
     outcome: Outcome,
 ) -> Result<(), Stop>
     ensures ok { OnOk result
@@ -49,13 +49,13 @@ fn stage<W: Sink>(
     alloc: Global,
     object: &mut Object,
     sink: &mut W,
-    waiting: &mut Waiting,
+    waiting: &mut ReplyBuffer,
     edit: Edit,
 ) -> Result<(), Stop>
     ensures ok { OnOk result (Adds object.old object.new
-        (reply_line (said.stage_outcome newest_rules object.old edit))
+        (reply_line (spec.stage_outcome newest_rules object.old edit))
         (W.contents sink.old) (W.contents sink.new) waiting.old waiting.new) }
-    ensures after { OnOk result (object.new ≡ said.stage_after newest_rules object.old edit) }
+    ensures after { OnOk result (object.new ≡ spec.stage_after newest_rules object.old edit) }
     ensures sound { OnOk result (W.has_failed sink.new ≡ W.has_failed sink.old) }
     ensures err { IfErr result (λ stop. MatchStop stop
         (Settles (W.contents sink.old) (W.contents sink.new) waiting.old waiting.new)
@@ -83,12 +83,12 @@ fn publish<W: Sink>(
     alloc: Global,
     object: &mut Object,
     sink: &mut W,
-    waiting: &mut Waiting,
+    waiting: &mut ReplyBuffer,
 ) -> Result<(), Stop>
     ensures ok { OnOk result (Adds object.old object.new
-        (reply_line (said.publish_outcome object.old))
+        (reply_line (spec.publish_outcome object.old))
         (W.contents sink.old) (W.contents sink.new) waiting.old waiting.new) }
-    ensures after { OnOk result (object.new ≡ said.publish_after object.old) }
+    ensures after { OnOk result (object.new ≡ spec.publish_after object.old) }
     ensures sound { OnOk result (W.has_failed sink.new ≡ W.has_failed sink.old) }
     ensures err { IfErr result (λ stop. MatchStop stop
         (Settles (W.contents sink.old) (W.contents sink.new) waiting.old waiting.new)
@@ -117,10 +117,10 @@ fn ask(
     object: &Object,
     reader: u32,
     query: &Query,
-    waiting: &mut Waiting,
+    waiting: &mut ReplyBuffer,
 ) -> Result<(), AllocError>
     ensures ok { OnOk result (Pushes waiting.old waiting.new
-        (reply_line (said.ask_outcome newest_rules object.now reader query.now))) }
+        (reply_line (spec.ask_outcome newest_rules object.now reader query.now))) }
     ensures err { OnErr result (waiting.new.text.items ≡ waiting.old.text.items) }
     ensures err_ends { OnErr result (waiting.new.ends.items ≡ waiting.old.ends.items) }
 {
@@ -135,14 +135,14 @@ fn answer<W: Sink>(
     readers: u32,
     object: &mut Object,
     sink: &mut W,
-    waiting: &mut Waiting,
+    waiting: &mut ReplyBuffer,
     line: Line<'_>,
 ) -> Result<(), Stop>
     ensures ok { OnOk result ((whole : List ℕ) → IsLine line.entry whole →
         Adds object.old object.new (line_text newest_rules readers object.old whole)
         (W.contents sink.old) (W.contents sink.new) waiting.old waiting.new) }
     ensures after { OnOk result ((whole : List ℕ) → IsLine line.entry whole →
-        object.new ≡ said.line_after newest_rules readers object.old whole) }
+        object.new ≡ spec.line_after newest_rules readers object.old whole) }
     ensures sound { OnOk result (W.has_failed sink.new ≡ W.has_failed sink.old) }
     ensures err { IfErr result (λ stop. MatchStop stop
         (Settles (W.contents sink.old) (W.contents sink.new) waiting.old waiting.new)
@@ -162,7 +162,7 @@ fn answer<W: Sink>(
 }
 
 /// Writes what waits where it is so much that it is to be written, so that less waits then.
-fn make_room<W: Sink>(sink: &mut W, waiting: &mut Waiting) -> Result<(), Unfinished>
+fn make_room<W: Sink>(sink: &mut W, waiting: &mut ReplyBuffer) -> Result<(), UnwrittenReplies>
     ensures ok { OnOk result
         (Settles (W.contents sink.old) (W.contents sink.new) waiting.old waiting.new) }
     ensures room { OnOk result (length waiting.new.text.items < full) }
@@ -186,7 +186,7 @@ pub(crate) struct Session<'a, W> {
     pub(crate) readers: u32,
     pub(crate) object: &'a mut Object,
     pub(crate) sink: &'a mut W,
-    pub(crate) waiting: &'a mut Waiting,
+    pub(crate) waiting: &'a mut ReplyBuffer,
 }
 
 impl<'a, W: Sink> LineTaker for Session<'a, W> {

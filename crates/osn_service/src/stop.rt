@@ -3,7 +3,7 @@ use std::alloc::AllocError;
 
 /// A write of the replies that wait failed, and so many of them are not written whole.
 #[derive(Clone, Copy)]
-pub(crate) struct Unfinished {
+pub(crate) struct UnwrittenReplies {
     pub(crate) unwritten: u64,
 }
 
@@ -13,7 +13,7 @@ pub(crate) enum Stop {
     /// Memory ran out.
     NoMemory,
     /// A write failed.
-    WriteFailed(Unfinished),
+    WriteFailed(UnwrittenReplies),
 }
 
 impl From<AllocError> for Stop {
@@ -27,13 +27,13 @@ impl From<AllocError> for Stop {
     }
 }
 
-impl From<Unfinished> for Stop {
+impl From<UnwrittenReplies> for Stop {
     ghost use Rattle.std.specs.Prelude.{◌≡◌};
     ghost use Rattle.osn_service.specs.declared.stop.Stop.TheVariants.{WriteFailed};
 
     ghost from_gives = { λ failed e. e ≡ WriteFailed failed };
 
-    fn from(failed: Unfinished) -> Stop {
+    fn from(failed: UnwrittenReplies) -> Stop {
         Stop::WriteFailed(failed)
     }
 }

@@ -3,7 +3,7 @@
 use crate::compare::same;
 use crate::printed::{Left, Wanted, is_left, left_by, sink};
 use crate::session::joined;
-use osn_commands::{Served, Status, run, serve_command, tell_no_words};
+use osn_commands::{ServeResult, Status, run, serve_command, tell_no_words};
 use osn_folder::{Disk, Folder};
 use osn_lines::Plain;
 use std::alloc::Global;
@@ -88,7 +88,7 @@ fn served(alloc: Global, journal: Option<&str>, requests: &str) -> (Left, Option
     let (mut output, mut errors) = (sink(alloc), sink(alloc));
     let mut input = Plain::new(requests.as_bytes());
     let mut source = journal.map(|text| Plain::new(text.as_bytes()));
-    let Served { status, journal } = serve_command(
+    let ServeResult { status, journal } = serve_command(
         alloc,
         &mut source,
         8,

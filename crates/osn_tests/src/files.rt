@@ -92,6 +92,11 @@ November      Sunday     547813 1500-11-11
 December      Tuesday    547843 1500-12-11
 ";
 
+const NEW_YEAR: &str = "1 January 1500 in Rome (RM), edition 1
+Wednesday 1 January 1500    10 January 1500 Gregorian    1 January 1500 Julian    day 547508
+      JDN 2268933
+";
+
 const OUTS: &str = r#"{"ok":"staged","pending":1}
 {"out":"moved"}
 {"edition":1,"ok":"published"}
@@ -107,7 +112,12 @@ const TOLD: &str = r#"{"ask":{"code":"RM","op":"periods","reader":1},"reply":{"e
 "#;
 
 /// Each command, and then those of two files with the files the other way round.
-pub const RUNS: [RunRow; 8] = [
+pub const RUNS: [RunRow; 9] = [
+    (
+        "oldstyle read a.journal RM 1500-01-01",
+        "",
+        (0, NEW_YEAR, ""),
+    ),
     ("oldstyle almanac a.journal RM 1500", "", (0, ROME_1500, "")),
     ("oldstyle replay --readers 2 a.schedule", "", (0, OUTS, "")),
     ("oldstyle desk a.script a.questions", "", (0, TOLD, "")),

@@ -49,6 +49,8 @@ mod forty;
 #[cfg(test)]
 mod gates;
 #[cfg(test)]
+mod help;
+#[cfg(test)]
 mod hostile;
 #[cfg(test)]
 mod journals;
@@ -70,6 +72,8 @@ mod named;
 mod names;
 #[cfg(test)]
 mod objects;
+#[cfg(test)]
+mod pages;
 #[cfg(test)]
 mod printed;
 #[cfg(test)]

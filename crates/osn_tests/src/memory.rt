@@ -215,7 +215,8 @@ fn is_run<'a, R: Threads + Wait + AllocGlobal + Abort>(
 }
 
 /// What the runs over real files open.
-const OPENED: [&str; 8] = [
+const OPENED: [&str; 9] = [
+    "a.journal",
     "a.journal",
     "a.schedule",
     "a.script a.questions",
@@ -243,7 +244,8 @@ fn files_are_opened_in_the_order_of_the_words(rt: HostRuntime) -> Result<(), Fai
 }
 
 /// Command lines of which the first file isn't there.
-const GONE: [&str; 5] = [
+const GONE: [&str; 6] = [
+    "oldstyle read a.gone RM 1500-01-01",
     "oldstyle almanac a.gone RM 1500",
     "oldstyle replay --readers 1 a.gone",
     "oldstyle desk a.gone a.questions",

@@ -41,17 +41,7 @@ impl Territory {
         ensures tested { IfOk result (λ read.
             read.1 ≤ 3 * length (plain.periods_of newest_rules self.now)) }
     {
-        self.read_by(&self.search_for(label))
-    }
-
-    /// The search for a label in the territory.
-    fn search_for(&self, label: Label) -> LabelSearch
-        ensures search { IsSearchIn self.now result }
-        ensures label { result.label ≡ label }
-        ensures tested { result.tested
-            ≤ most_tested result.table (length (plain.periods_of newest_rules self.now)) 0 }
-    {
-        LabelSearch::new(label, self.periods())
+        self.read_by(&LabelSearch::new(label, self.periods()))
     }
 
     /// The days that are found by a search, and how many dates were tested in all.
@@ -83,7 +73,7 @@ impl Territory {
         ensures explained { IfOk result (λ days.
             plain.IsExplained newest_rules self.now label days.items) }
     {
-        self.skipped_by(&self.search_for(label))
+        self.skipped_by(&LabelSearch::new(label, self.periods()))
     }
 
     /// The days of the changes at which the label of a search is skipped.
@@ -124,7 +114,7 @@ impl Territory {
         ensures tested { IfOk result (λ found.
             found.2 ≤ 3 * length (plain.periods_of newest_rules self.now)) }
     {
-        let search = self.search_for(label);
+        let search = LabelSearch::new(label, self.periods());
         let (days, tested) = self.read_by(&search)?;
         let skipped = self.skipped_by(&search)?;
         Ok((days, skipped, tested))

@@ -1,7 +1,7 @@
 //! What the register answers to queries.
 ghost use Rattle.std.specs.Prelude.{◌≡◌, true, None, IfOk, OnErr, ◌<◌, length, map};
 ghost use Rattle.osn_days.specs.Profile.{first_rules, newest_rules};
-ghost use Rattle.osn_register.specs.Answer as said;
+ghost use Rattle.osn_register.specs.Answer as spec;
 ghost use Rattle.osn_register.specs.Kept.{KeepsAnswer};
 ghost use Rattle.osn_register.specs.Refusal.{IsTestOf};
 ghost use Rattle.osn_register.specs.Plain.{code_refusal};
@@ -37,12 +37,12 @@ impl Register {
     /// Only where no memory is found, of which a refusal, the figures of a year and an empty list
     /// of territories take none.
     pub fn answer(&self, query: &Query) -> Result<Answer, AllocError>
-        ensures value { IfOk result (λ a. a ≡ said.answer newest_rules self.now.lands query.now) }
+        ensures value { IfOk result (λ a. a ≡ spec.answer newest_rules self.now.lands query.now) }
         // as a law: nothing but the definition's refusals refuses a query
         ensures refused { IfOk result
-            (λ a. said.refusal_in a ≡ said.query_refusal newest_rules self.now.lands query.now) }
+            (λ a. spec.refusal_in a ≡ spec.query_refusal newest_rules self.now.lands query.now) }
         ensures memory { OnErr result
-            (said.takes_memory (said.answer newest_rules self.now.lands query.now) ≡ true) }
+            (spec.takes_memory (spec.answer newest_rules self.now.lands query.now) ≡ true) }
         // as a law: where the first rules have the year or the day, it keeps what they answer
         ensures kept { IfOk result (KeepsAnswer first_rules self.now.lands query.now) }
     {
@@ -59,17 +59,31 @@ impl Register {
     ///
     /// The first refusal that applies.
     pub fn check_easter(&self, code: &str, year: i64) -> Result<(), Refusal>
-        ensures { IsTestOf (said.easter_refusal newest_rules self.now.lands code.now year) result }
+        ensures { IsTestOf (spec.easter_refusal newest_rules self.now.lands code.now year) result }
     {
         self.known_territory(code)?;
         year_in_range(year)?;
         Ok(())
     }
 
+    /// Whether a reading may be asked of a territory. It takes no query and no memory.
+    ///
+    /// # Errors
+    ///
+    /// The first refusal that applies.
+    pub fn check_read(&self, code: &str, year: i64, month: i64, day: i64) -> Result<(), Refusal>
+        ensures { IsTestOf
+            (spec.read_refusal newest_rules self.now.lands code.now year month day) result }
+    {
+        self.known_territory(code)?;
+        asked_label(year, month, day)?;
+        Ok(())
+    }
+
     fn lawful_answer(&self, query: &Query) -> Result<Answer, Unanswered>
         ensures { IsAnswered
-            (said.query_refusal newest_rules self.now.lands query.now)
-            (said.answer newest_rules self.now.lands query.now) result }
+            (spec.query_refusal newest_rules self.now.lands query.now)
+            (spec.answer newest_rules self.now.lands query.now) result }
     {
         match query {
             Query::Read {
@@ -88,8 +102,8 @@ impl Register {
 
     fn read(&self, code: &str, year: i64, month: i64, day: i64) -> Result<Answer, Unanswered>
         ensures { IsAnswered
-            (said.read_refusal newest_rules self.now.lands code.now year month day)
-            (said.read_answer newest_rules self.now.lands code.now year month day) result }
+            (spec.read_refusal newest_rules self.now.lands code.now year month day)
+            (spec.read_answer newest_rules self.now.lands code.now year month day) result }
     {
         let territory = self.known_territory(code)?;
         let label = asked_label(year, month, day)?;
@@ -98,8 +112,8 @@ impl Register {
 
     fn day_in(&self, code: &str, day: i64) -> Result<Answer, Unanswered>
         ensures { IsAnswered
-            (said.day_refusal newest_rules self.now.lands code.now day)
-            (said.day_in_answer newest_rules self.now.lands code.now day) result }
+            (spec.day_refusal newest_rules self.now.lands code.now day)
+            (spec.day_in_answer newest_rules self.now.lands code.now day) result }
     {
         let territory = self.known_territory(code)?;
         let day = day_on_line(day)?;
@@ -108,8 +122,8 @@ impl Register {
 
     fn easter(&self, code: &str, year: i64) -> Result<Answer, Unanswered>
         ensures { IsAnswered
-            (said.easter_refusal newest_rules self.now.lands code.now year)
-            (said.easter_answer newest_rules self.now.lands code.now year) result }
+            (spec.easter_refusal newest_rules self.now.lands code.now year)
+            (spec.easter_answer newest_rules self.now.lands code.now year) result }
     {
         let territory = self.known_territory(code)?;
         let year = year_in_range(year)?;
@@ -119,14 +133,14 @@ impl Register {
     fn periods(&self, code: &str) -> Result<Answer, Unanswered>
         ensures { IsAnswered
             (code_refusal self.now.lands code.now)
-            (said.periods_in_answer newest_rules self.now.lands code.now) result }
+            (spec.periods_in_answer newest_rules self.now.lands code.now) result }
     {
         let territory = self.known_territory(code)?;
         Ok(periods(self.alloc, territory)?)
     }
 
     fn listed(&self) -> Result<Vec<Land>, AllocError>
-        ensures value { IfOk result (λ v. v.items ≡ map said.listed self.now.lands) }
+        ensures value { IfOk result (λ v. v.items ≡ map spec.listed self.now.lands) }
         ensures memory { OnErr result (0 < length self.now.lands) }
     {
         let mut listed = Vec::with_capacity(self.alloc, self.lands.len())?;

@@ -2,7 +2,7 @@
 ghost use Rattle.std.specs.Prelude.{◌≡◌, [], ◌∷◌, ◌++◌, codes, OnOk};
 ghost use Rattle.json.specs.Token.{begin_object, end_object, key};
 ghost use Rattle.osn_register.specs.declared.answer.Answer.TheVariants.{Refused};
-ghost use Rattle.osn_reply.specs.ReplyText as said;
+ghost use Rattle.osn_reply.specs.ReplyText as spec;
 ghost use Rattle.osn_format.specs.Json.{whole, value_tokens, member_tokens};
 
 use crate::reply::figures::Reckoning;
@@ -36,7 +36,7 @@ fn write_reading(
 ) -> Result<(), AllocError>
     ensures tokens { OnOk result (out.new.tokens ≡ out.old.tokens
         ++ begin_object ∷ member_tokens (codes "answer")
-        (said.reading_data found.now skipped.now)) }
+        (spec.reading_data found.now skipped.now)) }
     ensures before { out.new.before ≡ out.old.before }
 {
     begin_answer(out)?;
@@ -53,7 +53,7 @@ fn write_on_day(
     period: &Period,
 ) -> Result<(), AllocError>
     ensures tokens { OnOk result (out.new.tokens ≡ out.old.tokens
-        ++ begin_object ∷ member_tokens (codes "answer") (said.on_day_data found.now period.now)) }
+        ++ begin_object ∷ member_tokens (codes "answer") (spec.on_day_data found.now period.now)) }
     ensures before { out.new.before ≡ out.old.before }
 {
     begin_answer(out)?;
@@ -72,7 +72,7 @@ fn write_easters(
     listed: bool,
 ) -> Result<(), AllocError>
     ensures tokens { OnOk result (out.new.tokens ≡ out.old.tokens
-        ++ begin_object ∷ member_tokens (codes "answer") (said.easters_data found.now listed)) }
+        ++ begin_object ∷ member_tokens (codes "answer") (spec.easters_data found.now listed)) }
     ensures before { out.new.before ≡ out.old.before }
 {
     begin_answer(out)?;
@@ -84,7 +84,7 @@ fn write_easters(
 /// Begins a reply with territories.
 fn write_lands(alloc: Global, out: &mut Writer, lands: &[Land]) -> Result<(), AllocError>
     ensures tokens { OnOk result (out.new.tokens ≡ out.old.tokens
-        ++ begin_object ∷ member_tokens (codes "answer") (said.lands_data lands.now)) }
+        ++ begin_object ∷ member_tokens (codes "answer") (spec.lands_data lands.now)) }
     ensures before { out.new.before ≡ out.old.before }
 {
     begin_answer(out)?;
@@ -95,7 +95,7 @@ fn write_lands(alloc: Global, out: &mut Writer, lands: &[Land]) -> Result<(), Al
 /// Begins a reply with periods.
 fn write_periods(alloc: Global, out: &mut Writer, periods: &[Period]) -> Result<(), AllocError>
     ensures tokens { OnOk result (out.new.tokens ≡ out.old.tokens
-        ++ begin_object ∷ member_tokens (codes "answer") (said.periods_data periods.now)) }
+        ++ begin_object ∷ member_tokens (codes "answer") (spec.periods_data periods.now)) }
     ensures before { out.new.before ≡ out.old.before }
 {
     begin_answer(out)?;
@@ -114,7 +114,7 @@ fn write_figures(
     julian: &Reckoning<u8>,
 ) -> Result<(), AllocError>
     ensures tokens { OnOk result (out.new.tokens ≡ out.old.tokens
-        ++ begin_object ∷ member_tokens (codes "answer") (said.figures_data year golden indiction
+        ++ begin_object ∷ member_tokens (codes "answer") (spec.figures_data year golden indiction
         (⟦<Reckoning<Epact> as WriteJson>⟧.shown gregorian.now)
         (⟦<Reckoning<u8> as WriteJson>⟧.shown julian.now))) }
     ensures before { out.new.before ≡ out.old.before }
@@ -148,7 +148,7 @@ fn write_refused(
     refusal: Refusal,
 ) -> Result<(), AllocError>
     ensures tokens { OnOk result (out.new.tokens ≡ out.old.tokens
-        ++ value_tokens (said.replied_data reader edition (Refused refusal))) }
+        ++ value_tokens (spec.replied_data reader edition (Refused refusal))) }
     ensures before { out.new.before ≡ out.old.before }
 {
     out.begin_object()?;
@@ -167,7 +167,7 @@ pub(crate) fn write_reply(
     reply: &Reply,
 ) -> Result<(), AllocError>
     ensures tokens { OnOk result (out.new.tokens ≡ out.old.tokens
-        ++ value_tokens (said.replied_data reader reply.now.edition reply.now.answer)) }
+        ++ value_tokens (spec.replied_data reader reply.now.edition reply.now.answer)) }
     ensures before { out.new.before ≡ out.old.before }
 {
     let edition = reply.edition;

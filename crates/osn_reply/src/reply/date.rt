@@ -2,7 +2,7 @@
 ghost use Rattle.std.specs.Prelude.{◌≡◌, ◌++◌, OnOk};
 ghost use Rattle.serde_json.specs.Data.{string};
 ghost use Rattle.osn_days.specs.Chain as chain;
-ghost use Rattle.osn_days.specs.DateText as said;
+ghost use Rattle.osn_days.specs.DateText as spec;
 ghost use Rattle.osn_format.specs.Json.{member_tokens};
 
 use json::Writer;
@@ -22,13 +22,13 @@ fn write_date(
     day: u8,
 ) -> Result<(), AllocError>
     ensures tokens { OnOk result (out.new.tokens
-        ≡ out.old.tokens ++ member_tokens name.now (string (said.date_text year month day))) }
+        ≡ out.old.tokens ++ member_tokens name.now (string (spec.date_text year month day))) }
     ensures before { out.new.before ≡ out.old.before }
 {
     let years = year.unsigned_abs();
     if years < 10_000 && month < 100 && day < 100 {
         let digits = date_digits(years, u32::from(month), u32::from(day));
-        return write_text(out, name, str::from_utf8(&digits).unwrap());
+        return write_text(out, name, unsafe { str::from_utf8_unchecked(&digits) });
     }
     let date = date_text(alloc, year, month, day)?;
     write_text(out, name, date.as_str())
@@ -43,7 +43,7 @@ pub(crate) fn write_date_of(
     day: Day,
 ) -> Result<(), AllocError>
     ensures tokens { OnOk result (out.new.tokens ≡ out.old.tokens
-        ++ member_tokens name.now (string (said.text_of_date (chain.date_of calendar day)))) }
+        ++ member_tokens name.now (string (spec.text_of_date (chain.date_of calendar day)))) }
     ensures before { out.new.before ≡ out.old.before }
 {
     let date = date_of(calendar, day);
@@ -58,7 +58,7 @@ pub(crate) fn write_label(
     label: Label,
 ) -> Result<(), AllocError>
     ensures tokens { OnOk result (out.new.tokens ≡ out.old.tokens
-        ++ member_tokens name.now (string (said.date_text label.year label.month label.day))) }
+        ++ member_tokens name.now (string (spec.date_text label.year label.month label.day))) }
     ensures before { out.new.before ≡ out.old.before }
 {
     write_date(alloc, out, name, label.year, label.month, label.day)

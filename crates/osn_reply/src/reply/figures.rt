@@ -3,7 +3,7 @@ ghost use Rattle.std.specs.Prelude.{◌≡◌, [], ◌∷◌, ◌++◌, codes, O
 ghost use Rattle.json.specs.Token.{end_object};
 ghost use Rattle.serde_json.specs.Data.{string};
 ghost use Rattle.osn_computus.specs.FigureTexts.{epact_text, letters_text};
-ghost use Rattle.osn_reply.specs.ReplyText as said;
+ghost use Rattle.osn_reply.specs.ReplyText as spec;
 ghost use Rattle.osn_format.specs.Json.{whole, member_tokens};
 
 use crate::reply::write_json::{WriteJson, write_member};
@@ -51,7 +51,7 @@ pub(crate) struct Reckoning<E> {
 }
 
 impl<E: WriteJson> WriteJson for Reckoning<E> {
-    ghost shown = { λ r. said.reckoning_data r.easter (E.shown r.epact) r.letters };
+    ghost shown = { λ r. spec.reckoning_data r.easter (E.shown r.epact) r.letters };
 
     fn write_json(&self, alloc: Global, out: &mut Writer) -> Result<(), AllocError> {
         out.begin_object()?;

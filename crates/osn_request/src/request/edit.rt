@@ -1,7 +1,7 @@
 //! The edit of a line's object. A journal, a script and a schedule read theirs by the same call.
 ghost use Rattle.std.specs.Prelude.{◌≡◌, Err, IsOk};
 ghost use Rattle.serde_json.specs.View.{view};
-ghost use Rattle.osn_request.specs.EditRequest as said;
+ghost use Rattle.osn_request.specs.EditRequest as spec;
 ghost use Rattle.osn_request.specs.Request.{GivesLast};
 ghost use Rattle.osn_format.specs.Version.{rules_of};
 
@@ -15,7 +15,7 @@ use std::alloc::Global;
 
 #[tactic(auto, unfolding(crate::specs::EditRequest::add_land_of))]
 fn add_land_of(alloc: Global, version: Version, value: &Value) -> Result<Edit, RequestError>
-    ensures { GivesLast result (said.add_land_of (rules_of version) (view value.now)) }
+    ensures { GivesLast result (spec.add_land_of (rules_of version) (view value.now)) }
 {
     let code = text_at(value, Member::Code)?;
     let name = text_at(value, Member::Name)?;
@@ -27,7 +27,7 @@ fn add_land_of(alloc: Global, version: Version, value: &Value) -> Result<Edit, R
 
 #[tactic(auto, unfolding(crate::specs::EditRequest::add_change_of))]
 fn add_change_of(alloc: Global, version: Version, value: &Value) -> Result<Edit, RequestError>
-    ensures { GivesLast result (said.add_change_of (rules_of version) (view value.now)) }
+    ensures { GivesLast result (spec.add_change_of (rules_of version) (view value.now)) }
 {
     let code = text_at(value, Member::Code)?;
     let day = whole_at(value, Member::Day)?;
@@ -38,7 +38,7 @@ fn add_change_of(alloc: Global, version: Version, value: &Value) -> Result<Edit,
 
 #[tactic(auto, unfolding(crate::specs::EditRequest::alter_change_of))]
 fn alter_change_of(alloc: Global, version: Version, value: &Value) -> Result<Edit, RequestError>
-    ensures { GivesLast result (said.alter_change_of (rules_of version) (view value.now)) }
+    ensures { GivesLast result (spec.alter_change_of (rules_of version) (view value.now)) }
 {
     let code = text_at(value, Member::Code)?;
     let day = whole_at(value, Member::Day)?;
@@ -49,7 +49,7 @@ fn alter_change_of(alloc: Global, version: Version, value: &Value) -> Result<Edi
 
 #[tactic(auto, unfolding(crate::specs::EditRequest::drop_change_of))]
 fn drop_change_of(alloc: Global, value: &Value) -> Result<Edit, RequestError>
-    ensures { GivesLast result (said.drop_change_of (view value.now)) }
+    ensures { GivesLast result (spec.drop_change_of (view value.now)) }
 {
     let code = text_at(value, Member::Code)?;
     let day = whole_at(value, Member::Day)?;
@@ -59,7 +59,7 @@ fn drop_change_of(alloc: Global, value: &Value) -> Result<Edit, RequestError>
 
 #[tactic(auto, unfolding(crate::specs::EditRequest::add_exception_of))]
 fn add_exception_of(alloc: Global, value: &Value) -> Result<Edit, RequestError>
-    ensures { GivesLast result (said.add_exception_of (view value.now)) }
+    ensures { GivesLast result (spec.add_exception_of (view value.now)) }
 {
     let code = text_at(value, Member::Code)?;
     let year = whole_at(value, Member::Year)?;
@@ -70,7 +70,7 @@ fn add_exception_of(alloc: Global, value: &Value) -> Result<Edit, RequestError>
 
 #[tactic(auto, unfolding(crate::specs::EditRequest::drop_exception_of))]
 fn drop_exception_of(alloc: Global, value: &Value) -> Result<Edit, RequestError>
-    ensures { GivesLast result (said.drop_exception_of (view value.now)) }
+    ensures { GivesLast result (spec.drop_exception_of (view value.now)) }
 {
     let code = text_at(value, Member::Code)?;
     let year = whole_at(value, Member::Year)?;
@@ -89,7 +89,7 @@ pub fn edit_of(
     op: EditOp,
     value: &Value,
 ) -> Result<Edit, RequestError>
-    ensures { GivesLast result (said.edit_of (rules_of version) op (view value.now)) }
+    ensures { GivesLast result (spec.edit_of (rules_of version) op (view value.now)) }
 {
     match op {
         EditOp::AddLand => add_land_of(alloc, version, value),

@@ -1,7 +1,7 @@
 //! The members of a line's object, by their types.
 ghost use Rattle.std.specs.Prelude.{◌≡◌, MatchResult, Ok, Err};
 ghost use Rattle.serde_json.specs.View.{view};
-ghost use Rattle.osn_request.specs.Field as said;
+ghost use Rattle.osn_request.specs.Field as spec;
 ghost use Rattle.osn_format.specs.Version.{rules_of};
 
 use osn_days::Keyword;
@@ -12,8 +12,8 @@ use serde_json::Value;
 /// A member that is a text.
 pub fn text_at(value: &Value, member: Member) -> Result<&str, WireFault>
     ensures { MatchResult result
-        (λ s. said.text_at member (view value.now) ≡ Ok s.now)
-        (λ f. said.text_at member (view value.now) ≡ Err f) }
+        (λ s. spec.text_at member (view value.now) ≡ Ok s.now)
+        (λ f. spec.text_at member (view value.now) ≡ Err f) }
 {
     match value.get(member.name()).and_then(Value::as_str) {
         Some(text) => Ok(text),
@@ -23,7 +23,7 @@ pub fn text_at(value: &Value, member: Member) -> Result<&str, WireFault>
 
 /// A member that is a whole number.
 pub fn whole_at(value: &Value, member: Member) -> Result<i64, WireFault>
-    ensures { result ≡ said.whole_at member (view value.now) }
+    ensures { result ≡ spec.whole_at member (view value.now) }
 {
     match value.get(member.name()).and_then(Value::as_i64) {
         Some(number) => Ok(number),
@@ -33,7 +33,7 @@ pub fn whole_at(value: &Value, member: Member) -> Result<i64, WireFault>
 
 /// A member that is one of some words.
 fn word_at<W: Keyword>(value: &Value, member: Member) -> Result<W, WireFault>
-    ensures { result ≡ said.word_at member W.meaning (view value.now) }
+    ensures { result ≡ spec.word_at member W.meaning (view value.now) }
 {
     match W::from_word(text_at(value, member)?) {
         Some(meaning) => Ok(meaning),
@@ -43,7 +43,7 @@ fn word_at<W: Keyword>(value: &Value, member: Member) -> Result<W, WireFault>
 
 /// The style that a member gives, if its word is one of the version's.
 fn style_at(version: Version, value: &Value) -> Result<Style, WireFault>
-    ensures { result ≡ said.style_at (rules_of version) (view value.now) }
+    ensures { result ≡ spec.style_at (rules_of version) (view value.now) }
 {
     let style = word_at(value, Member::Style)?;
     if version.has_style(style) {
@@ -56,7 +56,7 @@ fn style_at(version: Version, value: &Value) -> Result<Style, WireFault>
 /// The regime that three members give, by the rules of a version.
 #[tactic(auto, unfolding(crate::specs::Field::regime_of))]
 pub fn regime_of(version: Version, value: &Value) -> Result<Regime, WireFault>
-    ensures { result ≡ said.regime_of (rules_of version) (view value.now) }
+    ensures { result ≡ spec.regime_of (rules_of version) (view value.now) }
 {
     let calendar = word_at(value, Member::Calendar)?;
     let style = style_at(version, value)?;

@@ -1,7 +1,7 @@
 //! What a line asks for, by the word of its member `op`.
 ghost use Rattle.std.specs.Prelude.{◌≡◌};
 ghost use Rattle.serde_json.specs.View.{view};
-ghost use Rattle.osn_request.specs.Op as said;
+ghost use Rattle.osn_request.specs.Op as spec;
 
 use crate::request::field::text_at;
 use osn_format::{Member, WireFault};
@@ -38,7 +38,7 @@ pub enum QueryOp {
 }
 
 fn op_named(word: &str) -> Option<Op>
-    ensures { result ≡ said.op_named word.now }
+    ensures { result ≡ spec.op_named word.now }
 {
     match word {
         "add_land" => Some(Op::Edit(EditOp::AddLand)),
@@ -60,7 +60,7 @@ fn op_named(word: &str) -> Option<Op>
 
 /// What the object of a line asks for.
 pub fn op_of(value: &Value) -> Result<Op, WireFault>
-    ensures { result ≡ said.op_of (view value.now) }
+    ensures { result ≡ spec.op_of (view value.now) }
 {
     match op_named(text_at(value, Member::Op)?) {
         Some(op) => Ok(op),

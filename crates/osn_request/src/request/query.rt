@@ -3,7 +3,7 @@
 ghost use Rattle.std.specs.Prelude.{◌≡◌, ◌≤◌, true, IfOk, IfErr};
 ghost use Rattle.serde_json.specs.View.{view};
 ghost use Rattle.osn_request.specs.declared.request.RequestError.TheVariants.{NoMemory};
-ghost use Rattle.osn_request.specs.QueryRequest as said;
+ghost use Rattle.osn_request.specs.QueryRequest as spec;
 ghost use Rattle.osn_request.specs.Request.{Gives, GivesLast};
 
 use crate::request::RequestError;
@@ -19,7 +19,7 @@ use std::alloc::Global;
 /// # Errors
 /// `UnknownReader` for a number that no reader has.
 pub fn reader_in(readers: u32, reader: i64) -> Result<u32, WireFault>
-    ensures reader { result ≡ said.reader_in readers reader }
+    ensures reader { result ≡ spec.reader_in readers reader }
     ensures among { IfOk result (λ r. (1 ≤ r) × (r ≤ readers)) }
 {
     if reader < 1 || reader > readers as i64 {
@@ -30,7 +30,7 @@ pub fn reader_in(readers: u32, reader: i64) -> Result<u32, WireFault>
 
 #[tactic(auto, unfolding(crate::specs::QueryRequest::read_of))]
 fn read_of(alloc: Global, value: &Value) -> Result<Query, RequestError>
-    ensures { GivesLast result (said.read_of (view value.now)) }
+    ensures { GivesLast result (spec.read_of (view value.now)) }
 {
     let code = text_at(value, Member::Code)?;
     let year = whole_at(value, Member::Year)?;
@@ -47,7 +47,7 @@ fn read_of(alloc: Global, value: &Value) -> Result<Query, RequestError>
 
 #[tactic(auto, unfolding(crate::specs::QueryRequest::day_in_of))]
 fn day_in_of(alloc: Global, value: &Value) -> Result<Query, RequestError>
-    ensures { GivesLast result (said.day_in_of (view value.now)) }
+    ensures { GivesLast result (spec.day_in_of (view value.now)) }
 {
     let code = text_at(value, Member::Code)?;
     let day = whole_at(value, Member::Day)?;
@@ -57,7 +57,7 @@ fn day_in_of(alloc: Global, value: &Value) -> Result<Query, RequestError>
 
 #[tactic(auto, unfolding(crate::specs::QueryRequest::easter_of))]
 fn easter_of(alloc: Global, value: &Value) -> Result<Query, RequestError>
-    ensures { GivesLast result (said.easter_of (view value.now)) }
+    ensures { GivesLast result (spec.easter_of (view value.now)) }
 {
     let code = text_at(value, Member::Code)?;
     let year = whole_at(value, Member::Year)?;
@@ -67,7 +67,7 @@ fn easter_of(alloc: Global, value: &Value) -> Result<Query, RequestError>
 
 #[tactic(auto, unfolding(crate::specs::QueryRequest::periods_of))]
 fn periods_of(alloc: Global, value: &Value) -> Result<Query, RequestError>
-    ensures { GivesLast result (said.periods_of (view value.now)) }
+    ensures { GivesLast result (spec.periods_of (view value.now)) }
 {
     let code = text_at(value, Member::Code)?;
     let code = Text::from_str(alloc, code)?;
@@ -76,7 +76,7 @@ fn periods_of(alloc: Global, value: &Value) -> Result<Query, RequestError>
 
 #[tactic(auto, unfolding(crate::specs::QueryRequest::year_figures_of))]
 fn year_figures_of(value: &Value) -> Result<Query, WireFault>
-    ensures { result ≡ said.year_figures_of (view value.now) }
+    ensures { result ≡ spec.year_figures_of (view value.now) }
 {
     let year = whole_at(value, Member::Year)?;
     Ok(Query::YearFigures { year })
@@ -84,8 +84,8 @@ fn year_figures_of(value: &Value) -> Result<Query, WireFault>
 
 /// The query of a line's object by itself, without the reader who asks it.
 fn query_by(alloc: Global, op: QueryOp, value: &Value) -> Result<Query, RequestError>
-    ensures query { GivesLast result (said.query_by op (view value.now)) }
-    ensures memory { IfErr result (λ e. e ≡ NoMemory → said.has_code op ≡ true) }
+    ensures query { GivesLast result (spec.query_by op (view value.now)) }
+    ensures memory { IfErr result (λ e. e ≡ NoMemory → spec.has_code op ≡ true) }
 {
     match op {
         QueryOp::Read => read_of(alloc, value),
@@ -109,9 +109,9 @@ pub fn query_of(
     op: QueryOp,
     value: &Value,
 ) -> Result<(u32, Query), RequestError>
-    ensures query { Gives result (said.query_of readers op (view value.now)) }
+    ensures query { Gives result (spec.query_of readers op (view value.now)) }
     ensures among { IfOk result (λ asked. (1 ≤ asked.0) × (asked.0 ≤ readers)) }
-    ensures memory { IfErr result (λ e. e ≡ NoMemory → said.has_code op ≡ true) }
+    ensures memory { IfErr result (λ e. e ≡ NoMemory → spec.has_code op ≡ true) }
 {
     let reader = whole_at(value, Member::Reader)?;
     let query = query_by(alloc, op, value)?;

@@ -1,12 +1,12 @@
 use Rattle.std.proofs.Common.{◌≡◌, ◌++◌, take, string_bytes}
 use Rattle.std.specs.List.{flat_map}
 use Rattle.osn_days.specs.Profile.{newest_rules}
-use Rattle.osn_almanac.specs.Almanac as said
+use Rattle.osn_almanac.specs.Almanac as spec
 use Rattle.osn_almanac.proofs.changes.push_changes_among.Given as goal
 
 -- the changes of the year so far
 abbrev pub invariant-loop-period : goal.invariant-loop-period
 invariant-loop-period l =
     string_bytes l.out ≡ string_bytes l.initial.out
-    ++ said.lines_text (flat_map (said.change_of newest_rules l.year)
+    ++ spec.lines_text (flat_map (spec.change_of newest_rules l.year)
     (take l.period-index l.periods))

@@ -1,12 +1,12 @@
 use Rattle.std.proofs.Common.{rules, arith}
 use Rattle.osn_days.specs.Line.{weekday}
 use Rattle.osn_days.specs.Weekday.{weekday_numbered}
-use Rattle.osn_almanac.specs.Columns as said
+use Rattle.osn_almanac.specs.Columns as spec
 use Rattle.osn_almanac.proofs.Text.{padded_left, day_right, length-weekday_name}
 use Rattle.osn_almanac.proofs.columns.push_day.Goals as goal
 
 pub returns : goal.returns
-unfolding said.day_line
+unfolding spec.day_line
 returns c =
     let name = padded_left 13 c.args.name.now (omega arith) in
     let weekday_short = length-weekday_name (weekday_numbered (weekday c.args.day)) in

@@ -1,12 +1,12 @@
 use Rattle.std.proofs.Common.{◌≡◌, ◌++◌, take, string_bytes}
 use Rattle.std.specs.List.{flat_map}
 use Rattle.osn_days.specs.Profile.{newest_rules}
-use Rattle.osn_almanac.specs.Almanac as said
+use Rattle.osn_almanac.specs.Almanac as spec
 use Rattle.osn_almanac.proofs.easters.push_each.Given as goal
 
 -- the feasts of each Easter so far
 abbrev pub invariant-loop-easter : goal.invariant-loop-easter
 invariant-loop-easter l =
-    string_bytes l.out ≡ string_bytes l.initial.out ++ said.lines_text
-    (flat_map (said.feast_lines newest_rules l.register.lands l.code)
+    string_bytes l.out ≡ string_bytes l.initial.out ++ spec.lines_text
+    (flat_map (spec.feast_lines newest_rules l.register.lands l.code)
     (take l.easter-index l.easters))

@@ -1,11 +1,11 @@
 use Rattle.std.proofs.Common.{◌≡◌, ◌++◌, map, take, string_bytes}
 use Rattle.osn_days.specs.Profile.{newest_rules}
-use Rattle.osn_almanac.specs.Almanac as said
+use Rattle.osn_almanac.specs.Almanac as spec
 use Rattle.osn_almanac.proofs.easters.push_feasts.Given as goal
 
 -- the feasts so far
 abbrev pub invariant-loop-feast : goal.invariant-loop-feast
 invariant-loop-feast l =
-    string_bytes l.out ≡ string_bytes l.initial.out ++ said.lines_text
-    (map (said.feast_line newest_rules l.register.lands l.code l.easter)
+    string_bytes l.out ≡ string_bytes l.initial.out ++ spec.lines_text
+    (map (spec.feast_line newest_rules l.register.lands l.code l.easter)
     (take l.feast-index l.feasts))

@@ -1,9 +1,9 @@
 use Rattle.std.proofs.Common.{◌≡◌, ◌++◌, map, take, string_bytes}
-use Rattle.osn_almanac.specs.Almanac as said
+use Rattle.osn_almanac.specs.Almanac as spec
 use Rattle.osn_almanac.proofs.months.push_days.Given as goal
 
 -- the days so far
 abbrev pub invariant-loop-found : goal.invariant-loop-found
 invariant-loop-found l =
     string_bytes l.out ≡ string_bytes l.initial.out
-    ++ said.lines_text (map (said.month_day_line l.month) (take l.found-index l.days))
+    ++ spec.lines_text (map (spec.month_day_line l.month) (take l.found-index l.days))

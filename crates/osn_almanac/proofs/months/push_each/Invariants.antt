@@ -1,12 +1,12 @@
 use Rattle.std.proofs.Common.{◌≡◌, ◌++◌, take, string_bytes}
 use Rattle.std.specs.List.{flat_map}
 use Rattle.osn_days.specs.Profile.{newest_rules}
-use Rattle.osn_almanac.specs.Almanac as said
+use Rattle.osn_almanac.specs.Almanac as spec
 use Rattle.osn_almanac.proofs.months.push_each.Given as goal
 
 -- the months so far
 abbrev pub invariant-loop-month : goal.invariant-loop-month
 invariant-loop-month l =
-    string_bytes l.out ≡ string_bytes l.initial.out ++ said.lines_text
-    (flat_map (said.month_lines newest_rules l.register.lands l.code l.year)
+    string_bytes l.out ≡ string_bytes l.initial.out ++ spec.lines_text
+    (flat_map (spec.month_lines newest_rules l.register.lands l.code l.year)
     (take l.month-index l.months))

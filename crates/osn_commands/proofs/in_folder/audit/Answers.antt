@@ -1,7 +1,7 @@
 use Rattle.std.proofs.Common.{sym, subst}
 use Rattle.osn_folder.specs.Folder.{IsFileOf}
 use Rattle.osn_commands.specs.Streams.{input_of}
-use Rattle.osn_commands.specs.Watched.{source_of}
+use Rattle.osn_commands.specs.ProgressSource.{source_of}
 use Rattle.osn_commands.proofs.in_folder.audit.Goals as goal
 
 pub returns-clause-ok : goal.returns-clause-ok

@@ -26,3 +26,8 @@ pub returns-in-Audit-clause-ok : goal.returns-in-Audit-clause-ok
 returns-in-Audit-clause-ok g c =
     IfOk-weaker c.audit.result _ _
     (λ status h. ran c.args.invocation _ _ _ _ _ _ status c.in-Audit.is h) c.audit.ensures.ok
+
+pub returns-in-Read-clause-ok : goal.returns-in-Read-clause-ok
+returns-in-Read-clause-ok g c =
+    IfOk-weaker c.read.result _ _
+    (λ status h. ran c.args.invocation _ _ _ _ _ _ status c.in-Read.is h) c.read.ensures.ok

@@ -1,12 +1,12 @@
 use Rattle.std.proofs.Common.{Some, refl, inr}
 use Rattle.osn_days.specs.Profile.{newest_rules}
 use Rattle.osn_register.specs.Limits.{standard_limits}
-use Rattle.osn_commands.proofs.TellLemmas.{serves_known}
+use Rattle.osn_commands.proofs.ReportLemmas.{serves_known}
 use Rattle.osn_commands.proofs.serving.serve_command.Goals as goal
 
 pub returns-in-Err : goal.returns-in-Err
 returns-in-Err g c =
-    let t = c.tell.ensures in (
+    let t = c.report.ensures in (
       Some t.0,
       t.2,
       inr refl,

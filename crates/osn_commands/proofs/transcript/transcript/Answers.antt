@@ -2,7 +2,7 @@ use Rattle.std.proofs.Common.{string_bytes, [], ◌+◌, refl}
 use Rattle.std.proofs.lemmas.Slice.Zip.{Zip-more, either_empty_from_Zip}
 use Rattle.osn_commands.proofs.LineLemmas.{last_piece, next_piece, readers_front, readers_end}
 use Rattle.osn_commands.proofs.LineLemmas.{few_left, same_lines}
-use Rattle.osn_commands.specs.Transcript as said
+use Rattle.osn_commands.specs.Transcript as spec
 use Rattle.osn_commands.proofs.transcript.transcript.Goals as goal
 
 pub loop-questions-preserved : goal.loop-questions-preserved
@@ -16,8 +16,8 @@ loop-questions-preserved c =
     record {
       few = few_left loop.reader _ asked.now _ step.0 loop.invariant.few;
       text = next_piece [] (string_bytes loop.text) (string_bytes c.push_reader.new.text) _
-          (said.reader_lines reader asked.now.items told.now.items) _
-          (said.transcript_from 1 c.args.lists.now c.args.told.now) _
+          (spec.reader_lines reader asked.now.items told.now.items) _
+          (spec.transcript_from 1 c.args.lists.now c.args.told.now) _
           loop.invariant.text
           (readers_front reader _ _ _ asked.now _ told.now _ step.0 step.1 refl)
           c.in_ok-push_reader.ensures

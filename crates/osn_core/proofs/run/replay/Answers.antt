@@ -11,24 +11,24 @@ pub returns-clause-editor : goal.returns-clause-editor
 returns-clause-editor c =
     let first = first_core c.args.limits c.args.readers in
     let begun = ap (λ core. outs_of newest_rules core c.args.steps.now) c.in_ok-core.ensures.ok in
-    IfOk-weaker c.taken.result _ _ (λ outs all.
+    IfOk-weaker c.run_steps.result _ _ (λ outs all.
     let are : outs.items ≡ outs_of newest_rules first c.args.steps.now = all ∙ begun in
-    rw are (editor_told newest_rules no_looks first c.args.steps.now)) c.taken.ensures.outs
+    rw are (editor_told newest_rules no_looks first c.args.steps.now)) c.run_steps.ensures.outs
 
 pub returns-clause-readers : goal.returns-clause-readers
 returns-clause-readers c =
     let first = first_core c.args.limits c.args.readers in
     let begun = ap (λ core. outs_of newest_rules core c.args.steps.now) c.in_ok-core.ensures.ok in
-    IfOk-weaker c.taken.result _ _ (λ outs all reader.
+    IfOk-weaker c.run_steps.result _ _ (λ outs all reader.
     let are : outs.items ≡ outs_of newest_rules first c.args.steps.now = all ∙ begun in
     rw are (outs_begin newest_rules c.args.limits c.args.readers c.args.steps.now reader))
-    c.taken.ensures.outs
+    c.run_steps.ensures.outs
 
 pub returns-clause-forward : goal.returns-clause-forward
 returns-clause-forward c =
     let first = first_core c.args.limits c.args.readers in
     let begun = ap (λ core. outs_of newest_rules core c.args.steps.now) c.in_ok-core.ensures.ok in
-    IfOk-weaker c.taken.result _ _ (λ outs all reader.
+    IfOk-weaker c.run_steps.result _ _ (λ outs all reader.
     let are : outs.items ≡ outs_of newest_rules first c.args.steps.now = all ∙ begun in
     rw are (outs_rise newest_rules c.args.limits c.args.readers c.args.steps.now reader))
-    c.taken.ensures.outs
+    c.run_steps.ensures.outs

@@ -3,11 +3,10 @@ use Rattle.osn_files.proofs.LawFacts.{load-journal_text}
 use Rattle.osn_files.proofs.Utf8Facts.{IsUtf8-journal_text}
 use Rattle.osn_files.proofs.written.journal_text.Goals as goal
 
-pub unwrap-requires : goal.unwrap-requires
-unwrap-requires c =
-    c.from_utf8.ensures.succeeds
-    (subst IsUtf8 (sym c.in_ok-bytes.ensures.text)
-    (IsUtf8-journal_text c.args.object.now c.in_ok-bytes.ensures.sound))
+pub from_utf8_unchecked-requires : goal.from_utf8_unchecked-requires
+from_utf8_unchecked-requires c =
+    subst IsUtf8 (sym c.in_ok-bytes.ensures.text)
+    (IsUtf8-journal_text c.args.object.now c.in_ok-bytes.ensures.sound)
 
 pub returns-in_err-bytes-clause-law : goal.returns-in_err-bytes-clause-law
 returns-in_err-bytes-clause-law c =

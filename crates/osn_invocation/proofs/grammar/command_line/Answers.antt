@@ -18,13 +18,15 @@ returns c =
     let program = explained _ _ c.after_help.result _ _ _ versioned
     c.about.ensures c.after_help.ensures in
     let first = one_more_command _ _ _ _ _ c.in_ok-subcommand.ensures
-    program c.in_ok-serve_grammar.ensures in
+    program c.in_ok-read_grammar.ensures in
     let second = one_more_command _ _ _ _ _ c.in_ok-subcommand-2.ensures
-    first c.in_ok-replay_grammar.ensures in
+    first c.in_ok-serve_grammar.ensures in
     let third = one_more_command _ _ _ _ _ c.in_ok-subcommand-3.ensures
-    second c.in_ok-desk_grammar.ensures in
+    second c.in_ok-replay_grammar.ensures in
     let fourth = one_more_command _ _ _ _ _ c.in_ok-subcommand-4.ensures
-    third c.in_ok-almanac_grammar.ensures in
-    IfOk-weaker c.subcommand-5.result _ _
-    (λ new added. one_more_command _ new _ _ _ added fourth c.in_ok-audit_grammar.ensures)
-    c.subcommand-5.ensures
+    third c.in_ok-desk_grammar.ensures in
+    let fifth = one_more_command _ _ _ _ _ c.in_ok-subcommand-5.ensures
+    fourth c.in_ok-almanac_grammar.ensures in
+    IfOk-weaker c.subcommand-6.result _ _
+    (λ new added. one_more_command _ new _ _ _ added fifth c.in_ok-audit_grammar.ensures)
+    c.subcommand-6.ensures

@@ -6,10 +6,10 @@ pub returns : goal.returns
 returns c =
     let command = explained _ _ c.after_help.result _ _ _
     (c.new.ensures.app, c.new.ensures.local) c.about.ensures c.after_help.ensures in
-    let journal = helped c.file_arg.result c.help.result _ _
-    c.help.ensures c.file_arg.ensures in
-    let save = helped c.file_arg-2.result c.help-2.result _ _
-    c.help-2.ensures c.file_arg-2.ensures in
+    let journal = helped c.option_arg.result c.help.result _ _
+    c.help.ensures c.option_arg.ensures in
+    let save = helped c.option_arg-2.result c.help-2.result _ _
+    c.help-2.ensures c.option_arg-2.ensures in
     let readers = helped c.readers_arg.result c.help-3.result _ _
     c.help-3.ensures c.readers_arg.ensures in
     let first = one_more_arg _ _ _ _ _ c.in_ok-arg.ensures command journal in

@@ -6,9 +6,9 @@ use Rattle.osn_lands.proofs.cover.is_start.Goals as goal
 pub returns : goal.returns
 returns c =
     let ps = c.args.periods.now in
-    let found = c.place_of.ensures in
-    let p = c.index-periods-place_of in
+    let found = c.find_period.ensures in
+    let p = c.index-periods-find_period in
     c.eq.ensures
     ∙ ap (λ q. q.first == c.args.day) (sym p.is)
-    ∙ sym (found_start ps c.place_of.result newest_rules.high c.args.day p.result c.requires
+    ∙ sym (found_start ps c.find_period.result.0 newest_rules.high c.args.day p.result c.requires
     found.within found.holds p.is)

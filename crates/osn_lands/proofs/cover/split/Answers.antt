@@ -1,5 +1,5 @@
 use Rattle.std.proofs.Common.{◌≡◌, ℕ, ◌+◌, ◌<◌, ◌≤◌, List, ◌∷◌, ◌++◌, length, get_or, take, drop}
-use Rattle.std.proofs.Common.{set, map, refl, ap, sym, subst, ◌∙◌, arith}
+use Rattle.std.proofs.Common.{set, map, refl, ap, sym, subst, ◌∙◌, arith, rules}
 use Rattle.std.specs.List.{insert}
 use Rattle.std.proofs.lemmas.List.{length-take-le, get_or_default}
 use Rattle.std.proofs.lemmas.List.Edits.{get_or-insert_below}
@@ -55,7 +55,7 @@ abbrev started : goal.After-periods-1 → Period
 started c = record { first = c.args.day; last = c.index.result.now.last; regime = c.args.regime }
 
 abbrev ended : goal.After-periods-1 → Period
-ended c = record c.index_mut-ended.result.now { last = c.day_before-ended.result }
+ended c = record c.index_mut-ended.result.now { last = c.on_line-ended.result }
 
 kept : (c : goal.After-periods-1) → c.index_mut-ended.result.now ≡ c.index.result.now
 kept c = same_place c.args.periods.now.items c.insert.new.self.items c.place_to_split-place.result
@@ -69,8 +69,8 @@ made c = halves c.args.periods.now.items c.insert.new.self.items c.place_to_spli
     c.index.result.now (ended c) (started c) (within c) c.index.ensures
     c.in_ok-insert.ensures.items
 
-pub day_before-ended-requires : goal.day_before-ended-requires
-day_before-ended-requires c =
+pub on_line-ended-requires : goal.on_line-ended-requires
+on_line-ended-requires c =
     let ps = c.args.periods.now.items in
     let i = c.place_to_split-place.result in
     let p = c.index.result.now in
@@ -80,18 +80,23 @@ day_before-ended-requires c =
     c.requires.covers in
     let first = read_at (λ q. q.first < c.args.day) c.deref.result.now ps i p
     c.deref.ensures.value c.index.ensures (λ q. (found.holds q).0) in
-    omega (arith, begin, first)
+    let later : 1 < c.args.day = omega (arith, begin, first) in
+    search (rules, later)
 
 pub returns-clause-covers : goal.returns-clause-covers
 returns-clause-covers c =
     let ps = c.args.periods.now.items in
     let on = held c in
     let begin = ap (λ q. q.first) (kept c) in
+    let low = no_sooner-at ps c.place_to_split-place.result 1 newest_rules.high c.args.day
+    c.index.result.now (within c) c.index.ensures c.requires.covers in
+    let later : 1 < c.args.day = omega (arith, low, on.0) in
+    let day_before : c.on_line-ended.result + 1 ≡ c.args.day = search (rules, later) in
     subst (CoversLine newest_rules) (sym (made c))
     (covers_split (take c.place_to_split-place.result ps)
     (drop (c.place_to_split-place.result + 1) ps)
     c.index.result.now (ended c) (started c) 1 newest_rules.high
-    begin (omega (arith, begin, on.0, c.day_before-ended.ensures)) c.day_before-ended.ensures
+    begin (omega (arith, begin, on.0, day_before)) day_before
     on.1 refl (covering c))
 
 pub returns-clause-ok : goal.returns-clause-ok

@@ -6,5 +6,5 @@ use Rattle.osn_lands.proofs.label_days.days_of_label.Goals as goal
 pub returns-clause-value : goal.returns-clause-value
 returns-clause-value c =
     three_years_found newest_rules c.args.regime c.args.label _ _ _ _ _ _
-    c.day_in_year-before.ensures.value c.day_in_year-same.ensures.value
-    c.day_in_year-after.ensures.value (search rules) (search rules) (search rules)
+    c.day_in_year.ensures.value c.day_in_year-2.ensures.value c.day_in_year-3.ensures.value
+    (search rules) (search rules) (search rules)

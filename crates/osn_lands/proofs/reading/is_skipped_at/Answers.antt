@@ -12,4 +12,4 @@ returns-then-has_fixed_beginnings c =
     names_none newest_rules s.label c.args.old.now c.args.new.now s.table s.first s.last
     c.requires.old c.requires.new
     c.requires.line.0 c.requires.line.1 c.requires.search.1 c.requires.search.2
-    (not-true _ fixed.0) (not-true _ fixed.1) (sym c.if-not-reaches_over.ensures)
+    (not-true _ fixed.0) (not-true _ fixed.1) (sym c.if-not-straddles.ensures)

@@ -6,15 +6,15 @@ use Rattle.osn_lands.proofs.ReadingFacts.{held_days}
 use Rattle.osn_lands.proofs.SearchFacts.{reads_none}
 use Rattle.osn_lands.proofs.reading.read_period.Goals as goal
 
-pub returns-then-not-reaches_into-clause-value : goal.returns-then-not-reaches_into-clause-value
-returns-then-not-reaches_into-clause-value c =
+pub returns-then-not-overlaps-clause-value : goal.returns-then-not-overlaps-clause-value
+returns-then-not-overlaps-clause-value c =
     let p = c.args.period.now in
     let s = c.args.search.now in
     let items = c.args.days.now.items in
     sym (append-nil items)
     ∙ ap (λ found. items ++ found) (reads_none newest_rules s.label p s.table s.first s.last
     c.requires.known c.requires.line.0
-    c.requires.line.1 c.requires.line.2 c.requires.search.1 (sym c.if-not-reaches_into.ensures))
+    c.requires.line.1 c.requires.line.2 c.requires.search.1 (sym c.if-not-overlaps.ensures))
 
 pub returns-clause-value : goal.returns-clause-value
 returns-clause-value c =

@@ -4,7 +4,7 @@ use Rattle.std.specs.List.{All}
 use Rattle.std.specs.Slice.Iter.{iter_rest}
 use Rattle.std.specs.Vec.Iter.{into_iter_items, into_iter_len}
 use Rattle.core.specs.declared.thread.PromisedHandle.{PromisedHandle}
-use Rattle.osn_live.specs.declared.rule.Origin.{Origin}
+use Rattle.osn_live.specs.declared.protocol.Origin.{Origin}
 use Rattle.osn_live.specs.declared.work.Worked.{Worked}
 use Rattle.osn_live.specs.declared.work.Works.{Works}
 use Rattle.osn_live.specs.InsideDesk.{AreStarted, AreAt}

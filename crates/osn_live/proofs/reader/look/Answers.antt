@@ -4,7 +4,7 @@ use Rattle.osn_register.specs.declared.limits.Limits.{Limits}
 use Rattle.osn_register.specs.declared.edit.Edit.{Edit}
 use Rattle.osn_register.specs.Answer.{takes_memory}
 use Rattle.osn_core.specs.Sequential.{reply_at}
-use Rattle.osn_live.specs.declared.rule.Origin.{Origin}
+use Rattle.osn_live.specs.declared.protocol.Origin.{Origin}
 use Rattle.osn_live.specs.Certificate.{CertificateState}
 use Rattle.osn_live.specs.Running.{EditionState}
 use Rattle.osn_live.proofs.OneRule.{finds}

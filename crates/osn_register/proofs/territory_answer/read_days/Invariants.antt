@@ -1,9 +1,9 @@
 use Rattle.std.proofs.Common.{◌≡◌, map, take}
 use Rattle.osn_days.specs.Profile.{newest_rules}
-use Rattle.osn_register.specs.Answer as said
+use Rattle.osn_register.specs.Answer as spec
 use Rattle.osn_register.proofs.territory_answer.read_days.Given as goal
 
 -- each day so far, as the territory names it
 abbrev pub invariant-loop-day : goal.invariant-loop-day
 invariant-loop-day l =
-    l.found.items ≡ map (said.found_on newest_rules l.territory) (take l.day-index l.days)
+    l.found.items ≡ map (spec.found_on newest_rules l.territory) (take l.day-index l.days)

@@ -4,8 +4,8 @@ use Rattle.std.specs.List.{All}
 use Rattle.osn_days.specs.Profile.{Profile, newest_rules}
 use Rattle.osn_days.specs.Line.{line}
 use Rattle.osn_lands.specs.declared.label.Label.{Label}
-use Rattle.osn_lands.specs.Label.{local, same_label}
-use Rattle.osn_lands.specs.Territory.{PlainTerritory, regime_at, reading}
+use Rattle.osn_lands.specs.Label.{local_label, same_label}
+use Rattle.osn_lands.specs.Territory.{TerritoryModel, regime_at, reading}
 use Rattle.osn_lands.proofs.LabelFacts.{AreParts, same_label_decides}
 use Rattle.osn_register.proofs.territory_answer.reading.Goals as goal
 
@@ -18,17 +18,17 @@ labels_equal a b parts =
     (sym parts.1.1)
 
 -- each day of a reading has the label
-reading-labels : (p : Profile) (t : PlainTerritory) (label : Label) →
-    All (λ d. label ≡ local p (regime_at t d) d) (reading p t label)
+reading-labels : (p : Profile) (t : TerritoryModel) (label : Label) →
+    All (λ d. label ≡ local_label p (regime_at t d) d) (reading p t label)
 unfolding reading
 reading-labels p t label k d within =
     labels_equal _ label ((same_label_decides _ label).0
-    (filter_passes (λ d. same_label (local p (regime_at t d) d) label) (line p) k d within))
+    (filter_passes (λ d. same_label (local_label p (regime_at t d) d) label) (line p) k d within))
 
 pub read_days-requires : goal.read_days-requires
 read_days-requires c =
     let t = c.args.territory.now in
-    All-same (λ d. c.args.label ≡ local newest_rules (regime_at t d) d) c.as_slice.result.now
+    All-same (λ d. c.args.label ≡ local_label newest_rules (regime_at t d) d) c.as_slice.result.now
     (reading newest_rules t c.args.label)
     (c.as_slice.ensures.value ∙ c.in_ok-days.ensures.read)
     (reading-labels newest_rules t c.args.label)

@@ -6,7 +6,7 @@ use Rattle.serde_json.specs.Data.{Data}
 use Rattle.serde_json.specs.Read.{read}
 use Rattle.serde_json.specs.View.{view}
 use Rattle.serde_json.proofs.OnLiterals.{serde_json_on_literals}
-use Rattle.osn_request.specs.Request as said
+use Rattle.osn_request.specs.Request as spec
 use Rattle.osn_request.proofs.request.value_of.Goals as goal
 
 no_utf8 : (line : List ℕ) → ¬ (IsUtf8 line) → is_utf8 line ≡ false
@@ -16,7 +16,7 @@ no_utf8 line h = by (is_utf8 line) refl
     by true e = absurd (h (IsUtf8-from_is_utf8 line e))
     by false e = refl
 
-utf8_value : (line : List ℕ) → IsUtf8 line → said.value_of line ≡ read line
+utf8_value : (line : List ℕ) → IsUtf8 line → spec.value_of line ≡ read line
 utf8_value line h = ap (λ b. if b then read line else None) (is_utf8-from_IsUtf8 line h)
 
 -- no value is read from nothing
@@ -27,7 +27,7 @@ nonempty (x ∷ xs) d h = omega arith
 
 pub returns-in_default-clause-value : goal.returns-in_default-clause-value
 returns-in_default-clause-value c =
-    ap (λ b. said.no_value (if b then read c.args.line.now else None))
+    ap (λ b. spec.no_value (if b then read c.args.line.now else None))
     (no_utf8 c.args.line.now c.in_default.ensures.cases.0)
 
 pub returns-in-Ok-from_str-clause-value : goal.returns-in-Ok-from_str-clause-value

@@ -1,7 +1,7 @@
 use Rattle.std.proofs.Common.{◌∙◌, subst}
 use Rattle.osn_days.specs.Profile.{newest_rules}
 use Rattle.osn_core.specs.Control.{reader_at}
-use Rattle.osn_core.specs.Copies.{IsSeenBy}
+use Rattle.osn_core.specs.LiveAndStandby.{IsSeenBy}
 use Rattle.osn_core.specs.CoreInside.{core_in}
 use Rattle.osn_core.specs.Machine.{CoreState}
 use Rattle.osn_core.proofs.Placed.{seen_by, standby_side}

@@ -5,10 +5,10 @@ use Rattle.osn_lands.proofs.KeptFacts.{kept_reading}
 use Rattle.osn_lands.proofs.territory.Territory.read_and_skipped.Goals as goal
 
 pub returns-clause-skipped : goal.returns-clause-skipped
-returns-clause-skipped c = rw c.search_for-search.ensures.label at c.in_ok-skipped.ensures.value
+returns-clause-skipped c = rw c.new-search.ensures.label at c.in_ok-skipped.ensures.value
 
 pub returns-clause-read : goal.returns-clause-read
-returns-clause-read c = rw c.search_for-search.ensures.label at c.in_ok-days.ensures.value
+returns-clause-read c = rw c.new-search.ensures.label at c.in_ok-days.ensures.value
 
 pub returns-clause-kept : goal.returns-clause-kept
 returns-clause-kept c =

@@ -1,7 +1,7 @@
 use Rattle.std.proofs.Common.{rules, ◌≡◌, [], ◌∷◌, ◌++◌, List, ap, sym, ◌∙◌}
 use Rattle.osn_days.specs.Profile.{newest_rules}
 use Rattle.osn_register.specs.declared.edit.Edit.{Edit}
-use Rattle.osn_register.specs.Plain.{PlainLand}
+use Rattle.osn_register.specs.Plain.{LandModel}
 use Rattle.osn_core.specs.Sequential.{ObjectState, lands_of, draft_lands, edits_in, with_edition}
 use Rattle.osn_core.proofs.Draft.{draft_shown, draft_published, edits_published}
 use Rattle.osn_live.specs.Certificate.{CertificateState}
@@ -15,7 +15,7 @@ new-next-requires g c =
     ∙ ap (λ (k : CertificateState). lands_of newest_rules limits k.batches)
     (sym (c.again.ensures ∙ c.in-Some.ensures)) in
     c.in-Ok.ensures.ok ∙ c.in_ok-draft.ensures.value ∙ c.self.invariant.draft
-    ∙ ap (λ (ls : List PlainLand). record { limits = limits; lands = ls }) lands
+    ∙ ap (λ (ls : List LandModel). record { limits = limits; lands = ls }) lands
 
 pub invariant_of-self-2 : goal.invariant_of-self-2
 invariant_of-self-2 g c =
@@ -32,7 +32,7 @@ invariant_of-self-2 g c =
       known = search rules;
       book = search rules;
       draft = c.self.invariant.draft
-          ∙ ap (λ (ls : List PlainLand). record { limits = limits; lands = ls })
+          ∙ ap (λ (ls : List LandModel). record { limits = limits; lands = ls })
           (draft_published newest_rules old ∙ ap (draft_lands newest_rules) (sym now));
       counted = c.self.invariant.counted ∙ edits_published old ∙ ap edits_in (sym now);
     }

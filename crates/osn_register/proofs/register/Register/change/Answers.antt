@@ -4,8 +4,8 @@ use Rattle.std.specs.declared.result.Result.{Result}
 use Rattle.std.specs.Result.{OnOk, OnErr}
 use Rattle.std.specs.Option.{option_copied_mut}
 use Rattle.osn_days.specs.Profile.{newest_rules}
-use Rattle.osn_lands.specs.Territory.{PlainTerritory}
-use Rattle.osn_register.specs.declared.register.Entry.{Entry}
+use Rattle.osn_lands.specs.Territory.{TerritoryModel}
+use Rattle.osn_register.specs.declared.register.NamedTerritory.{NamedTerritory}
 use Rattle.osn_register.specs.Plain.{territory_of, with_territory, IsWellFormed}
 use Rattle.osn_register.specs.InsideChange.{change_refusal, territory_after}
 use Rattle.osn_register.specs.Inside.{register_in}
@@ -65,7 +65,7 @@ either (Ok x) f g a b = f a
 either (Err y) f g a b = g b
 
 -- the register with the territory that the change left, as f makes it of the old one
-written : (c : goal.After-self-1) (f : PlainTerritory → PlainTerritory) →
+written : (c : goal.After-self-1) (f : TerritoryModel → TerritoryModel) →
     c.make.new.territory ≡ f c.unwrap-entry.result.now.territory →
     register_in (record {
       alloc = c.self.inside.alloc;
@@ -82,7 +82,7 @@ written : (c : goal.After-self-1) (f : PlainTerritory → PlainTerritory) →
     }
 written c f land =
     let before = c.unwrap-entry.result.now in
-    let after : Entry = record { name = before.name; territory = c.make.new.territory } in
+    let after : NamedTerritory = record { name = before.name; territory = c.make.new.territory } in
     let found = sym c.get_mut.ensures.value ∙ ap option_copied_mut c.unwrap-entry.ensures in
     register-with string_bytes (λ v. v.name) (λ v. v.territory) c.self.inside.limits
     c.self.inside.lands.entries _ c.args.self.now c.args.code.now f

@@ -1,6 +1,6 @@
 use Rattle.std.proofs.Common.{◌≡◌, ◌∷◌, ◌++◌, map, ap, sym, subst, ◌∙◌, string_bytes}
 use Rattle.osn_days.specs.Profile.{newest_rules}
-use Rattle.osn_register.specs.declared.register.Entry.{Entry}
+use Rattle.osn_register.specs.declared.register.NamedTerritory.{NamedTerritory}
 use Rattle.osn_register.specs.Plain.{IsWellFormed}
 use Rattle.osn_register.specs.Inside.{land_in}
 use Rattle.osn_register.proofs.Kept.{copied_absent, copied_room, copied_within, copied_more}
@@ -32,7 +32,7 @@ insert_copy-requires-clause-territory c = copied_within newest_rules _ _ _ _ _ _
 
 pub loop-code-preserved : goal.loop-code-preserved
 loop-code-preserved c =
-    let L = land_in {V = Entry} string_bytes (λ v. v.name) (λ v. v.territory) in (
+    let L = land_in {V = NamedTerritory} string_bytes (λ v. v.name) (λ v. v.territory) in (
       ap (λ r. r.limits) c.in_ok-insert_copy.ensures.ok ∙ c.loop-code.invariant.0,
       ap (λ r. r.lands ++ map L c.next.new.self) c.in_ok-insert_copy.ensures.ok
           ∙ copied_more c.loop-code.copied.lands (L (c.in-Some.code.now, c.in-Some.entry.now))
@@ -48,7 +48,7 @@ returns-clause-value c = same_register c.loop-code.copied c.args.self.now c.loop
 
 pub returns-in_err-insert_copy-clause-memory : goal.returns-in_err-insert_copy-clause-memory
 returns-in_err-insert_copy-clause-memory c =
-    let L = land_in {V = Entry} string_bytes (λ v. v.name) (λ v. v.territory) in
+    let L = land_in {V = NamedTerritory} string_bytes (λ v. v.name) (λ v. v.territory) in
     on_err c.from_residual.result (copied_some c.loop-code.copied.lands
     (L (c.in-Some.code.now, c.in-Some.entry.now)) (map L c.next.new.self) c.args.self.now.lands
     (ap (λ it. c.loop-code.copied.lands ++ map L it) (sym c.in-Some.ensures.steps)

@@ -4,18 +4,18 @@ use Rattle.std.specs.String.{string_eq}
 use Rattle.indexmap.specs.IndexMap.{get}
 use Rattle.indexmap.proofs.CallerLemmas.{insert_entry-new}
 use Rattle.osn_days.specs.Profile.{newest_rules}
-use Rattle.osn_register.specs.Plain.{PlainLand, PlainRegister, land_of, IsWellFormed}
+use Rattle.osn_register.specs.Plain.{LandModel, RegisterModel, land_of, IsWellFormed}
 use Rattle.osn_register.specs.Inside.{register_in}
 use Rattle.osn_register.proofs.Kept.{land_of-none, kept_new, IsWellFormed-push}
 use Rattle.osn_register.proofs.register.Register.insert.Goals as goal
 
-abbrev with_lands : PlainRegister → List PlainLand → PlainRegister
+abbrev with_lands : RegisterModel → List LandModel → RegisterModel
 with_lands r lands = record r { lands = lands }
 
-abbrev with_new : PlainLand → PlainRegister → PlainRegister
+abbrev with_new : LandModel → RegisterModel → RegisterModel
 with_new l r = record r { lands = r.lands ++ l ∷ [] }
 
-abbrev new_land : goal.Joined-branch-2 → PlainLand
+abbrev new_land : goal.Joined-branch-2 → LandModel
 new_land c = record {
   code = string_bytes c.args.code;
   name = c.args.entry.name;

@@ -2,10 +2,10 @@ use Rattle.std.proofs.Common.{◌≡◌, List, ℕ, ◌<◌, [], ◌∷◌, ◌+
 use Rattle.std.proofs.Common.{string_bytes, append_assoc, append-nil, length-append}
 use Rattle.std.proofs.lemmas.List.{length-map}
 use Rattle.osn_register.specs.declared.answer.Land.{Land}
-use Rattle.osn_register.specs.declared.register.Entry.{Entry}
-use Rattle.osn_register.specs.Answer as said
+use Rattle.osn_register.specs.declared.register.NamedTerritory.{NamedTerritory}
+use Rattle.osn_register.specs.Answer as spec
 use Rattle.osn_register.specs.Inside.{land_in}
-use Rattle.osn_register.specs.Plain.{PlainLand}
+use Rattle.osn_register.specs.Plain.{LandModel}
 use Rattle.osn_register.proofs.Kept.{on_err}
 use Rattle.osn_register.proofs.register.Register.listed.Goals as goal
 
@@ -20,50 +20,50 @@ listed_more so_far land rest all code name e coded named =
     ∙ e
 
 -- where one is left to list, there are some
-some_left : {E : Type 0} (L : E → PlainLand) (so_far : List Land) (left rest all : List E) (e : E)
-    (lands : List PlainLand) → left ≡ e ∷ rest →
-    so_far ++ map said.listed (map L left) ≡ map said.listed (map L all) → map L all ≡ lands →
+some_left : {E : Type 0} (L : E → LandModel) (so_far : List Land) (left rest all : List E) (e : E)
+    (lands : List LandModel) → left ≡ e ∷ rest →
+    so_far ++ map spec.listed (map L left) ≡ map spec.listed (map L all) → map L all ≡ lands →
     0 < length lands
 some_left L so_far left rest all e lands is listed kept =
-    let counted = ap length (ap (λ es. so_far ++ map said.listed (map L es)) (sym is) ∙ listed
-    ∙ ap (map said.listed) kept) in
+    let counted = ap length (ap (λ es. so_far ++ map spec.listed (map L es)) (sym is) ∙ listed
+    ∙ ap (map spec.listed) kept) in
     omega (
       arith,
       counted,
-      length-append so_far (map said.listed (map L (e ∷ rest))),
-      length-map lands said.listed,
+      length-append so_far (map spec.listed (map L (e ∷ rest))),
+      length-map lands spec.listed,
     )
 
 pub loop-code-preserved : goal.loop-code-preserved
 loop-code-preserved c =
-    let L = land_in {V = Entry} string_bytes (λ v. v.name) (λ v. v.territory) in
-    ap (λ ls. ls ++ map said.listed (map L c.next.new.self)) c.in_ok-push.ensures.items
+    let L = land_in {V = NamedTerritory} string_bytes (λ v. v.name) (λ v. v.territory) in
+    ap (λ ls. ls ++ map spec.listed (map L c.next.new.self)) c.in_ok-push.ensures.items
     ∙ listed_more c.loop-code.listed.items c.in_ok-land.field-0
-    (map said.listed (map L c.next.new.self)) _ (string_bytes c.in-Some.code.now)
+    (map spec.listed (map L c.next.new.self)) _ (string_bytes c.in-Some.code.now)
     c.in-Some.entry.now.name
-    (ap (λ it. c.loop-code.listed.items ++ map said.listed (map L it)) (sym c.in-Some.ensures.steps)
+    (ap (λ it. c.loop-code.listed.items ++ map spec.listed (map L it)) (sym c.in-Some.ensures.steps)
     ∙ c.loop-code.invariant)
     (c.in_ok-land.ensures.0 ∙ c.as_str.ensures.value) c.in_ok-land.ensures.1
 
 pub returns-clause-value : goal.returns-clause-value
 returns-clause-value c =
-    let L = land_in {V = Entry} string_bytes (λ v. v.name) (λ v. v.territory) in
+    let L = land_in {V = NamedTerritory} string_bytes (λ v. v.name) (λ v. v.territory) in
     sym (append-nil c.loop-code.listed.items)
-    ∙ ap (λ it. c.loop-code.listed.items ++ map said.listed (map L it))
+    ∙ ap (λ it. c.loop-code.listed.items ++ map spec.listed (map L it))
     (sym c.in-None.ensures.steps.0)
     ∙ c.loop-code.invariant
-    ∙ ap (λ r. map said.listed r.lands) c.self.view_is
+    ∙ ap (λ r. map spec.listed r.lands) c.self.view_is
 
 pub returns-in_err-land-clause-memory : goal.returns-in_err-land-clause-memory
 returns-in_err-land-clause-memory c = on_err c.from_residual-in_err-land.result
-    (some_left (land_in {V = Entry} string_bytes (λ v. v.name) (λ v. v.territory))
+    (some_left (land_in {V = NamedTerritory} string_bytes (λ v. v.name) (λ v. v.territory))
     c.loop-code.listed.items c.loop-code.code-iterator c.next.new.self c.self.inside.lands.entries
     (c.in-Some.code.now, c.in-Some.entry.now) c.args.self.now.lands c.in-Some.ensures.steps
     c.loop-code.invariant (ap (λ r. r.lands) c.self.view_is))
 
 pub returns-in_err-push-clause-memory : goal.returns-in_err-push-clause-memory
 returns-in_err-push-clause-memory c = on_err c.from_residual-in_err-push.result
-    (some_left (land_in {V = Entry} string_bytes (λ v. v.name) (λ v. v.territory))
+    (some_left (land_in {V = NamedTerritory} string_bytes (λ v. v.name) (λ v. v.territory))
     c.loop-code.listed.items c.loop-code.code-iterator c.next.new.self c.self.inside.lands.entries
     (c.in-Some.code.now, c.in-Some.entry.now) c.args.self.now.lands c.in-Some.ensures.steps
     c.loop-code.invariant (ap (λ r. r.lands) c.self.view_is))

@@ -1,12 +1,12 @@
 use Rattle.std.proofs.Common.{◌≡◌, ◌++◌, map, string_bytes}
-use Rattle.osn_register.specs.Answer as said
+use Rattle.osn_register.specs.Answer as spec
 use Rattle.osn_register.specs.Inside.{land_in}
 use Rattle.osn_register.proofs.register.Register.listed.Given as goal
 
 -- what is listed and what is left are all territories
 abbrev pub invariant-loop-code : goal.invariant-loop-code
 invariant-loop-code l =
-    l.listed.items ++ map said.listed (map (land_in string_bytes (λ v. v.name) (λ v. v.territory))
+    l.listed.items ++ map spec.listed (map (land_in string_bytes (λ v. v.name) (λ v. v.territory))
     l.code-iterator)
-    ≡ map said.listed (map (land_in string_bytes (λ v. v.name) (λ v. v.territory))
+    ≡ map spec.listed (map (land_in string_bytes (λ v. v.name) (λ v. v.territory))
     l.self-inside.lands.entries)

@@ -2,7 +2,7 @@ use Rattle.std.proofs.Common.{◌≡◌, Result, Ok, Err, OnOk, refl, ap, sym, �
 use Rattle.serde_json.specs.Data.{string}
 use Rattle.osn_computus.specs.FigureTexts.{epact_text}
 use Rattle.osn_format.specs.Json.{whole}
-use Rattle.osn_reply.specs.ReplyText as said
+use Rattle.osn_reply.specs.ReplyText as spec
 use Rattle.osn_format.proofs.WriteLemmas.{at_last}
 use Rattle.osn_reply.proofs.ToldLemmas.{told}
 use Rattle.osn_reply.proofs.reply.answer.write_reply.Goals as goal
@@ -22,36 +22,36 @@ returns-clause-tokens c =
     (λ e. elim c.match-reply.branch [
       | goal.in-Reading w ↦
           rw w.in-Reading.is (reply _ _
-          (ap (λ l. said.reading_data l w.as_slice-in-Reading.result.now) w.as_slice.ensures
-          ∙ ap (λ l. said.reading_data w.in-Reading.found l) w.as_slice-in-Reading.ensures)
+          (ap (λ l. spec.reading_data l w.as_slice-in-Reading.result.now) w.as_slice.ensures
+          ∙ ap (λ l. spec.reading_data w.in-Reading.found l) w.as_slice-in-Reading.ensures)
           (ap (λ v. v.tokens) w.out-is
           ∙ given _ _ _ c.in_ok-begun.was w.begun-is w.write_reading-begun.ensures.tokens) e)
       | goal.in-OnDay w ↦
-          rw w.in-OnDay.is (reply _ (said.on_day_data w.in-OnDay.found w.in-OnDay.period) refl
+          rw w.in-OnDay.is (reply _ (spec.on_day_data w.in-OnDay.found w.in-OnDay.period) refl
           (ap (λ v. v.tokens) w.out-is
           ∙ given _ _ _ c.in_ok-begun.was w.begun-is w.write_on_day-begun.ensures.tokens) e)
       | goal.in-Easters w ↦
           rw w.in-Easters.is (reply _ _
-          (ap (λ l. said.easters_data l w.in-Easters.listed) w.as_slice-in-Easters.ensures)
+          (ap (λ l. spec.easters_data l w.in-Easters.listed) w.as_slice-in-Easters.ensures)
           (ap (λ v. v.tokens) w.out-is
           ∙ given _ _ _ c.in_ok-begun.was w.begun-is w.write_easters-begun.ensures.tokens) e)
       | goal.in-Figures w ↦
           let f = w.in-Figures in
           let gregorian =
-          said.reckoning_data f.gregorian_easter (string (epact_text f.gregorian_epact))
+          spec.reckoning_data f.gregorian_easter (string (epact_text f.gregorian_epact))
           f.gregorian_letters in
           let julian =
-          said.reckoning_data f.julian_easter (whole f.julian_epact) f.julian_letters in
-          rw f.is (reply _ (said.figures_data f.year f.golden f.indiction gregorian julian) refl
+          spec.reckoning_data f.julian_easter (whole f.julian_epact) f.julian_letters in
+          rw f.is (reply _ (spec.figures_data f.year f.golden f.indiction gregorian julian) refl
           (ap (λ v. v.tokens) w.out-is
           ∙ given _ _ _ c.in_ok-begun.was w.begun-is w.write_figures-begun.ensures.tokens) e)
       | goal.in-Lands w ↦
-          rw w.in-Lands.is (reply _ _ (ap (λ l. said.lands_data l) w.as_slice-in-Lands.ensures)
+          rw w.in-Lands.is (reply _ _ (ap (λ l. spec.lands_data l) w.as_slice-in-Lands.ensures)
           (ap (λ v. v.tokens) w.out-is
           ∙ given _ _ _ c.in_ok-begun.was w.begun-is w.write_lands-begun.ensures.tokens) e)
       | goal.in-Periods w ↦
           rw w.in-Periods.is (reply _ _
-          (ap (λ l. said.periods_data l) w.as_slice-in-Periods.ensures)
+          (ap (λ l. spec.periods_data l) w.as_slice-in-Periods.ensures)
           (ap (λ v. v.tokens) w.out-is
           ∙ given _ _ _ c.in_ok-begun.was w.begun-is w.write_periods-begun.ensures.tokens) e)
     ])

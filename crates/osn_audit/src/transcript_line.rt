@@ -1,0 +1,66 @@
+//! What a line of a transcript says.
+ghost use Rattle.std.specs.Prelude.{◌≡◌, ◌<◌, ◌≤◌, MatchResult, IfOk, Ok, Err};
+ghost use Rattle.serde_json.specs.View.{view};
+ghost use Rattle.osn_request.specs.Request.{Fails};
+ghost use Rattle.osn_audit.specs.Audit as spec;
+ghost use Rattle.osn_audit.specs.Inside.{entry_shown};
+
+use osn_core::MOST_READERS;
+use osn_files::question_in;
+use osn_format::{Member, WireFault};
+use osn_register::Query;
+use osn_request::{RequestError, whole_at};
+use serde_json::Value;
+use std::alloc::Global;
+
+/// A member that is an object.
+fn object_at(value: &Value, member: Member) -> Result<&Value, WireFault>
+    ensures { MatchResult result
+        (λ v. spec.object_at member (view value.now) ≡ Ok (view v.now))
+        (λ f. spec.object_at member (view value.now) ≡ Err f) }
+{
+    match value.get(member.name()) {
+        Some(object) if object.is_object() => Ok(object),
+        _ => Err(WireFault::BadField(member)),
+    }
+}
+
+/// The edition that a reply names.
+fn edition_of(reply: &Value) -> Result<u32, WireFault>
+    ensures { result ≡ spec.edition_of (view reply.now) }
+{
+    let edition = whole_at(reply, Member::Edition)?;
+    if edition < 0 || edition > 4_294_967_295 {
+        return Err(WireFault::BadField(Member::Edition));
+    }
+    Ok(edition as u32)
+}
+
+/// Who asked what, the edition that the reply names, and the reply.
+#[derive(Drop)]
+pub(crate) struct TranscriptLine<'a> {
+    pub(crate) reader: u32,
+    pub(crate) query: Query,
+    pub(crate) edition: u32,
+    pub(crate) reply: &'a Value,
+}
+
+/// What the object of a line says.
+#[tactic(auto, unfolding(crate::specs::Audit::entry_in))]
+pub(crate) fn entry_in(alloc: Global, value: &Value) -> Result<TranscriptLine, RequestError>
+    ensures entry { MatchResult result
+        (λ e. spec.entry_in (view value.now) ≡ Ok (entry_shown e))
+        (λ e. Fails e (spec.entry_in (view value.now))) }
+    ensures reader { IfOk result (λ e. (0 < e.reader) × (e.reader ≤ MOST_READERS)) }
+{
+    let ask = object_at(value, Member::Ask)?;
+    let (reader, query) = question_in(alloc, ask)?;
+    let reply = object_at(value, Member::Reply)?;
+    let edition = edition_of(reply)?;
+    Ok(TranscriptLine {
+        reader,
+        query,
+        edition,
+        reply,
+    })
+}

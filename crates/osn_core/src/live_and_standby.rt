@@ -1,0 +1,231 @@
+ghost use Rattle.std.specs.Prelude.{◌≡◌, ◌<◌, ◌≤◌, ◌+◌, ◌-◌, length, get_or, true, None, IfOk};
+ghost use Rattle.std.specs.Prelude.{OnOk, OnErr};
+ghost use Rattle.osn_days.specs.Profile.{newest_rules};
+ghost use Rattle.osn_register.specs.Plain.{refusal};
+ghost use Rattle.osn_register.specs.Refusal.{IsTestOf};
+ghost use Rattle.osn_core.specs.Sequential.{with_pending, with_edition, stage_refusal};
+ghost use Rattle.osn_core.specs.Sequential.{publish_refusal, lands_of, draft_lands, last_batch};
+ghost use Rattle.osn_core.specs.Sequential.{IsSound};
+ghost use Rattle.osn_core.specs.LiveAndStandbyInside.{first_copies, lagging_lands};
+
+use crate::batch::Batch;
+use osn_register::{Edit, Limits, Refusal, Register};
+use std::alloc::{AllocError, Global};
+use std::marker::Model;
+
+/// The batches and the pending edits, and two registers of them: the live one has the batches, and
+/// the standby all edits but the last ones of the last batch, which it lacks for a while.
+///
+/// A publish exchanges the two, so it costs the same however large the register is.
+#[derive(Drop)]
+pub struct LiveAndStandby {
+    alloc: Global,
+    limits: Limits,
+    live: Register,
+    standby: Register,
+    /// How many edits of the last batch the standby lacks.
+    lag: usize,
+    batches: Vec<Batch>,
+    pending: Vec<Edit>,
+    edits: u32,
+}
+
+impl Model for LiveAndStandby {
+    ghost use Rattle.osn_core.specs.LiveAndStandbyInside.{CopiesState, copies_in, AreKept};
+
+    ghost Value = { CopiesState };
+
+    ghost view = { copies_in };
+
+    ghost invariant = { AreKept };
+}
+
+impl LiveAndStandby {
+    /// Two registers with no territory, no batch and nothing pending.
+    pub fn new(alloc: Global, limits: Limits) -> LiveAndStandby
+        ensures { result ≡ first_copies limits }
+    {
+        LiveAndStandby {
+            alloc,
+            limits,
+            live: Register::new(alloc, limits),
+            standby: Register::new(alloc, limits),
+            lag: 0,
+            batches: Vec::new(alloc),
+            pending: Vec::new(alloc),
+            edits: 0,
+        }
+    }
+
+    /// The register of the batches.
+    pub fn live(&self) -> &Register
+        ensures lands { result.now.lands
+            ≡ lands_of newest_rules self.now.object.limits self.now.object.batches }
+        ensures limits { result.now.limits ≡ self.now.object.limits }
+    {
+        &self.live
+    }
+
+    /// The register of all edits but those that it lacks.
+    pub fn standby(&self) -> &Register
+        ensures lands { result.now.lands ≡ lagging_lands newest_rules self.now }
+        ensures limits { result.now.limits ≡ self.now.object.limits }
+    {
+        &self.standby
+    }
+
+    /// How many edits of the last batch the standby lacks.
+    pub fn lag(&self) -> usize
+        ensures { result ≡ self.now.lag }
+    {
+        self.lag
+    }
+
+    /// The batches, each an edition.
+    pub fn batches(&self) -> &[Batch]
+        ensures value { result.now ≡ self.now.object.batches }
+        ensures sound { IsSound newest_rules self.now.object }
+    {
+        self.batches.as_slice()
+    }
+
+    /// The pending edits.
+    pub fn pending(&self) -> &[Edit]
+        ensures { result.now ≡ self.now.object.pending }
+    {
+        self.pending.as_slice()
+    }
+
+    /// The number of batches.
+    pub fn edition(&self) -> u32
+        ensures { result ≡ length self.now.object.batches }
+    {
+        // The batches are at most this many, so their number fits.
+        let _most = self.limits.editions;
+        self.batches.len() as u32
+    }
+
+    /// How many edits would be pending if this one were staged now, or the first refusal.
+    pub fn check(&self, edit: &Edit) -> Result<u32, Refusal>
+        ensures test { IsTestOf (stage_refusal newest_rules self.now.object edit.now) result }
+        ensures count { IfOk result (λ n. n ≡ length self.now.object.pending + 1) }
+    {
+        self.latest().check(edit)?;
+        if self.edits >= self.limits.edits {
+            return Err(Refusal::JournalFull);
+        }
+        Ok(self.pending.len() as u32 + 1)
+    }
+
+    /// The register of all edits: the standby may lack some where nothing is pending.
+    fn latest(&self) -> &Register
+        ensures lands { result.now.lands ≡ draft_lands newest_rules self.now.object }
+        ensures limits { result.now.limits ≡ self.now.object.limits }
+    {
+        if self.pending.is_empty() {
+            &self.live
+        } else {
+            &self.standby
+        }
+    }
+
+    /// Stages an edit that `check` has let in, in a standby that lacks nothing, and answers how
+    /// many are pending then.
+    ///
+    /// # Errors
+    ///
+    /// Only where no memory is found. Nothing has changed then.
+    pub fn admit(&mut self, edit: Edit) -> Result<u32, AllocError>
+        requires lag { self.old.lag ≡ 0 }
+        requires lawful { stage_refusal newest_rules self.old.object edit ≡ None }
+        ensures ok { OnOk result
+            (self.new ≡ record { object = with_pending self.old.object edit; lag = 0 }) }
+        ensures count { IfOk result (λ n. n ≡ length self.new.object.pending) }
+        ensures err { OnErr result (self.new ≡ self.old) }
+    {
+        self.pending.reserve(1)?;
+        self.standby.admit(&edit)?;
+        self.pending.push_reserved(edit);
+        self.edits += 1;
+        Ok(self.pending.len() as u32)
+    }
+
+    /// The edition that a publish would make now, or the first refusal.
+    pub fn check_publish(&self) -> Result<u32, Refusal>
+        ensures test { IsTestOf (publish_refusal self.now.object) result }
+        ensures edition { IfOk result (λ n. n ≡ length self.now.object.batches + 1) }
+    {
+        if self.pending.is_empty() {
+            return Err(Refusal::NothingPending);
+        }
+        if self.batches.len() >= self.limits.editions as usize {
+            return Err(Refusal::EditionsFull);
+        }
+        Ok(self.batches.len() as u32 + 1)
+    }
+
+    /// Makes the standby the live register, with the pending edits as the next batch, which the
+    /// other one lacks then, and answers the number of batches.
+    ///
+    /// # Errors
+    ///
+    /// Only where no memory is found. Nothing has changed then.
+    pub fn make_edition(&mut self) -> Result<u32, AllocError>
+        requires { publish_refusal self.old.object ≡ None }
+        ensures ok { OnOk result (self.new ≡ record {
+          object = with_edition self.old.object;
+          lag = length self.old.object.pending;
+        }) }
+        ensures edition { IfOk result (λ n. n ≡ length self.new.object.batches) }
+        ensures err { OnErr result (self.new ≡ self.old) }
+    {
+        self.batches.reserve(1)?;
+        let lag = self.pending.len();
+        let pending = std::mem::replace(&mut self.pending, Vec::new(self.alloc));
+        self.batches.push_reserved(Batch::new(pending));
+        std::mem::swap(&mut self.live, &mut self.standby);
+        self.lag = lag;
+        Ok(self.edition())
+    }
+
+    /// Applies to the standby the next edit that it lacks.
+    ///
+    /// # Errors
+    ///
+    /// Only where no memory is found. Nothing has changed then.
+    pub fn absorb(&mut self) -> Result<(), AllocError>
+        requires { 0 < self.old.lag }
+        ensures ok { OnOk result (self.new ≡ record self.old { lag = self.old.lag - 1 }) }
+        ensures err { OnErr result (self.new ≡ self.old) }
+    {
+        self.standby.admit(next_edit(&self.batches, self.lag))?;
+        self.lag -= 1;
+        Ok(())
+    }
+
+    /// Applies to the standby all that it lacks.
+    ///
+    /// # Errors
+    ///
+    /// Only where no memory is found. The standby has some of the edits then.
+    pub fn catch_up(&mut self) -> Result<(), AllocError>
+        ensures object { self.new.object ≡ self.old.object }
+        ensures all { OnOk result (self.new.lag ≡ 0) }
+    {
+        while self.lag > 0 {
+            self.absorb()?;
+        }
+        Ok(())
+    }
+}
+
+/// The edit of the last batch with which the last so many begin.
+fn next_edit(batches: &[Batch], lag: usize) -> &Edit
+    requires some { 0 < lag }
+    requires of_last { lag ≤ length (last_batch batches.now) }
+    ensures { result.now ≡ get_or (last_batch batches.now)
+        (length (last_batch batches.now) - lag) result.now }
+{
+    let edits = batches[batches.len() - 1].edits();
+    &edits[edits.len() - lag]
+}

@@ -1,0 +1,18 @@
+use Rattle.std.proofs.Common.{◌≤◌, length, arith}
+use Rattle.osn_days.specs.Profile.{newest_rules}
+use Rattle.osn_live.proofs.Answered.{later_first, replies_settled}
+use Rattle.osn_live.proofs.desk.check_against_note.Goals as goal
+
+pub returns-clause-replies : goal.returns-clause-replies
+returns-clause-replies c =
+    let xs = c.args.worked.reader.seen in
+    let ys = c.args.note.batches in
+    let le : length xs ≤ length ys =
+    omega (
+      arith,
+      c.edition-last.ensures,
+      c.edition-editions.ensures,
+      c.if-last-editions.false,
+    ) in
+    replies_settled newest_rules c.args.note.origin.limits xs ys c.args.questions.now
+    c.args.worked.replies (later_first xs ys _ c.learn.ensures.later le) c.requires.replies

@@ -1,0 +1,4 @@
+pub mod Grammar
+pub mod PageFacts
+pub mod LawFacts
+mod TrimmedFacts

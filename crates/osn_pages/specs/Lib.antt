@@ -1,0 +1,4 @@
+pub mod WrittenDate
+pub mod Words
+pub mod Reading
+pub mod Law

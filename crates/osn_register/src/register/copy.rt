@@ -1,0 +1,76 @@
+//! Registers made of another one, and of edits.
+ghost use Rattle.std.specs.Prelude.{◌≡◌, [], true, None, IfOk, OnOk, OnErr, ◌<◌, length};
+ghost use Rattle.osn_days.specs.Profile.{newest_rules};
+ghost use Rattle.osn_register.specs.Plain.{applied_all, folded, fold_takes_memory};
+ghost use Rattle.osn_register.specs.Plain.{land_of, with_land, IsSoundTerritory};
+
+use crate::edit::Edit;
+use crate::limits::Limits;
+use crate::register::{NamedTerritory, Register};
+use std::alloc::{AllocError, Global};
+
+impl Register {
+    /// A register equal to this one.
+    ///
+    /// # Errors
+    ///
+    /// Only where no memory is found, of which the copy of an empty register takes none.
+    pub fn copy(&self) -> Result<Register, AllocError>
+        ensures value { IfOk result (λ r. r ≡ self.now) }
+        ensures memory { OnErr result (0 < length self.now.lands) }
+    {
+        let mut copied = Register::new(self.alloc, self.limits);
+        for (code, entry) in &self.lands {
+            copied.insert_copy(code.as_str(), entry)?;
+        }
+        Ok(copied)
+    }
+
+    /// Adds a copy of a territory that another register keeps under a code.
+    fn insert_copy(&mut self, code: &str, entry: &NamedTerritory) -> Result<(), AllocError>
+        requires absent { land_of code.now self.old.lands ≡ None }
+        requires room { length self.old.lands < self.old.limits.lands }
+        requires territory { IsSoundTerritory newest_rules self.old.limits entry.now.territory }
+        ensures ok { OnOk result (self.new ≡ record self.old {
+          lands = with_land self.old.lands code.now entry.now.name entry.now.territory;
+        }) }
+        ensures err { OnErr result (self.new ≡ self.old) }
+    {
+        let key = String::from_str(self.alloc, code)?;
+        self.insert(key, entry.copy()?)
+    }
+
+    /// Applies edits in turn, and passes over those that are refused.
+    ///
+    /// # Errors
+    ///
+    /// Only where no memory is found, of which refused edits and those that alter or drop take
+    /// none. Some of the edits may be applied then.
+    pub fn apply_all(&mut self, edits: &[Edit]) -> Result<(), AllocError>
+        ensures ok { OnOk result (self.new ≡ record self.old {
+          lands = applied_all newest_rules self.old.limits self.old.lands edits.now;
+        }) }
+        ensures memory { OnErr result
+            (fold_takes_memory newest_rules self.old.limits self.old.lands edits.now ≡ true) }
+    {
+        for edit in edits {
+            self.apply_if_lawful(edit)?;
+        }
+        Ok(())
+    }
+
+    /// The register of edits applied in turn to the empty one, refused ones passed over.
+    ///
+    /// # Errors
+    ///
+    /// Only where no memory is found, of which refused edits and those that alter or drop take
+    /// none.
+    pub fn fold(alloc: Global, limits: Limits, edits: &[Edit]) -> Result<Register, AllocError>
+        ensures value { IfOk result (λ r. r ≡ folded newest_rules limits edits.now) }
+        ensures memory { OnErr result (fold_takes_memory newest_rules limits [] edits.now ≡ true) }
+    {
+        let mut register = Register::new(alloc, limits);
+        register.apply_all(edits)?;
+        Ok(register)
+    }
+}

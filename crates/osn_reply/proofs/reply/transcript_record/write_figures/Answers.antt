@@ -1,0 +1,9 @@
+use Rattle.std.proofs.Common.{◌≡◌, append_assoc, rules, to_z, of_z, w64}
+use Rattle.osn_format.proofs.WriteLemmas.{at_last}
+use Rattle.osn_reply.proofs.reply.transcript_record.write_figures.Goals as goal
+
+pub returns-clause-tokens : goal.returns-clause-tokens
+returns-clause-tokens c =
+    let year : to_z w64 (of_z w64 c.args.year) ≡ c.args.year = search rules in
+    at_last c.end_with_year.result c.end_with_year.ensures.tokens
+    (λ e. rw (e, c.in_ok-begin_object.ensures.ok, year) (simp append_assoc))

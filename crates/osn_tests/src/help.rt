@@ -1,0 +1,179 @@
+//! The very texts of help, and of the version.
+use crate::commands::left_over;
+use crate::compare::same;
+use std::process::Abort;
+use std::rt::Files;
+use std::str;
+use std::sync::Wait;
+use std::test::Fail;
+use std::thread::Threads;
+
+/// A command line, and what is printed.
+type Printed = (&'static str, &'static str);
+
+const HELP: &str = "Says which day a dated document means, by the calendar, the beginning of the \
+year and the rule of Easter that were in force where it was written
+
+Usage: oldstyle [COMMAND]
+
+Commands:
+  read     Says which day a written date means in a territory, or why it never was
+  serve    Answers request lines on standard input (so does the program without words)
+  replay   Takes the steps of one editor and of readers, and prints what each gives
+  desk     Lets readers ask while an editor works, each in a thread of its own
+  almanac  Prints the almanac of a territory and year, as a journal published the territory
+  audit    Says whether each reply of a transcript is the one that a journal gives
+  help     Print this message or the help of the given subcommand(s)
+
+Options:
+  -h, --help     Print help
+  -V, --version  Print version
+
+Statuses:
+  0  done
+  1  the input was refused: a line of a file, a territory or a year, or no question
+  2  the words of the command line are wrong
+  3  a read or a write failed, or a file could not be opened
+  4  memory ran out
+Of a status but 0, one line on standard error says what was refused or failed.
+";
+
+const READ: &str = "Says which day a written date means in a territory, or why it never was
+
+Usage: oldstyle read [OPTIONS] <JOURNAL> <CODE> <DATE>
+
+Arguments:
+  <JOURNAL>  The file of the journal
+  <CODE>     The code of the territory
+  <DATE>     The date as the document has it
+
+Options:
+      --weekday <DAY>  The weekday that the document names, as Friday, to compare
+  -h, --help           Print help
+
+Examples:
+  ./oldstyle read examples/samples.journal GB \"11 February 1731/2\" --weekday Friday
+  ./oldstyle read examples/samples.journal GB 1752-09-05
+
+A date is 1731-02-11, \"11 February 1731\" or \"11 February 1731/2\". Its year is that of the
+document; the last form has both years, and finds a day only where the territory had them.
+";
+
+const SERVE: &str = "Answers request lines on standard input (so does the program without words)
+
+Usage: oldstyle serve [OPTIONS]
+
+Options:
+      --journal <FILE>  The journal to begin with; else there are no territories
+      --save <FILE>     Where the journal is saved at the end of the input, unless a fault ended it
+      --readers <N>     How many readers ask, 1 to 64 [default: 8]
+  -h, --help            Print help
+
+Example:
+  ./oldstyle serve --journal examples/samples.journal --save new.journal < examples/added.jsonl
+
+Requests and replies are JSON lines. The journal is saved only where all lines were answered.
+";
+
+const REPLAY: &str = "Takes the steps of one editor and of readers, and prints what each gives
+
+Usage: oldstyle replay --readers <N> <SCHEDULE>
+
+Arguments:
+  <SCHEDULE>  The file of the steps
+
+Options:
+      --readers <N>  How many readers there are, 1 to 64
+  -h, --help         Print help
+
+Example:
+  ./oldstyle replay --readers 2 examples/two_readers.schedule
+
+A step is a JSON line. All steps are taken before anything is printed.
+";
+
+const DESK: &str = "Lets readers ask while an editor works, each in a thread of its own
+
+Usage: oldstyle desk <SCRIPT> <QUESTIONS>
+
+Arguments:
+  <SCRIPT>     The file of what the editor does, in the form of a journal
+  <QUESTIONS>  The file of what the readers ask
+
+Options:
+  -h, --help  Print help
+
+Example:
+  ./oldstyle desk examples/rome.script examples/rome.questions
+
+A question is a JSON line. Questions and replies are printed by reader and then by place; which
+edition a reply is of may differ from run to run.
+";
+
+const ALMANAC: &str = "\
+Prints the almanac of a territory and year, as a journal published the territory
+
+Usage: oldstyle almanac <JOURNAL> <CODE> <YEAR>
+
+Arguments:
+  <JOURNAL>  The file of the journal
+  <CODE>     The code of the territory
+  <YEAR>     The year, 1 to 9999
+
+Options:
+  -h, --help  Print help
+
+Example:
+  ./oldstyle almanac examples/samples.journal GB 1752
+";
+
+const AUDIT: &str = "Says whether each reply of a transcript is the one that a journal gives
+
+Usage: oldstyle audit <JOURNAL> <TRANSCRIPT>
+
+Arguments:
+  <JOURNAL>     The file of the journal
+  <TRANSCRIPT>  The file of what readers asked and were told
+
+Options:
+  -h, --help  Print help
+
+Example:
+  ./oldstyle desk examples/rome.script examples/rome.questions > rome.transcript
+  ./oldstyle audit examples/rome.script rome.transcript
+";
+
+const SHOWN: [Printed; 10] = [
+    ("oldstyle --help", HELP),
+    ("oldstyle help", HELP),
+    ("oldstyle --version", "oldstyle 0.1.0\n"),
+    ("oldstyle read --help", READ),
+    ("oldstyle help serve", SERVE),
+    ("oldstyle serve --help", SERVE),
+    ("oldstyle replay --help", REPLAY),
+    ("oldstyle desk --help", DESK),
+    ("oldstyle almanac --help", ALMANAC),
+    ("oldstyle audit --help", AUDIT),
+];
+
+/// That each is printed, and that it ends well.
+fn are_shown<R: Files + Threads + Wait + AllocGlobal + Abort>(
+    rt: &R,
+    rows: &[Printed],
+) -> Result<(), Fail> {
+    for (line, text) in rows {
+        let left = left_over(rt, line, "")?;
+        same(
+            rt,
+            (line, left.status.code(), left.told.len()),
+            (line, 0, 0),
+        );
+        same(rt, str::from_utf8(&left.written)?, text);
+    }
+    Ok(())
+}
+
+#[test]
+fn help_and_the_version_are_printed(rt: HostRuntime) -> Result<(), Fail> {
+    are_shown(&rt, &SHOWN)
+}
