@@ -8,7 +8,8 @@ Random territories are put into a journal, with their changes near one another, 
 skipped and dates are read twice. Each date is asked of `read`, in each of its forms in turn and
 with a weekday or none, and of the service; the page has to be the one that the replies to `read`
 and `day` make. Then the dual text of each day that was found is read: that very day has to be
-among those that are found.
+among those that are found, and its page is that of the replies. The month of the date is the one
+that the replies to its 31 dates make, and the periods are those of the reply to `periods`.
 """
 import json
 import os
@@ -23,11 +24,13 @@ EACH = 100
 MONTHS = ["January", "February", "March", "April", "May", "June", "July", "August", "September",
           "October", "November", "December"]
 WEEKDAYS = ["Sunday", "Monday", "Tuesday", "Wednesday", "Thursday", "Friday", "Saturday"]
-STYLES = ["january", "annunciation", "nativity", "september", "pisan", "easter"]
+YEARS = {"january": "1 January", "annunciation": "25 March", "nativity": "25 December",
+         "september": "1 September", "pisan": "the 25 March before", "easter": "Easter"}
+LAST_DAY = 3_652_059
 
 
 def regime(chance):
-    style = chance.choice(STYLES)
+    style = chance.choice(list(YEARS))
     calendar = "julian" if style == "easter" else chance.choice(["julian", "gregorian", "swedish"])
     return {"calendar": calendar, "style": style, "rule": "julian"}
 
@@ -43,10 +46,15 @@ def journal_lines(chance, middle):
     yield {"op": "publish"}
 
 
-def asked(journal, query):
+def all_asked(journal, queries):
     """What the service answers."""
-    line = compact({**query, "reader": 1, "code": "XX"})
-    return json.loads(run(PROGRAM, ["serve", "--journal", journal], [line]).stdout)
+    lines = [compact({**query, "reader": 1, "code": "XX"}) for query in queries]
+    return [json.loads(reply)["answer"]
+            for reply in run(PROGRAM, ["serve", "--journal", journal], lines).stdout.splitlines()]
+
+
+def asked(journal, query):
+    return all_asked(journal, [query])[0]
 
 
 def in_words(iso):
@@ -63,8 +71,8 @@ def day_line(found, weekday):
 
 
 def skipped_line(journal, change):
-    last, first = (asked(journal, {"op": "day", "day": day})["answer"]["found"]
-                   for day in (change - 1, change))
+    queries = [{"op": "day", "day": day} for day in (change - 1, change)]
+    last, first = (answer["found"] for answer in all_asked(journal, queries))
     return (f"skipped: {last['weekday']} {last['dual']} was followed by "
             f"{first['weekday']} {first['dual']} (day {change})")
 
@@ -72,7 +80,7 @@ def skipped_line(journal, change):
 def page(journal, written, numbers, weekday):
     """The page that the replies make, and the days that were found."""
     year, month, day = numbers
-    answer = asked(journal, {"op": "read", "year": year, "month": month, "day": day})["answer"]
+    answer = asked(journal, {"op": "read", "year": year, "month": month, "day": day})
     is_double = "/" in written
     found = [one for one in answer["days"] if not is_double or one["dual"] == written]
     words = written if " " in written else f"{day} {MONTHS[month - 1]} {year}"
@@ -89,8 +97,62 @@ def printed(journal, written, weekday):
     return run(PROGRAM, words).stdout.splitlines()
 
 
+def named_day(journal, day):
+    """A day as the territory names it, with its number."""
+    found = asked(journal, {"op": "day", "day": day})["found"]
+    return f"{found['weekday']} {found['dual']} (day {day})"
+
+
+def period_line(journal, period):
+    span = [f"from {named_day(journal, period['first'])}"] if period["first"] > 1 else []
+    span += [f"until {named_day(journal, period['last'])}"] if period["last"] < LAST_DAY else []
+    return (f"{' '.join(span) or 'always'}: {period['calendar']} calendar, {period['style']} style "
+            f"(years from {YEARS[period['style']]}), {period['rule']} rule")
+
+
+def territory_page(journal):
+    periods = asked(journal, {"op": "periods"})["periods"]
+    return ["Some \u00e9 place (XX), edition 2"] + [period_line(journal, one) for one in periods]
+
+
+def day_page(journal, day):
+    answer = asked(journal, {"op": "day", "day": day})
+    period = {**answer["regime"], "first": answer["first"], "last": answer["last"]}
+    return [f"day {day} in Some \u00e9 place (XX), edition 2", day_line(answer["found"], None),
+            period_line(journal, period)]
+
+
+def grid(run_of_days):
+    """The month of days that follow one another, as cal prints it."""
+    title = run_of_days[0]["dual"].split(" ", 1)[1]
+    yield " " * ((20 - len(title)) // 2) + title
+    yield "Su Mo Tu We Th Fr Sa"
+    cells = ["  "] * WEEKDAYS.index(run_of_days[0]["weekday"])
+    cells += [f"{int(one['label'].rsplit('-', 1)[1]):2}" for one in run_of_days]
+    for first in range(0, len(cells), 7):
+        yield " ".join(cells[first:first + 7])
+
+
+def month_page(journal, year, month):
+    queries = [{"op": "read", "year": year, "month": month, "day": day} for day in range(1, 32)]
+    days = sorted((one for answer in all_asked(journal, queries) for one in answer["days"]),
+                  key=lambda one: one["day"])
+    runs = []
+    for one in days:
+        if runs and runs[-1][-1]["day"] + 1 == one["day"]:
+            runs[-1].append(one)
+        else:
+            runs.append([one])
+    lines = [line for run_of_days in runs for line in grid(run_of_days)]
+    return ["Some \u00e9 place (XX), edition 2"] + (lines or ["no such month"])
+
+
+def page_of(words):
+    return run(PROGRAM, words).stdout.splitlines()
+
+
 def differences(chance, journal, middle):
-    """Each date of a territory whose page is another than the replies make."""
+    """Each page about a date of a territory that is another than the replies make."""
     near = date.fromordinal(middle)
     numbers = near.year + chance.randint(-4, 4), chance.randint(1, 12), chance.randint(1, 31)
     year, month, day = numbers
@@ -103,6 +165,10 @@ def differences(chance, journal, middle):
     for one in found:
         if not any(f"day {one['day']} " in line for line in printed(journal, one["dual"], None)):
             yield f"the dual text {one['dual']} is not found"
+        if page_of(["day", journal, "XX", one["gregorian"]]) != day_page(journal, one["day"]):
+            yield f"the page of day {one['day']}"
+    if page_of(["month", journal, "XX", str(year), str(month)]) != month_page(journal, year, month):
+        yield f"the month {month} of {year}"
 
 
 def main():
@@ -114,6 +180,9 @@ def main():
             middle = chance.randint(400_000, 760_000)
             with open(journal, "w", encoding="utf-8") as file:
                 file.write("".join(compact(line) + "\n" for line in journal_lines(chance, middle)))
+            if page_of(["territory", journal, "XX"]) != territory_page(journal):
+                differ += 1
+                print(f"the periods about day {middle}", flush=True)
             for _ in range(min(EACH, COUNT - dates)):
                 dates += 1
                 for difference in differences(chance, journal, middle):

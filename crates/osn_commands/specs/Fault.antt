@@ -21,7 +21,8 @@ use Rattle.osn_commands.specs.declared.fault.CommandFault.TheVariants.{BadLine, 
 use Rattle.osn_commands.specs.declared.fault.CommandFault.TheVariants.{ReadFault, WriteFault}
 use Rattle.osn_commands.specs.declared.fault.CommandFault.TheVariants.{NoMemory, Misused}
 use Rattle.osn_commands.specs.declared.fault.Misuse.{Misuse}
-use Rattle.osn_commands.specs.declared.fault.Misuse.TheVariants.{Date, Weekday}
+use Rattle.osn_commands.specs.declared.fault.Misuse.TheVariants.{Date, Weekday, Calendar}
+use Rattle.osn_commands.specs.declared.fault.Misuse.TheVariants.{DayNumber, NoSuchDate}
 use Rattle.osn_commands.specs.declared.status.Status.{Status}
 use Rattle.osn_commands.specs.declared.status.Status.TheVariants as statuses
 
@@ -52,6 +53,12 @@ misuse_line Date = codes
     "oldstyle: DATE is no date: write 1731-02-11, \"11 February 1731\" or \"11 February 1731/2\"\n"
 misuse_line Weekday = codes
     "oldstyle: DAY is no weekday: write its English name, as Friday\n"
+misuse_line Calendar = codes
+    "oldstyle: CALENDAR is none: write gregorian, julian or swedish, or day and a day number\n"
+misuse_line DayNumber = codes
+    "oldstyle: DATE is no day number: behind day, write a number from 1 to 3652059\n"
+misuse_line NoSuchDate = codes
+    "oldstyle: DATE is no date of that calendar in the years 1 to 9999\n"
 
 -- the line on standard error
 abbrev pub fault_line : CommandFault → List ℕ

@@ -7,8 +7,9 @@ pub mod Files
 pub mod Refused
 pub mod Journal
 pub mod Serving
-pub mod Almanac
-pub mod Reading
+pub mod Asked
+pub mod Page
+pub mod Conversion
 pub mod Replay
 pub mod Transcript
 pub mod Audited

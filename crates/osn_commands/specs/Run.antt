@@ -1,5 +1,5 @@
 -- What a run of the program does, with the files of a folder.
-use Rattle.std.specs.Prelude.{◌≡◌, ◌≢◌, ◌⊎◌, ℕ, pos, Bool, List, [], ◌∷◌, Option, Some, None}
+use Rattle.std.specs.Prelude.{◌≡◌, ◌≢◌, ◌⊎◌, ℕ, Bool, List, [], ◌∷◌, Option, Some, None}
 use Rattle.std.specs.Prelude.{IfSome, is_some}
 use Rattle.clap.specs.Words.{Text, fault_of, IsAmong}
 use Rattle.clap.specs.declared.error.kind.ErrorKind.{ErrorKind}
@@ -12,12 +12,12 @@ use Rattle.osn_folder.specs.Folder.{Leaves, path_if}
 use Rattle.osn_folder.specs.declared.fault.SaveFault.{SaveFault}
 use Rattle.osn_invocation.specs.Grammar.{command_line}
 use Rattle.osn_invocation.specs.Invocation.{InvocationModel, serving, replaying, working, printing}
-use Rattle.osn_invocation.specs.Invocation.{auditing, reading, invocation_in}
-use Rattle.osn_commands.specs.Almanac.{PrintsAlmanac}
+use Rattle.osn_invocation.specs.Invocation.{auditing, converting, invocation_in}
 use Rattle.osn_commands.specs.Audited.{PrintsAudit}
+use Rattle.osn_commands.specs.Conversion.{PrintsConversion}
 use Rattle.osn_commands.specs.Fault.{by_save}
+use Rattle.osn_commands.specs.Page.{PrintsPage}
 use Rattle.osn_commands.specs.Printing.{EndsPrinting}
-use Rattle.osn_commands.specs.Reading.{PrintsReading}
 use Rattle.osn_commands.specs.Replay.{PrintsReplay}
 use Rattle.osn_commands.specs.Serving.{Serves}
 use Rattle.osn_commands.specs.Streams.{Input, Output}
@@ -101,9 +101,9 @@ abbrev pub files_of : InvocationModel → List Text
 files_of (serving journal save readers) = path_if journal
 files_of (replaying readers schedule) = schedule ∷ []
 files_of (working script questions) = script ∷ questions ∷ []
-files_of (printing journal code year) = journal ∷ []
+files_of (printing journal page) = journal ∷ []
 files_of (auditing journal transcript) = journal ∷ transcript ∷ []
-files_of (reading journal code date weekday) = journal ∷ []
+files_of (converting calendar date) = []
 
 -- the command that is asked for was run, with the files that the arguments name, and ended so: what
 -- it wrote to standard output, and what standard error was told
@@ -115,12 +115,12 @@ Runs (replaying readers schedule) CanFail d i o e status = ReadsOne schedule Can
     (λ file. PrintsReplay newest_rules standard_limits readers file o e status)
 Runs (working script questions) CanFail d i o e status = ReadsTwo script questions CanFail d
     (λ editor readers. PrintsTranscript newest_rules standard_limits editor readers o e status)
-Runs (printing journal code year) CanFail d i o e status = ReadsOne journal CanFail d
-    (λ file. PrintsAlmanac newest_rules standard_limits file code (pos year) o e status)
+Runs (printing journal page) CanFail d i o e status = ReadsOne journal CanFail d
+    (λ file. PrintsPage newest_rules standard_limits file page o e status)
 Runs (auditing journal transcript) CanFail d i o e status = ReadsTwo journal transcript CanFail d
     (λ edits told. PrintsAudit newest_rules standard_limits edits told o e status)
-Runs (reading journal code date weekday) CanFail d i o e status = ReadsOne journal CanFail d
-    (λ file. PrintsReading newest_rules standard_limits file code date weekday o e status)
+Runs (converting calendar date) CanFail d i o e status =
+    (d.after ≡ d.before) × PrintsConversion newest_rules calendar date o e status
 
 -- ---- a run
 

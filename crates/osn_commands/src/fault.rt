@@ -49,6 +49,12 @@ pub enum Misuse {
     Date,
     /// What stands for a weekday is none.
     Weekday,
+    /// What stands for a calendar is none.
+    Calendar,
+    /// What stands for a day number is none.
+    DayNumber,
+    /// The calendar has no such date, or has it off the line of days.
+    NoSuchDate,
 }
 
 impl Misuse {
@@ -62,6 +68,16 @@ impl Misuse {
 \"11 February 1731/2\"\n"
             }
             Misuse::Weekday => "oldstyle: DAY is no weekday: write its English name, as Friday\n",
+            Misuse::Calendar => {
+                "oldstyle: CALENDAR is none: write gregorian, julian or swedish, or day and a day \
+number\n"
+            }
+            Misuse::DayNumber => {
+                "oldstyle: DATE is no day number: behind day, write a number from 1 to 3652059\n"
+            }
+            Misuse::NoSuchDate => {
+                "oldstyle: DATE is no date of that calendar in the years 1 to 9999\n"
+            }
         }
     }
 }
@@ -106,6 +122,14 @@ impl From<Interrupted<ServeFault>> for CommandFault {
             ServeFault::ReadFault => CommandFault::ReadFault,
             ServeFault::WriteFault => CommandFault::WriteFault,
         }
+    }
+}
+
+impl From<Misuse> for CommandFault {
+    ghost from_gives = { λ misuse given. given ≡ CommandFault.Misused misuse };
+
+    fn from(misuse: Misuse) -> CommandFault {
+        CommandFault::Misused(misuse)
     }
 }
 

@@ -1,28 +1,27 @@
 //! The commands over the files of a folder, which are opened by their paths first.
-ghost use Rattle.std.specs.Prelude.{◌≡◌, ◌⊎◌, ◌&&◌, ◌∷◌, [], false, is_some, option_map, pos};
+ghost use Rattle.std.specs.Prelude.{◌≡◌, ◌⊎◌, ◌&&◌, ◌∷◌, [], false, is_some, option_map};
 ghost use Rattle.std.specs.Prelude.{IfOk, IfSome, OnErr, string_bytes};
 ghost use Rattle.osn_days.specs.Profile.{newest_rules};
 ghost use Rattle.osn_register.specs.Limits.{standard_limits};
 ghost use Rattle.osn_folder.specs.Folder.{Changes, CannotOpen, MayFail, Saves, Leaves, path_if};
-ghost use Rattle.osn_commands.specs.Almanac.{PrintsAlmanac};
+ghost use Rattle.osn_invocation.specs.Invocation.{page_words};
 ghost use Rattle.osn_commands.specs.Audited.{PrintsAudit};
-ghost use Rattle.osn_commands.specs.Reading.{PrintsReading};
+ghost use Rattle.osn_commands.specs.Page.{PrintsPage};
 ghost use Rattle.osn_commands.specs.Replay.{PrintsReplay};
 ghost use Rattle.osn_commands.specs.Run.{EndsService, Finishes, ReadsOne, ReadsTwo, folders_of};
 ghost use Rattle.osn_commands.specs.Streams.{input_of, output_of};
 ghost use Rattle.osn_commands.specs.Transcript.{PrintsTranscript};
 
-use crate::almanac::almanac_command;
 use crate::audited::audit_command;
-use crate::date_reading::read_command;
 use crate::desk::desk_command;
 use crate::fault::{CommandFault, report};
+use crate::page::page_command;
 use crate::progress::ProgressSource;
 use crate::replay::replay_command;
 use crate::serving::{ServeResult, serve_command};
 use crate::status::Status;
 use osn_folder::{Folder, OpenFailed, open_both, open_file, open_if, save_file};
-use osn_invocation::ServeOptions;
+use osn_invocation::{PageWords, ServeOptions};
 use osn_lines::{Sink, Source};
 use std::alloc::Global;
 use std::sync::Wait;
@@ -130,19 +129,18 @@ pub(crate) fn desk<F: Threads + Wait + AllocGlobal, D: Folder, W: Sink, E: Sink>
     Ok(desk_command(rt, &mut script, &mut questions, output, errors))
 }
 
-/// Opens the journal, and prints the almanac of what it published.
-pub(crate) fn almanac<D: Folder, W: Sink, E: Sink>(
+/// Opens the journal, and prints a page of what it published.
+pub(crate) fn page<D: Folder, W: Sink, E: Sink>(
     alloc: Global,
     folder: &mut D,
     journal: &str,
-    code: &str,
-    year: u32,
+    words: PageWords<'_>,
     output: &mut W,
     errors: &mut E,
 ) -> Result<Status, OpenFailed>
     ensures ok { IfOk result (λ status. ReadsOne journal.now (MayFail D.File.has_failed)
         (folders_of D.known folder.old folder.new)
-        (λ file. PrintsAlmanac newest_rules standard_limits file code.now (pos year)
+        (λ file. PrintsPage newest_rules standard_limits file (page_words words.entry)
         (output_of W.contents W.has_failed output.old output.new)
         (output_of E.contents E.has_failed errors.old errors.new) status)) }
     ensures err { OnErr result (CannotOpen (journal.now ∷ [])
@@ -150,32 +148,7 @@ pub(crate) fn almanac<D: Folder, W: Sink, E: Sink>(
         × (output.new ≡ output.old) × (errors.new ≡ errors.old)) }
 {
     let mut file = open_file(folder, journal)?;
-    Ok(almanac_command(alloc, &mut file, code, year, output, errors))
-}
-
-/// Opens the journal, and prints which day a written date means in what it published.
-pub(crate) fn read<D: Folder, W: Sink, E: Sink>(
-    alloc: Global,
-    folder: &mut D,
-    journal: &str,
-    code: &str,
-    date: &str,
-    weekday: Option<&str>,
-    output: &mut W,
-    errors: &mut E,
-) -> Result<Status, OpenFailed>
-    ensures ok { IfOk result (λ status. ReadsOne journal.now (MayFail D.File.has_failed)
-        (folders_of D.known folder.old folder.new)
-        (λ file. PrintsReading newest_rules standard_limits file code.now date.now
-        (option_map (λ name. name.now) weekday.entry)
-        (output_of W.contents W.has_failed output.old output.new)
-        (output_of E.contents E.has_failed errors.old errors.new) status)) }
-    ensures err { OnErr result (CannotOpen (journal.now ∷ [])
-        (D.known folder.old) (D.known folder.new)
-        × (output.new ≡ output.old) × (errors.new ≡ errors.old)) }
-{
-    let mut file = open_file(folder, journal)?;
-    Ok(read_command(alloc, &mut file, code, date, weekday, output, errors))
+    Ok(page_command(alloc, &mut file, words, output, errors))
 }
 
 /// Opens the journal and then the transcript, and audits that. A terminal, where there is one, is

@@ -4,12 +4,13 @@
 //! of what happened, and tells standard error in one line why it ended early.
 #![tactic(auto)]
 
-mod almanac;
+mod asked;
 mod audited;
-mod date_reading;
+mod conversion;
 mod desk;
 mod fault;
 mod in_folder;
+mod page;
 mod printing;
 mod program;
 mod progress;
@@ -20,11 +21,11 @@ mod shown;
 mod status;
 mod transcript;
 
-pub use almanac::almanac_command;
 pub use audited::audit_command;
-pub use date_reading::read_command;
+pub use conversion::convert_command;
 pub use desk::desk_command;
 pub use fault::{CommandFault, Misuse};
+pub use page::page_command;
 pub use program::run;
 pub use replay::replay_command;
 pub use serving::{ServeResult, serve_command};

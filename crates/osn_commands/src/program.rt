@@ -5,8 +5,9 @@ ghost use Rattle.osn_invocation.specs.Invocation.{model_of};
 ghost use Rattle.osn_commands.specs.Run.{Runs, RunsArgs, files_of, folders_of};
 ghost use Rattle.osn_commands.specs.Streams.{input_of, output_of};
 
+use crate::conversion::convert_command;
 use crate::fault::{CommandFault, report};
-use crate::in_folder::{almanac, audit, desk, read, replay, serve};
+use crate::in_folder::{audit, desk, page, replay, serve};
 use crate::shown::show;
 use crate::status::Status;
 use osn_folder::{Folder, OpenFailed};
@@ -79,20 +80,16 @@ where
         Invocation::Desk { script, questions } => {
             desk(rt, folder, script, questions, output, errors)
         }
-        Invocation::Almanac {
+        Invocation::Page {
             journal,
-            code,
-            year,
-        } => almanac(alloc, folder, journal, code, year, output, errors),
+            page: words,
+        } => page(alloc, folder, journal, words, output, errors),
         Invocation::Audit {
             journal,
             transcript,
         } => audit(alloc, folder, journal, transcript, output, errors, terminal),
-        Invocation::Read {
-            journal,
-            code,
-            date,
-            weekday,
-        } => read(alloc, folder, journal, code, date, weekday, output, errors),
+        Invocation::Convert { calendar, date } => {
+            Ok(convert_command(alloc, calendar, date, output, errors))
+        }
     }
 }

@@ -26,10 +26,18 @@ readers_option = record (new_rule (codes "readers")) {
 abbrev pub required_arg : Text → Rule
 required_arg name = record (new_rule name) { value_names = 1; required = true }
 
+-- an argument that may stand
+abbrev pub optional_arg : Text → Rule
+optional_arg name = record (new_rule name) { value_names = 1 }
+
 -- YEAR is 0 to 4294967295
 abbrev pub year_arg : Rule
 year_arg =
     record (required_arg (codes "year")) { parser = Some (Signed (pos 0) (pos 4294967295)) }
+
+-- MONTH is 1 to 12
+abbrev pub month_arg : Rule
+month_arg = record (required_arg (codes "month")) { parser = Some (Signed (pos 1) (pos 12)) }
 
 -- `serve [--journal FILE] [--save FILE] [--readers N]`
 abbrev pub serve_grammar : App
@@ -61,6 +69,30 @@ read_grammar = with_rule (with_rule (with_rule
     (with_rule (new_app (codes "read")) (required_arg (codes "journal")))
     (required_arg (codes "code"))) (required_arg (codes "date"))) (value_option (codes "weekday"))
 
+-- `convert CALENDAR DATE`
+abbrev pub convert_grammar : App
+convert_grammar = with_rule
+    (with_rule (new_app (codes "convert")) (required_arg (codes "calendar")))
+    (required_arg (codes "date"))
+
+-- `day JOURNAL CODE DATE`
+abbrev pub day_grammar : App
+day_grammar = with_rule (with_rule
+    (with_rule (new_app (codes "day")) (required_arg (codes "journal")))
+    (required_arg (codes "code"))) (required_arg (codes "date"))
+
+-- `month JOURNAL CODE YEAR MONTH`
+abbrev pub month_grammar : App
+month_grammar = with_rule (with_rule (with_rule
+    (with_rule (new_app (codes "month")) (required_arg (codes "journal")))
+    (required_arg (codes "code"))) year_arg) month_arg
+
+-- `territory JOURNAL [CODE]`
+abbrev pub territory_grammar : App
+territory_grammar = with_rule
+    (with_rule (new_app (codes "territory")) (required_arg (codes "journal")))
+    (optional_arg (codes "code"))
+
 -- `audit JOURNAL TRANSCRIPT`
 abbrev pub audit_grammar : App
 audit_grammar = with_rule
@@ -75,8 +107,10 @@ program_grammar = on_top (λ s. record s { has_version = true }) (new_app (codes
 -- and `help COMMAND`
 abbrev pub command_line : App
 command_line = with_subcommand (with_subcommand (with_subcommand (with_subcommand
-    (with_subcommand (with_subcommand program_grammar read_grammar.top) serve_grammar.top)
-    replay_grammar.top) desk_grammar.top) almanac_grammar.top) audit_grammar.top
+    (with_subcommand (with_subcommand (with_subcommand (with_subcommand (with_subcommand
+    (with_subcommand program_grammar read_grammar.top) convert_grammar.top) day_grammar.top)
+    month_grammar.top) territory_grammar.top) serve_grammar.top) replay_grammar.top)
+    desk_grammar.top) almanac_grammar.top) audit_grammar.top
 
 -- the argument has this rule, at its own command alone
 abbrev pub IsArg : Rule → Arg → Type 0

@@ -10,19 +10,32 @@ use Rattle.clap.specs.Words.{Row, Text, first_of, matches_of, one_of, subcommand
 use Rattle.osn_invocation.specs.Grammar.{command_line}
 use Rattle.osn_invocation.specs.declared.invocation.Invocation.{Invocation}
 use Rattle.osn_invocation.specs.declared.invocation.Invocation.TheVariants.{Serve, Replay, Desk}
-use Rattle.osn_invocation.specs.declared.invocation.Invocation.TheVariants.{Almanac, Audit, Read}
+use Rattle.osn_invocation.specs.declared.invocation.Invocation.TheVariants.{Page, Audit, Convert}
+use Rattle.osn_invocation.specs.declared.invocation.PageWords.{PageWords}
+use Rattle.osn_invocation.specs.declared.invocation.PageWords.TheVariants as pages
+
+-- a page of what a journal published: the almanac of a territory's code and a year; the reading of
+-- a date by a code, the date, and the weekday that it is said to be; a day by a code and a date or
+-- day number; a month by a code, a year and the month; the periods of a code's territory, or all
+-- territories
+pub data PageWordsModel : Type 0 where
+  almanac_words : Text → ℕ → PageWordsModel
+  reading_words : Text → Text → Option Text → PageWordsModel
+  day_words : Text → Text → PageWordsModel
+  month_words : Text → ℕ → ℕ → PageWordsModel
+  territory_words : Option Text → PageWordsModel
 
 -- what a command line asks for: the service by a journal, where to save it and readers; a replay by
--- readers and a schedule; a desk by a script and questions; an almanac by a journal, a code and a
--- year; an audit by a journal and a transcript; the reading of a date by a journal, a code, the
--- date, and the weekday that it is said to be. Files are named by their paths
+-- readers and a schedule; a desk by a script and questions; a page by a journal and which page; an
+-- audit by a journal and a transcript; a conversion by a calendar and a date. Files are named by
+-- their paths
 pub data InvocationModel : Type 0 where
   serving : Option Text → Option Text → ℕ → InvocationModel
   replaying : ℕ → Text → InvocationModel
   working : Text → Text → InvocationModel
-  printing : Text → Text → ℕ → InvocationModel
+  printing : Text → PageWordsModel → InvocationModel
   auditing : Text → Text → InvocationModel
-  reading : Text → Text → Text → Option Text → InvocationModel
+  converting : Text → Text → InvocationModel
 
 -- decimal digits, of a number below 2 ^ 32
 abbrev pub is_number : Text → Bool
@@ -56,27 +69,55 @@ replay_invocation given =
 abbrev pub desk_invocation : List Row → InvocationModel
 desk_invocation given = working (text_of (codes "script") given) (text_of (codes "questions") given)
 
-abbrev pub almanac_invocation : List Row → InvocationModel
-almanac_invocation given = printing (text_of (codes "journal") given) (text_of (codes "code") given)
-    (number_of 0 (codes "year") given)
-
 abbrev pub audit_invocation : List Row → InvocationModel
 audit_invocation given =
     auditing (text_of (codes "journal") given) (text_of (codes "transcript") given)
 
-abbrev pub read_invocation : List Row → InvocationModel
-read_invocation given = reading (text_of (codes "journal") given) (text_of (codes "code") given)
-    (text_of (codes "date") given) (first_of (codes "weekday") given)
+abbrev pub convert_invocation : List Row → InvocationModel
+convert_invocation given =
+    converting (text_of (codes "calendar") given) (text_of (codes "date") given)
+
+-- a command that prints a page of a journal
+abbrev pub page_invocation : List Row → PageWordsModel → InvocationModel
+page_invocation given = printing (text_of (codes "journal") given)
+
+-- which page each of these commands asks for
+abbrev pub almanac_page : List Row → PageWordsModel
+almanac_page given =
+    almanac_words (text_of (codes "code") given) (number_of 0 (codes "year") given)
+
+abbrev pub read_page : List Row → PageWordsModel
+read_page given = reading_words (text_of (codes "code") given) (text_of (codes "date") given)
+    (first_of (codes "weekday") given)
+
+abbrev pub day_page : List Row → PageWordsModel
+day_page given = day_words (text_of (codes "code") given) (text_of (codes "date") given)
+
+abbrev pub month_page : List Row → PageWordsModel
+month_page given = month_words (text_of (codes "code") given) (number_of 0 (codes "year") given)
+    (number_of 0 (codes "month") given)
+
+abbrev pub territory_page : List Row → PageWordsModel
+territory_page given = territory_words (first_of (codes "code") given)
+
+-- which page a command asks for, by its name, and what it asks for where it prints none
+abbrev pub page_or_serve : Text → List Row → InvocationModel
+page_or_serve name given =
+    if bytes_eq name (codes "almanac") then page_invocation given (almanac_page given)
+    else (if bytes_eq name (codes "read") then page_invocation given (read_page given)
+    else (if bytes_eq name (codes "day") then page_invocation given (day_page given)
+    else (if bytes_eq name (codes "month") then page_invocation given (month_page given)
+    else (if bytes_eq name (codes "territory") then page_invocation given (territory_page given)
+    else serve_invocation given))))
 
 -- what a command asks for, by its name
 abbrev pub command_invocation : Text → List Row → InvocationModel
 command_invocation name given =
     if bytes_eq name (codes "replay") then replay_invocation given
     else (if bytes_eq name (codes "desk") then desk_invocation given
-    else (if bytes_eq name (codes "almanac") then almanac_invocation given
     else (if bytes_eq name (codes "audit") then audit_invocation given
-    else (if bytes_eq name (codes "read") then read_invocation given
-    else serve_invocation given))))
+    else (if bytes_eq name (codes "convert") then convert_invocation given
+    else page_or_serve name given)))
 
 -- of no command, what `serve` asks for
 abbrev pub invocation_by : List Row → Option (Text × List Row) → InvocationModel
@@ -89,13 +130,20 @@ invocation_in args =
     invocation_by (matches_of command_line args) (subcommand_of command_line args)
 
 -- the same of what was read, by the texts behind its references
+abbrev pub page_words : PageWords → PageWordsModel
+page_words (pages.Almanac code year) = almanac_words code.now year
+page_words (pages.Read code date weekday) =
+    reading_words code.now date.now (option_map (λ name. name.now) weekday)
+page_words (pages.Day code date) = day_words code.now date.now
+page_words (pages.Month code year month) = month_words code.now year month
+page_words (pages.Territory code) = territory_words (option_map (λ code. code.now) code)
+
 abbrev pub model_of : Invocation → InvocationModel
 model_of (Serve given) =
     serving (option_map (λ path. path.now) given.journal) (option_map (λ path. path.now) given.save)
     given.readers
 model_of (Replay readers schedule) = replaying readers schedule.now
 model_of (Desk script questions) = working script.now questions.now
-model_of (Almanac journal code year) = printing journal.now code.now year
+model_of (Page journal page) = printing journal.now (page_words page)
 model_of (Audit journal transcript) = auditing journal.now transcript.now
-model_of (Read journal code date weekday) =
-    reading journal.now code.now date.now (option_map (λ name. name.now) weekday)
+model_of (Convert calendar date) = converting calendar.now date.now

@@ -2,9 +2,11 @@
 
 ghost use Rattle.std.specs.Prelude.{◌≡◌, IfOk};
 ghost use Rattle.osn_invocation.specs.Grammar.{IsArg, IsCommand, almanac_grammar, audit_grammar};
-ghost use Rattle.osn_invocation.specs.Grammar.{command_line, desk_grammar, read_grammar};
-ghost use Rattle.osn_invocation.specs.Grammar.{readers_option, replay_grammar, required_arg};
-ghost use Rattle.osn_invocation.specs.Grammar.{serve_grammar, value_option, year_arg};
+ghost use Rattle.osn_invocation.specs.Grammar.{command_line, convert_grammar, day_grammar};
+ghost use Rattle.osn_invocation.specs.Grammar.{desk_grammar, month_arg, month_grammar};
+ghost use Rattle.osn_invocation.specs.Grammar.{optional_arg, read_grammar, readers_option};
+ghost use Rattle.osn_invocation.specs.Grammar.{replay_grammar, required_arg, serve_grammar};
+ghost use Rattle.osn_invocation.specs.Grammar.{territory_grammar, value_option, year_arg};
 
 use clap::{Arg, Command, value_parser};
 use std::alloc::{AllocError, Global};
@@ -44,11 +46,25 @@ fn option_arg<'a>(alloc: Global, id: &'a str, shown: &'a str) -> Arg<'a>
     Arg::new(alloc, id).long(id).value_name(shown)
 }
 
-/// The year of an almanac.
+/// An argument that may stand.
+fn optional_arg<'a>(alloc: Global, id: &'a str, shown: &'a str) -> Arg<'a>
+    ensures { IsArg (optional_arg id.now) result }
+{
+    Arg::new(alloc, id).value_name(shown)
+}
+
+/// A year.
 fn year_arg<'a>(alloc: Global) -> Arg<'a>
     ensures { IsArg year_arg result }
 {
     required_arg(alloc, "year", "YEAR").value_parser(value_parser!(u32))
+}
+
+/// A month by its number.
+fn month_arg<'a>(alloc: Global) -> Arg<'a>
+    ensures { IsArg month_arg result }
+{
+    required_arg(alloc, "month", "MONTH").value_parser(value_parser!(u32).range(1..13))
 }
 
 /// The command `serve` and its options.
@@ -93,6 +109,79 @@ const READ_EXAMPLE: &str = "Examples:
 
 A date is 1731-02-11, \"11 February 1731\" or \"11 February 1731/2\". Its year is that of the
 document; the last form has both years, and finds a day only where the territory had them.";
+
+/// The command `convert` and its arguments.
+fn convert_grammar<'a>(alloc: Global) -> Result<Command<'a>, AllocError>
+    ensures { IfOk result (IsCommand convert_grammar) }
+{
+    Command::new(alloc, "convert")
+        .about("Says which day a date of a calendar is, by every calendar and by its numbers")
+        .after_help(CONVERT_EXAMPLE)
+        .arg(required_arg(alloc, "calendar", "CALENDAR").help(
+            "The date's calendar: gregorian, julian or swedish; or the word day",
+        ))?
+        .arg(required_arg(alloc, "date", "DATE").help(
+            "The date, its year counted from 1 January; behind day, a day number",
+        ))
+}
+
+const CONVERT_EXAMPLE: &str = "Examples:
+  ./oldstyle convert julian \"2 September 1752\"
+  ./oldstyle convert gregorian 1752-09-14
+  ./oldstyle convert day 639797
+
+The day number is what an editor writes into a change.";
+
+/// The command `day` and its arguments.
+fn day_grammar<'a>(alloc: Global) -> Result<Command<'a>, AllocError>
+    ensures { IfOk result (IsCommand day_grammar) }
+{
+    Command::new(alloc, "day")
+        .about("Says how a territory dated a day, and in which of its periods the day is")
+        .after_help(DAY_EXAMPLE)
+        .arg(required_arg(alloc, "journal", "JOURNAL").help("The file of the journal"))?
+        .arg(required_arg(alloc, "code", "CODE").help("The code of the territory"))?
+        .arg(required_arg(alloc, "date", "DATE").help("A Gregorian date, or a day number"))
+}
+
+const DAY_EXAMPLE: &str = "Examples:
+  ./oldstyle day examples/samples.journal GB 1732-02-22
+  ./oldstyle day examples/samples.journal GB 639797";
+
+/// The command `month` and its arguments.
+fn month_grammar<'a>(alloc: Global) -> Result<Command<'a>, AllocError>
+    ensures { IfOk result (IsCommand month_grammar) }
+{
+    Command::new(alloc, "month")
+        .about("Prints a month as a territory lived it")
+        .after_help(MONTH_EXAMPLE)
+        .arg(required_arg(alloc, "journal", "JOURNAL").help("The file of the journal"))?
+        .arg(required_arg(alloc, "code", "CODE").help("The code of the territory"))?
+        .arg(year_arg(alloc).help("The year as the territory counted it"))?
+        .arg(month_arg(alloc).help("The month, 1 to 12"))
+}
+
+const MONTH_EXAMPLE: &str = "Example:
+  ./oldstyle month examples/samples.journal GB 1752 9
+
+A month that the year has twice, since the year began within it, is printed twice.";
+
+/// The command `territory` and its arguments.
+fn territory_grammar<'a>(alloc: Global) -> Result<Command<'a>, AllocError>
+    ensures { IfOk result (IsCommand territory_grammar) }
+{
+    Command::new(alloc, "territory")
+        .about("Lists the territories, or the periods of one")
+        .after_help(TERRITORY_EXAMPLE)
+        .arg(required_arg(alloc, "journal", "JOURNAL").help("The file of the journal"))?
+        .arg(optional_arg(alloc, "code", "CODE").help(
+            "The code of the territory whose periods are listed",
+        ))
+}
+
+const TERRITORY_EXAMPLE: &str = "Examples:
+  ./oldstyle territory examples/samples.journal
+  ./oldstyle territory examples/samples.journal GB";
 
 /// The command `replay`, its option and its argument.
 fn replay_grammar<'a>(alloc: Global) -> Result<Command<'a>, AllocError>
@@ -174,6 +263,10 @@ pub(crate) fn command_line<'a>(alloc: Global) -> Result<Command<'a>, AllocError>
         .about(ABOUT)
         .after_help(STATUSES)
         .subcommand(read_grammar(alloc)?)?
+        .subcommand(convert_grammar(alloc)?)?
+        .subcommand(day_grammar(alloc)?)?
+        .subcommand(month_grammar(alloc)?)?
+        .subcommand(territory_grammar(alloc)?)?
         .subcommand(serve_grammar(alloc)?)?
         .subcommand(replay_grammar(alloc)?)?
         .subcommand(desk_grammar(alloc)?)?

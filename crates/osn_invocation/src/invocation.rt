@@ -5,11 +5,13 @@ ghost use Rattle.clap.specs.Words.{FailsBy, fault_of, first_of, found_of, kind_o
 ghost use Rattle.clap.specs.Words.{subcommand_rows_of, takes};
 ghost use Rattle.clap.specs.declared.error.kind.ErrorKind.TheVariants.{OutOfMemory};
 ghost use Rattle.osn_invocation.specs.Grammar.{HasMatches, command_line};
-ghost use Rattle.osn_invocation.specs.Invocation.{almanac_invocation, audit_invocation};
-ghost use Rattle.osn_invocation.specs.Invocation.{command_invocation, desk_invocation};
-ghost use Rattle.osn_invocation.specs.Invocation.{invocation_by, invocation_in, model_of};
-ghost use Rattle.osn_invocation.specs.Invocation.{number_of, read_invocation, replay_invocation};
-ghost use Rattle.osn_invocation.specs.Invocation.{serve_invocation, text_of};
+ghost use Rattle.osn_invocation.specs.Invocation.{almanac_page, audit_invocation};
+ghost use Rattle.osn_invocation.specs.Invocation.{command_invocation, convert_invocation};
+ghost use Rattle.osn_invocation.specs.Invocation.{day_page, desk_invocation, invocation_by};
+ghost use Rattle.osn_invocation.specs.Invocation.{invocation_in, model_of, month_page, number_of};
+ghost use Rattle.osn_invocation.specs.Invocation.{page_invocation, page_words, read_page};
+ghost use Rattle.osn_invocation.specs.Invocation.{replay_invocation, serve_invocation};
+ghost use Rattle.osn_invocation.specs.Invocation.{territory_page, text_of};
 
 use crate::grammar::command_line;
 use clap::{ArgMatches, Error};
@@ -28,6 +30,48 @@ pub struct ServeOptions<'a> {
     pub save: Option<&'a str>,
     /// How many readers ask.
     pub readers: u32,
+}
+
+/// A page of what a journal published, by the words of the command line.
+#[derive(Clone, Copy, Debug, PartialEq, Eq)]
+pub enum PageWords<'a> {
+    /// The almanac of a territory and year.
+    Almanac {
+        /// The code of the territory.
+        code: &'a str,
+        /// The year, counted from 1 January.
+        year: u32,
+    },
+    /// Which day a written date means in a territory.
+    Read {
+        /// The code of the territory.
+        code: &'a str,
+        /// The date as the document has it.
+        date: &'a str,
+        /// The name of the weekday that the document has, if any.
+        weekday: Option<&'a str>,
+    },
+    /// How a territory dated a day.
+    Day {
+        /// The code of the territory.
+        code: &'a str,
+        /// A Gregorian date, or a day number.
+        date: &'a str,
+    },
+    /// A month as a territory lived it.
+    Month {
+        /// The code of the territory.
+        code: &'a str,
+        /// The year as the territory counted it.
+        year: u32,
+        /// The month, 1 to 12.
+        month: u32,
+    },
+    /// The periods of a territory, or all territories.
+    Territory {
+        /// The code of the territory, if one is named.
+        code: Option<&'a str>,
+    },
 }
 
 /// What a command line asks for. Files are named by their paths.
@@ -49,14 +93,12 @@ pub enum Invocation<'a> {
         /// The file of what the readers ask.
         questions: &'a str,
     },
-    /// To print the almanac of a territory and year.
-    Almanac {
+    /// To print a page of what a journal published.
+    Page {
         /// The file of the journal.
         journal: &'a str,
-        /// The code of the territory.
-        code: &'a str,
-        /// The year, counted from 1 January.
-        year: u32,
+        /// Which page.
+        page: PageWords<'a>,
     },
     /// To hold a transcript against a journal.
     Audit {
@@ -65,16 +107,12 @@ pub enum Invocation<'a> {
         /// The file of what readers asked and were told.
         transcript: &'a str,
     },
-    /// To say which day a written date means in a territory.
-    Read {
-        /// The file of the journal.
-        journal: &'a str,
-        /// The code of the territory.
-        code: &'a str,
-        /// The date as the document has it.
+    /// To print a day by every calendar.
+    Convert {
+        /// The word of the date's calendar, or `day`.
+        calendar: &'a str,
+        /// The date, or behind `day` a day number.
         date: &'a str,
-        /// The name of the weekday that the document has, if any.
-        weekday: Option<&'a str>,
     },
 }
 
@@ -122,9 +160,13 @@ fn command_of<'a>(name: &str, given: &ArgMatches<'a>) -> Invocation<'a>
     match name {
         "replay" => replay_of(given),
         "desk" => desk_of(given),
-        "almanac" => almanac_of(given),
         "audit" => audit_of(given),
-        "read" => read_of(given),
+        "convert" => convert_of(given),
+        "almanac" => page_of(given, almanac_of(given)),
+        "read" => page_of(given, read_of(given)),
+        "day" => page_of(given, day_of(given)),
+        "month" => page_of(given, month_of(given)),
+        "territory" => page_of(given, territory_of(given)),
         _ => serve_of(given),
     }
 }
@@ -160,17 +202,6 @@ fn desk_of<'a>(given: &ArgMatches<'a>) -> Invocation<'a>
     }
 }
 
-/// What the arguments of `almanac` ask for.
-fn almanac_of<'a>(given: &ArgMatches<'a>) -> Invocation<'a>
-    ensures { model_of result ≡ almanac_invocation (rows_of (found_of given.now)) }
-{
-    Invocation::Almanac {
-        journal: text_of(given, "journal"),
-        code: text_of(given, "code"),
-        year: number_of(given, "year", 0),
-    }
-}
-
 /// What the arguments of `audit` ask for.
 fn audit_of<'a>(given: &ArgMatches<'a>) -> Invocation<'a>
     ensures { model_of result ≡ audit_invocation (rows_of (found_of given.now)) }
@@ -181,19 +212,79 @@ fn audit_of<'a>(given: &ArgMatches<'a>) -> Invocation<'a>
     }
 }
 
-/// What the arguments of `read` ask for.
-fn read_of<'a>(given: &ArgMatches<'a>) -> Invocation<'a>
-    ensures { model_of result ≡ read_invocation (rows_of (found_of given.now)) }
+/// What the arguments of `convert` ask for.
+fn convert_of<'a>(given: &ArgMatches<'a>) -> Invocation<'a>
+    ensures { model_of result ≡ convert_invocation (rows_of (found_of given.now)) }
 {
-    Invocation::Read {
+    Invocation::Convert {
+        calendar: text_of(given, "calendar"),
+        date: text_of(given, "date"),
+    }
+}
+
+/// What the arguments of a command ask for that prints this page.
+fn page_of<'a>(given: &ArgMatches<'a>, page: PageWords<'a>) -> Invocation<'a>
+    ensures { model_of result
+        ≡ page_invocation (rows_of (found_of given.now)) (page_words page.entry) }
+{
+    Invocation::Page {
         journal: text_of(given, "journal"),
+        page,
+    }
+}
+
+/// Which page the arguments of `almanac` ask for.
+fn almanac_of<'a>(given: &ArgMatches<'a>) -> PageWords<'a>
+    ensures { page_words result ≡ almanac_page (rows_of (found_of given.now)) }
+{
+    PageWords::Almanac {
+        code: text_of(given, "code"),
+        year: number_of(given, "year", 0),
+    }
+}
+
+/// Which page the arguments of `read` ask for.
+fn read_of<'a>(given: &ArgMatches<'a>) -> PageWords<'a>
+    ensures { page_words result ≡ read_page (rows_of (found_of given.now)) }
+{
+    PageWords::Read {
         code: text_of(given, "code"),
         date: text_of(given, "date"),
         weekday: value_of(given, "weekday"),
     }
 }
 
-/// The text that stands behind an option, if any.
+/// Which page the arguments of `day` ask for.
+fn day_of<'a>(given: &ArgMatches<'a>) -> PageWords<'a>
+    ensures { page_words result ≡ day_page (rows_of (found_of given.now)) }
+{
+    PageWords::Day {
+        code: text_of(given, "code"),
+        date: text_of(given, "date"),
+    }
+}
+
+/// Which page the arguments of `month` ask for.
+fn month_of<'a>(given: &ArgMatches<'a>) -> PageWords<'a>
+    ensures { page_words result ≡ month_page (rows_of (found_of given.now)) }
+{
+    PageWords::Month {
+        code: text_of(given, "code"),
+        year: number_of(given, "year", 0),
+        month: number_of(given, "month", 0),
+    }
+}
+
+/// Which page the arguments of `territory` ask for.
+fn territory_of<'a>(given: &ArgMatches<'a>) -> PageWords<'a>
+    ensures { page_words result ≡ territory_page (rows_of (found_of given.now)) }
+{
+    PageWords::Territory {
+        code: value_of(given, "code"),
+    }
+}
+
+/// The text of a word that may stand, if any.
 fn value_of<'a>(given: &ArgMatches<'a>, id: &str) -> Option<&'a str>
     ensures { option_map (λ text. text.now) result
         ≡ first_of id.now (rows_of (found_of given.now)) }

@@ -1,8 +1,9 @@
--- The dual text of a day is a written date: each part of it is found, and is a number or a month.
+-- The dual text of a day is a written date, and so are its words by each calendar: each part of
+-- them is found, and is a number or a month.
 use Rattle.std.proofs.Common.{◌≡◌, ◌≤◌, ◌<◌, ℕ, ◌^◌, Bool, true, false, not, ◌&&◌, ◌==◌, inl, inr}
 use Rattle.std.proofs.Common.{if◌then◌else◌, List, [], ◌∷◌, ◌++◌, length, Option, Some, None, refl}
 use Rattle.std.proofs.Common.{zero, suc, ap, subst, ◌∙◌, arith, option_map, ℤ, pos, negsuc, ◌≤ℤ◌}
-use Rattle.std.proofs.Common.{int_lt, codes, ◌+◌, ◌*◌, ◌/◌, ◌%◌}
+use Rattle.std.proofs.Common.{int_lt, codes, ◌+◌, ◌*◌, ◌/◌, ◌%◌, unsigned_abs, sym}
 use Rattle.std.specs.Fmt.{decimal}
 use Rattle.std.specs.Str.{all_ascii_digits}
 use Rattle.std.proofs.lemmas.Bool.{cases_order, ne_eqb}
@@ -11,19 +12,22 @@ use Rattle.std.proofs.lemmas.Fmt.{decimal_is_IsNumeral, decimal_nonempty}
 use Rattle.std.proofs.lemmas.Fmt.{length-decimal-le}
 use Rattle.std.proofs.lemmas.Int.{ints}
 use Rattle.std.proofs.lemmas.Str.Parse.{numerals_by_value, tells_all_ascii_digits}
-use Rattle.osn_days.specs.Chain.{date_of}
+use Rattle.osn_days.specs.declared.date.Date.{Date}
+use Rattle.osn_days.specs.Chain.{date_of, days_with_date}
 use Rattle.osn_days.specs.Month.{month_name}
 use Rattle.osn_days.specs.Profile.{newest_rules}
 use Rattle.osn_days.proofs.ChainFacts.{lt_of}
-use Rattle.osn_days.proofs.LineFacts.{date_of_line}
+use Rattle.osn_days.proofs.LineFacts.{date_of_line, day_of_date}
 use Rattle.osn_lands.specs.Dual.{later_digits, year_text}
 use Rattle.osn_lands.specs.Style.{style_year, is_before_easter}
 use Rattle.osn_lands.proofs.LabelFacts.{style_year_range}
 use Rattle.osn_lands.proofs.YearDigits.{last_digit_differs, earlier_digit_differs}
 use Rattle.osn_pages.specs.WrittenDate.{parts_at, behind, number_of, month_named, years_of}
 use Rattle.osn_pages.specs.WrittenDate.{written_date}
-use Rattle.osn_pages.specs.Words.{date_words, written_year, written_text}
-use Rattle.osn_pages.specs.Law.{IsWritten, AreDualTextsWritten}
+use Rattle.osn_pages.specs.Words.{date_words, written_year, written_text, words_of_date}
+use Rattle.osn_pages.specs.Words.{calendar_words}
+use Rattle.osn_pages.specs.Conversion.{numbered_date}
+use Rattle.osn_pages.specs.Law.{IsWritten, AreDualTextsWritten, AreCalendarWordsWritten}
 use Rattle.osn_pages.proofs.Grammar.{number_is}
 
 -- ---- parts
@@ -236,3 +240,49 @@ dual_texts_written r d on =
     labelled (style_year newest_rules r d) date.year date.month date.day years.0 years.1
     line_date.year_low line_date.year_high line_date.month_low line_date.month_high
     line_date.day_high
+
+-- ---- a day by a calendar
+
+-- the words of a date are read as that date, which is no double one
+record IsRead (date : Date) : Type 0 where
+  pub is : written_date (words_of_date date) ≡ Some (record {
+    year = unsigned_abs date.year;
+    month = date.month;
+    day = date.day;
+    later = None;
+  })
+  pub numbers : numbered_date (unsigned_abs date.year) date.month date.day ≡ date
+
+numbers_read : (y : ℤ) (month day : ℕ) → pos 1 ≤ℤ y → y ≤ℤ pos 9999
+    → 1 ≤ month → month ≤ 12 → day ≤ 31
+    → IsRead (record { year = y; month = month; day = day })
+unfolding year_text_read
+numbers_read (pos n) month day low high some most few =
+    let small : n < 10 ^ 9 = omega (arith, ints, high) in
+    let years = year_text_read n n small small false (λ e. absurd (cc)) in
+    record {
+      is = words_read day month n (decimal n) (omega (arith, few)) (month_facts month some most)
+          years;
+      numbers = refl;
+    }
+numbers_read (negsuc n) month day low high some most few = absurd (omega (arith, ints, low))
+
+pub calendar_words_written : AreCalendarWordsWritten newest_rules
+unfolding calendar_words AreCalendarWordsWritten
+calendar_words_written c d on =
+    let date = date_of c d in
+    let line_date = date_of_line c d on in
+    let read : IsRead date = numbers_read date.year date.month date.day
+    line_date.year_low line_date.year_high line_date.month_low line_date.month_high
+    line_date.day_high in
+    record {
+      date = record {
+        year = unsigned_abs date.year;
+        month = date.month;
+        day = date.day;
+        later = None;
+      };
+      is = read.is;
+      day = ap (days_with_date newest_rules c) read.numbers
+          ∙ sym (day_of_date newest_rules c d on);
+    }

@@ -1,9 +1,9 @@
--- Lines that stand where there are no others.
+-- Lines that stand where there are no others, and lines that are pushed in parts.
 use Rattle.std.proofs.Common.{◌≡◌, ◌≤◌, ◌<◌, ℕ, List, [], ◌∷◌, ◌++◌, length, sym, ap, ◌∙◌}
-use Rattle.std.proofs.Common.{arith, length-append, Result, OnOk}
+use Rattle.std.proofs.Common.{arith, length-append, append_assoc, Result, OnOk}
 use Rattle.std.proofs.lemmas.Result.{on_ok_weaker}
 use Rattle.osn_almanac.specs.Almanac.{lines_text}
-use Rattle.osn_almanac.proofs.Text.{lines_text-append, push_none}
+use Rattle.osn_almanac.proofs.Text.{lines_text-append, push_none, push_one}
 use Rattle.osn_pages.specs.Reading.{or_lines}
 
 -- a line has its line feed at least
@@ -51,3 +51,21 @@ pub two_parts : (line : List ℕ) (lines : List (List ℕ)) (begun headed done :
     → done ≡ headed ++ lines_text lines → done ≡ lines_text (line ∷ lines)
 two_parts line lines begun headed done none heading rest =
     rw (rest, heading, none) (sym (lines_text-append (line ∷ []) lines))
+
+-- a line whose beginning was pushed before it
+begun_line : (before start line : List ℕ)
+    → (before ++ start) ++ lines_text (line ∷ []) ≡ before ++ lines_text ((start ++ line) ∷ [])
+begun_line before start line =
+    sym (push_one (before ++ start) line)
+    ∙ ap (λ t. t ++ 10 ∷ []) (append_assoc before start line)
+    ∙ push_one before (start ++ line)
+
+-- a line of which two parts were pushed before the rest, by a call that may fail
+pub rest_of_line : {T E : Type 0} (r : Result T E) (before first second rest now new : List ℕ)
+    → now ≡ (before ++ first) ++ second → OnOk r (new ≡ now ++ lines_text (rest ∷ []))
+    → OnOk r (new ≡ before ++ lines_text ((first ++ (second ++ rest)) ∷ []))
+rest_of_line r before first second rest now new is more =
+    on_ok_weaker r
+    (λ h. h ∙ ap (λ t. t ++ lines_text (rest ∷ [])) is
+    ∙ begun_line (before ++ first) second rest ∙ begun_line before first (second ++ rest))
+    more

@@ -19,20 +19,27 @@ use Rattle.osn_almanac.specs.Almanac.{name_in}
 use Rattle.osn_almanac.specs.Trimmed.{is_trimmed, AreTrimmed}
 use Rattle.osn_almanac.proofs.TrimmedFacts.{ends-append, ends-decimal, AreTrimmed-flat_map}
 use Rattle.osn_pages.specs.declared.written_date.WrittenDate.{WrittenDate}
+use Rattle.osn_pages.specs.Heading.{land_heading, heading}
 use Rattle.osn_pages.specs.Reading as spec
 use Rattle.osn_pages.specs.Words.{written_text, calendar_words, weekday_words, named_day}
 
-ends-heading : (date name code : List ℕ) (edition : ℕ)
-    → IsTrue (is_trimmed (spec.heading date name code edition))
-unfolding spec.heading
-ends-heading date name code edition =
+pub ends-land_heading : (name code : List ℕ) (edition : ℕ)
+    → IsTrue (is_trimmed (land_heading name code edition))
+unfolding land_heading
+ends-land_heading name code edition =
     let last = codes "), edition " ++ decimal edition in
-    ends-append date (codes " in " ++ (name ++ (codes " (" ++ (code ++ last))))
-    (ends-append (codes " in ") (name ++ (codes " (" ++ (code ++ last)))
-    (ends-append name (codes " (" ++ (code ++ last))
+    ends-append name (codes " (" ++ (code ++ last))
     (ends-append (codes " (") (code ++ last)
     (ends-append code last
-    (ends-append (codes "), edition ") (decimal edition) (ends-decimal edition))))))
+    (ends-append (codes "), edition ") (decimal edition) (ends-decimal edition))))
+
+pub ends-heading : (subject name code : List ℕ) (edition : ℕ)
+    → IsTrue (is_trimmed (heading subject name code edition))
+unfolding heading
+ends-heading subject name code edition =
+    let land = land_heading name code edition in
+    ends-append subject (codes " in " ++ land)
+    (ends-append (codes " in ") land (ends-land_heading name code edition))
 
 -- ---- the days found
 
@@ -58,7 +65,7 @@ ends-said n (Some given) d =
           (ends-append (codes " not ") (weekday_name given) (ends-weekday given))
     ]
 
-ends-day : (named gregorian julian : List ℕ) (d : ℕ) (given : Option Weekday)
+pub ends-day : (named gregorian julian : List ℕ) (d : ℕ) (given : Option Weekday)
     → IsTrue (is_trimmed (spec.day_text named gregorian julian d (spec.verdict given d)))
 unfolding spec.day_text
 ends-day named gregorian julian d given =

@@ -18,22 +18,10 @@ use Rattle.osn_register.specs.declared.query.Query.TheVariants.{Read, DayIn, Lan
 use Rattle.osn_register.specs.declared.refusal.Refusal.{Refusal}
 use Rattle.osn_register.specs.Answer.{answer, query_refusal}
 use Rattle.osn_register.specs.Plain.{LandModel}
-use Rattle.osn_almanac.specs.Almanac.{lines_text, name_in}
+use Rattle.osn_almanac.specs.Almanac.{lines_text}
+use Rattle.osn_pages.specs.Heading.{heading_line}
 use Rattle.osn_pages.specs.declared.written_date.WrittenDate.{WrittenDate}
 use Rattle.osn_pages.specs.Words.{written_text, calendar_words, weekday_words, named_day}
-
--- ---- the heading
-
--- the date, the territory and the edition
-unfoldable pub heading : List ℕ → List ℕ → List ℕ → ℕ → List ℕ
-heading date name code edition =
-    date
-    ++ (codes " in "
-    ++ (name ++ (codes " (" ++ (code ++ (codes "), edition " ++ decimal edition)))))
-
--- a code that no territory has is refused before anything is written, so there is a name
-abbrev pub heading_line : ℕ → List ℕ → List ℕ → Answer → List ℕ
-heading_line edition code date lands = heading date (name_in code lands) code edition
 
 -- ---- the days found
 

@@ -50,7 +50,7 @@ fn push_day_text(
 
 /// Appends the line of a day.
 #[tactic(auto, unfolding(crate::specs::Reading::day_line))]
-fn push_day(
+pub(crate) fn push_day(
     alloc: Global,
     out: &mut String,
     given: Option<Weekday>,

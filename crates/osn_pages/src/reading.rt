@@ -1,66 +1,24 @@
-ghost use Rattle.std.specs.Prelude.{◌≡◌, [], ◌∷◌, ◌++◌, None, IfOk, IfErr, OnOk, string_bytes};
+ghost use Rattle.std.specs.Prelude.{◌≡◌, ◌++◌, None, IfOk, IfErr, OnOk, string_bytes};
 ghost use Rattle.std.specs.Prelude.{codes};
 ghost use Rattle.osn_days.specs.Profile.{newest_rules};
 ghost use Rattle.osn_register.specs.Refusal.{IsRefusalOrNoMemory};
 ghost use Rattle.osn_register.specs.Answer.{answer};
-ghost use Rattle.osn_register.specs.declared.query.Query.TheVariants.{Lands};
 ghost use Rattle.osn_almanac.specs.Almanac.{lines_text};
 ghost use Rattle.osn_almanac.specs.Trimmed.{AreTrimmed};
-ghost use Rattle.osn_pages.specs.Words.{written_text as text_of};
 ghost use Rattle.osn_pages.specs.Reading as spec;
 
 use crate::days::push_days;
+use crate::heading::push_heading;
 use crate::skips::push_skips;
 use crate::words::written_text;
 use crate::written_date::WrittenDate;
-use osn_almanac::{name_in, push_line};
+use osn_almanac::push_line;
 use osn_days::Weekday;
 use osn_register::{Answer, Query, Refusal, Register, Text};
 use std::alloc::{AllocError, Global};
 
 /// The room that the text gets at first: that of a page with one day takes some 180 bytes.
 const ROOM: usize = 256;
-
-/// Appends the heading, in these words.
-fn push_heading_text(
-    alloc: Global,
-    out: &mut String,
-    date: &str,
-    name: &str,
-    code: &str,
-    edition: usize,
-) -> Result<(), AllocError>
-    ensures { OnOk result (string_bytes out.new ≡ string_bytes out.old ++ lines_text
-        (spec.heading date.now name.now code.now edition ∷ [])) }
-{
-    let line = format!(in alloc; "{} in {} ({}), edition {}", date, name, code, edition)?;
-    push_line(out, line.as_str())
-}
-
-/// Appends the heading, with the name of the territory.
-fn push_heading(
-    alloc: Global,
-    out: &mut String,
-    register: &Register,
-    edition: usize,
-    code: &str,
-    date: WrittenDate,
-) -> Result<(), AllocError>
-    ensures { OnOk result (string_bytes out.new ≡ string_bytes out.old ++ lines_text
-        (spec.heading_line edition code.now (text_of date)
-        (answer newest_rules register.now.lands Lands) ∷ [])) }
-{
-    let lands = register.answer(&Query::Lands)?;
-    let text = written_text(alloc, date)?;
-    push_heading_text(
-        alloc,
-        out,
-        text.as_str(),
-        name_in(&lands, code),
-        code,
-        edition,
-    )
-}
 
 /// Appends why no day was found: the changes that skipped the date, or that its calendar lacks it.
 fn push_why(
@@ -138,7 +96,8 @@ fn page_text(
         ≡ spec.reading_page newest_rules register.now.lands edition code.now date given) }
 {
     let mut text = String::with_capacity(alloc, ROOM)?;
-    push_heading(alloc, &mut text, register, edition, code, date)?;
+    let subject = written_text(alloc, date)?;
+    push_heading(alloc, &mut text, register, edition, code, subject.as_str())?;
     push_reading(alloc, &mut text, register, code, date, given)?;
     Ok(text)
 }
@@ -151,7 +110,7 @@ fn page_text(
 ///
 /// Those of a query of the reading, in their order: `BadCode`, `UnknownLand`, `YearOffRange`,
 /// `BadDate`. Else `NoMemory` where no memory is found.
-pub fn reading_page(
+pub(crate) fn reading_page(
     alloc: Global,
     register: &Register,
     edition: usize,

@@ -32,7 +32,7 @@ impl WrittenDate {
 }
 
 /// The parts before and behind the first such character.
-fn parts_at(text: &str, separator: char) -> Option<(&str, &str)>
+pub(crate) fn parts_at(text: &str, separator: char) -> Option<(&str, &str)>
     requires { separator < 128 }
     ensures { option_map (λ x. (x.0.now, x.1.now)) result ≡ spec.parts_at separator text.now }
 {
@@ -51,8 +51,8 @@ fn are_digits(part: &[u8]) -> bool
     true
 }
 
-/// The number that a part is.
-fn number_of(part: &str) -> Option<u32>
+/// The number that a text is, of 1 to 9 digits, if it is one. Zeros may stand in front.
+pub fn number_of(part: &str) -> Option<u32>
     ensures { result ≡ spec.number_of part.now }
 {
     if part.is_empty() || part.len() > 9 || !are_digits(part.as_bytes()) {

@@ -97,6 +97,30 @@ Wednesday 1 January 1500    10 January 1500 Gregorian    1 January 1500 Julian  
       JDN 2268933
 ";
 
+const NEW_YEAR_CONVERTED: &str = "Wednesday    10 January 1500 Gregorian    1 January 1500 Julian
+      1 January 1500 Swedish    day 547508    JDN 2268933
+";
+
+const NEW_YEAR_IN_ROME: &str = "day 547508 in Rome (RM), edition 1
+Wednesday 1 January 1500    10 January 1500 Gregorian    1 January 1500 Julian    day 547508
+      JDN 2268933
+always: julian calendar, january style (years from 1 January), julian rule
+";
+
+const JANUARY: &str = "Rome (RM), edition 1
+MARGIN    January 1500
+Su Mo Tu We Th Fr Sa
+MARGIN          1  2  3  4
+ 5  6  7  8  9 10 11
+12 13 14 15 16 17 18
+19 20 21 22 23 24 25
+26 27 28 29 30 31
+";
+
+const PERIODS: &str = "Rome (RM), edition 1
+always: julian calendar, january style (years from 1 January), julian rule
+";
+
 const OUTS: &str = r#"{"ok":"staged","pending":1}
 {"out":"moved"}
 {"edition":1,"ok":"published"}
@@ -112,11 +136,28 @@ const TOLD: &str = r#"{"ask":{"code":"RM","op":"periods","reader":1},"reply":{"e
 "#;
 
 /// Each command, and then those of two files with the files the other way round.
-pub const RUNS: [RunRow; 9] = [
+pub const RUNS: [RunRow; 14] = [
     (
         "oldstyle read a.journal RM 1500-01-01",
         "",
         (0, NEW_YEAR, ""),
+    ),
+    (
+        "oldstyle convert julian 1500-01-01",
+        "",
+        (0, NEW_YEAR_CONVERTED, ""),
+    ),
+    (
+        "oldstyle day a.journal RM 1500-01-10",
+        "",
+        (0, NEW_YEAR_IN_ROME, ""),
+    ),
+    ("oldstyle month a.journal RM 1500 1", "", (0, JANUARY, "")),
+    ("oldstyle territory a.journal RM", "", (0, PERIODS, "")),
+    (
+        "oldstyle territory a.journal",
+        "",
+        (0, "Territories, edition 1\nRome (RM)\n", ""),
     ),
     ("oldstyle almanac a.journal RM 1500", "", (0, ROME_1500, "")),
     ("oldstyle replay --readers 2 a.schedule", "", (0, OUTS, "")),

@@ -17,13 +17,17 @@ year and the rule of Easter that were in force where it was written
 Usage: oldstyle [COMMAND]
 
 Commands:
-  read     Says which day a written date means in a territory, or why it never was
-  serve    Answers request lines on standard input (so does the program without words)
-  replay   Takes the steps of one editor and of readers, and prints what each gives
-  desk     Lets readers ask while an editor works, each in a thread of its own
-  almanac  Prints the almanac of a territory and year, as a journal published the territory
-  audit    Says whether each reply of a transcript is the one that a journal gives
-  help     Print this message or the help of the given subcommand(s)
+  read       Says which day a written date means in a territory, or why it never was
+  convert    Says which day a date of a calendar is, by every calendar and by its numbers
+  day        Says how a territory dated a day, and in which of its periods the day is
+  month      Prints a month as a territory lived it
+  territory  Lists the territories, or the periods of one
+  serve      Answers request lines on standard input (so does the program without words)
+  replay     Takes the steps of one editor and of readers, and prints what each gives
+  desk       Lets readers ask while an editor works, each in a thread of its own
+  almanac    Prints the almanac of a territory and year, as a journal published the territory
+  audit      Says whether each reply of a transcript is the one that a journal gives
+  help       Print this message or the help of the given subcommand(s)
 
 Options:
   -h, --help     Print help
@@ -57,6 +61,77 @@ Examples:
 
 A date is 1731-02-11, \"11 February 1731\" or \"11 February 1731/2\". Its year is that of the
 document; the last form has both years, and finds a day only where the territory had them.
+";
+
+const CONVERT: &str = "Says which day a date of a calendar is, by every calendar and by its numbers
+
+Usage: oldstyle convert <CALENDAR> <DATE>
+
+Arguments:
+  <CALENDAR>  The date's calendar: gregorian, julian or swedish; or the word day
+  <DATE>      The date, its year counted from 1 January; behind day, a day number
+
+Options:
+  -h, --help  Print help
+
+Examples:
+  ./oldstyle convert julian \"2 September 1752\"
+  ./oldstyle convert gregorian 1752-09-14
+  ./oldstyle convert day 639797
+
+The day number is what an editor writes into a change.
+";
+
+const DAY: &str = "Says how a territory dated a day, and in which of its periods the day is
+
+Usage: oldstyle day <JOURNAL> <CODE> <DATE>
+
+Arguments:
+  <JOURNAL>  The file of the journal
+  <CODE>     The code of the territory
+  <DATE>     A Gregorian date, or a day number
+
+Options:
+  -h, --help  Print help
+
+Examples:
+  ./oldstyle day examples/samples.journal GB 1732-02-22
+  ./oldstyle day examples/samples.journal GB 639797
+";
+
+const MONTH: &str = "Prints a month as a territory lived it
+
+Usage: oldstyle month <JOURNAL> <CODE> <YEAR> <MONTH>
+
+Arguments:
+  <JOURNAL>  The file of the journal
+  <CODE>     The code of the territory
+  <YEAR>     The year as the territory counted it
+  <MONTH>    The month, 1 to 12
+
+Options:
+  -h, --help  Print help
+
+Example:
+  ./oldstyle month examples/samples.journal GB 1752 9
+
+A month that the year has twice, since the year began within it, is printed twice.
+";
+
+const TERRITORY: &str = "Lists the territories, or the periods of one
+
+Usage: oldstyle territory <JOURNAL> [CODE]
+
+Arguments:
+  <JOURNAL>  The file of the journal
+  [CODE]     The code of the territory whose periods are listed
+
+Options:
+  -h, --help  Print help
+
+Examples:
+  ./oldstyle territory examples/samples.journal
+  ./oldstyle territory examples/samples.journal GB
 ";
 
 const SERVE: &str = "Answers request lines on standard input (so does the program without words)
@@ -143,11 +218,15 @@ Example:
   ./oldstyle audit examples/rome.script rome.transcript
 ";
 
-const SHOWN: [Printed; 10] = [
+const SHOWN: [Printed; 14] = [
     ("oldstyle --help", HELP),
     ("oldstyle help", HELP),
     ("oldstyle --version", "oldstyle 0.1.0\n"),
     ("oldstyle read --help", READ),
+    ("oldstyle convert --help", CONVERT),
+    ("oldstyle day --help", DAY),
+    ("oldstyle month --help", MONTH),
+    ("oldstyle territory --help", TERRITORY),
     ("oldstyle help serve", SERVE),
     ("oldstyle serve --help", SERVE),
     ("oldstyle replay --help", REPLAY),

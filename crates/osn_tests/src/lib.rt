@@ -21,6 +21,8 @@ mod compare;
 #[cfg(test)]
 mod computus;
 #[cfg(test)]
+mod conversions;
+#[cfg(test)]
 mod days;
 #[cfg(test)]
 mod desks;
@@ -96,6 +98,8 @@ mod streams;
 mod tables;
 #[cfg(test)]
 mod takers;
+#[cfg(test)]
+mod territory_pages;
 #[cfg(test)]
 mod walk;
 #[cfg(test)]

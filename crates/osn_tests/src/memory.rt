@@ -215,7 +215,12 @@ fn is_run<'a, R: Threads + Wait + AllocGlobal + Abort>(
 }
 
 /// What the runs over real files open.
-const OPENED: [&str; 9] = [
+const OPENED: [&str; 14] = [
+    "a.journal",
+    "",
+    "a.journal",
+    "a.journal",
+    "a.journal",
     "a.journal",
     "a.journal",
     "a.schedule",
@@ -244,8 +249,11 @@ fn files_are_opened_in_the_order_of_the_words(rt: HostRuntime) -> Result<(), Fai
 }
 
 /// Command lines of which the first file isn't there.
-const GONE: [&str; 6] = [
+const GONE: [&str; 9] = [
     "oldstyle read a.gone RM 1500-01-01",
+    "oldstyle day a.gone RM 1500-01-01",
+    "oldstyle month a.gone RM 1500 1",
+    "oldstyle territory a.gone",
     "oldstyle almanac a.gone RM 1500",
     "oldstyle replay --readers 1 a.gone",
     "oldstyle desk a.gone a.questions",

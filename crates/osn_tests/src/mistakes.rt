@@ -2,7 +2,7 @@
 use crate::commands::{RunRow, are_run};
 use std::test::Fail;
 
-const MISTAKES: [RunRow; 18] = [
+const MISTAKES: [RunRow; 22] = [
     (
         "oldstyle read none GB",
         "",
@@ -13,6 +13,63 @@ const MISTAKES: [RunRow; 18] = [
   <DATE>
 
 Usage: oldstyle read <JOURNAL> <CODE> <DATE>
+
+For more information, try '--help'.
+",
+        ),
+    ),
+    (
+        "oldstyle convert julian",
+        "",
+        (
+            2,
+            "",
+            "error: the following required arguments were not provided:
+  <DATE>
+
+Usage: oldstyle convert <CALENDAR> <DATE>
+
+For more information, try '--help'.
+",
+        ),
+    ),
+    (
+        "oldstyle day none GB",
+        "",
+        (
+            2,
+            "",
+            "error: the following required arguments were not provided:
+  <DATE>
+
+Usage: oldstyle day <JOURNAL> <CODE> <DATE>
+
+For more information, try '--help'.
+",
+        ),
+    ),
+    (
+        "oldstyle month none GB 1752 13",
+        "",
+        (
+            2,
+            "",
+            "error: invalid value '13' for '<MONTH>': 13 is not in 1..=12
+
+For more information, try '--help'.
+",
+        ),
+    ),
+    (
+        "oldstyle territory",
+        "",
+        (
+            2,
+            "",
+            "error: the following required arguments were not provided:
+  <JOURNAL>
+
+Usage: oldstyle territory <JOURNAL> [CODE]
 
 For more information, try '--help'.
 ",

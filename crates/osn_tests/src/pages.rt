@@ -4,10 +4,11 @@ use crate::compare::same;
 use crate::printed::{Wanted, is_left, left_by, sink};
 use crate::session::joined;
 use osn_almanac::{name_in, push_line};
-use osn_commands::read_command;
+use osn_commands::page_command;
 use osn_days::Weekday;
+use osn_invocation::PageWords;
 use osn_lines::Plain;
-use osn_pages::{WrittenDate, reading_page};
+use osn_pages::{Page, WrittenDate, number_of, page_text};
 use osn_register::{Limits, Query, Refusal};
 use osn_wire::load_journal;
 use std::alloc::Global;
@@ -47,6 +48,12 @@ fn dates_are_parsed(rt: HostRuntime) {
 }
 
 #[test]
+fn numbers_are_read(rt: HostRuntime) {
+    same(&rt, number_of("0639797"), Some(639_797));
+    same(&rt, number_of("+5"), None);
+}
+
+#[test]
 fn weekdays_have_names(rt: HostRuntime) {
     let friday = Weekday::from_name("Friday");
     same(&rt, friday, Some(Weekday::Friday));
@@ -72,9 +79,9 @@ const FR: &str = r#"{"journal":2}
 "#;
 
 /// A code, a date, a weekday that is named, and what is left.
-type Page = (&'static str, &'static str, Option<&'static str>, Wanted);
+type Reading = (&'static str, &'static str, Option<&'static str>, Wanted);
 
-const BRITISH: [Page; 11] = [
+const BRITISH: [Reading; 11] = [
     (
         "GB",
         "11 February 1731",
@@ -184,7 +191,7 @@ const NO_DATE: &str = "oldstyle: DATE is no date: write 1731-02-11, \"11 Februar
 const NO_WEEKDAY: &str = "oldstyle: DAY is no weekday: write its English name, as Friday\n";
 
 /// The year began on Easter day, so one date of the spring may be two days.
-const FRENCH: [Page; 2] = [
+const FRENCH: [Reading; 2] = [
     (
         "FR",
         "1543-04-01",
@@ -215,13 +222,17 @@ Tuesday 1 April 1543/4    11 April 1544 Gregorian    1 April 1544 Julian    day 
 ];
 
 /// That a journal gives each page.
-fn are_pages(rt: &impl Abort, alloc: Global, journal: &str, rows: &[Page]) -> Result<(), Fail> {
+fn are_pages(rt: &impl Abort, alloc: Global, journal: &str, rows: &[Reading]) -> Result<(), Fail> {
     let journal = joined(alloc, journal)?;
     for (code, date, weekday, wanted) in rows {
         let (mut output, mut errors) = (sink(alloc), sink(alloc));
         let mut source = Plain::new(journal.as_bytes());
-        let (out, told) = (&mut output, &mut errors);
-        let status = read_command(alloc, &mut source, code, date, *weekday, out, told);
+        let words = PageWords::Read {
+            code,
+            date,
+            weekday: *weekday,
+        };
+        let status = page_command(alloc, &mut source, words, &mut output, &mut errors);
         is_left(rt, alloc, left_by(status, output, errors), wanted)?;
     }
     Ok(())
@@ -254,13 +265,17 @@ fn a_page_and_its_parts(rt: HostRuntime) -> Result<(), Fail> {
     let mut wanted = String::new(alloc);
     push_line(&mut wanted, "31 June 1543 in France (FR), edition 7")?;
     push_line(&mut wanted, "no date of its calendar")?;
-    let date = WrittenDate {
-        year: 1543,
-        month: 6,
-        day: 31,
-        later: None,
+    let page = Page::Reading {
+        code: "FR",
+        date: WrittenDate {
+            year: 1543,
+            month: 6,
+            day: 31,
+            later: None,
+        },
+        weekday: Some(Weekday::Sunday),
     };
-    match reading_page(alloc, register, 7, "FR", date, Some(Weekday::Sunday)) {
+    match page_text(alloc, register, 7, page) {
         Ok(page) => same(&rt, page.as_str(), wanted.as_str()),
         Err(refusal) => same(&rt, Err(refusal), Ok(())),
     }

@@ -2,7 +2,8 @@
 //! written, and what standard error is told.
 use crate::compare::same;
 use crate::session::joined;
-use osn_commands::{Status, almanac_command, audit_command, desk_command, replay_command};
+use osn_commands::{Status, audit_command, desk_command, page_command, replay_command};
+use osn_invocation::PageWords;
 use osn_lines::Plain;
 use std::alloc::Global;
 use std::process::Abort;
@@ -86,7 +87,8 @@ fn almanacs(rt: &impl Abort, alloc: Global, rows: &[Almanac]) -> Result<(), Fail
     for (journal, code, year, wanted) in rows {
         let (mut output, mut errors) = (sink(alloc), sink(alloc));
         let mut source = Plain::new(journal.as_bytes());
-        let status = almanac_command(alloc, &mut source, code, *year, &mut output, &mut errors);
+        let words = PageWords::Almanac { code, year: *year };
+        let status = page_command(alloc, &mut source, words, &mut output, &mut errors);
         is_left(rt, alloc, left_by(status, output, errors), wanted)?;
     }
     Ok(())
@@ -101,14 +103,11 @@ fn almanacs_are_refused(rt: HostRuntime) -> Result<(), Fail> {
 fn an_almanac_is_printed(rt: HostRuntime) -> Result<(), Fail> {
     let (mut output, mut errors) = (sink(rt.alloc()), sink(rt.alloc()));
     let mut source = Plain::new(RM.as_bytes());
-    let status = almanac_command(
-        rt.alloc(),
-        &mut source,
-        "RM",
-        1500,
-        &mut output,
-        &mut errors,
-    );
+    let words = PageWords::Almanac {
+        code: "RM",
+        year: 1500,
+    };
+    let status = page_command(rt.alloc(), &mut source, words, &mut output, &mut errors);
     let left = left_by(status, output, errors);
     let text = str::from_utf8(&left.written)?;
     assert!(rt; text.starts_with("Almanac of Rome (RM) for 1500\nGolden number 19, indiction 3\n"));

@@ -18,9 +18,11 @@ const ENDS: [(&str, &str); 5] = [
 ];
 
 /// A text with its broken lines whole again, what begins with two spaces being the rest of the line
-/// before, and with the ends of the line as numbers.
+/// before, and with the ends of the line as numbers. A line that has spaces of its own in front
+/// begins with `MARGIN`.
 pub fn joined(alloc: Global, text: &str) -> Result<String, AllocError> {
     let mut whole = text.replace(alloc, "\n  ", "")?;
+    whole = whole.replace(alloc, "MARGIN", "")?;
     for (word, number) in ENDS {
         whole = whole.replace(alloc, word, number)?;
     }

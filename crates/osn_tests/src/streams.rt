@@ -24,15 +24,13 @@ struct Notes {
 impl Notes {
     /// Notes of nothing yet.
     fn shared(alloc: Global) -> Result<Rc<Notes>, AllocError> {
-        Ok(Rc::new(
-            alloc,
-            Notes {
-                flushed: Cell::new(0),
-                writes: Cell::new(0),
-                longest: Cell::new(0),
-                seen: Cell::new(0),
-            },
-        )?)
+        let notes = Notes {
+            flushed: Cell::new(0),
+            writes: Cell::new(0),
+            longest: Cell::new(0),
+            seen: Cell::new(0),
+        };
+        Ok(Rc::new(alloc, notes)?)
     }
 }
 
@@ -77,9 +75,8 @@ impl Write for Bounded {
         }
         let taken = self.step.min(bytes.len());
         self.bytes.extend_from_slice(&bytes[..taken])?;
-        self.notes
-            .writes
-            .set(self.notes.writes.get().saturating_add(1));
+        let writes = self.notes.writes.get();
+        self.notes.writes.set(writes.saturating_add(1));
         self.notes.longest.set(self.notes.longest.get().max(taken));
         Ok(taken)
     }

@@ -1,3 +1,4 @@
+use Rattle.std.proofs.Common.{refl}
 use Rattle.std.proofs.lemmas.Result.{IfOk-weaker}
 use Rattle.osn_commands.proofs.RunLemmas.{ran}
 use Rattle.osn_commands.proofs.program.execute.Goals as goal
@@ -17,17 +18,17 @@ returns-in-Desk-clause-ok g c =
     IfOk-weaker c.desk.result _ _
     (λ status h. ran c.args.invocation _ _ _ _ _ _ status c.in-Desk.is h) c.desk.ensures.ok
 
-pub returns-in-Almanac-clause-ok : goal.returns-in-Almanac-clause-ok
-returns-in-Almanac-clause-ok g c =
-    IfOk-weaker c.almanac.result _ _
-    (λ status h. ran c.args.invocation _ _ _ _ _ _ status c.in-Almanac.is h) c.almanac.ensures.ok
+pub returns-in-Page-clause-ok : goal.returns-in-Page-clause-ok
+returns-in-Page-clause-ok g c =
+    IfOk-weaker c.page.result _ _
+    (λ status h. ran c.args.invocation _ _ _ _ _ _ status c.in-Page.is h) c.page.ensures.ok
 
 pub returns-in-Audit-clause-ok : goal.returns-in-Audit-clause-ok
 returns-in-Audit-clause-ok g c =
     IfOk-weaker c.audit.result _ _
     (λ status h. ran c.args.invocation _ _ _ _ _ _ status c.in-Audit.is h) c.audit.ensures.ok
 
-pub returns-in-Read-clause-ok : goal.returns-in-Read-clause-ok
-returns-in-Read-clause-ok g c =
-    IfOk-weaker c.read.result _ _
-    (λ status h. ran c.args.invocation _ _ _ _ _ _ status c.in-Read.is h) c.read.ensures.ok
+pub returns-in-Convert-clause-ok : goal.returns-in-Convert-clause-ok
+returns-in-Convert-clause-ok g c =
+    ran c.args.invocation _ _ _ _ _ _ c.convert_command.result c.in-Convert.is
+    (refl, c.convert_command.ensures)

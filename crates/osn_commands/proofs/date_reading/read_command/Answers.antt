@@ -1,9 +1,0 @@
-use Rattle.std.proofs.Common.{string_bytes, inl, inr}
-use Rattle.osn_commands.proofs.PrintLemmas.{printed}
-use Rattle.osn_commands.proofs.date_reading.read_command.Goals as goal
-
-pub returns : goal.returns
-returns g c =
-    printed string_bytes _ _ c.journal_reading-made.result _ _ _
-    c.journal_reading-made.ensures.ok c.journal_reading-made.ensures.err (inr (inr (inl tt)))
-    c.print.ensures.ok c.print.ensures.err

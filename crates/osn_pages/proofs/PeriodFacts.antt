@@ -1,0 +1,90 @@
+-- The periods of a territory are those that hold its days.
+use Rattle.std.proofs.Common.{◌≡◌, ◌≤◌, ◌<◌, ℕ, true, false, cond, List, [], ◌∷◌, length}
+use Rattle.std.proofs.Common.{Option, Some, None, option_map, IfSome, pos, get_or, refl, sym, ap}
+use Rattle.std.proofs.Common.{subst, ◌∙◌, arith}
+use Rattle.std.specs.List.{All, HoldsAt}
+use Rattle.std.specs.Str.{bytes_eq}
+use Rattle.std.proofs.lemmas.Bool.Decides.{nat_tests}
+use Rattle.std.proofs.lemmas.Int.{ints}
+use Rattle.std.proofs.lemmas.List.{get_or_default}
+use Rattle.osn_days.specs.Profile.{Profile}
+use Rattle.osn_lands.specs.declared.period.Period.{Period}
+use Rattle.osn_lands.specs.Territory.{TerritoryModel, CoversLine, Holds, periods_of}
+use Rattle.osn_lands.proofs.CoverFacts.{within_at}
+use Rattle.osn_lands.proofs.RegimeFacts.{regime_found}
+use Rattle.osn_register.specs.declared.answer.Answer.{Answer}
+use Rattle.osn_register.specs.declared.answer.Answer.TheVariants.{OnDay}
+use Rattle.osn_register.specs.declared.limits.Limits.{Limits}
+use Rattle.osn_register.specs.declared.refusal.Refusal.{Refusal}
+use Rattle.osn_register.specs.declared.refusal.Refusal.TheVariants.{DayOffLine}
+use Rattle.osn_register.specs.Answer.{unless, day_answer, periods_answer, on_day}
+use Rattle.osn_register.specs.Answer.{found_on, found_under}
+use Rattle.osn_register.specs.Plain.{LandModel, land_of, territory_of, code_refusal, is_off_line}
+use Rattle.osn_register.specs.Plain.{AreSound}
+use Rattle.osn_register.specs.Refusal.{first_refusal, or_else}
+use Rattle.osn_register.proofs.CoverFacts.{period_on-place}
+use Rattle.osn_pages.specs.Law.{periods_in, ArePeriodsAnswered}
+
+-- the territory of a code, of those that are sound, has periods that cover the line
+covers_line_of : (p : Profile) (limits : Limits) (code : List ℕ) (lands : List LandModel)
+    → AreSound p limits lands
+    → IfSome (territory_of code lands) (λ t. CoversLine p (periods_of p t))
+covers_line_of p limits code [] sound = tt
+covers_line_of p limits code (l ∷ ls) sound =
+    elim (bytes_eq code l.code) as (λ b. IfSome
+    (option_map (λ (k : LandModel). k.territory) (cond b (Some l) (land_of code ls)))
+    (λ t. CoversLine p (periods_of p t))) [
+      | true ↦ sound.0.periods
+      | false ↦ covers_line_of p limits code ls sound.1
+    ]
+
+on_line : (p : Profile) (d : ℕ) → 1 ≤ d → d ≤ p.high → is_off_line p (pos d) ≡ false
+on_line p d low high = grind (arith, ints, nat_tests)
+
+-- what is answered to a day, where the code is refused so
+abbrev answer_on : Profile → Option Refusal → Option TerritoryModel → ℕ → Answer
+answer_on p refused t d =
+    unless (or_else refused (first_refusal ((is_off_line p (pos d), DayOffLine) ∷ [])))
+    (day_answer p t d)
+
+-- the period at a place is answered to each of its days
+answer_at_place : (p : Profile) (t : TerritoryModel) (i d : ℕ) (q : Period)
+    → CoversLine p (periods_of p t) → i < length (periods_of p t) → q ≡ get_or (periods_of p t) i q
+    → 1 ≤ q.first → q.last ≤ p.high → Holds d q
+    → answer_on p None (Some t) d ≡ OnDay (found_under p q.regime d) q
+answer_at_place p t i d q covers within is low high held =
+    let ps = periods_of p t in
+    let there : HoldsAt (Holds d) ps i =
+    λ x. subst (Holds d) (is ∙ get_or_default ps i q x within) held in
+    let regime = regime_found p t ps i q d refl covers within there is in
+    ap (λ b. unless (first_refusal ((b, DayOffLine) ∷ [])) (day_answer p (Some t) d))
+    (on_line p d (omega (arith, low, held.0)) (omega (arith, high, held.1)))
+    ∙ ap (λ found. on_day found (found_on p t d))
+    (period_on-place ps ps i 1 p.high d q refl covers within there is)
+    ∙ ap (λ r. let a : Answer = OnDay (found_under p r d) q in a) (sym regime)
+
+-- each period, where the code is refused so
+abbrev AreAnsweredIf : Profile → Option Refusal → Option TerritoryModel → Type 0
+AreAnsweredIf p refused t =
+    All (λ (q : Period). (q.first ≤ q.last) × ((d : ℕ) → Holds d q
+    → answer_on p refused t d ≡ OnDay (found_under p q.regime d) q))
+    (periods_in (unless refused (periods_answer p t)))
+
+are_answered : (p : Profile) (t : Option TerritoryModel)
+    → IfSome t (λ t. CoversLine p (periods_of p t)) → AreAnsweredIf p None t
+are_answered p None covers i other within = absurd (omega arith)
+are_answered p (Some t) covers i other within =
+    let ps = periods_of p t in
+    let q = get_or ps i other in
+    let is : q ≡ get_or ps i q = get_or_default ps i other q within in
+    let range = within_at ps i 1 p.high q covers within is in (
+      range.1,
+      λ d held. answer_at_place p t i d q covers within is range.0 range.2 held,
+    )
+
+pub are_periods_answered : (p : Profile) (limits : Limits) (lands : List LandModel) (code : List ℕ)
+    → AreSound p limits lands → code_refusal lands code ≡ None → ArePeriodsAnswered p lands code
+unfolding ArePeriodsAnswered
+are_periods_answered p limits lands code sound lawful =
+    subst (λ refused. AreAnsweredIf p refused (territory_of code lands)) (sym lawful)
+    (are_answered p (territory_of code lands) (covers_line_of p limits code lands sound))

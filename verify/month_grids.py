@@ -1,0 +1,68 @@
+#!/usr/bin/env python3
+"""Holds the months of the countries that ncal knows against the grids that it prints.
+
+    verify/month_grids.py [PROGRAM]
+        ../oldstyle where none is given
+
+`ncal -p | examples/from_ncal.py` makes a journal of the countries. Of each the six months about its
+change and three of other centuries are printed by `month` and by `ncal -b -s`, and are compared line
+by line, without the spaces at ends that ncal prints. It wants the Debian package ncal.
+"""
+import os
+import subprocess
+import sys
+import tempfile
+
+from common import HERE, program, run
+
+PROGRAM = program(1)
+OTHERS = [(1_100, 2), (1_700, 2), (2_000, 2)]
+
+
+def countries():
+    """The codes that ncal lists, each with the year and month of its last Julian day."""
+    listed = subprocess.run(["ncal", "-p"], capture_output=True, text=True, check=True).stdout
+    words = listed.replace("*", " ").split()
+    for place, word in enumerate(words):
+        if word.count("-") == 2:
+            names = [at for at in range(place) if len(words[at]) == 2 and words[at].isupper()]
+            year, month, _ = word.split("-")
+            yield words[names[-1]], int(year), int(month)
+
+
+def journal_in(folder):
+    path = os.path.join(folder, "countries.journal")
+    listed = subprocess.run(["ncal", "-p"], capture_output=True, text=True, check=True).stdout
+    lines = subprocess.run([sys.executable, os.path.join(HERE, "..", "examples", "from_ncal.py")],
+                           input=listed, capture_output=True, text=True, check=True).stdout
+    run(PROGRAM, ["serve", "--save", path], lines.splitlines())
+    return path
+
+
+def trimmed(text):
+    return [line.rstrip() for line in text.splitlines() if line.strip()]
+
+
+def months_about(year, month):
+    first = year * 12 + month - 1
+    return [(count // 12, count % 12 + 1) for count in range(first - 2, first + 4)]
+
+
+def main():
+    compared = differ = 0
+    with tempfile.TemporaryDirectory() as folder:
+        journal = journal_in(folder)
+        for code, year, month in countries():
+            for at in months_about(year, month) + OTHERS:
+                words = [str(number) for number in at]
+                ours = run(PROGRAM, ["month", journal, code, *words]).stdout.splitlines()[1:]
+                theirs = trimmed(run("ncal", ["-b", "-s", code, words[1], words[0]]).stdout)
+                compared += 1
+                if ours != theirs:
+                    differ += 1
+                    print(code, *at, ours, theirs, sep="\n")
+    print(f"{compared} months, {differ} differ")
+    return 1 if differ or not compared else 0
+
+
+raise SystemExit(main())
