@@ -5,8 +5,10 @@
         ../oldstyle where none is given
 
 `ncal -p | examples/from_ncal.py` makes a journal of the countries. Of each the six months about its
-change and three of other centuries are printed by `month` and by `ncal -b -s`, and are compared line
-by line, without the spaces at ends that ncal prints. It wants the Debian package ncal.
+change and three of other centuries are printed by `month` and by `ncal -S -s`, which has a line for
+each weekday where `month` has one for each week: so the weeks are turned round, and compared line by
+line, without the spaces at ends. The British months are compared with those of `ncal -b` too, as
+they stand. It wants the Debian package ncal.
 """
 import os
 import subprocess
@@ -43,6 +45,22 @@ def trimmed(text):
     return [line.rstrip() for line in text.splitlines() if line.strip()]
 
 
+def turned(grid):
+    """A grid with a line for each weekday in place of one for each week."""
+    title, weekdays, *weeks = grid
+    lines = [name + "".join(f"{week[3 * place:3 * place + 2]:>3}" for week in weeks)
+             for place, name in enumerate(weekdays.split())]
+    return [title.strip()] + [line.rstrip() for line in lines]
+
+
+def differs(journal, code, year, month):
+    """Whether ncal prints another month than the program."""
+    ours = run(PROGRAM, ["month", journal, code, str(year), str(month)]).stdout.splitlines()[1:]
+    title, *theirs = trimmed(run("ncal", ["-S", "-s", code, str(month), str(year)]).stdout)
+    as_cal = trimmed(run("ncal", ["-b", str(month), str(year)]).stdout)
+    return turned(ours) != [title.strip(), *theirs] or (code == "GB" and ours != as_cal)
+
+
 def months_about(year, month):
     first = year * 12 + month - 1
     return [(count // 12, count % 12 + 1) for count in range(first - 2, first + 4)]
@@ -54,13 +72,10 @@ def main():
         journal = journal_in(folder)
         for code, year, month in countries():
             for at in months_about(year, month) + OTHERS:
-                words = [str(number) for number in at]
-                ours = run(PROGRAM, ["month", journal, code, *words]).stdout.splitlines()[1:]
-                theirs = trimmed(run("ncal", ["-b", "-s", code, words[1], words[0]]).stdout)
                 compared += 1
-                if ours != theirs:
+                if differs(journal, code, *at):
                     differ += 1
-                    print(code, *at, ours, theirs, sep="\n")
+                    print(code, *at)
     print(f"{compared} months, {differ} differ")
     return 1 if differ or not compared else 0
 

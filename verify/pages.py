@@ -9,8 +9,11 @@ skipped and dates are read twice. Each date is asked of `read`, in each of its f
 with a weekday or none, and of the service; the page has to be the one that the replies to `read`
 and `day` make. Then the dual text of each day that was found is read: that very day has to be
 among those that are found, and its page is that of the replies. The month of the date is the one
-that the replies to its 31 dates make, and the periods are those of the reply to `periods`.
+that the replies to its 31 dates make, and the periods are those of the reply to `periods`. All dates
+of a territory are put into a table for `letters`, which has to say of each row what the replies say.
 """
+import csv
+import io
 import json
 import os
 import random
@@ -78,7 +81,7 @@ def skipped_line(journal, change):
 
 
 def page(journal, written, numbers, weekday):
-    """The page that the replies make, and the days that were found."""
+    """The page that the replies make, the days that were found, and the reply."""
     year, month, day = numbers
     answer = asked(journal, {"op": "read", "year": year, "month": month, "day": day})
     is_double = "/" in written
@@ -89,7 +92,7 @@ def page(journal, written, numbers, weekday):
     if not found:
         lines += [skipped_line(journal, change) for change in answer["skipped"]] or \
                  ["no date of its calendar"]
-    return lines, found
+    return lines, found, answer
 
 
 def printed(journal, written, weekday):
@@ -151,15 +154,47 @@ def page_of(words):
     return run(PROGRAM, words).stdout.splitlines()
 
 
-def differences(chance, journal, middle):
-    """Each page about a date of a territory that is another than the replies make."""
+def remark(answer, found, weekday):
+    if not found:
+        return "skipped" if answer["skipped"] else "no such date"
+    if weekday and all(one["weekday"] != weekday for one in found):
+        return "weekday differs"
+    return "two days" if len(found) > 1 else ""
+
+
+def letter_fields(answer, found, weekday):
+    """What stands behind the row of a letter."""
+    names = ["day", "gregorian", "julian", "dual", "weekday", "jdn"]
+    fields = ["; ".join(str(one[name]) for one in found) for name in names]
+    dates = [one["gregorian"] for one in found]
+    edtf = f"[{','.join(dates)}]" if len(dates) > 1 else "".join(dates)
+    return [*fields, edtf, "2", remark(answer, found, weekday)]
+
+
+def letters_differ(journal, rows):
+    """Each row of a table of letters that is another than the replies make."""
+    table = io.StringIO()
+    writer = csv.writer(table, lineterminator="\n")
+    writer.writerow(["weekday", "text, as it is", "place", "date"])
+    writer.writerows([weekday or "", 'a "b", c', "XX", written] for written, weekday, _ in rows)
+    done = run(PROGRAM, ["letters", journal], table.getvalue().splitlines()).stdout
+    for line, (written, weekday, fields) in zip(list(csv.reader(io.StringIO(done)))[1:], rows):
+        if line != [weekday or "", 'a "b", c', "XX", written, *fields]:
+            yield f"the row of {written} {weekday}: {line}"
+    if done.count("\n") != len(rows) + 1:
+        yield f"{len(rows)} rows"
+
+
+def differences(chance, journal, middle, rows):
+    """Each page about a date of a territory that is another than the replies make. Adds its row."""
     near = date.fromordinal(middle)
     numbers = near.year + chance.randint(-4, 4), chance.randint(1, 12), chance.randint(1, 31)
     year, month, day = numbers
     plain = f"{day} {MONTHS[month - 1]} {year}"
     written = chance.choice([plain, f"{year:04}-{month:02}-{day:02}", f"{plain}/{(year + 1) % 10}"])
     weekday = chance.choice([None, *WEEKDAYS])
-    wanted, found = page(journal, written, numbers, weekday)
+    wanted, found, answer = page(journal, written, numbers, weekday)
+    rows.append((written, weekday, letter_fields(answer, found, weekday)))
     if printed(journal, written, weekday) != wanted:
         yield f"{written} {weekday}: {wanted}"
     for one in found:
@@ -183,11 +218,15 @@ def main():
             if page_of(["territory", journal, "XX"]) != territory_page(journal):
                 differ += 1
                 print(f"the periods about day {middle}", flush=True)
+            rows = []
             for _ in range(min(EACH, COUNT - dates)):
                 dates += 1
-                for difference in differences(chance, journal, middle):
+                for difference in differences(chance, journal, middle, rows):
                     differ += 1
                     print(difference, flush=True)
+            for difference in letters_differ(journal, rows):
+                differ += 1
+                print(difference, flush=True)
     print(f"{dates} dates, {differ} differ")
     return 1 if differ else 0
 

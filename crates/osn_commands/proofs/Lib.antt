@@ -3,4 +3,5 @@ pub mod FileLemmas
 pub mod PrintLemmas
 pub mod LineLemmas
 pub mod AuditLemmas
+pub mod LettersLemmas
 pub mod RunLemmas

@@ -11,6 +11,9 @@ use Rattle.osn_files.specs.declared.fault.FileFault.TheVariants as file_faults
 use Rattle.osn_files.specs.declared.fault.Role.{Role}
 use Rattle.osn_files.specs.declared.fault.Role.TheVariants.{Journal, Script, Questions, Schedule}
 use Rattle.osn_files.specs.declared.fault.Role.TheVariants.{Transcript}
+use Rattle.osn_letters.specs.declared.fault.Column.TheVariants as columns
+use Rattle.osn_letters.specs.declared.fault.LettersFault.{LettersFault}
+use Rattle.osn_letters.specs.declared.fault.LettersFault.TheVariants as letters_faults
 use Rattle.osn_live.specs.Faults.{desk_fault_number, desk_fault_name}
 use Rattle.osn_live.specs.declared.faults.DeskFault.{DeskFault}
 use Rattle.osn_live.specs.declared.faults.DeskFault.TheVariants as desk_faults
@@ -19,10 +22,12 @@ use Rattle.osn_service.specs.declared.fault.ServeFault.TheVariants as serve_faul
 use Rattle.osn_commands.specs.declared.fault.CommandFault.{CommandFault}
 use Rattle.osn_commands.specs.declared.fault.CommandFault.TheVariants.{BadLine, Refused, Desk}
 use Rattle.osn_commands.specs.declared.fault.CommandFault.TheVariants.{ReadFault, WriteFault}
-use Rattle.osn_commands.specs.declared.fault.CommandFault.TheVariants.{NoMemory, Misused}
+use Rattle.osn_commands.specs.declared.fault.CommandFault.TheVariants.{NoMemory, Misused, BadTable}
 use Rattle.osn_commands.specs.declared.fault.Misuse.{Misuse}
 use Rattle.osn_commands.specs.declared.fault.Misuse.TheVariants.{Date, Weekday, Calendar}
 use Rattle.osn_commands.specs.declared.fault.Misuse.TheVariants.{DayNumber, NoSuchDate}
+use Rattle.osn_commands.specs.declared.fault.TableFault.{TableFault}
+use Rattle.osn_commands.specs.declared.fault.TableFault.TheVariants as tables
 use Rattle.osn_commands.specs.declared.status.Status.{Status}
 use Rattle.osn_commands.specs.declared.status.Status.TheVariants as statuses
 
@@ -32,6 +37,7 @@ fault_status (BadLine role line why) = statuses.Refused
 fault_status (Refused refusal) = statuses.Refused
 fault_status (Desk fault) = statuses.Refused
 fault_status (Misused misuse) = statuses.Misused
+fault_status (BadTable fault) = statuses.Refused
 fault_status ReadFault = statuses.ReadFault
 fault_status WriteFault = statuses.WriteFault
 fault_status NoMemory = statuses.NoMemory
@@ -60,6 +66,17 @@ misuse_line DayNumber = codes
 misuse_line NoSuchDate = codes
     "oldstyle: DATE is no date of that calendar in the years 1 to 9999\n"
 
+-- where a table of letters is none, and what to write
+abbrev pub table_line : TableFault → List ℕ
+table_line tables.LacksPlace =
+    codes "oldstyle: letters line 1: no column of places: name it by --place\n"
+table_line tables.LacksDate =
+    codes "oldstyle: letters line 1: no column of dates: name it by --date\n"
+table_line (tables.BadRecord line) = codes "oldstyle: letters line "
+    ++ (decimal line ++ codes ": another number of fields than the header\n")
+table_line (tables.TooLong line) = codes "oldstyle: letters line "
+    ++ (decimal line ++ codes ": a record of more than 65536 bytes\n")
+
 -- the line on standard error
 abbrev pub fault_line : CommandFault → List ℕ
 fault_line (BadLine role line why) =
@@ -70,6 +87,7 @@ fault_line (Refused refusal) =
 fault_line (Desk fault) =
     codes "oldstyle: " ++ refusal_end (desk_fault_number fault) (desk_fault_name fault)
 fault_line (Misused misuse) = misuse_line misuse
+fault_line (BadTable fault) = table_line fault
 fault_line ReadFault = codes "oldstyle: read fault\n"
 fault_line WriteFault = codes "oldstyle: write fault\n"
 fault_line NoMemory = codes "oldstyle: no memory\n"
@@ -99,3 +117,13 @@ by_desk desk_faults.GateClosed = Desk desk_faults.GateClosed
 abbrev pub by_save : SaveFault → CommandFault
 by_save save_faults.WriteFault = WriteFault
 by_save save_faults.NoMemory = NoMemory
+
+-- the fault of a table of letters is the same one
+abbrev pub by_letters : LettersFault → CommandFault
+by_letters (letters_faults.LacksColumn columns.Place) = BadTable tables.LacksPlace
+by_letters (letters_faults.LacksColumn columns.Date) = BadTable tables.LacksDate
+by_letters (letters_faults.BadRecord line) = BadTable (tables.BadRecord line)
+by_letters (letters_faults.TooLong line) = BadTable (tables.TooLong line)
+by_letters letters_faults.ReadFault = ReadFault
+by_letters letters_faults.WriteFault = WriteFault
+by_letters letters_faults.NoMemory = NoMemory

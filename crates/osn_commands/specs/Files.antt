@@ -7,7 +7,7 @@ use Rattle.osn_files.specs.declared.fault.Role.{Role}
 use Rattle.osn_commands.specs.declared.fault.CommandFault.{CommandFault}
 use Rattle.osn_commands.specs.declared.fault.CommandFault.TheVariants.{BadLine, Refused, Desk}
 use Rattle.osn_commands.specs.declared.fault.CommandFault.TheVariants.{ReadFault, WriteFault}
-use Rattle.osn_commands.specs.declared.fault.CommandFault.TheVariants.{NoMemory, Misused}
+use Rattle.osn_commands.specs.declared.fault.CommandFault.TheVariants.{NoMemory, Misused, BadTable}
 use Rattle.osn_commands.specs.Streams.{Input}
 
 -- what the rule makes of the file, where its bytes are known
@@ -23,6 +23,7 @@ IsFileFault role rule file (BadLine named line why) =
 IsFileFault role rule file (Refused refusal) = ⊥
 IsFileFault role rule file (Desk fault) = ⊥
 IsFileFault role rule file (Misused misuse) = ⊥
+IsFileFault role rule file (BadTable fault) = ⊥
 IsFileFault role rule file ReadFault = IsReadFault file.unread file.bytes
 IsFileFault role rule file WriteFault = ⊥
 IsFileFault role rule file NoMemory = ⊤

@@ -10,6 +10,7 @@ pub mod Serving
 pub mod Asked
 pub mod Page
 pub mod Conversion
+pub mod Letters
 pub mod Replay
 pub mod Transcript
 pub mod Audited

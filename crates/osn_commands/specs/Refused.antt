@@ -4,7 +4,7 @@ use Rattle.osn_register.specs.declared.refusal.Refusal.{Refusal}
 use Rattle.osn_commands.specs.declared.fault.CommandFault.{CommandFault}
 use Rattle.osn_commands.specs.declared.fault.CommandFault.TheVariants.{BadLine, Refused, Desk}
 use Rattle.osn_commands.specs.declared.fault.CommandFault.TheVariants.{ReadFault, WriteFault}
-use Rattle.osn_commands.specs.declared.fault.CommandFault.TheVariants.{NoMemory, Misused}
+use Rattle.osn_commands.specs.declared.fault.CommandFault.TheVariants.{NoMemory, Misused, BadTable}
 use Rattle.osn_commands.specs.declared.fault.Misuse.{Misuse}
 
 -- it is refused by what applies, or memory ran out
@@ -13,6 +13,7 @@ IsRefusedBy refused (BadLine role line why) = ⊥
 IsRefusedBy refused (Refused refusal) = refused ≡ Some refusal
 IsRefusedBy refused (Desk fault) = ⊥
 IsRefusedBy refused (Misused misuse) = ⊥
+IsRefusedBy refused (BadTable fault) = ⊥
 IsRefusedBy refused ReadFault = ⊥
 IsRefusedBy refused WriteFault = ⊥
 IsRefusedBy refused NoMemory = ⊤

@@ -12,10 +12,12 @@ use Rattle.osn_folder.specs.Folder.{Leaves, path_if}
 use Rattle.osn_folder.specs.declared.fault.SaveFault.{SaveFault}
 use Rattle.osn_invocation.specs.Grammar.{command_line}
 use Rattle.osn_invocation.specs.Invocation.{InvocationModel, serving, replaying, working, printing}
-use Rattle.osn_invocation.specs.Invocation.{auditing, converting, invocation_in}
+use Rattle.osn_invocation.specs.Invocation.{auditing, converting, reading_letters}
+use Rattle.osn_invocation.specs.Invocation.{invocation_in}
 use Rattle.osn_commands.specs.Audited.{PrintsAudit}
 use Rattle.osn_commands.specs.Conversion.{PrintsConversion}
 use Rattle.osn_commands.specs.Fault.{by_save}
+use Rattle.osn_commands.specs.Letters.{PrintsLetters}
 use Rattle.osn_commands.specs.Page.{PrintsPage}
 use Rattle.osn_commands.specs.Printing.{EndsPrinting}
 use Rattle.osn_commands.specs.Replay.{PrintsReplay}
@@ -104,6 +106,7 @@ files_of (working script questions) = script ∷ questions ∷ []
 files_of (printing journal page) = journal ∷ []
 files_of (auditing journal transcript) = journal ∷ transcript ∷ []
 files_of (converting calendar date) = []
+files_of (reading_letters journal place date weekday) = journal ∷ []
 
 -- the command that is asked for was run, with the files that the arguments name, and ended so: what
 -- it wrote to standard output, and what standard error was told
@@ -121,6 +124,9 @@ Runs (auditing journal transcript) CanFail d i o e status = ReadsTwo journal tra
     (λ edits told. PrintsAudit newest_rules standard_limits edits told o e status)
 Runs (converting calendar date) CanFail d i o e status =
     (d.after ≡ d.before) × PrintsConversion newest_rules calendar date o e status
+Runs (reading_letters journal place date weekday) CanFail d i o e status =
+    ReadsOne journal CanFail d (λ file. PrintsLetters newest_rules standard_limits file
+    (record { place = place; date = date; weekday = weekday }) i o e status)
 
 -- ---- a run
 

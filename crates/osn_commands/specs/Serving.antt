@@ -11,7 +11,7 @@ use Rattle.osn_service.specs.Served.{outputs, after_lines, WritesFirst, WritesIn
 use Rattle.osn_commands.specs.declared.fault.CommandFault.{CommandFault}
 use Rattle.osn_commands.specs.declared.fault.CommandFault.TheVariants.{BadLine, Refused, Desk}
 use Rattle.osn_commands.specs.declared.fault.CommandFault.TheVariants.{ReadFault, WriteFault}
-use Rattle.osn_commands.specs.declared.fault.CommandFault.TheVariants.{NoMemory, Misused}
+use Rattle.osn_commands.specs.declared.fault.CommandFault.TheVariants.{NoMemory, Misused, BadTable}
 use Rattle.osn_lines.specs.Faults.{IsReadFault, IsWriteFault}
 use Rattle.osn_commands.specs.Journal.{Begins, HasNoObject}
 use Rattle.osn_commands.specs.Streams.{Output}
@@ -36,6 +36,7 @@ AnswersUntil p readers s o input unread (BadLine role line why) = ⊥
 AnswersUntil p readers s o input unread (Refused refusal) = ⊥
 AnswersUntil p readers s o input unread (Desk fault) = ⊥
 AnswersUntil p readers s o input unread (Misused misuse) = ⊥
+AnswersUntil p readers s o input unread (BadTable fault) = ⊥
 AnswersUntil p readers s o input unread ReadFault =
     IsReadFault unread (Some input)
     × (n : ℕ) × WritesFirst p readers s o.old o.new (lines input) n

@@ -17,7 +17,7 @@ use Rattle.osn_reply.specs.Transcript.{transcript_line}
 use Rattle.osn_commands.specs.declared.fault.CommandFault.{CommandFault}
 use Rattle.osn_commands.specs.declared.fault.CommandFault.TheVariants.{BadLine, Refused, Desk}
 use Rattle.osn_commands.specs.declared.fault.CommandFault.TheVariants.{ReadFault, WriteFault}
-use Rattle.osn_commands.specs.declared.fault.CommandFault.TheVariants.{NoMemory, Misused}
+use Rattle.osn_commands.specs.declared.fault.CommandFault.TheVariants.{NoMemory, Misused, BadTable}
 use Rattle.osn_commands.specs.Files.{Makes, IsFileFault}
 use Rattle.osn_commands.specs.Printing.{EndsPrinting}
 use Rattle.osn_commands.specs.Streams.{Input, Output}
@@ -63,6 +63,7 @@ IsTurnedAway lists published (BadLine role line why) = ⊥
 IsTurnedAway lists published (Refused refusal) = ⊥
 IsTurnedAway lists published (Desk fault) = IsDeskFault lists published fault
 IsTurnedAway lists published (Misused misuse) = ⊥
+IsTurnedAway lists published (BadTable fault) = ⊥
 IsTurnedAway lists published ReadFault = ⊥
 IsTurnedAway lists published WriteFault = ⊥
 IsTurnedAway lists published NoMemory = ⊤

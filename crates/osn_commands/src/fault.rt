@@ -1,8 +1,8 @@
 //! Why a command ended early, and how standard error is told.
 ghost use Rattle.std.specs.Prelude.{◌≡◌, ◌++◌, codes, Some, IfOk, OnErr, string_bytes};
 ghost use Rattle.osn_commands.specs.Fault.{fault_status, fault_line, refusal_end, role_name};
-ghost use Rattle.osn_commands.specs.Fault.{misuse_line};
-ghost use Rattle.osn_commands.specs.Fault.{by_service, by_file, by_desk, by_save};
+ghost use Rattle.osn_commands.specs.Fault.{misuse_line, table_line};
+ghost use Rattle.osn_commands.specs.Fault.{by_service, by_file, by_desk, by_letters, by_save};
 ghost use Rattle.osn_commands.specs.Streams.{output_of};
 ghost use Rattle.osn_commands.specs.Told.{WritesLine, EndsBy, Tells};
 ghost use Rattle.osn_commands.specs.declared.fault.CommandFault.{CommandFault};
@@ -10,6 +10,7 @@ ghost use Rattle.osn_commands.specs.declared.fault.CommandFault.{CommandFault};
 use crate::status::Status;
 use osn_files::{FileFault, LineFault, Role};
 use osn_folder::SaveFault;
+use osn_letters::{Column, LettersFault};
 use osn_lines::{Interrupted, Sink, write_all};
 use osn_live::DeskFault;
 use osn_register::Refusal;
@@ -34,6 +35,8 @@ pub enum CommandFault {
     Desk(DeskFault),
     /// An argument is not what its place asks for.
     Misused(Misuse),
+    /// A table of letters is none, from some line on.
+    BadTable(TableFault),
     /// A read failed, or a file could not be opened.
     ReadFault,
     /// A write failed.
@@ -77,6 +80,49 @@ number\n"
             }
             Misuse::NoSuchDate => {
                 "oldstyle: DATE is no date of that calendar in the years 1 to 9999\n"
+            }
+        }
+    }
+}
+
+/// Why a table of letters is none. Lines are counted from 1.
+#[derive(Clone, Copy, Debug, PartialEq, Eq)]
+pub enum TableFault {
+    /// No column has the name of the places'.
+    LacksPlace,
+    /// No column has the name of the dates'.
+    LacksDate,
+    /// The record on that line has another number of fields than the header.
+    BadRecord(u64),
+    /// The record on that line is too long.
+    TooLong(u64),
+}
+
+impl TableFault {
+    /// The line on standard error, which says where the table is none.
+    fn line(self, alloc: Global) -> Result<String, AllocError>
+        ensures { IfOk result (λ text. string_bytes text ≡ table_line self) }
+    {
+        match self {
+            TableFault::LacksPlace => String::from_str(
+                alloc,
+                "oldstyle: letters line 1: no column of places: name it by --place\n",
+            ),
+            TableFault::LacksDate => String::from_str(
+                alloc,
+                "oldstyle: letters line 1: no column of dates: name it by --date\n",
+            ),
+            TableFault::BadRecord(line) => {
+                format!(in alloc;
+                    "oldstyle: letters line {line}: another number of fields than \
+the header\n"
+                )
+            }
+            TableFault::TooLong(line) => {
+                format!(in alloc;
+                    "oldstyle: letters line {line}: a record of more than 65536 \
+bytes\n"
+                )
             }
         }
     }
@@ -130,6 +176,26 @@ impl From<Misuse> for CommandFault {
 
     fn from(misuse: Misuse) -> CommandFault {
         CommandFault::Misused(misuse)
+    }
+}
+
+impl From<LettersFault> for CommandFault {
+    ghost from_gives = { λ fault given. given ≡ by_letters fault };
+
+    fn from(fault: LettersFault) -> CommandFault {
+        match fault {
+            LettersFault::LacksColumn(Column::Place) => {
+                CommandFault::BadTable(TableFault::LacksPlace)
+            }
+            LettersFault::LacksColumn(Column::Date) => {
+                CommandFault::BadTable(TableFault::LacksDate)
+            }
+            LettersFault::BadRecord { line } => CommandFault::BadTable(TableFault::BadRecord(line)),
+            LettersFault::TooLong { line } => CommandFault::BadTable(TableFault::TooLong(line)),
+            LettersFault::ReadFault => CommandFault::ReadFault,
+            LettersFault::WriteFault => CommandFault::WriteFault,
+            LettersFault::NoMemory => CommandFault::NoMemory,
+        }
     }
 }
 
@@ -228,6 +294,7 @@ pub(crate) fn report<E: Sink>(alloc: Global, errors: &mut E, fault: CommandFault
             write_line(errors, misuse.line());
             Status::Misused
         }
+        CommandFault::BadTable(fault) => tell_refusal(errors, fault.line(alloc)),
         CommandFault::ReadFault => {
             write_line(errors, "oldstyle: read fault\n");
             Status::ReadFault

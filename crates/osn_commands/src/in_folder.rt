@@ -6,6 +6,8 @@ ghost use Rattle.osn_register.specs.Limits.{standard_limits};
 ghost use Rattle.osn_folder.specs.Folder.{Changes, CannotOpen, MayFail, Saves, Leaves, path_if};
 ghost use Rattle.osn_invocation.specs.Invocation.{page_words};
 ghost use Rattle.osn_commands.specs.Audited.{PrintsAudit};
+ghost use Rattle.osn_letters.specs.Columns.{names_of};
+ghost use Rattle.osn_commands.specs.Letters.{PrintsLetters};
 ghost use Rattle.osn_commands.specs.Page.{PrintsPage};
 ghost use Rattle.osn_commands.specs.Replay.{PrintsReplay};
 ghost use Rattle.osn_commands.specs.Run.{EndsService, Finishes, ReadsOne, ReadsTwo, folders_of};
@@ -15,6 +17,7 @@ ghost use Rattle.osn_commands.specs.Transcript.{PrintsTranscript};
 use crate::audited::audit_command;
 use crate::desk::desk_command;
 use crate::fault::{CommandFault, report};
+use crate::letters::letters_command;
 use crate::page::page_command;
 use crate::progress::ProgressSource;
 use crate::replay::replay_command;
@@ -22,6 +25,7 @@ use crate::serving::{ServeResult, serve_command};
 use crate::status::Status;
 use osn_folder::{Folder, OpenFailed, open_both, open_file, open_if, save_file};
 use osn_invocation::{PageWords, ServeOptions};
+use osn_letters::ColumnNames;
 use osn_lines::{Sink, Source};
 use std::alloc::Global;
 use std::sync::Wait;
@@ -149,6 +153,30 @@ pub(crate) fn page<D: Folder, W: Sink, E: Sink>(
 {
     let mut file = open_file(folder, journal)?;
     Ok(page_command(alloc, &mut file, words, output, errors))
+}
+
+/// Opens the journal, and writes the table of letters by what it published.
+pub(crate) fn letters<D: Folder, R: Source, W: Sink, E: Sink>(
+    alloc: Global,
+    folder: &mut D,
+    journal: &str,
+    names: ColumnNames<'_>,
+    input: &mut R,
+    output: &mut W,
+    errors: &mut E,
+) -> Result<Status, OpenFailed>
+    ensures ok { IfOk result (λ status. ReadsOne journal.now (MayFail D.File.has_failed)
+        (folders_of D.known folder.old folder.new)
+        (λ file. PrintsLetters newest_rules standard_limits file (names_of names.entry)
+        (input_of R.remaining R.has_failed input.old input.new)
+        (output_of W.contents W.has_failed output.old output.new)
+        (output_of E.contents E.has_failed errors.old errors.new) status)) }
+    ensures err { OnErr result (CannotOpen (journal.now ∷ [])
+        (D.known folder.old) (D.known folder.new)
+        × (output.new ≡ output.old) × (errors.new ≡ errors.old)) }
+{
+    let mut file = open_file(folder, journal)?;
+    Ok(letters_command(alloc, &mut file, names, input, output, errors))
 }
 
 /// Opens the journal and then the transcript, and audits that. A terminal, where there is one, is

@@ -7,11 +7,12 @@ ghost use Rattle.osn_commands.specs.Streams.{input_of, output_of};
 
 use crate::conversion::convert_command;
 use crate::fault::{CommandFault, report};
-use crate::in_folder::{audit, desk, page, replay, serve};
+use crate::in_folder::{audit, desk, letters, page, replay, serve};
 use crate::shown::show;
 use crate::status::Status;
 use osn_folder::{Folder, OpenFailed};
 use osn_invocation::{Invocation, parse_args};
+use osn_letters::ColumnNames;
 use osn_lines::{Sink, Source};
 use std::convert::AsStr;
 use std::sync::Wait;
@@ -88,6 +89,19 @@ where
             journal,
             transcript,
         } => audit(alloc, folder, journal, transcript, output, errors, terminal),
+        Invocation::Letters {
+            journal,
+            place,
+            date,
+            weekday,
+        } => {
+            let names = ColumnNames {
+                place,
+                date,
+                weekday,
+            };
+            letters(alloc, folder, journal, names, input, output, errors)
+        }
         Invocation::Convert { calendar, date } => {
             Ok(convert_command(alloc, calendar, date, output, errors))
         }

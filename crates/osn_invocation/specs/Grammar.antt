@@ -93,6 +93,13 @@ territory_grammar = with_rule
     (with_rule (new_app (codes "territory")) (required_arg (codes "journal")))
     (optional_arg (codes "code"))
 
+-- `letters JOURNAL [--place NAME] [--date NAME] [--weekday NAME]`
+abbrev pub letters_grammar : App
+letters_grammar = with_rule (with_rule (with_rule
+    (with_rule (new_app (codes "letters")) (required_arg (codes "journal")))
+    (value_option (codes "place"))) (value_option (codes "date")))
+    (value_option (codes "weekday"))
+
 -- `audit JOURNAL TRANSCRIPT`
 abbrev pub audit_grammar : App
 audit_grammar = with_rule
@@ -108,9 +115,10 @@ program_grammar = on_top (λ s. record s { has_version = true }) (new_app (codes
 abbrev pub command_line : App
 command_line = with_subcommand (with_subcommand (with_subcommand (with_subcommand
     (with_subcommand (with_subcommand (with_subcommand (with_subcommand (with_subcommand
-    (with_subcommand program_grammar read_grammar.top) convert_grammar.top) day_grammar.top)
-    month_grammar.top) territory_grammar.top) serve_grammar.top) replay_grammar.top)
-    desk_grammar.top) almanac_grammar.top) audit_grammar.top
+    (with_subcommand (with_subcommand program_grammar read_grammar.top) convert_grammar.top)
+    day_grammar.top) month_grammar.top) territory_grammar.top) letters_grammar.top)
+    serve_grammar.top) replay_grammar.top) desk_grammar.top) almanac_grammar.top)
+    audit_grammar.top
 
 -- the argument has this rule, at its own command alone
 abbrev pub IsArg : Rule → Arg → Type 0

@@ -11,6 +11,7 @@ use Rattle.osn_invocation.specs.Grammar.{command_line}
 use Rattle.osn_invocation.specs.declared.invocation.Invocation.{Invocation}
 use Rattle.osn_invocation.specs.declared.invocation.Invocation.TheVariants.{Serve, Replay, Desk}
 use Rattle.osn_invocation.specs.declared.invocation.Invocation.TheVariants.{Page, Audit, Convert}
+use Rattle.osn_invocation.specs.declared.invocation.Invocation.TheVariants.{Letters}
 use Rattle.osn_invocation.specs.declared.invocation.PageWords.{PageWords}
 use Rattle.osn_invocation.specs.declared.invocation.PageWords.TheVariants as pages
 
@@ -27,8 +28,8 @@ pub data PageWordsModel : Type 0 where
 
 -- what a command line asks for: the service by a journal, where to save it and readers; a replay by
 -- readers and a schedule; a desk by a script and questions; a page by a journal and which page; an
--- audit by a journal and a transcript; a conversion by a calendar and a date. Files are named by
--- their paths
+-- audit by a journal and a transcript; a conversion by a calendar and a date; letters by a journal
+-- and the names of the columns of places, dates and weekdays. Files are named by their paths
 pub data InvocationModel : Type 0 where
   serving : Option Text → Option Text → ℕ → InvocationModel
   replaying : ℕ → Text → InvocationModel
@@ -36,6 +37,7 @@ pub data InvocationModel : Type 0 where
   printing : Text → PageWordsModel → InvocationModel
   auditing : Text → Text → InvocationModel
   converting : Text → Text → InvocationModel
+  reading_letters : Text → Text → Text → Text → InvocationModel
 
 -- decimal digits, of a number below 2 ^ 32
 abbrev pub is_number : Text → Bool
@@ -77,6 +79,15 @@ abbrev pub convert_invocation : List Row → InvocationModel
 convert_invocation given =
     converting (text_of (codes "calendar") given) (text_of (codes "date") given)
 
+-- the name of a column, which is that of its option where none is given
+abbrev pub column_of : Text → List Row → Text
+column_of name given = unwrap_or (first_of name given) name
+
+abbrev pub letters_invocation : List Row → InvocationModel
+letters_invocation given = reading_letters (text_of (codes "journal") given)
+    (column_of (codes "place") given) (column_of (codes "date") given)
+    (column_of (codes "weekday") given)
+
 -- a command that prints a page of a journal
 abbrev pub page_invocation : List Row → PageWordsModel → InvocationModel
 page_invocation given = printing (text_of (codes "journal") given)
@@ -117,7 +128,8 @@ command_invocation name given =
     else (if bytes_eq name (codes "desk") then desk_invocation given
     else (if bytes_eq name (codes "audit") then audit_invocation given
     else (if bytes_eq name (codes "convert") then convert_invocation given
-    else page_or_serve name given)))
+    else (if bytes_eq name (codes "letters") then letters_invocation given
+    else page_or_serve name given))))
 
 -- of no command, what `serve` asks for
 abbrev pub invocation_by : List Row → Option (Text × List Row) → InvocationModel
@@ -147,3 +159,5 @@ model_of (Desk script questions) = working script.now questions.now
 model_of (Page journal page) = printing journal.now (page_words page)
 model_of (Audit journal transcript) = auditing journal.now transcript.now
 model_of (Convert calendar date) = converting calendar.now date.now
+model_of (Letters journal place date weekday) =
+    reading_letters journal.now place.now date.now weekday.now

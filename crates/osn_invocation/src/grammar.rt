@@ -3,7 +3,8 @@
 ghost use Rattle.std.specs.Prelude.{◌≡◌, IfOk};
 ghost use Rattle.osn_invocation.specs.Grammar.{IsArg, IsCommand, almanac_grammar, audit_grammar};
 ghost use Rattle.osn_invocation.specs.Grammar.{command_line, convert_grammar, day_grammar};
-ghost use Rattle.osn_invocation.specs.Grammar.{desk_grammar, month_arg, month_grammar};
+ghost use Rattle.osn_invocation.specs.Grammar.{desk_grammar, letters_grammar, month_arg};
+ghost use Rattle.osn_invocation.specs.Grammar.{month_grammar};
 ghost use Rattle.osn_invocation.specs.Grammar.{optional_arg, read_grammar, readers_option};
 ghost use Rattle.osn_invocation.specs.Grammar.{replay_grammar, required_arg, serve_grammar};
 ghost use Rattle.osn_invocation.specs.Grammar.{territory_grammar, value_option, year_arg};
@@ -183,6 +184,29 @@ const TERRITORY_EXAMPLE: &str = "Examples:
   ./oldstyle territory examples/samples.journal
   ./oldstyle territory examples/samples.journal GB";
 
+/// The command `letters`, its argument and its options.
+fn letters_grammar<'a>(alloc: Global) -> Result<Command<'a>, AllocError>
+    ensures { IfOk result (IsCommand letters_grammar) }
+{
+    Command::new(alloc, "letters")
+        .about("Says of each letter of a table on standard input which day its date means")
+        .after_help(LETTERS_EXAMPLE)
+        .arg(required_arg(alloc, "journal", "JOURNAL").help("The file of the journal"))?
+        .arg(option_arg(alloc, "place", "NAME").help(
+            "The name of the column of territories' codes [default: place]",
+        ))?
+        .arg(option_arg(alloc, "date", "NAME").help("That of the column of dates [default: date]"))?
+        .arg(option_arg(alloc, "weekday", "NAME").help(
+            "That of the column of weekdays, which may be missing [default: weekday]",
+        ))
+}
+
+const LETTERS_EXAMPLE: &str = "Example:
+  ./oldstyle letters examples/samples.journal < examples/letters.csv
+
+The table is CSV with a header. It is written to standard output as it came, with nine columns
+behind: days, gregorian, julian, dual, weekday_found, jdn, edtf, edition and remark.";
+
 /// The command `replay`, its option and its argument.
 fn replay_grammar<'a>(alloc: Global) -> Result<Command<'a>, AllocError>
     ensures { IfOk result (IsCommand replay_grammar) }
@@ -267,6 +291,7 @@ pub(crate) fn command_line<'a>(alloc: Global) -> Result<Command<'a>, AllocError>
         .subcommand(day_grammar(alloc)?)?
         .subcommand(month_grammar(alloc)?)?
         .subcommand(territory_grammar(alloc)?)?
+        .subcommand(letters_grammar(alloc)?)?
         .subcommand(serve_grammar(alloc)?)?
         .subcommand(replay_grammar(alloc)?)?
         .subcommand(desk_grammar(alloc)?)?

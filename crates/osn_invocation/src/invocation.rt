@@ -8,7 +8,8 @@ ghost use Rattle.osn_invocation.specs.Grammar.{HasMatches, command_line};
 ghost use Rattle.osn_invocation.specs.Invocation.{almanac_page, audit_invocation};
 ghost use Rattle.osn_invocation.specs.Invocation.{command_invocation, convert_invocation};
 ghost use Rattle.osn_invocation.specs.Invocation.{day_page, desk_invocation, invocation_by};
-ghost use Rattle.osn_invocation.specs.Invocation.{invocation_in, model_of, month_page, number_of};
+ghost use Rattle.osn_invocation.specs.Invocation.{invocation_in, letters_invocation, model_of};
+ghost use Rattle.osn_invocation.specs.Invocation.{month_page, number_of};
 ghost use Rattle.osn_invocation.specs.Invocation.{page_invocation, page_words, read_page};
 ghost use Rattle.osn_invocation.specs.Invocation.{replay_invocation, serve_invocation};
 ghost use Rattle.osn_invocation.specs.Invocation.{territory_page, text_of};
@@ -107,6 +108,17 @@ pub enum Invocation<'a> {
         /// The file of what readers asked and were told.
         transcript: &'a str,
     },
+    /// To say of each letter of a table which day its date means.
+    Letters {
+        /// The file of the journal.
+        journal: &'a str,
+        /// The name of the column of codes.
+        place: &'a str,
+        /// The name of the column of dates.
+        date: &'a str,
+        /// The name of the column of weekdays.
+        weekday: &'a str,
+    },
     /// To print a day by every calendar.
     Convert {
         /// The word of the date's calendar, or `day`.
@@ -162,6 +174,7 @@ fn command_of<'a>(name: &str, given: &ArgMatches<'a>) -> Invocation<'a>
         "desk" => desk_of(given),
         "audit" => audit_of(given),
         "convert" => convert_of(given),
+        "letters" => letters_of(given),
         "almanac" => page_of(given, almanac_of(given)),
         "read" => page_of(given, read_of(given)),
         "day" => page_of(given, day_of(given)),
@@ -219,6 +232,18 @@ fn convert_of<'a>(given: &ArgMatches<'a>) -> Invocation<'a>
     Invocation::Convert {
         calendar: text_of(given, "calendar"),
         date: text_of(given, "date"),
+    }
+}
+
+/// What the arguments of `letters` ask for.
+fn letters_of<'a>(given: &ArgMatches<'a>) -> Invocation<'a>
+    ensures { model_of result ≡ letters_invocation (rows_of (found_of given.now)) }
+{
+    Invocation::Letters {
+        journal: text_of(given, "journal"),
+        place: value_of(given, "place").unwrap_or("place"),
+        date: value_of(given, "date").unwrap_or("date"),
+        weekday: value_of(given, "weekday").unwrap_or("weekday"),
     }
 }
 

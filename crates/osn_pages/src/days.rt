@@ -75,7 +75,7 @@ pub(crate) fn push_day(
 }
 
 /// Whether a date, of that text, is meant for a day: a double one where it is the day's dual text.
-fn is_meant(later: Option<u32>, date: &str, found: &Found) -> bool
+pub fn is_meant(later: Option<u32>, date: &str, found: &Found) -> bool
     ensures { result ≡ spec.is_meant later date.now found.now }
 {
     match later {

@@ -21,5 +21,7 @@ mod words;
 mod written_date;
 
 pub use conversion::{conversion_page, day_of_written};
+pub use days::is_meant;
 pub use page::{Page, page_text};
+pub use words::written_text;
 pub use written_date::{WrittenDate, number_of};

@@ -14,9 +14,14 @@ fn name_of_month(month: u32) -> &'static str
     month_name(if month > 12 { 12 } else { month as u8 })
 }
 
-/// A written date, with what stands behind its `/`.
+/// A written date in words, with what stands behind its `/`: `11 February 1731/2`. A month above 12
+/// is named as the twelfth.
+///
+/// # Errors
+///
+/// Want of memory, and nothing else.
 #[tactic(auto, unfolding(crate::specs::Words::written_text))]
-pub(crate) fn written_text(alloc: Global, date: WrittenDate) -> Result<String, AllocError>
+pub fn written_text(alloc: Global, date: WrittenDate) -> Result<String, AllocError>
     ensures { IfOk result (λ s. string_bytes s ≡ spec.written_text date) }
 {
     let month = name_of_month(date.month);

@@ -3,3 +3,4 @@ pub mod PartLemmas
 pub mod ServeLemmas
 pub mod StopLemmas
 pub mod ClauseLemmas
+pub mod LawLemmas

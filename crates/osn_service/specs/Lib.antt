@@ -3,6 +3,7 @@ pub mod Session
 pub mod Served
 pub mod Serves
 pub mod Replies
+pub mod Law
 pub mod Stop
 pub mod ServiceInside
 pub mod SessionInside

@@ -3,6 +3,7 @@ ghost use Rattle.std.specs.Prelude.{◌≡◌, [], IfOk, IfErr};
 ghost use Rattle.osn_days.specs.Profile.{newest_rules};
 ghost use Rattle.osn_core.specs.Sequential.{ObjectState, opened};
 ghost use Rattle.osn_service.specs.Faults.{MatchFault};
+ghost use Rattle.osn_service.specs.Law.{MayEachInputBeCut};
 ghost use Rattle.osn_service.specs.Serves.{Serves};
 ghost use Rattle.osn_service.specs.SessionInside.{IsSame, AnswersFirst, AnswersInPart, EndsTaking};
 
@@ -104,6 +105,7 @@ fn run<R: Source, W: Sink>(
 /// out, `ReadFault` where the source failed or gave no end within 4,294,967,295 reads, `WriteFault`
 /// where the sink failed or did not take a text within as many writes. The object stands after
 /// those lines, or after a failed write one line further.
+#[tactic(auto, using(crate::proofs::LawLemmas::each_input_may_be_cut))]
 pub fn serve_from<R: Source, W: Sink>(
     alloc: Global,
     object: &mut Object,
@@ -111,11 +113,13 @@ pub fn serve_from<R: Source, W: Sink>(
     source: &mut R,
     sink: &mut W,
 ) -> Result<u64, Interrupted<ServeFault>>
-    ensures { Serves newest_rules readers object.old object.new
+    ensures serves { Serves newest_rules readers object.old object.new
         (R.remaining source.old) (R.remaining source.new)
         (R.has_failed source.old) (R.has_failed source.new)
         (W.contents sink.old) (W.contents sink.new)
         (W.has_failed sink.old) (W.has_failed sink.new) (W.holds_back sink.new) result }
+    // as a law: an input may be cut between its lines and answered in parts
+    ensures cut { MayEachInputBeCut newest_rules }
 {
     let mut waiting = ReplyBuffer::new(alloc);
     let mut session = Session {

@@ -121,6 +121,10 @@ const PERIODS: &str = "Rome (RM), edition 1
 always: julian calendar, january style (years from 1 January), julian rule
 ";
 
+const LETTERS: &str = "date,where,days,gregorian,julian,dual,weekday_found,jdn,edtf,edition,remark
+1500-01-01,RM,547508,1500-01-10,1500-01-01,1 January 1500,Wednesday,2268933,1500-01-10,1,
+";
+
 const OUTS: &str = r#"{"ok":"staged","pending":1}
 {"out":"moved"}
 {"edition":1,"ok":"published"}
@@ -136,7 +140,7 @@ const TOLD: &str = r#"{"ask":{"code":"RM","op":"periods","reader":1},"reply":{"e
 "#;
 
 /// Each command, and then those of two files with the files the other way round.
-pub const RUNS: [RunRow; 14] = [
+pub const RUNS: [RunRow; 15] = [
     (
         "oldstyle read a.journal RM 1500-01-01",
         "",
@@ -158,6 +162,11 @@ pub const RUNS: [RunRow; 14] = [
         "oldstyle territory a.journal",
         "",
         (0, "Territories, edition 1\nRome (RM)\n", ""),
+    ),
+    (
+        "oldstyle letters a.journal --place where",
+        "date,where\n1500-01-01,RM\n",
+        (0, LETTERS, ""),
     ),
     ("oldstyle almanac a.journal RM 1500", "", (0, ROME_1500, "")),
     ("oldstyle replay --readers 2 a.schedule", "", (0, OUTS, "")),

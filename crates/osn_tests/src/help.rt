@@ -22,6 +22,7 @@ Commands:
   day        Says how a territory dated a day, and in which of its periods the day is
   month      Prints a month as a territory lived it
   territory  Lists the territories, or the periods of one
+  letters    Says of each letter of a table on standard input which day its date means
   serve      Answers request lines on standard input (so does the program without words)
   replay     Takes the steps of one editor and of readers, and prints what each gives
   desk       Lets readers ask while an editor works, each in a thread of its own
@@ -134,6 +135,26 @@ Examples:
   ./oldstyle territory examples/samples.journal GB
 ";
 
+const LETTERS: &str = "Says of each letter of a table on standard input which day its date means
+
+Usage: oldstyle letters [OPTIONS] <JOURNAL>
+
+Arguments:
+  <JOURNAL>  The file of the journal
+
+Options:
+      --place <NAME>    The name of the column of territories' codes [default: place]
+      --date <NAME>     That of the column of dates [default: date]
+      --weekday <NAME>  That of the column of weekdays, which may be missing [default: weekday]
+  -h, --help            Print help
+
+Example:
+  ./oldstyle letters examples/samples.journal < examples/letters.csv
+
+The table is CSV with a header. It is written to standard output as it came, with nine columns
+behind: days, gregorian, julian, dual, weekday_found, jdn, edtf, edition and remark.
+";
+
 const SERVE: &str = "Answers request lines on standard input (so does the program without words)
 
 Usage: oldstyle serve [OPTIONS]
@@ -218,7 +239,7 @@ Example:
   ./oldstyle audit examples/rome.script rome.transcript
 ";
 
-const SHOWN: [Printed; 14] = [
+const SHOWN: [Printed; 15] = [
     ("oldstyle --help", HELP),
     ("oldstyle help", HELP),
     ("oldstyle --version", "oldstyle 0.1.0\n"),
@@ -227,6 +248,7 @@ const SHOWN: [Printed; 14] = [
     ("oldstyle day --help", DAY),
     ("oldstyle month --help", MONTH),
     ("oldstyle territory --help", TERRITORY),
+    ("oldstyle letters --help", LETTERS),
     ("oldstyle help serve", SERVE),
     ("oldstyle serve --help", SERVE),
     ("oldstyle replay --help", REPLAY),

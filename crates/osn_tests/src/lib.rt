@@ -61,6 +61,8 @@ mod labels;
 #[cfg(test)]
 mod lands;
 #[cfg(test)]
+mod letters;
+#[cfg(test)]
 mod limits;
 #[cfg(test)]
 mod live;

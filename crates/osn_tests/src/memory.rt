@@ -215,9 +215,10 @@ fn is_run<'a, R: Threads + Wait + AllocGlobal + Abort>(
 }
 
 /// What the runs over real files open.
-const OPENED: [&str; 14] = [
+const OPENED: [&str; 15] = [
     "a.journal",
     "",
+    "a.journal",
     "a.journal",
     "a.journal",
     "a.journal",
@@ -249,7 +250,8 @@ fn files_are_opened_in_the_order_of_the_words(rt: HostRuntime) -> Result<(), Fai
 }
 
 /// Command lines of which the first file isn't there.
-const GONE: [&str; 9] = [
+const GONE: [&str; 10] = [
+    "oldstyle letters a.gone",
     "oldstyle read a.gone RM 1500-01-01",
     "oldstyle day a.gone RM 1500-01-01",
     "oldstyle month a.gone RM 1500 1",

@@ -2,7 +2,7 @@
 use crate::commands::{RunRow, are_run};
 use std::test::Fail;
 
-const MISTAKES: [RunRow; 22] = [
+const MISTAKES: [RunRow; 23] = [
     (
         "oldstyle read none GB",
         "",
@@ -70,6 +70,21 @@ For more information, try '--help'.
   <JOURNAL>
 
 Usage: oldstyle territory <JOURNAL> [CODE]
+
+For more information, try '--help'.
+",
+        ),
+    ),
+    (
+        "oldstyle letters",
+        "",
+        (
+            2,
+            "",
+            "error: the following required arguments were not provided:
+  <JOURNAL>
+
+Usage: oldstyle letters <JOURNAL>
 
 For more information, try '--help'.
 ",

@@ -32,3 +32,8 @@ pub returns-in-Convert-clause-ok : goal.returns-in-Convert-clause-ok
 returns-in-Convert-clause-ok g c =
     ran c.args.invocation _ _ _ _ _ _ c.convert_command.result c.in-Convert.is
     (refl, c.convert_command.ensures)
+
+pub returns-in-Letters-clause-ok : goal.returns-in-Letters-clause-ok
+returns-in-Letters-clause-ok g c =
+    IfOk-weaker c.letters.result _ _
+    (λ status h. ran c.args.invocation _ _ _ _ _ _ status c.in-Letters.is h) c.letters.ensures.ok

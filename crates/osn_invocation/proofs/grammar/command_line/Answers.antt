@@ -28,13 +28,15 @@ returns c =
     let fifth = one_more_command _ _ _ _ _ c.in_ok-subcommand-5.ensures
     fourth c.in_ok-territory_grammar.ensures in
     let sixth = one_more_command _ _ _ _ _ c.in_ok-subcommand-6.ensures
-    fifth c.in_ok-serve_grammar.ensures in
+    fifth c.in_ok-letters_grammar.ensures in
     let seventh = one_more_command _ _ _ _ _ c.in_ok-subcommand-7.ensures
-    sixth c.in_ok-replay_grammar.ensures in
+    sixth c.in_ok-serve_grammar.ensures in
     let eighth = one_more_command _ _ _ _ _ c.in_ok-subcommand-8.ensures
-    seventh c.in_ok-desk_grammar.ensures in
+    seventh c.in_ok-replay_grammar.ensures in
     let ninth = one_more_command _ _ _ _ _ c.in_ok-subcommand-9.ensures
-    eighth c.in_ok-almanac_grammar.ensures in
-    IfOk-weaker c.subcommand-10.result _ _
-    (λ new added. one_more_command _ new _ _ _ added ninth c.in_ok-audit_grammar.ensures)
-    c.subcommand-10.ensures
+    eighth c.in_ok-desk_grammar.ensures in
+    let tenth = one_more_command _ _ _ _ _ c.in_ok-subcommand-10.ensures
+    ninth c.in_ok-almanac_grammar.ensures in
+    IfOk-weaker c.subcommand-11.result _ _
+    (λ new added. one_more_command _ new _ _ _ added tenth c.in_ok-audit_grammar.ensures)
+    c.subcommand-11.ensures

@@ -1,5 +1,5 @@
 use Rattle.std.proofs.Common.{rules}
 use Rattle.osn_service.proofs.service.serve_from.Goals as goal
 
-pub returns : goal.returns
-returns g c = search rules
+pub returns-clause-serves : goal.returns-clause-serves
+returns-clause-serves g c = search rules

@@ -1,0 +1,345 @@
+-- What is written of the bytes of letters, piece by piece.
+use Rattle.std.proofs.Common.{◌≡◌, ◌≢◌, ◌<◌, ◌∙◌, ℕ, suc, ◌+◌, true, false, List, [], ◌∷◌}
+use Rattle.std.proofs.Common.{◌++◌, length, take, drop, get_or, Option, Some, None, refl, sym, ap}
+use Rattle.std.proofs.Common.{subst, append_assoc, append-nil, Result, Ok, Err, OnOk, IfErr}
+use Rattle.std.proofs.Common.{add-one}
+use Rattle.std.specs.Io.KnownBytes.{Appends}
+use Rattle.osn_lines.proofs.ByteLemmas.{Appends-then}
+use Rattle.std.specs.Result.{IsErrAnd}
+use Rattle.std.proofs.lemmas.Result.{err_from_is_err_and}
+use Rattle.std.proofs.Math.Seq.{drop-cons, take-suc}
+use Rattle.std.proofs.lemmas.List.{take-append-drop}
+use Rattle.osn_letters.specs.declared.fault.LettersFault.{LettersFault}
+use Rattle.osn_letters.specs.declared.fault.LettersFault.TheVariants.{NoMemory, TooLong, WriteFault}
+use Rattle.osn_letters.specs.declared.fault.LettersFault.TheVariants.{LacksColumn, BadRecord}
+use Rattle.osn_letters.specs.declared.fault.LettersFault.TheVariants.{ReadFault}
+use Rattle.osn_letters.specs.declared.letters.Letters.{Letters}
+use Rattle.osn_letters.specs.declared.parser.RecordParser.{RecordParser}
+use Rattle.osn_letters.specs.declared.table.Rows.{Rows}
+use Rattle.osn_letters.specs.LettersInside.{text_from, Wrote, Stops, TakesBytes, StopsAt}
+use Rattle.osn_letters.specs.LettersInside.{AppendsPart}
+use Rattle.osn_letters.specs.LettersInside.{text_behind, TakesBehind, StopsBehind}
+use Rattle.osn_letters.specs.declared.start.Start.{Start}
+use Rattle.osn_letters.specs.declared.start.Start.TheVariants.{Past, TwoBytes}
+use Rattle.osn_letters.specs.Start.{held, unmarked, next_start}
+use Rattle.osn_letters.proofs.StartFacts.{marked, unmarked_held, unmarked_end}
+use Rattle.osn_letters.specs.LettersInside.{Passes}
+use Rattle.osn_letters.specs.Records.{Reading, too_long}
+use Rattle.osn_letters.specs.Records.{records_from, after}
+use Rattle.osn_letters.specs.RecordsInside.{reading_of, record_in, Takes, RefusesByte}
+use Rattle.osn_letters.specs.Table.{EndsEarly, IsWhole, whole}
+use Rattle.osn_letters.specs.Table.{TableBasis, Written, behind, ended_by, written_from}
+use Rattle.osn_letters.specs.Faults.{is_of_table, is_of_stream}
+use Rattle.osn_letters.specs.TableInside.{written_of, RefusesRecord}
+
+-- the fault that a `?` passes on
+pub told : {T E : Type 0} (P : E → Type 0) (r : Result T E) (fault : E)
+    → IsErrAnd r (λ e. e ≡ fault) → P fault → IfErr r P
+told {T} {E} P r fault made h =
+    let err = err_from_is_err_and r made in
+    subst (λ (o : Result T E). IfErr o P) (sym (err.1 ∙ ap Err err.2)) h
+
+not_memory : (fault : LettersFault) → is_of_table fault ≡ true → fault ≢ NoMemory
+not_memory fault told e = absurd (cc (subst (λ f. is_of_table f ≡ true) e told))
+
+-- nothing was written
+pub wrote_nothing : (out : List ℕ) (w : Written) → Wrote out out w w
+wrote_nothing out w = record { text = []; out = sym (append-nil out); begins = refl }
+
+pub wrote_then : {a b c : List ℕ} {w v u : Written} → Wrote a b w v → Wrote b c v u
+    → Wrote a c w u
+wrote_then {a = a} {u = u} x y = record {
+  text = x.text ++ y.text;
+  out = y.out ∙ ap (λ t. t ++ y.text) x.out ∙ append_assoc a x.text y.text;
+  begins =
+      x.begins ∙ ap (behind x.text) y.begins
+      ∙ ap (λ t. record { text = t; fault = u.fault }) (sym (append_assoc x.text y.text u.text));
+}
+
+-- a first part was written, and then it stops
+pub wrote_stops : {a b c : List ℕ} {w v : Written} {fault : LettersFault} → Wrote a b w v
+    → Stops b c v fault → Stops a c w fault
+wrote_stops x y = record {
+  rest = y.rest;
+  wrote = wrote_then x y.wrote;
+  ended = y.ended;
+  inner = y.inner;
+}
+
+-- it stops before anything was written
+pub stops_here : (out new : List ℕ) (w : Written) (fault : LettersFault) → new ≡ out
+    → is_of_stream fault ≡ false → (fault ≢ NoMemory → w ≡ ended_by fault) → Stops out new w fault
+stops_here out new w fault same inner ended = record {
+  rest = w;
+  wrote = record { text = []; out = same ∙ sym (append-nil out); begins = refl };
+  ended = λ told. ended (not_memory fault told);
+  inner = inner;
+}
+
+too_long_ends : (s : TableBasis) (rows : Option Rows) (r : Reading)
+    → written_from s rows (too_long r ∷ []) ≡ ended_by (TooLong r.begun)
+too_long_ends s None r = refl
+too_long_ends s (Some rows) r = refl
+
+-- a byte was not taken
+pub byte_refused : (s : Letters) (p : RecordParser) (b : ℕ) (fault : LettersFault)
+    → RefusesByte s.parser b fault
+    → StopsBehind s (record { start = s.start; parser = p; table = s.table }) (b ∷ []) fault
+byte_refused s p b fault refuses more =
+    let out = s.table.out.items in
+    stops_here out out (text_behind s (b ∷ more)) fault refl refuses.0
+    (λ other.
+    let why = refuses.1 other in
+    ap (written_of s.table) (why.1 (records_from (after (reading_of s.parser) b) more))
+    ∙ too_long_ends _ s.table.rows (reading_of s.parser)
+    ∙ ap ended_by (sym why.0))
+
+-- the record that a byte ended was not taken
+pub record_refused : (s : Letters) (out : List ℕ) (q : RecordParser) (b line : ℕ)
+    (fault : LettersFault) → Takes s.parser q b (Some line) → out ≡ s.table.out.items
+    → RefusesRecord s.table (record_in q line) fault
+    → (more : List ℕ) → Stops s.table.out.items out (text_behind s (b ∷ more)) fault
+record_refused s out q b line fault takes same refuses more =
+    stops_here s.table.out.items out (text_behind s (b ∷ more)) fault same refuses.0
+    (λ other.
+    let rest = records_from (after (reading_of s.parser) b) more in
+    ap (written_of s.table) (takes.0 rest) ∙ refuses.1 other rest)
+
+-- bytes behind bytes, behind the beginning
+pub behind_then : (s t u : Letters) (xs ys : List ℕ) → TakesBehind s t xs → TakesBehind t u ys
+    → TakesBehind s u (xs ++ ys)
+behind_then s t u xs ys x y more =
+    subst (λ bytes. Wrote s.table.out.items u.table.out.items (text_behind s bytes)
+    (text_behind u more)) (sym (append_assoc xs ys more))
+    (wrote_then (x (ys ++ more)) (y more))
+
+pub behind_stops : (s t u : Letters) (xs ys : List ℕ) (fault : LettersFault) → TakesBehind s t xs
+    → StopsBehind t u ys fault → StopsBehind s u (xs ++ ys) fault
+behind_stops s t u xs ys fault x y more =
+    subst (λ bytes. Stops s.table.out.items u.table.out.items (text_behind s bytes) fault)
+    (sym (append_assoc xs ys more))
+    (wrote_stops (x (ys ++ more)) (y more))
+
+-- the first of some bytes were not taken, so all were not
+pub stops_first : (s u : Letters) (xs ys : List ℕ) (fault : LettersFault)
+    → StopsBehind s u xs fault → StopsBehind s u (xs ++ ys) fault
+stops_first s u xs ys fault x more =
+    subst (λ bytes. Stops s.table.out.items u.table.out.items (text_behind s bytes) fault)
+    (sym (append_assoc xs ys more)) (x (ys ++ more))
+
+-- a byte that goes on with the mark
+pub mark_taken : (s : Letters) (next : Start) (b : ℕ) → next_start s.start b ≡ Some next
+    → TakesBytes s (record { start = next; parser = s.parser; table = s.table }) (b ∷ [])
+mark_taken s next b h more = record {
+  text = [];
+  out = sym (append-nil s.table.out.items);
+  begins = ap (text_behind s) (marked s.start next b h more);
+}
+
+-- a byte that shows that there is no mark
+pub text_taken : (s u : Letters) (b : ℕ) → next_start s.start b ≡ None → u.start ≡ Past
+    → TakesBehind s u (held s.start ++ b ∷ []) → TakesBytes s u (b ∷ [])
+text_taken s u b h past x more =
+    subst (λ bytes. Wrote s.table.out.items u.table.out.items (text_behind s bytes)
+    (text_from u more))
+    (append_assoc (held s.start) (b ∷ []) more ∙ sym (unmarked_held s.start b h more))
+    (subst (λ start. Wrote s.table.out.items u.table.out.items
+    (text_behind s ((held s.start ++ b ∷ []) ++ more)) (text_behind u (unmarked start more)))
+    (sym past) (x more))
+
+pub text_stops : (s u : Letters) (b : ℕ) (fault : LettersFault) → next_start s.start b ≡ None
+    → StopsBehind s u (held s.start ++ b ∷ []) fault → StopsAt s u (b ∷ []) fault
+text_stops s u b fault h x more =
+    subst (λ bytes. Stops s.table.out.items u.table.out.items (text_behind s bytes) fault)
+    (append_assoc (held s.start) (b ∷ []) more ∙ sym (unmarked_held s.start b h more)) (x more)
+
+-- at the end of the text
+pub end_taken : (s t : Letters) (c : List ℕ) (w : Written) → TakesBehind s t (held s.start)
+    → Wrote t.table.out.items c (text_behind t []) w → Wrote s.table.out.items c (text_from s []) w
+end_taken s t c w x y =
+    subst (λ bytes. Wrote s.table.out.items c (text_behind s bytes) w)
+    (sym (unmarked_end s.start)) (wrote_then (x []) y)
+
+pub end_stops : (s t : Letters) (c : List ℕ) (fault : LettersFault)
+    → TakesBehind s t (held s.start) → Stops t.table.out.items c (text_behind t []) fault
+    → Stops s.table.out.items c (text_from s []) fault
+end_stops s t c fault x y =
+    subst (λ bytes. Stops s.table.out.items c (text_behind s bytes) fault)
+    (sym (unmarked_end s.start)) (wrote_stops (x []) y)
+
+pub end_stops_held : (s t : Letters) (fault : LettersFault)
+    → StopsBehind s t (held s.start) fault
+    → Stops s.table.out.items t.table.out.items (text_from s []) fault
+end_stops_held s t fault x =
+    subst (λ bytes. Stops s.table.out.items t.table.out.items (text_behind s bytes) fault)
+    (sym (unmarked_end s.start)) (x [])
+
+-- bytes behind bytes
+pub bytes_then : (s t u : Letters) (xs ys : List ℕ) → TakesBytes s t xs → TakesBytes t u ys
+    → TakesBytes s u (xs ++ ys)
+bytes_then s t u xs ys x y more =
+    subst (λ bytes. Wrote s.table.out.items u.table.out.items (text_from s bytes)
+    (text_from u more)) (sym (append_assoc xs ys more))
+    (wrote_then (x (ys ++ more)) (y more))
+
+-- one byte more
+pub byte_then : (s t u : Letters) (piece : List ℕ) (i b : ℕ) → i < length piece
+    → b ≡ get_or piece i 0 → TakesBytes s t (take i piece) → TakesBytes t u (b ∷ [])
+    → TakesBytes s u (take (i + 1) piece)
+byte_then s t u piece i b low is x y =
+    subst (TakesBytes s u)
+    (ap (λ c. take i piece ++ c ∷ []) is ∙ sym (take-suc piece i 0 low)
+    ∙ ap (λ k. take k piece) (sym (add-one i)))
+    (bytes_then s t u (take i piece) (b ∷ []) x y)
+
+split_at : (piece : List ℕ) (i b : ℕ) → i < length piece → b ≡ get_or piece i 0
+    → (more : List ℕ)
+    → take i piece ++ (b ∷ (drop (suc i) piece ++ more)) ≡ piece ++ more
+split_at piece i b low is more =
+    sym (append_assoc (take i piece) (b ∷ drop (suc i) piece) more)
+    ∙ ap (λ c. (take i piece ++ c ∷ drop (suc i) piece) ++ more) is
+    ∙ ap (λ back. (take i piece ++ back) ++ more) (sym (drop-cons piece i 0 low))
+    ∙ ap (λ all. all ++ more) (take-append-drop i piece)
+
+-- a byte was not taken, so the piece was not
+pub piece_stops : (s t u : Letters) (piece : List ℕ) (i b : ℕ) (fault : LettersFault)
+    → i < length piece → b ≡ get_or piece i 0 → TakesBytes s t (take i piece)
+    → StopsAt t u (b ∷ []) fault → StopsAt s u piece fault
+piece_stops s t u piece i b fault low is x y more =
+    let rest = drop (suc i) piece ++ more in
+    subst (λ bytes. Stops s.table.out.items u.table.out.items (text_from s bytes) fault)
+    (split_at piece i b low is more)
+    (wrote_stops (x (b ∷ rest)) (y rest))
+
+-- what was taken or not, a first part of what is written waits
+pub either : {T : Type 0} (s t : Letters) (bytes : List ℕ) (r : Result T LettersFault)
+    → OnOk r (TakesBytes s t bytes) → IfErr r (StopsAt s t bytes) → (more : List ℕ)
+    → (rest : Written)
+    × Wrote s.table.out.items t.table.out.items (text_from s (bytes ++ more)) rest
+either s t bytes (Ok x) takes stops more = (text_from t more, takes more)
+either s t bytes (Err fault) takes stops more = ((stops more).rest, (stops more).wrote)
+
+-- the same at the end of the text
+pub either_end : {T : Type 0} (s t : Letters) (r : Result T LettersFault)
+    → OnOk r (Wrote s.table.out.items t.table.out.items (text_from s []) whole)
+    → IfErr r (Stops s.table.out.items t.table.out.items (text_from s []))
+    → (rest : Written) × Wrote s.table.out.items t.table.out.items (text_from s []) rest
+either_end s t (Ok x) takes stops = (whole, takes)
+either_end s t (Err fault) takes stops = (stops.rest, stops.wrote)
+
+-- what waited was written in part
+pub part_early : {c d : Option (List ℕ)} {a out : List ℕ} {w v : Written} (fault : LettersFault)
+    → a ≡ [] → Wrote a out w v → AppendsPart c d out → fault ≡ WriteFault → EndsEarly c d w fault
+part_early {out = out} {w = w} {v = v} fault none wrote part is = record {
+  text = part.written;
+  appended = part.appended;
+  rest = behind part.left v;
+  begins =
+      wrote.begins
+      ∙ ap (λ t. record { text = t ++ v.text; fault = v.fault })
+      (sym (wrote.out ∙ ap (λ l. l ++ wrote.text) none) ∙ part.parts)
+      ∙ ap (λ t. record { text = t; fault = v.fault })
+      (append_assoc part.written part.left v.text);
+  ended = λ told. absurd (cc (subst (λ f. is_of_table f ≡ true) is told));
+}
+
+-- what waited was written
+pub written_passes : {c d : Option (List ℕ)} {a out : List ℕ} {w v : Written} → a ≡ []
+    → Wrote a out w v → Appends c d out → Passes c d w v
+written_passes {c = c} {d = d} none wrote appended = record {
+  text = wrote.text;
+  appended = subst (Appends c d) (wrote.out ∙ ap (λ l. l ++ wrote.text) none) appended;
+  begins = wrote.begins;
+}
+
+pub written_early : {c d : Option (List ℕ)} {a out : List ℕ} {w : Written} {fault : LettersFault}
+    → a ≡ [] → Stops a out w fault → Appends c d out → EndsEarly c d w fault
+written_early none stops appended =
+    let passes = written_passes none stops.wrote appended in
+    record {
+      text = passes.text;
+      appended = passes.appended;
+      rest = stops.rest;
+      begins = passes.begins;
+      ended = stops.ended;
+    }
+
+pub passes_then : {c d e : Option (List ℕ)} {w v u : Written} → Passes c d w v → Passes d e v u
+    → Passes c e w u
+passes_then {c = c} {d = d} {e = e} {u = u} x y = record {
+  text = x.text ++ y.text;
+  appended = Appends-then c d e x.text y.text x.appended y.appended;
+  begins =
+      x.begins ∙ ap (behind x.text) y.begins
+      ∙ ap (λ t. record { text = t; fault = u.fault }) (sym (append_assoc x.text y.text u.text));
+}
+
+pub passes_early : {c d e : Option (List ℕ)} {w v : Written} {fault : LettersFault}
+    → Passes c d w v → EndsEarly d e v fault → EndsEarly c e w fault
+passes_early x y =
+    let both = passes_then x
+    (record { text = y.text; appended = y.appended; begins = y.begins }) in
+    record {
+      text = both.text;
+      appended = both.appended;
+      rest = y.rest;
+      begins = both.begins;
+      ended = y.ended;
+    }
+
+pub passes_whole : (c d e : Option (List ℕ)) {w v : Written} → Passes c d w v → IsWhole d e v
+    → IsWhole c e w
+passes_whole c d e {v = v} x y = (
+  ap (λ u. u.fault) x.begins ∙ y.0,
+  subst (Appends c e) (ap (λ u. u.text) (sym x.begins))
+      (Appends-then c d e x.text v.text x.appended y.1),
+)
+
+-- a part of the table was written, and a fault that is none of the table ends it
+pub passes_ends : {c d : Option (List ℕ)} {w v : Written} (fault : LettersFault)
+    → is_of_table fault ≡ false → Passes c d w v → EndsEarly c d w fault
+passes_ends {v = v} fault other x = record {
+  text = x.text;
+  appended = x.appended;
+  rest = v;
+  begins = x.begins;
+  ended = λ told. absurd (cc (sym other ∙ told));
+}
+
+-- two bytes that were held back
+pub held_takes : (s t u : Letters) (start : Start) → start ≡ TwoBytes
+    → TakesBehind s t (0xEF ∷ []) → TakesBehind t u (0xBB ∷ []) → TakesBehind s u (held start)
+held_takes s t u start is x y =
+    subst (λ b. TakesBehind s u (held b)) (sym is)
+    (behind_then s t u (0xEF ∷ []) (0xBB ∷ []) x y)
+
+pub held_stops : (s t u : Letters) (start : Start) (fault : LettersFault) → start ≡ TwoBytes
+    → TakesBehind s t (0xEF ∷ []) → StopsBehind t u (0xBB ∷ []) fault
+    → StopsBehind s u (held start) fault
+held_stops s t u start fault is x y =
+    subst (λ b. StopsBehind s u (held b) fault) (sym is)
+    (behind_stops s t u (0xEF ∷ []) (0xBB ∷ []) fault x y)
+
+pub held_stops_first : (s u : Letters) (start : Start) (fault : LettersFault) → start ≡ TwoBytes
+    → StopsBehind s u (0xEF ∷ []) fault → StopsBehind s u (held start) fault
+held_stops_first s u start fault is x =
+    subst (λ b. StopsBehind s u (held b) fault) (sym is)
+    (stops_first s u (0xEF ∷ []) (0xBB ∷ []) fault x)
+
+table_inner : (fault : LettersFault) → is_of_table fault ≡ true → is_of_stream fault ≡ false
+table_inner (LacksColumn column) h = refl
+table_inner (BadRecord line) h = refl
+table_inner (TooLong line) h = refl
+table_inner ReadFault h = absurd (cc h)
+table_inner WriteFault h = absurd (cc h)
+table_inner NoMemory h = absurd (cc h)
+
+-- all that is written was, and a fault of the table ends it
+pub last_stops : {a b : List ℕ} {w v : Written} (fault : LettersFault) → Wrote a b w v
+    → v ≡ ended_by fault → is_of_table fault ≡ true → Stops a b w fault
+last_stops {v = v} fault wrote ended of_table = record {
+  rest = v;
+  wrote = wrote;
+  ended = λ told. ended;
+  inner = table_inner fault of_table;
+}

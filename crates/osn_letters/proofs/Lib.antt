@@ -1,0 +1,9 @@
+pub mod ColumnFacts
+pub mod DayFacts
+pub mod LawFacts
+pub mod LetterFacts
+pub mod QuietFacts
+pub mod StartFacts
+pub mod StreamFacts
+pub mod TableFacts
+pub mod TextFacts

@@ -1,0 +1,131 @@
+-- Behind what was read there may stand bytes by which nothing more is written: a record that is too
+-- long. So what was written of what was read is all that is written of some text.
+use Rattle.std.proofs.Common.{◌≡◌, ◌<◌, ◌∙◌, ℕ, zero, suc, ◌+◌, ◌-◌, ◌==◌, Bool, true, false}
+use Rattle.std.proofs.Common.{List, [], ◌∷◌, ◌++◌, length, Option, Some, None, refl, sym, ap, subst}
+use Rattle.std.proofs.Common.{arith, nat_lt, append-nil}
+use Rattle.std.specs.Io.KnownBytes.{Appends, Consumes}
+use Rattle.csv.specs.declared.parser.Action.{Action}
+use Rattle.csv.specs.declared.parser.State.{State}
+use Rattle.csv.specs.declared.parser.State.TheVariants as st
+use Rattle.csv.specs.Machine.{is_end}
+use Rattle.osn_letters.specs.declared.letters.Letters.{Letters}
+use Rattle.osn_letters.specs.declared.start.Start.{Start}
+use Rattle.osn_letters.specs.declared.start.Start.TheVariants.{Nothing, OneByte, TwoBytes, Past}
+use Rattle.osn_letters.specs.declared.table.Rows.{Rows}
+use Rattle.osn_letters.specs.LettersInside.{text_from, text_behind}
+use Rattle.osn_letters.specs.Records.{Reading, PlacedRecord, after, is_between, moved}
+use Rattle.osn_letters.specs.Records.{longest_record, read_byte, records_by, records_from, too_long}
+use Rattle.osn_letters.specs.RecordsInside.{reading_of}
+use Rattle.osn_letters.specs.Start.{held, next_start}
+use Rattle.osn_letters.specs.Table.{TableBasis, Written, EndsRead, written_from}
+use Rattle.osn_letters.specs.TableInside.{source_of}
+use Rattle.std.proofs.lemmas.Bool.{ltb-true}
+use Rattle.osn_letters.proofs.StartFacts.{unmarked_held}
+use Rattle.osn_letters.proofs.StreamFacts.{PassesRead}
+
+-- a byte that joins any field: no comma, no quote, no line end
+abbrev IsPlain : ℕ → Type 0
+IsPlain b =
+    ((b == 44) ≡ false) × ((b == 34) ≡ false) × ((b == 13) ≡ false) × ((b == 10) ≡ false)
+
+abbrev ArePlain : List ℕ → Type 0
+ArePlain [] = Unit {0}
+ArePlain (b ∷ bytes) = IsPlain b × ArePlain bytes
+
+plain_step : (s : State) (b : ℕ) → IsPlain b
+    → (is_between (read_byte s b).0 ≡ false) × (is_end (read_byte s b).1 ≡ false)
+unfolding read_byte
+plain_step st.StartRecord b (h0, h1, h2, h3) = rw (h0, h1, h2, h3) (refl, refl)
+plain_step st.StartField b (h0, h1, h2, h3) = rw (h0, h1, h2, h3) (refl, refl)
+plain_step st.InField b (h0, h1, h2, h3) = rw (h0, h2, h3) (refl, refl)
+plain_step st.InQuoted b (h0, h1, h2, h3) = rw h1 (refl, refl)
+plain_step st.AfterQuote b (h0, h1, h2, h3) = rw (h0, h1, h2, h3) (refl, refl)
+plain_step st.InEscape b h = (refl, refl)
+plain_step st.InComment b (h0, h1, h2, h3) = rw h3 (refl, refl)
+plain_step st.AfterCr b (h0, h1, h2, h3) = rw (h0, h1, h2, h3) (refl, refl)
+
+too_long_quiet : (b : TableBasis) (rows : Option Rows) (r : Reading)
+    → (written_from b rows (too_long r ∷ [])).text ≡ []
+too_long_quiet b None r = refl
+too_long_quiet b (Some rows) r = refl
+
+-- one plain byte: the record is too long, or it grows
+quiet_step : (t : TableBasis) (rows : Option Rows) (r : Reading) (b : ℕ) (s : State × Action)
+    → is_between s.0 ≡ false → is_end s.1 ≡ false → (low : Bool)
+    → nat_lt r.size longest_record ≡ low → (more : List PlacedRecord)
+    → (low ≡ true → (moved r b s).size ≡ r.size + 1 → (written_from t rows more).text ≡ [])
+    → (written_from t rows (records_by r s more)).text ≡ []
+quiet_step t rows r b s inside going true is more quiet =
+    rw (inside, is, going) (quiet refl (rw inside refl))
+quiet_step t rows r b s inside going false is more quiet =
+    rw (inside, is) (too_long_quiet t rows r)
+
+quiet : (t : TableBasis) (rows : Option Rows) (r : Reading) (bytes : List ℕ) → ArePlain bytes
+    → 65536 - r.size < length bytes → (written_from t rows (records_from r bytes)).text ≡ []
+quiet t rows r [] plain long = absurd (omega (arith, long))
+quiet t rows r (b ∷ bytes) (first, plain) long =
+    let step = plain_step r.state b first in
+    quiet_step t rows r b (read_byte r.state b) step.0 step.1 (nat_lt r.size longest_record) refl
+    (records_from (after r b) bytes)
+    (λ low grows. quiet t rows (after r b) bytes plain
+    (omega (arith, long, grows, ltb-true r.size longest_record low)))
+
+-- a run of plain bytes
+unfoldable run : ℕ → List ℕ
+run zero = []
+run (suc n) = 97 ∷ run n
+
+run_plain : (n : ℕ) → ArePlain (run n)
+unfolding run
+run_plain zero = tt
+run_plain (suc n) = ((refl, refl, refl, refl), run_plain n)
+
+run_long : (n : ℕ) → length (run n) ≡ n
+unfolding run
+run_long zero = refl
+run_long (suc n) = rw (run_long n) refl
+
+-- behind what is held back as well
+held_quiet : (s : Letters) (bytes : List ℕ) → ArePlain bytes → 65536 < length bytes
+    → (start : Start) → (text_behind s (held start ++ bytes)).text ≡ []
+held_quiet s bytes plain long Nothing =
+    quiet (source_of s.table) s.table.rows (reading_of s.parser) bytes plain (omega (arith, long))
+held_quiet s bytes plain long Past =
+    quiet (source_of s.table) s.table.rows (reading_of s.parser) bytes plain (omega (arith, long))
+held_quiet s bytes plain long OneByte =
+    quiet (source_of s.table) s.table.rows (reading_of s.parser) (0xEF ∷ bytes)
+    ((refl, refl, refl, refl), plain) (omega (arith, long))
+held_quiet s bytes plain long TwoBytes =
+    quiet (source_of s.table) s.table.rows (reading_of s.parser) (0xEF ∷ 0xBB ∷ bytes)
+    ((refl, refl, refl, refl), ((refl, refl, refl, refl), plain)) (omega (arith, long))
+
+goes_on : (start : Start) → next_start start 97 ≡ None
+goes_on Nothing = refl
+goes_on OneByte = refl
+goes_on TwoBytes = refl
+goes_on Past = refl
+
+run_quiet : (s : Letters) (n : ℕ) → 65536 < n → (text_from s (97 ∷ run n)).text ≡ []
+run_quiet s n high =
+    ap (λ bytes. (text_behind s bytes).text) (unmarked_held s.start 97 (goes_on s.start) (run n))
+    ∙ held_quiet s (97 ∷ run n) ((refl, refl, refl, refl), run_plain n)
+    (omega (arith, high, run_long n)) s.start
+
+-- what was written of what was read
+pub read_settled : (all : List ℕ → Written) (s : Letters) (input left c d : Option (List ℕ))
+    (read : List ℕ) → Consumes input left read → PassesRead all (text_from s) c d read
+    → EndsRead input left c d all
+read_settled all s input left c d read consumed passes =
+    let more = 97 ∷ run 65537 in
+    let passed = passes more in
+    record {
+      read = read;
+      more = more;
+      consumed = consumed;
+      appended =
+          subst (Appends c d)
+          (sym (ap (λ w. w.text) passed.begins
+          ∙ ap (λ t. passed.text ++ t) (run_quiet s 65537 (omega arith))
+          ∙ append-nil passed.text))
+          passed.appended;
+    }

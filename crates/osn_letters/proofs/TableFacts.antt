@@ -1,0 +1,23 @@
+-- What is written of one record, in the words of the calls that make it.
+use Rattle.std.proofs.Common.{◌≡◌, ◌∙◌, ℕ, List, ◌++◌, Result, OnOk, Option, ap}
+use Rattle.std.proofs.lemmas.Result.{on_ok_weaker}
+use Rattle.csv.specs.Writing.{default_writer, row_text}
+use Rattle.osn_days.specs.Profile.{Profile}
+use Rattle.osn_register.specs.Plain.{LandModel}
+use Rattle.osn_letters.specs.Fields.{letter_fields}
+
+-- a record that is written as what it is
+pub written_as : {T E : Type 0} (r : Result T E) (new old : List ℕ) (a b : List (List ℕ)) → a ≡ b
+    → OnOk r (new ≡ old ++ row_text default_writer a)
+    → OnOk r (new ≡ old ++ row_text default_writer b)
+written_as r new old a b e h =
+    on_ok_weaker r (λ is. is ∙ ap (λ fs. old ++ row_text default_writer fs) e) h
+
+-- the fields by the fields that are read
+pub same_fields : (p : Profile) (lands : List LandModel) (edition : ℕ) (a b c d : List ℕ)
+    (v w : Option (List ℕ)) → a ≡ b → c ≡ d → v ≡ w
+    → letter_fields p lands edition a c v ≡ letter_fields p lands edition b d w
+same_fields p lands edition a b c d v w e1 e2 e3 =
+    ap (λ x. letter_fields p lands edition x c v) e1
+    ∙ ap (λ x. letter_fields p lands edition b x v) e2
+    ∙ ap (λ x. letter_fields p lands edition b d x) e3

@@ -1,0 +1,9 @@
+use Rattle.std.proofs.Common.{◌≡◌, ◌++◌, [], take}
+use Rattle.csv.specs.Records.{fields_of, partial_of}
+use Rattle.osn_letters.proofs.csv_text.push_fields.Given as goal
+
+-- the fields so far
+abbrev pub invariant-loop-place : goal.invariant-loop-place
+invariant-loop-place l =
+    (fields_of l.record ≡ fields_of l.initial.record ++ take l.place (fields_of l.fields))
+    × (partial_of l.record ≡ [])

@@ -1,0 +1,26 @@
+use Rattle.std.proofs.Common.{◌≡◌, ◌+◌, ◌*◌, ◌≤◌, ℕ, List, [], ◌++◌, length}
+use Rattle.std.specs.Io.KnownBytes.{Consumes}
+use Rattle.csv.specs.Records.{partial_of}
+use Rattle.osn_days.specs.Profile.{newest_rules}
+use Rattle.osn_letters.specs.LettersInside.{Passes, text_from}
+use Rattle.osn_letters.specs.Table.{letters_written, basis}
+use Rattle.osn_letters.proofs.stream.write_letters.Given as goal
+
+-- of what was read all that comes of it was written
+abbrev pub invariant-loop-call : goal.invariant-loop-call
+invariant-loop-call g l =
+    record {
+      buffer : length l.buffer.items ≡ 65536;
+      few : l.letters.parser.line ≤ 1 + 65536 * l._call;
+      partial : partial_of l.letters.parser.record ≡ [];
+      empty : l.letters.table.out.items ≡ [];
+      source : g.R.Source.has_failed l.source ≡ g.R.Source.has_failed l.fn.source;
+      sink : g.W.Sink.has_failed l.sink ≡ g.W.Sink.has_failed l.fn.sink;
+      taken : (read : List ℕ) × (l._call ≤ length read)
+          × Consumes (g.R.Source.remaining l.fn.source) (g.R.Source.remaining l.source) read
+          × ((more : List ℕ)
+          → Passes (g.W.Sink.contents l.fn.sink) (g.W.Sink.contents l.sink)
+          (letters_written (basis newest_rules l.fn.register.lands l.fn.edition l.fn.names)
+          (read ++ more))
+          (text_from l.letters more));
+    }

@@ -1,0 +1,34 @@
+-- Whose faults end a table of letters: the table's own, those of a stream, or want of memory.
+use Rattle.std.specs.Prelude.{◌≡◌, ◌⊎◌, Bool, true, false, ◌||◌}
+use Rattle.osn_letters.specs.declared.fault.LettersFault.{LettersFault}
+use Rattle.osn_letters.specs.declared.fault.LettersFault.TheVariants.{LacksColumn, BadRecord}
+use Rattle.osn_letters.specs.declared.fault.LettersFault.TheVariants.{TooLong, ReadFault}
+use Rattle.osn_letters.specs.declared.fault.LettersFault.TheVariants.{WriteFault, NoMemory}
+
+-- whether a fault is one of the table itself, and not of memory, of the input or of the output
+abbrev pub is_of_table : LettersFault → Bool
+is_of_table (LacksColumn column) = true
+is_of_table (BadRecord line) = true
+is_of_table (TooLong line) = true
+is_of_table ReadFault = false
+is_of_table WriteFault = false
+is_of_table NoMemory = false
+
+-- whether a fault is one of the input, or of the output
+abbrev pub is_read_fault : LettersFault → Bool
+is_read_fault ReadFault = true
+is_read_fault other = false
+
+abbrev pub is_write_fault : LettersFault → Bool
+is_write_fault WriteFault = true
+is_write_fault other = false
+
+-- whether a fault is one of a stream
+abbrev pub is_of_stream : LettersFault → Bool
+is_of_stream fault = is_read_fault fault || is_write_fault fault
+
+-- where a table ended by the fault of a stream, the stream failed, or there was more than its calls
+-- may do for; else it has not failed since
+abbrev pub EndsStream : Bool → Bool → Bool → Type 0 → Type 0
+EndsStream true old new Long = (new ≡ true) ⊎ Long
+EndsStream false old new Long = new ≡ old

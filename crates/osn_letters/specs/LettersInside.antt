@@ -1,0 +1,84 @@
+-- What is written of the bytes that letters are read from.
+use Rattle.std.specs.Prelude.{◌≡◌, ℕ, List, ◌++◌, Bool, true, false, Option}
+use Rattle.std.specs.Io.KnownBytes.{Appends}
+use Rattle.osn_letters.specs.declared.letters.Letters.{Letters}
+use Rattle.osn_letters.specs.declared.fault.LettersFault.{LettersFault}
+use Rattle.osn_letters.specs.Records.{records_from}
+use Rattle.osn_letters.specs.RecordsInside.{reading_of}
+use Rattle.osn_letters.specs.Start.{unmarked}
+use Rattle.osn_letters.specs.Table.{Written, behind, ended_by, EndsEarly, IsLong}
+use Rattle.osn_letters.specs.Faults.{is_of_table, is_of_stream, EndsStream, is_write_fault}
+use Rattle.osn_letters.specs.TableInside.{written_of}
+
+-- what is written of further bytes behind the beginning, up to the end of the text
+abbrev pub text_behind : Letters → List ℕ → Written
+text_behind s bytes = written_of s.table (records_from (reading_of s.parser) bytes)
+
+-- the same of bytes that may go on with a byte order mark
+abbrev pub text_from : Letters → List ℕ → Written
+text_from s bytes = text_behind s (unmarked s.start bytes)
+
+-- what waits grew by the first part of what is written, and this is the rest
+pub record Wrote (old new : List ℕ) (written rest : Written) : Type 0 where
+  pub text : List ℕ
+  pub out : new ≡ old ++ text
+  pub begins : written ≡ behind text rest
+
+-- the bytes were taken: what is written of them and of more is what waits, and what is written then
+-- of more
+abbrev pub TakesBytes : Letters → Letters → List ℕ → Type 0
+TakesBytes old new bytes = (more : List ℕ) →
+    Wrote old.table.out.items new.table.out.items
+    (text_from old (bytes ++ more)) (text_from new more)
+
+-- the same of bytes behind the beginning
+abbrev pub TakesBehind : Letters → Letters → List ℕ → Type 0
+TakesBehind old new bytes = (more : List ℕ) →
+    Wrote old.table.out.items new.table.out.items
+    (text_behind old (bytes ++ more)) (text_behind new more)
+
+-- what waits grew by a first part of what is written, and by all of it where the fault is one of
+-- the table
+pub record Stops (old new : List ℕ) (written : Written) (fault : LettersFault) : Type 0 where
+  pub rest : Written
+  pub wrote : Wrote old new written rest
+  pub ended : is_of_table fault ≡ true → rest ≡ ended_by fault
+  pub inner : is_of_stream fault ≡ false
+
+-- some bytes were not all taken, by that fault
+abbrev pub StopsAt : Letters → Letters → List ℕ → LettersFault → Type 0
+StopsAt old new bytes fault = (more : List ℕ) →
+    Stops old.table.out.items new.table.out.items (text_from old (bytes ++ more)) fault
+
+-- the same of bytes behind the beginning
+abbrev pub StopsBehind : Letters → Letters → List ℕ → LettersFault → Type 0
+StopsBehind old new bytes fault = (more : List ℕ) →
+    Stops old.table.out.items new.table.out.items (text_behind old (bytes ++ more)) fault
+
+-- the bytes were taken, and what came of them was written
+pub record Passes (old new : Option (List ℕ)) (written rest : Written) : Type 0 where
+  pub text : List ℕ
+  pub appended : Appends old new text
+  pub begins : written ≡ behind text rest
+
+abbrev pub PassesBytes : Option (List ℕ) → Option (List ℕ) → Letters → Letters → List ℕ → Type 0
+PassesBytes c d old new bytes = (more : List ℕ) →
+    Passes c d (text_from old (bytes ++ more)) (text_from new more)
+
+-- some bytes ended the table by that fault
+abbrev pub EndsBytes : Option (List ℕ) → Option (List ℕ) → Letters → List ℕ → LettersFault → Type 0
+EndsBytes c d old bytes fault =
+    (more : List ℕ) → EndsEarly c d (text_from old (bytes ++ more)) fault
+
+-- a first part of a text was appended
+pub record AppendsPart (old new : Option (List ℕ)) (text : List ℕ) : Type 0 where
+  pub written : List ℕ
+  pub left : List ℕ
+  pub appended : Appends old new written
+  pub parts : text ≡ written ++ left
+
+-- whether the sink failed, where some bytes ended the table by that fault
+abbrev pub SinkEnds : Bool → Bool → Letters → List ℕ → LettersFault → Type 0
+SinkEnds before now old bytes fault =
+    EndsStream (is_write_fault fault) before now
+    ((more : List ℕ) → IsLong (text_from old (bytes ++ more)))

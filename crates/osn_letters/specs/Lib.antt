@@ -1,0 +1,10 @@
+pub mod Faults
+pub mod Fields
+pub mod Columns
+pub mod Records
+pub mod Law
+pub mod RecordsInside
+pub mod Table
+pub mod TableInside
+pub mod Start
+pub mod LettersInside

@@ -1,0 +1,74 @@
+-- What a parser holds of the records of a text.
+use Rattle.std.specs.Prelude.{◌≡◌, ◌≢◌, ℕ, false, List, [], ◌∷◌, Option, Some, None}
+use Rattle.csv.specs.declared.parser.State.{State}
+use Rattle.csv.specs.declared.parser.State.TheVariants as st
+use Rattle.csv.specs.declared.parser.Action.{Action}
+use Rattle.csv.specs.declared.parser.Action.TheVariants as act
+use Rattle.csv.specs.Records.{fields_of}
+use Rattle.osn_letters.specs.declared.place.Place.{Place}
+use Rattle.osn_letters.specs.declared.place.Place.TheVariants as place
+use Rattle.osn_letters.specs.declared.place.Effect.{Effect}
+use Rattle.osn_letters.specs.declared.place.Effect.TheVariants as effect
+use Rattle.osn_letters.specs.declared.parser.RecordParser.{RecordParser}
+use Rattle.osn_letters.specs.declared.fault.LettersFault.{LettersFault}
+use Rattle.osn_letters.specs.declared.fault.LettersFault.TheVariants.{NoMemory, TooLong}
+use Rattle.osn_letters.specs.Faults.{is_of_stream}
+use Rattle.osn_letters.specs.Records.{Reading, PlacedRecord, read_byte, after, records_by, too_long}
+
+-- the kit's state and action
+abbrev pub state_of : Place → State
+state_of place.StartRecord = st.StartRecord
+state_of place.StartField = st.StartField
+state_of place.InField = st.InField
+state_of place.InQuoted = st.InQuoted
+state_of place.AfterQuote = st.AfterQuote
+state_of place.AfterReturn = st.AfterCr
+
+abbrev pub action_of : Effect → Action
+action_of effect.Skip = act.Skip
+action_of effect.Copy = act.Copy
+action_of effect.EndField = act.EndField
+action_of effect.EndRecord = act.EndRecord
+
+-- where the reading of a parser stands
+abbrev pub reading_of : RecordParser → Reading
+reading_of p = record {
+  state = state_of p.place;
+  fields = fields_of p.record;
+  field = p.field.items;
+  size = p.size;
+  line = p.line;
+  begun = p.begun;
+}
+
+-- the same, once the record that ended is taken
+abbrev pub cleared : Reading → Reading
+cleared r = record r { fields = [] }
+
+-- the record that stands in a parser, with the line on which it begins
+abbrev pub record_in : RecordParser → ℕ → PlacedRecord
+record_in p line = record { line = line; fields = Some (fields_of p.record) }
+
+-- the same, if a record ended
+abbrev pub records_given : RecordParser → Option ℕ → List PlacedRecord
+records_given p None = []
+records_given p (Some line) = record_in p line ∷ []
+
+-- a byte was taken, and ended no record, or one that begins on the line
+abbrev pub Takes : RecordParser → RecordParser → ℕ → Option ℕ → Type 0
+Takes p q b None =
+    ((more : List PlacedRecord) → records_by (reading_of p) (read_byte (state_of p.place) b) more
+    ≡ more)
+    × (reading_of q ≡ after (reading_of p) b)
+Takes p q b (Some line) =
+    ((more : List PlacedRecord) → records_by (reading_of p) (read_byte (state_of p.place) b) more
+    ≡ record_in q line ∷ more)
+    × (cleared (reading_of q) ≡ after (reading_of p) b)
+
+-- a byte was not taken, since the record at hand is too long, or for want of memory
+abbrev pub RefusesByte : RecordParser → ℕ → LettersFault → Type 0
+RefusesByte p b fault = (is_of_stream fault ≡ false)
+    × ((fault ≢ NoMemory)
+    → (fault ≡ TooLong p.begun)
+    × ((more : List PlacedRecord) → records_by (reading_of p) (read_byte (state_of p.place) b) more
+    ≡ too_long (reading_of p) ∷ []))

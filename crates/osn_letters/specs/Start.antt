@@ -1,0 +1,26 @@
+-- A byte order mark at the beginning of a text, byte by byte.
+use Rattle.std.specs.Prelude.{ℕ, ◌==◌, if◌then◌else◌, List, [], ◌∷◌, Option, Some, None}
+use Rattle.csv.specs.Reading.{strip_bom}
+use Rattle.osn_letters.specs.declared.start.Start.{Start}
+use Rattle.osn_letters.specs.declared.start.Start.TheVariants.{Nothing, OneByte, TwoBytes, Past}
+
+-- the bytes that are held back
+abbrev pub held : Start → List ℕ
+held Nothing = []
+held OneByte = 0xEF ∷ []
+held TwoBytes = 0xEF ∷ 0xBB ∷ []
+held Past = []
+
+-- the text that comes of further bytes
+abbrev pub unmarked : Start → List ℕ → List ℕ
+unmarked Nothing bytes = strip_bom bytes
+unmarked OneByte bytes = strip_bom (0xEF ∷ bytes)
+unmarked TwoBytes bytes = strip_bom (0xEF ∷ 0xBB ∷ bytes)
+unmarked Past bytes = bytes
+
+-- behind the next byte of a mark
+abbrev pub next_start : Start → ℕ → Option Start
+next_start Nothing b = if b == 0xEF then Some OneByte else None
+next_start OneByte b = if b == 0xBB then Some TwoBytes else None
+next_start TwoBytes b = if b == 0xBF then Some Past else None
+next_start Past b = None

@@ -1,0 +1,161 @@
+//! A table of letters, as the bytes of its text come.
+ghost use Rattle.std.specs.Prelude.{ℕ, List, ◌≡◌, ◌+◌, ◌≤◌, ◌<◌, ◌^◌, ◌∷◌, [], length};
+ghost use Rattle.std.specs.Prelude.{OnOk, IfErr};
+ghost use Rattle.csv.specs.Records.{partial_of};
+ghost use Rattle.osn_letters.specs.LettersInside as inside;
+ghost use Rattle.osn_days.specs.Profile.{newest_rules};
+ghost use Rattle.osn_letters.specs.declared.start.Start.TheVariants.{Past};
+ghost use Rattle.osn_letters.specs.Records.{next_line};
+ghost use Rattle.osn_letters.specs.Start.{held};
+ghost use Rattle.osn_letters.specs.Table.{whole, basis, letters_written};
+ghost use Rattle.osn_letters.specs.TableInside.{written_of};
+
+use crate::columns::ColumnNames;
+use crate::fault::LettersFault;
+use crate::parser::RecordParser;
+use crate::start::{MARK, Start};
+use crate::table::Table;
+use osn_register::Register;
+use std::alloc::Global;
+
+/// The records that come, and the table that is made of them.
+#[derive(Drop)]
+pub(crate) struct Letters<'a> {
+    pub(crate) start: Start,
+    pub(crate) parser: RecordParser,
+    pub(crate) table: Table<'a>,
+}
+
+impl<'a> Letters<'a> {
+    /// At the beginning of a text.
+    pub(crate) fn new(
+        alloc: Global,
+        register: &'a Register,
+        edition: usize,
+        names: ColumnNames<'a>,
+    ) -> Letters<'a>
+        ensures partial { partial_of result.parser.record ≡ [] }
+        ensures line { result.parser.line ≡ 1 }
+        ensures empty { result.table.out.items ≡ [] }
+        ensures text { (text : List ℕ) → inside.text_from result text
+            ≡ letters_written (basis newest_rules register.now.lands edition names.entry) text }
+    {
+        Letters {
+            start: Start::Nothing,
+            parser: RecordParser::new(alloc),
+            table: Table {
+                alloc,
+                register,
+                edition,
+                names,
+                rows: None,
+                out: Vec::new(alloc),
+            },
+        }
+    }
+}
+
+impl Letters<'_> {
+    /// Takes the next byte behind the beginning of the text.
+    fn take_behind(&mut self, byte: u8) -> Result<(), LettersFault>
+        requires partial { partial_of self.old.parser.record ≡ [] }
+        requires line { self.old.parser.line + 1 < 2 ^ 64 }
+        ensures partial { OnOk result (partial_of self.new.parser.record ≡ []) }
+        ensures line { OnOk result
+            (self.new.parser.line ≡ next_line self.old.parser.line byte) }
+        ensures start { self.new.start ≡ self.old.start }
+        ensures takes { OnOk result (inside.TakesBehind self.old self.new (byte ∷ [])) }
+        ensures stops { IfErr result (inside.StopsBehind self.old self.new (byte ∷ [])) }
+    {
+        let Some(line) = self.parser.take(byte)? else {
+            return Ok(());
+        };
+        self.table.take(&mut self.parser.record, line)?;
+        self.parser.clear();
+        Ok(())
+    }
+
+    /// Takes the bytes that are held back, which are no mark.
+    fn take_held(&mut self) -> Result<(), LettersFault>
+        requires partial { partial_of self.old.parser.record ≡ [] }
+        requires line { self.old.parser.line + 1 < 2 ^ 64 }
+        ensures partial { OnOk result (partial_of self.new.parser.record ≡ []) }
+        ensures line { OnOk result (self.new.parser.line ≡ self.old.parser.line) }
+        ensures start { self.new.start ≡ Past }
+        ensures takes { OnOk result (inside.TakesBehind self.old self.new (held self.old.start)) }
+        ensures stops { IfErr result (inside.StopsBehind self.old self.new
+            (held self.old.start)) }
+    {
+        let start = self.start;
+        self.start = Start::Past;
+        match start {
+            Start::Nothing | Start::Past => Ok(()),
+            Start::OneByte => self.take_behind(MARK[0]),
+            Start::TwoBytes => {
+                self.take_behind(MARK[0])?;
+                self.take_behind(MARK[1])
+            }
+        }
+    }
+
+    /// Takes the next byte.
+    fn take_byte(&mut self, byte: u8) -> Result<(), LettersFault>
+        requires partial { partial_of self.old.parser.record ≡ [] }
+        requires line { self.old.parser.line + 1 < 2 ^ 64 }
+        ensures partial { OnOk result (partial_of self.new.parser.record ≡ []) }
+        ensures line { OnOk result (self.new.parser.line ≤ self.old.parser.line + 1) }
+        ensures takes { OnOk result (inside.TakesBytes self.old self.new (byte ∷ [])) }
+        ensures stops { IfErr result (inside.StopsAt self.old self.new (byte ∷ [])) }
+    {
+        if let Some(start) = self.start.next(byte) {
+            self.start = start;
+            return Ok(());
+        }
+        self.take_held()?;
+        self.take_behind(byte)
+    }
+
+    /// Takes the next bytes.
+    pub(crate) fn take_piece(&mut self, piece: &[u8]) -> Result<(), LettersFault>
+        requires partial { partial_of self.old.parser.record ≡ [] }
+        requires line { self.old.parser.line + length piece.now < 2 ^ 64 }
+        ensures partial { OnOk result (partial_of self.new.parser.record ≡ []) }
+        ensures line { OnOk result
+            (self.new.parser.line ≤ self.old.parser.line + length piece.now) }
+        ensures takes { OnOk result (inside.TakesBytes self.old self.new piece.now) }
+        ensures stops { IfErr result (inside.StopsAt self.old self.new piece.now) }
+    {
+        for byte in piece {
+            self.take_byte(*byte)?;
+        }
+        Ok(())
+    }
+
+    /// Takes the record that the end of the text ends, if any.
+    fn take_last(&mut self) -> Result<(), LettersFault>
+        requires { partial_of self.old.parser.record ≡ [] }
+        ensures takes { OnOk result (inside.Wrote self.old.table.out.items self.new.table.out.items
+            (inside.text_behind self.old []) (written_of self.new.table [])) }
+        ensures stops { IfErr result (inside.Stops self.old.table.out.items
+            self.new.table.out.items (inside.text_behind self.old [])) }
+    {
+        if let Some(line) = self.parser.finish()? {
+            self.table.take(&mut self.parser.record, line)?;
+        }
+        Ok(())
+    }
+
+    /// Ends the text.
+    pub(crate) fn finish(&mut self) -> Result<(), LettersFault>
+        requires partial { partial_of self.old.parser.record ≡ [] }
+        requires line { self.old.parser.line + 1 < 2 ^ 64 }
+        ensures takes { OnOk result (inside.Wrote self.old.table.out.items self.new.table.out.items
+            (inside.text_from self.old []) whole) }
+        ensures stops { IfErr result (inside.Stops self.old.table.out.items
+            self.new.table.out.items (inside.text_from self.old [])) }
+    {
+        self.take_held()?;
+        self.take_last()?;
+        self.table.finish()
+    }
+}

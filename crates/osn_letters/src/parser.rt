@@ -1,0 +1,174 @@
+//! The records of a text of CSV, as its bytes come.
+ghost use Rattle.std.specs.Prelude.{◌≡◌, ◌+◌, ◌++◌, ◌<◌, ◌^◌, ◌∷◌, [], false, IfOk, IfErr, OnOk};
+ghost use Rattle.std.specs.Prelude.{if◌then◌else◌};
+ghost use Rattle.csv.specs.Machine.{fields_after, field_after};
+ghost use Rattle.csv.specs.Records.{fields_of, partial_of};
+ghost use Rattle.osn_letters.specs.Records as spec;
+ghost use Rattle.osn_letters.specs.declared.fault.LettersFault.TheVariants.{NoMemory};
+ghost use Rattle.osn_letters.specs.RecordsInside as inside;
+ghost use Rattle.osn_letters.specs.RecordsInside.{state_of, action_of, reading_of};
+
+use crate::fault::LettersFault;
+use crate::place::{Effect, Place, Step};
+use csv::ByteRecord;
+use std::alloc::{AllocError, Global};
+
+/// The most bytes that a record may have in the text, without its line end.
+const LONGEST_RECORD: usize = 65_536;
+
+/// Where the reading of a text stands, and what has come of the record at hand.
+#[derive(Drop)]
+pub(crate) struct RecordParser {
+    pub(crate) place: Place,
+    pub(crate) record: ByteRecord,
+    pub(crate) field: Vec<u8>,
+    pub(crate) size: usize,
+    pub(crate) line: u64,
+    pub(crate) begun: u64,
+}
+
+impl RecordParser {
+    /// At the beginning of a text.
+    pub(crate) fn new(alloc: Global) -> RecordParser
+        ensures reading { reading_of result ≡ spec.at_start }
+        ensures partial { partial_of result.record ≡ [] }
+    {
+        RecordParser {
+            place: Place::StartRecord,
+            record: ByteRecord::new(alloc),
+            field: Vec::new(alloc),
+            size: 0,
+            line: 1,
+            begun: 1,
+        }
+    }
+
+    /// Ends the field at hand.
+    fn end_field(&mut self) -> Result<(), AllocError>
+        requires { partial_of self.old.record ≡ [] }
+        ensures fields { OnOk result
+            (fields_of self.new.record ≡ fields_of self.old.record ++ self.old.field.items ∷ []) }
+        ensures partial { OnOk result (partial_of self.new.record ≡ []) }
+        ensures field { OnOk result (self.new.field.items ≡ []) }
+        ensures place { self.new.place ≡ self.old.place }
+        ensures size { self.new.size ≡ self.old.size }
+        ensures line { self.new.line ≡ self.old.line }
+        ensures begun { self.new.begun ≡ self.old.begun }
+    {
+        self.record.push_field(&self.field)?;
+        self.field.clear();
+        Ok(())
+    }
+
+    /// Does to the record at hand what a byte does.
+    fn apply(&mut self, effect: Effect, byte: u8) -> Result<(), AllocError>
+        requires { partial_of self.old.record ≡ [] }
+        ensures fields { OnOk result (fields_of self.new.record ≡ fields_after
+            (action_of effect) (fields_of self.old.record) self.old.field.items) }
+        ensures partial { OnOk result (partial_of self.new.record ≡ []) }
+        ensures field { OnOk result (self.new.field.items
+            ≡ field_after (action_of effect) byte self.old.field.items) }
+        ensures place { self.new.place ≡ self.old.place }
+        ensures size { self.new.size ≡ self.old.size }
+        ensures line { self.new.line ≡ self.old.line }
+        ensures begun { self.new.begun ≡ self.old.begun }
+    {
+        match effect {
+            Effect::Skip => Ok(()),
+            Effect::Copy => Ok(self.field.push(byte)?),
+            Effect::EndField | Effect::EndRecord => self.end_field(),
+        }
+    }
+
+    /// Whether the record at hand has no room for a byte, behind which the reading stands at a
+    /// place.
+    fn is_full(&self, place: Place) -> bool
+        ensures { result ≡ spec.is_full (reading_of self.now) (state_of place) }
+    {
+        !place.is_between() && self.size >= LONGEST_RECORD
+    }
+
+    /// Counts a byte behind which the reading stands at a place.
+    fn advance(&mut self, place: Place, byte: u8)
+        requires line { self.old.line + 1 < 2 ^ 64 }
+        requires room { spec.is_full (reading_of self.old) (state_of place) ≡ false }
+        ensures place { self.new.place ≡ place }
+        ensures line { self.new.line ≡ spec.next_line self.old.line byte }
+        ensures size { self.new.size
+            ≡ (if spec.is_between (state_of place) then 0 else self.old.size + 1) }
+        ensures begun { self.new.begun ≡ (if spec.is_between (state_of place) then
+            spec.next_line self.old.line byte else self.old.begun) }
+        ensures record { self.new.record ≡ self.old.record }
+        ensures field { self.new.field ≡ self.old.field }
+    {
+        if byte == b'\n' {
+            self.line += 1;
+        }
+        self.place = place;
+        if place.is_between() {
+            self.size = 0;
+            self.begun = self.line;
+        } else {
+            self.size += 1;
+        }
+    }
+
+    /// Takes the next byte. Answers the line on which the record begins that the byte ended, if it
+    /// ended one: that record stands in the parser then, until it is cleared.
+    ///
+    /// # Errors
+    ///
+    /// `TooLong` where the record at hand has no room for the byte, and `NoMemory`.
+    pub(crate) fn take(&mut self, byte: u8) -> Result<Option<u64>, LettersFault>
+        requires partial { partial_of self.old.record ≡ [] }
+        requires line { self.old.line + 1 < 2 ^ 64 }
+        ensures partial { OnOk result (partial_of self.new.record ≡ []) }
+        ensures line { OnOk result (self.new.line ≡ spec.next_line self.old.line byte) }
+        ensures takes { IfOk result (inside.Takes self.old self.new byte) }
+        ensures fault { IfErr result (inside.RefusesByte self.old byte) }
+    {
+        let Step { place, effect } = self.place.read_byte(byte);
+        if self.is_full(place) {
+            return Err(LettersFault::TooLong { line: self.begun });
+        }
+        let begun = self.begun;
+        if self.apply(effect, byte).is_err() {
+            return Err(LettersFault::NoMemory);
+        }
+        self.advance(place, byte);
+        if effect == Effect::EndRecord {
+            return Ok(Some(begun));
+        }
+        Ok(None)
+    }
+
+    /// Forgets the record that ended.
+    pub(crate) fn clear(&mut self)
+        ensures reading { reading_of self.new ≡ inside.cleared (reading_of self.old) }
+        ensures partial { partial_of self.new.record ≡ [] }
+    {
+        self.record.clear();
+    }
+
+    /// Ends the text. Answers the line on which the record begins that the end of the text ended,
+    /// if it ended one: that record stands in the parser then.
+    ///
+    /// # Errors
+    ///
+    /// `NoMemory`, and nothing else.
+    pub(crate) fn finish(&mut self) -> Result<Option<u64>, LettersFault>
+        requires partial { partial_of self.old.record ≡ [] }
+        ensures ends { IfOk result (λ ended. spec.last_record (reading_of self.old)
+            ≡ inside.records_given self.new ended) }
+        ensures partial { OnOk result (partial_of self.new.record ≡ []) }
+        ensures fault { IfErr result (λ fault. fault ≡ NoMemory) }
+    {
+        if self.place.is_between() {
+            return Ok(None);
+        }
+        match self.end_field() {
+            Ok(()) => Ok(Some(self.begun)),
+            Err(_) => Err(LettersFault::NoMemory),
+        }
+    }
+}

@@ -1,0 +1,169 @@
+//! The table that is written, record by record.
+ghost use Rattle.std.specs.Prelude.{ℕ, ◌≡◌, ◌∷◌, ◌++◌, [], true, get_or, IfErr, OnOk, OnErr, Some};
+ghost use Rattle.std.specs.Prelude.{None, option_map};
+ghost use Rattle.csv.specs.Records.{fields_of, partial_of};
+ghost use Rattle.osn_letters.specs.Faults.{is_of_table};
+ghost use Rattle.osn_letters.specs.Table as spec;
+ghost use Rattle.osn_letters.specs.TableInside as inside;
+
+use crate::columns::{ColumnNames, Columns, field_at, find_columns};
+use crate::csv_text::{push_fields, push_record, push_texts};
+use crate::fault::{Column, LettersFault};
+use crate::letter::letter_fields;
+use csv::ByteRecord;
+use osn_register::Register;
+use std::alloc::{AllocError, Global};
+
+/// The names of the nine fields.
+const FIELD_NAMES: [&str; 9] = [
+    "days",
+    "gregorian",
+    "julian",
+    "dual",
+    "weekday_found",
+    "jdn",
+    "edtf",
+    "edition",
+    "remark",
+];
+
+/// What the header says of the records behind it.
+#[derive(Clone, Copy, Debug, PartialEq, Eq)]
+pub(crate) struct Rows {
+    /// Where the columns that are read stand.
+    pub(crate) columns: Columns,
+    /// How many fields each has.
+    pub(crate) width: usize,
+}
+
+/// A table as it is made, with the text that waits to be written.
+#[derive(Drop)]
+pub(crate) struct Table<'a> {
+    pub(crate) alloc: Global,
+    pub(crate) register: &'a Register,
+    pub(crate) edition: usize,
+    pub(crate) names: ColumnNames<'a>,
+    pub(crate) rows: Option<Rows>,
+    pub(crate) out: Vec<u8>,
+}
+
+/// The weekday of a record, where there is such a column.
+fn weekday_at(record: &ByteRecord, place: Option<usize>) -> Option<&[u8]>
+    ensures { option_map (λ w. w.now) result
+        ≡ option_map (λ n. get_or (fields_of record.now) n []) place }
+{
+    match place {
+        Some(place) => Some(field_at(record, place)),
+        None => None,
+    }
+}
+
+impl Table<'_> {
+    /// Appends to the text that waits the header, with the nine names.
+    fn push_header(&mut self, header: &mut ByteRecord) -> Result<(), AllocError>
+        requires { partial_of header.old ≡ [] }
+        ensures text { OnOk result (self.new.out.items
+            ≡ self.old.out.items ++ spec.header_text (fields_of header.old)) }
+        ensures kept { OnErr result (self.new.out.items ≡ self.old.out.items) }
+        ensures source { inside.source_of self.new ≡ inside.source_of self.old }
+        ensures rows { self.new.rows ≡ self.old.rows }
+    {
+        push_texts(header, &FIELD_NAMES)?;
+        push_record(self.alloc, &mut self.out, header)
+    }
+
+    /// Takes the header.
+    fn take_header(&mut self, header: &mut ByteRecord) -> Result<(), LettersFault>
+        requires partial { partial_of header.old ≡ [] }
+        requires rows { self.old.rows ≡ None }
+        ensures takes { OnOk result ((line : ℕ) → inside.TakesRecords self.old self.new
+            (record { line = line; fields = Some (fields_of header.old) } ∷ [])) }
+        ensures refuses { IfErr result (λ fault. (line : ℕ) → inside.RefusesRecord self.old
+            (record { line = line; fields = Some (fields_of header.old) }) fault) }
+        ensures kept { OnErr result (self.new.out.items ≡ self.old.out.items) }
+    {
+        let columns = find_columns(header, self.names)?;
+        let width = header.len();
+        if self.push_header(header).is_err() {
+            return Err(LettersFault::NoMemory);
+        }
+        self.rows = Some(Rows { columns, width });
+        Ok(())
+    }
+
+    /// Appends to the text that waits the row of a record.
+    fn push_row(&mut self, columns: Columns, row: &mut ByteRecord) -> Result<(), AllocError>
+        requires { partial_of row.old ≡ [] }
+        ensures text { OnOk result (self.new.out.items ≡ self.old.out.items
+            ++ spec.letter_text (inside.source_of self.old) columns (fields_of row.old)) }
+        ensures kept { OnErr result (self.new.out.items ≡ self.old.out.items) }
+        ensures source { inside.source_of self.new ≡ inside.source_of self.old }
+        ensures rows { self.new.rows ≡ self.old.rows }
+    {
+        let fields = letter_fields(
+            self.alloc,
+            self.register,
+            self.edition,
+            field_at(row, columns.place),
+            field_at(row, columns.date),
+            weekday_at(row, columns.weekday),
+        )?;
+        push_fields(row, &fields)?;
+        push_record(self.alloc, &mut self.out, row)
+    }
+
+    /// Takes a record behind the header.
+    fn take_row(&mut self, rows: Rows, row: &mut ByteRecord, line: u64) -> Result<(), LettersFault>
+        requires partial { partial_of row.old ≡ [] }
+        requires rows { self.old.rows ≡ Some rows }
+        ensures takes { OnOk result (inside.TakesRecords self.old self.new
+            (record { line = line; fields = Some (fields_of row.old) } ∷ [])) }
+        ensures refuses { IfErr result (inside.RefusesRecord self.old
+            (record { line = line; fields = Some (fields_of row.old) })) }
+        ensures kept { OnErr result (self.new.out.items ≡ self.old.out.items) }
+    {
+        if row.len() != rows.width {
+            return Err(LettersFault::BadRecord { line });
+        }
+        match self.push_row(rows.columns, row) {
+            Ok(()) => Ok(()),
+            Err(_) => Err(LettersFault::NoMemory),
+        }
+    }
+
+    /// Takes the next record, which begins on the line.
+    ///
+    /// # Errors
+    ///
+    /// `LacksColumn` of a header, `BadRecord` of a record behind it, and `NoMemory`.
+    pub(crate) fn take(&mut self, row: &mut ByteRecord, line: u64) -> Result<(), LettersFault>
+        requires { partial_of row.old ≡ [] }
+        ensures takes { OnOk result (inside.TakesRecords self.old self.new
+            (record { line = line; fields = Some (fields_of row.old) } ∷ [])) }
+        ensures refuses { IfErr result (inside.RefusesRecord self.old
+            (record { line = line; fields = Some (fields_of row.old) })) }
+        ensures kept { OnErr result (self.new.out.items ≡ self.old.out.items) }
+    {
+        match self.rows {
+            None => self.take_header(row),
+            Some(rows) => self.take_row(rows, row, line),
+        }
+    }
+
+    /// Ends the records.
+    ///
+    /// # Errors
+    ///
+    /// `LacksColumn` where there was no header, and nothing else.
+    pub(crate) fn finish(&self) -> Result<(), LettersFault>
+        ensures whole { OnOk result (inside.written_of self.now [] ≡ spec.whole) }
+        ensures fault { IfErr result
+            (λ fault. (inside.written_of self.now [] ≡ spec.ended_by fault)
+            × (is_of_table fault ≡ true)) }
+    {
+        match self.rows {
+            None => Err(LettersFault::LacksColumn(Column::Place)),
+            Some(_) => Ok(()),
+        }
+    }
+}

@@ -1,0 +1,75 @@
+-- An input may be cut between its lines and answered in parts: what is written for one part behind
+-- another is what is written for the whole.
+use Rattle.std.specs.Prelude.{◌≡◌, ◌⊎◌, ℕ, List, [], ◌∷◌, ◌++◌, Result, Ok, Err, ⊤}
+use Rattle.std.specs.List.{All, concat, flat_map}
+use Rattle.osn_days.specs.Profile.{Profile}
+use Rattle.osn_core.specs.Sequential.{ObjectState}
+use Rattle.osn_lines.specs.Lines.{lines}
+use Rattle.osn_format.specs.declared.wire_fault.WireFault.{WireFault}
+use Rattle.osn_request.specs.declared.request.Request.{Request}
+use Rattle.osn_request.specs.declared.request.Request.TheVariants.{Stage, Publish, Ask}
+use Rattle.osn_request.specs.Request.{request}
+use Rattle.osn_reply.specs.declared.outcome.Outcome.{Outcome}
+use Rattle.osn_reply.specs.declared.outcome.Outcome.TheVariants.{Staged, Published, Refused, Fault}
+use Rattle.osn_reply.specs.declared.outcome.Outcome.TheVariants.{Replied}
+use Rattle.osn_service.specs.Served.{outputs, after_lines}
+use Rattle.osn_service.specs.Session.{line_outcome, line_after}
+
+-- a line after which the object is what it was
+abbrev pub LeavesObject : Profile → ℕ → ObjectState → List ℕ → Type 0
+LeavesObject p readers s line = line_after p readers s line ≡ s
+
+-- the bytes end between two lines: there are none, or the last is a line feed
+abbrev pub EndsBetweenLines : List ℕ → Type 0
+EndsBetweenLines bytes = (bytes ≡ []) ⊎ ((front : List ℕ) × (bytes ≡ front ++ 10 ∷ []))
+
+-- a query, or no request at all
+abbrev pub IsQueryOrFault : Result Request WireFault → Type 0
+IsQueryOrFault (Ok (Stage edit)) = ⊥
+IsQueryOrFault (Ok Publish) = ⊥
+IsQueryOrFault (Ok (Ask reader query)) = ⊤
+IsQueryOrFault (Err fault) = ⊤
+
+-- no edit was staged and no edition published
+abbrev pub HasChangedNothing : Outcome → Type 0
+HasChangedNothing (Staged pending) = ⊥
+HasChangedNothing (Published edition) = ⊥
+HasChangedNothing (Refused refusal) = ⊤
+HasChangedNothing (Fault fault) = ⊤
+HasChangedNothing (Replied reader reply) = ⊤
+
+-- what is written for the bytes of an input
+abbrev pub input_outputs : Profile → ℕ → ObjectState → List ℕ → List ℕ
+input_outputs p readers s bytes = outputs p readers s (lines bytes)
+
+-- For the parts and the last one, one behind another, is written what is written for each part from
+-- the same object, in their order, and then for the last one; and the object is then what the last
+-- one alone makes of it.
+pub record IsAnsweredInParts (p : Profile) (readers : ℕ) (s : ObjectState) (parts : List (List ℕ))
+    (last : List ℕ) : Type 0 where
+  pub written : input_outputs p readers s (concat parts ++ last)
+      ≡ flat_map (input_outputs p readers s) parts ++ input_outputs p readers s last
+  pub object : after_lines p readers s (lines (concat parts ++ last))
+      ≡ after_lines p readers s (lines last)
+
+-- How an input is cut that is answered from the object s for so many readers.
+pub record MayBeCut (p : Profile) (readers : ℕ) (s : ObjectState) : Type 0 where
+  -- Behind lines that leave the object further lines are answered as if they stood alone.
+  pub lists : (first rest : List (List ℕ)) → All (LeavesObject p readers s) first
+      → outputs p readers s (first ++ rest)
+      ≡ outputs p readers s first ++ outputs p readers s rest
+  -- An input is answered in parts wherever it is cut between its lines, where each line before the
+  -- last part leaves the object.
+  pub inputs : (parts : List (List ℕ)) (last : List ℕ) → All EndsBetweenLines parts
+      → All (LeavesObject p readers s) (lines (concat parts))
+      → IsAnsweredInParts p readers s parts last
+  -- A query leaves the object, and so does a line that is no request, whatever its fault.
+  pub queries : (line : List ℕ) → IsQueryOrFault (request p readers line)
+      → LeavesObject p readers s line
+  -- So does each line whose reply tells of no staged edit and of no published edition.
+  pub replies : (line : List ℕ) → HasChangedNothing (line_outcome p readers s line)
+      → LeavesObject p readers s line
+
+-- so is every input, from every object
+unfoldable pub MayEachInputBeCut : Profile → Type 0
+MayEachInputBeCut p = (readers : ℕ) (s : ObjectState) → MayBeCut p readers s
