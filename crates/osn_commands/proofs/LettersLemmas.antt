@@ -7,7 +7,7 @@ use Rattle.osn_register.specs.declared.limits.Limits.{Limits}
 use Rattle.osn_core.specs.Sequential.{ObjectState}
 use Rattle.osn_letters.specs.Columns.{NameTexts}
 use Rattle.osn_letters.specs.Faults.{EndsStream, is_read_fault, is_write_fault}
-use Rattle.osn_letters.specs.Table.{TableBasis, Written, letters_written, EndsEarly, IsLong}
+use Rattle.osn_letters.specs.Table.{Written, letters_written, EndsEarly, IsLong}
 use Rattle.osn_letters.specs.declared.fault.LettersFault.{LettersFault}
 use Rattle.osn_letters.specs.declared.fault.LettersFault.TheVariants as ends
 use Rattle.osn_commands.specs.Letters.{EndsTable, IsReason, WritesTable, table_of}

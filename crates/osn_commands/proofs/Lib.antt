@@ -5,3 +5,4 @@ pub mod LineLemmas
 pub mod AuditLemmas
 pub mod LettersLemmas
 pub mod RunLemmas
+pub mod LimitsLemmas

@@ -7,12 +7,12 @@ use Rattle.clap.specs.declared.error.Error.{Error}
 use Rattle.clap.specs.declared.error.kind.ErrorKind.{ErrorKind}
 use Rattle.clap.specs.declared.error.kind.ErrorKind.TheVariants.{OutOfMemory}
 use Rattle.osn_days.specs.Profile.{newest_rules}
-use Rattle.osn_register.specs.Limits.{standard_limits}
+use Rattle.osn_register.specs.declared.limits.Limits.{Limits}
 use Rattle.osn_folder.specs.Folder.{Known, Changes, IsFileIf, MayFail, Opens, Saves, Leaves}
 use Rattle.osn_folder.specs.Folder.{path_if}
 use Rattle.osn_invocation.specs.Grammar.{command_line}
-use Rattle.osn_invocation.specs.Invocation.{model_of}
-use Rattle.osn_invocation.specs.declared.invocation.Invocation.{Invocation}
+use Rattle.osn_invocation.specs.Invocation.{command_model}
+use Rattle.osn_invocation.specs.declared.invocation.CommandWords.{CommandWords}
 use Rattle.osn_commands.specs.Fault.{by_save}
 use Rattle.osn_commands.specs.Printing.{EndsPrinting}
 use Rattle.osn_commands.specs.Run.{Folders, EndsSaving, Finishes, RunsService, Runs, IsHelp}
@@ -23,13 +23,13 @@ use Rattle.osn_commands.specs.Told.{EndsBy}
 use Rattle.osn_commands.specs.declared.fault.CommandFault.{CommandFault}
 use Rattle.osn_commands.specs.declared.status.Status.{Status}
 
--- what was run is what these arguments ask for
-pub ran : (given found : Invocation) (CanFail : Bool → Type 0) (d : Folders) (i : Input)
-    (o e : Output) (status : Status)
-    → given ≡ found → Runs (model_of found) CanFail d i o e status
-    → Runs (model_of given) CanFail d i o e status
-ran given found CanFail d i o e status is h =
-    subst (λ w. Runs (model_of w) CanFail d i o e status) (sym is) h
+-- what was run is what these words ask for
+pub ran : (limits : Limits) (given found : CommandWords) (CanFail : Bool → Type 0) (d : Folders)
+    (i : Input) (o e : Output) (status : Status)
+    → given ≡ found → Runs limits (command_model found) CanFail d i o e status
+    → Runs limits (command_model given) CanFail d i o e status
+ran limits given found CanFail d i o e status is h =
+    subst (λ w. Runs limits (command_model w) CanFail d i o e status) (sym is) h
 
 pub mapped : {A B : Type 0} (f : A → B) (o : Option A) → is_some (option_map f o) ≡ is_some o
 mapped f None = refl
@@ -97,18 +97,18 @@ none_left f served journal (inl none) = inl none
 none_left f served journal (inr none) = inr (ap (option_map f) none)
 
 -- the service was run with these files
-pub service_ran : (journal save : Option (List ℕ)) (kept : Bool) (readers : ℕ)
+pub service_ran : (limits : Limits) (journal save : Option (List ℕ)) (kept : Bool) (readers : ℕ)
     (CanFail : Bool → Type 0) (d : Folders) (i : Input) (o : Output) (opened : Option Known)
     (begun : Option (Option (List ℕ))) (failed : Bool) (left : Option (List ℕ))
     (served ending : Option CommandFault)
     → kept ≡ is_some save → IsFileIf d.before journal begun → CanFail failed
     → (served ≡ None) ⊎ (left ≡ None)
-    → IfSome i.bytes (λ input. Serves newest_rules standard_limits readers begun failed kept o input
+    → IfSome i.bytes (λ input. Serves newest_rules limits readers begun failed kept o input
     i.unread left served)
     → Changes (Opens (path_if journal)) d.before opened
     → EndsSaving save left opened d.after served ending
-    → RunsService journal save readers CanFail d i o ending
-service_ran journal save kept readers CanFail d i o opened begun failed left served ending same is
+    → RunsService limits journal save readers CanFail d i o ending
+service_ran limits journal save kept readers CanFail d i o opened begun failed left served ending same is
     may none h opens saved = (
       begun,
       is,
@@ -117,7 +117,7 @@ service_ran journal save kept readers CanFail d i o opened begun failed left ser
       left,
       served,
       none,
-      subst (λ s. IfSome i.bytes (λ input. Serves newest_rules standard_limits readers begun failed
+      subst (λ s. IfSome i.bytes (λ input. Serves newest_rules limits readers begun failed
           s o input i.unread left served)) same h,
       opened,
       opens,

@@ -25,9 +25,10 @@ use Rattle.osn_commands.specs.declared.fault.CommandFault.TheVariants.{ReadFault
 use Rattle.osn_commands.specs.declared.fault.CommandFault.TheVariants.{NoMemory, Misused, BadTable}
 use Rattle.osn_commands.specs.declared.fault.Misuse.{Misuse}
 use Rattle.osn_commands.specs.declared.fault.Misuse.TheVariants.{Date, Weekday, Calendar}
-use Rattle.osn_commands.specs.declared.fault.Misuse.TheVariants.{DayNumber, NoSuchDate}
+use Rattle.osn_commands.specs.declared.fault.Misuse.TheVariants.{DayNumber, NoSuchDate, Limits}
 use Rattle.osn_commands.specs.declared.fault.TableFault.{TableFault}
 use Rattle.osn_commands.specs.declared.fault.TableFault.TheVariants as tables
+use Rattle.osn_commands.specs.Limits.{limit_hint}
 use Rattle.osn_commands.specs.declared.status.Status.{Status}
 use Rattle.osn_commands.specs.declared.status.Status.TheVariants as statuses
 
@@ -65,6 +66,8 @@ misuse_line DayNumber = codes
     "oldstyle: DATE is no day number: behind day, write a number from 1 to 3652059\n"
 misuse_line NoSuchDate = codes
     "oldstyle: DATE is no date of that calendar in the years 1 to 9999\n"
+misuse_line Limits = codes
+    "oldstyle: LIMITS are none: write some of lands=N,changes=N,exceptions=N,edits=N,editions=N\n"
 
 -- where a table of letters is none, and what to write
 abbrev pub table_line : TableFault → List ℕ
@@ -81,7 +84,7 @@ table_line (tables.TooLong line) = codes "oldstyle: letters line "
 abbrev pub fault_line : CommandFault → List ℕ
 fault_line (BadLine role line why) =
     codes "oldstyle: " ++ (role_name role ++ (codes " line " ++ (decimal line ++ (codes ": "
-    ++ refusal_end (line_fault_number why) (line_fault_name why)))))
+    ++ refusal_end (line_fault_number why) (line_fault_name why ++ limit_hint why)))))
 fault_line (Refused refusal) =
     codes "oldstyle: " ++ refusal_end (refusal_number refusal) (refusal_name refusal)
 fault_line (Desk fault) =

@@ -1,4 +1,5 @@
 pub mod Status
+pub mod Limits
 pub mod Fault
 pub mod Streams
 pub mod Told

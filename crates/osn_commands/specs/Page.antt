@@ -1,5 +1,5 @@
 -- The page that a command prints, and why there is none.
-use Rattle.std.specs.Prelude.{◌≡◌, ◌⊎◌, ℕ, List, length, None, Ok, Err}
+use Rattle.std.specs.Prelude.{◌≡◌, ◌⊎◌, ℕ, List, length, None, Ok}
 use Rattle.osn_days.specs.Profile.{Profile}
 use Rattle.osn_register.specs.Plain.{LandModel}
 use Rattle.osn_register.specs.declared.limits.Limits.{Limits}

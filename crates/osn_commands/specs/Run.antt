@@ -1,23 +1,25 @@
 -- What a run of the program does, with the files of a folder.
 use Rattle.std.specs.Prelude.{◌≡◌, ◌≢◌, ◌⊎◌, ℕ, Bool, List, [], ◌∷◌, Option, Some, None}
-use Rattle.std.specs.Prelude.{IfSome, is_some}
+use Rattle.std.specs.Prelude.{IfSome, MatchResult, is_some}
 use Rattle.clap.specs.Words.{Text, fault_of, IsAmong}
 use Rattle.clap.specs.declared.error.kind.ErrorKind.{ErrorKind}
 use Rattle.clap.specs.declared.error.kind.ErrorKind.TheVariants.{OutOfMemory, DisplayHelp}
 use Rattle.clap.specs.declared.error.kind.ErrorKind.TheVariants.{DisplayVersion}
 use Rattle.osn_days.specs.Profile.{newest_rules}
-use Rattle.osn_register.specs.Limits.{standard_limits}
+use Rattle.osn_register.specs.declared.limits.Limits.{Limits}
 use Rattle.osn_folder.specs.Folder.{Known, Changes, IsFileOf, IsFileIf, Opens, CannotOpen, Saves}
 use Rattle.osn_folder.specs.Folder.{Leaves, path_if}
 use Rattle.osn_folder.specs.declared.fault.SaveFault.{SaveFault}
 use Rattle.osn_invocation.specs.Grammar.{command_line}
-use Rattle.osn_invocation.specs.Invocation.{InvocationModel, serving, replaying, working, printing}
+use Rattle.osn_invocation.specs.Invocation.{CommandModel, InvocationModel}
+use Rattle.osn_invocation.specs.Invocation.{serving, replaying, working, printing}
 use Rattle.osn_invocation.specs.Invocation.{auditing, converting, reading_letters}
 use Rattle.osn_invocation.specs.Invocation.{invocation_in}
 use Rattle.osn_commands.specs.Audited.{PrintsAudit}
 use Rattle.osn_commands.specs.Conversion.{PrintsConversion}
 use Rattle.osn_commands.specs.Fault.{by_save}
 use Rattle.osn_commands.specs.Letters.{PrintsLetters}
+use Rattle.osn_commands.specs.Limits.{limits_asked}
 use Rattle.osn_commands.specs.Page.{PrintsPage}
 use Rattle.osn_commands.specs.Printing.{EndsPrinting}
 use Rattle.osn_commands.specs.Replay.{PrintsReplay}
@@ -26,9 +28,9 @@ use Rattle.osn_commands.specs.Streams.{Input, Output}
 use Rattle.osn_commands.specs.Told.{EndsBy, WritesLine}
 use Rattle.osn_commands.specs.Transcript.{PrintsTranscript}
 use Rattle.osn_commands.specs.declared.fault.CommandFault.{CommandFault}
-use Rattle.osn_commands.specs.declared.fault.CommandFault.TheVariants.{ReadFault, NoMemory}
+use Rattle.osn_commands.specs.declared.fault.CommandFault.TheVariants.{Misused, ReadFault, NoMemory}
 use Rattle.osn_commands.specs.declared.status.Status.{Status}
-use Rattle.osn_commands.specs.declared.status.Status.TheVariants.{Misused}
+use Rattle.osn_commands.specs.declared.status.Status.TheVariants as statuses
 
 -- what is known of the folder before and after
 pub record Folders : Type 0 where
@@ -76,30 +78,30 @@ abbrev pub Finishes : Output → Status → Type 0
 Finishes e status = (fault : SaveFault) × EndsBy e (Some (by_save fault)) status
 
 -- the service was run, from what the journal holds, and the journal that it left was saved
-abbrev pub RunsService : Option Text → Option Text → ℕ → (Bool → Type 0) → Folders → Input → Output
+abbrev pub RunsService : Limits → Option Text → Option Text → ℕ → (Bool → Type 0) → Folders → Input → Output
     → Option CommandFault → Type 0
-RunsService journal save readers CanFail d i o ending =
+RunsService limits journal save readers CanFail d i o ending =
     (begun : Option (Option (List ℕ))) × IsFileIf d.before journal begun
     × (failed : Bool) × CanFail failed
     × (left : Option (List ℕ)) × (served : Option CommandFault)
     × ((served ≡ None) ⊎ (left ≡ None))
     × IfSome i.bytes (λ bytes.
-    Serves newest_rules standard_limits readers begun failed (is_some save) o bytes i.unread left
+    Serves newest_rules limits readers begun failed (is_some save) o bytes i.unread left
     served)
     × (opened : Option Known) × Changes (Opens (path_if journal)) d.before opened
     × EndsSaving save left opened d.after served ending
 
 -- that, and how it ended
-abbrev pub EndsService : Option Text → Option Text → ℕ → (Bool → Type 0) → Folders → Input → Output
+abbrev pub EndsService : Limits → Option Text → Option Text → ℕ → (Bool → Type 0) → Folders → Input → Output
     → Output → Status → Type 0
-EndsService journal save readers CanFail d i o e status =
+EndsService limits journal save readers CanFail d i o e status =
     (ending : Option CommandFault) × EndsBy e ending status
-    × RunsService journal save readers CanFail d i o ending
+    × RunsService limits journal save readers CanFail d i o ending
 
 -- ---- each command
 
 -- the paths of the files that are read, in the order of the arguments
-abbrev pub files_of : InvocationModel → List Text
+abbrev pub files_of : CommandModel → List Text
 files_of (serving journal save readers) = path_if journal
 files_of (replaying readers schedule) = schedule ∷ []
 files_of (working script questions) = script ∷ questions ∷ []
@@ -108,24 +110,24 @@ files_of (auditing journal transcript) = journal ∷ transcript ∷ []
 files_of (converting calendar date) = []
 files_of (reading_letters journal place date weekday) = journal ∷ []
 
--- the command that is asked for was run, with the files that the arguments name, and ended so: what
--- it wrote to standard output, and what standard error was told
-abbrev pub Runs : InvocationModel → (Bool → Type 0) → Folders → Input → Output → Output → Status
-    → Type 0
-Runs (serving journal save readers) CanFail d i o e status =
-    EndsService journal save readers CanFail d i o e status
-Runs (replaying readers schedule) CanFail d i o e status = ReadsOne schedule CanFail d
-    (λ file. PrintsReplay newest_rules standard_limits readers file o e status)
-Runs (working script questions) CanFail d i o e status = ReadsTwo script questions CanFail d
-    (λ editor readers. PrintsTranscript newest_rules standard_limits editor readers o e status)
-Runs (printing journal page) CanFail d i o e status = ReadsOne journal CanFail d
-    (λ file. PrintsPage newest_rules standard_limits file page o e status)
-Runs (auditing journal transcript) CanFail d i o e status = ReadsTwo journal transcript CanFail d
-    (λ edits told. PrintsAudit newest_rules standard_limits edits told o e status)
-Runs (converting calendar date) CanFail d i o e status =
+-- the command that is asked for was run under these limits, with the files that the arguments name,
+-- and ended so: what it wrote to standard output, and what standard error was told
+abbrev pub Runs : Limits → CommandModel → (Bool → Type 0) → Folders → Input → Output → Output
+    → Status → Type 0
+Runs limits (serving journal save readers) CanFail d i o e status =
+    EndsService limits journal save readers CanFail d i o e status
+Runs limits (replaying readers schedule) CanFail d i o e status = ReadsOne schedule CanFail d
+    (λ file. PrintsReplay newest_rules limits readers file o e status)
+Runs limits (working script questions) CanFail d i o e status = ReadsTwo script questions CanFail d
+    (λ editor readers. PrintsTranscript newest_rules limits editor readers o e status)
+Runs limits (printing journal page) CanFail d i o e status = ReadsOne journal CanFail d
+    (λ file. PrintsPage newest_rules limits file page o e status)
+Runs limits (auditing journal transcript) CanFail d i o e status = ReadsTwo journal transcript CanFail d
+    (λ edits told. PrintsAudit newest_rules limits edits told o e status)
+Runs limits (converting calendar date) CanFail d i o e status =
     (d.after ≡ d.before) × PrintsConversion newest_rules calendar date o e status
-Runs (reading_letters journal place date weekday) CanFail d i o e status =
-    ReadsOne journal CanFail d (λ file. PrintsLetters newest_rules standard_limits file
+Runs limits (reading_letters journal place date weekday) CanFail d i o e status =
+    ReadsOne journal CanFail d (λ file. PrintsLetters newest_rules limits file
     (record { place = place; date = date; weekday = weekday }) i o e status)
 
 -- ---- a run
@@ -143,21 +145,33 @@ abbrev pub Shows : ErrorKind → Output → Output → Status → Type 0
 Shows kind o e status =
     (text : List ℕ)
     × ((IsHelp kind × EndsPrinting (λ written. written ≡ text) (λ _. ⊥) o e status)
-    ⊎ ((IsHelp kind → ⊥) × (status ≡ Misused) × (o.new ≡ o.old) × WritesLine e text))
+    ⊎ ((IsHelp kind → ⊥) × (status ≡ statuses.Misused) × (o.new ≡ o.old) × WritesLine e text))
 
 -- that, or memory ran out first
 abbrev pub ShowsOrEnds : ErrorKind → Output → Output → Status → Type 0
 ShowsOrEnds kind o e status =
     EndsFirst NoMemory o e status ⊎ ((kind ≢ OutOfMemory) × Shows kind o e status)
 
--- what a run does with these arguments: what they ask for, where the grammar takes them and the
--- files could be opened; else what is wrong, or help, is shown, by a kind that the grammar gives
+-- what is asked for was done under its limits, where the files could be opened
+abbrev pub RunsUnder : Limits → CommandModel → (Bool → Type 0) → Folders → Input → Output → Output
+    → Status → Type 0
+RunsUnder limits command CanFail d i o e status =
+    Runs limits command CanFail d i o e status
+    ⊎ (CannotOpen (files_of command) d.before d.after × EndsFirst ReadFault o e status)
+
+-- that, or the words of the limits are none
+abbrev pub RunsAsked : InvocationModel → (Bool → Type 0) → Folders → Input → Output → Output
+    → Status → Type 0
+RunsAsked asked CanFail d i o e status = MatchResult (limits_asked asked.limits)
+    (λ limits. RunsUnder limits asked.command CanFail d i o e status)
+    (λ misuse. (d.after ≡ d.before) × EndsFirst (Misused misuse) o e status)
+
+-- what a run does with these arguments: what they ask for, where the grammar takes them; else what
+-- is wrong, or help, is shown, by a kind that the grammar gives
 abbrev pub RunsArgs : List (List ℕ) → (Bool → Type 0) → Folders → Input → Output → Output → Status
     → Type 0
 RunsArgs args CanFail d i o e status =
     ((fault_of command_line args ≡ [])
-    × (Runs (invocation_in args) CanFail d i o e status
-    ⊎ (CannotOpen (files_of (invocation_in args)) d.before d.after
-    × EndsFirst ReadFault o e status)))
+    × RunsAsked (invocation_in args) CanFail d i o e status)
     ⊎ ((d.after ≡ d.before) × (EndsFirst NoMemory o e status
     ⊎ ((kind : ErrorKind) × IsAmong kind (fault_of command_line args) × Shows kind o e status)))

@@ -1,7 +1,6 @@
 //! The command `audit`.
 ghost use Rattle.std.specs.Prelude.{◌≡◌, IfOk, IfErr, string_bytes};
 ghost use Rattle.osn_days.specs.Profile.{newest_rules};
-ghost use Rattle.osn_register.specs.Limits.{standard_limits};
 ghost use Rattle.osn_commands.specs.Audited.{audit_line, Agree, IsAudited, IsNotAudited};
 ghost use Rattle.osn_commands.specs.Audited.{PrintsAudit};
 ghost use Rattle.osn_commands.specs.Streams.{input_of, output_of};
@@ -24,33 +23,35 @@ fn agreed_line(alloc: Global, replies: u64) -> Result<String, AllocError>
 /// How many replies agree.
 fn count_agreeing<J: Source, K: Source>(
     alloc: Global,
+    limits: Limits,
     journal: &mut J,
     transcript: &mut K,
 ) -> Result<u64, CommandFault>
-    ensures ok { IfOk result (Agree newest_rules standard_limits
+    ensures ok { IfOk result (Agree newest_rules limits
         (input_of J.remaining J.has_failed journal.old journal.new)
         (input_of K.remaining K.has_failed transcript.old transcript.new)) }
-    ensures err { IfErr result (IsNotAudited newest_rules standard_limits
+    ensures err { IfErr result (IsNotAudited newest_rules limits
         (input_of J.remaining J.has_failed journal.old journal.new)
         (input_of K.remaining K.has_failed transcript.old transcript.new)) }
 {
-    Ok(audit(alloc, Limits::standard(), journal, transcript)?)
+    Ok(audit(alloc, limits, journal, transcript)?)
 }
 
 /// What is said of the two files.
 fn audit_text<J: Source, K: Source>(
     alloc: Global,
+    limits: Limits,
     journal: &mut J,
     transcript: &mut K,
 ) -> Result<String, CommandFault>
-    ensures ok { IfOk result (λ text. IsAudited newest_rules standard_limits
+    ensures ok { IfOk result (λ text. IsAudited newest_rules limits
         (input_of J.remaining J.has_failed journal.old journal.new)
         (input_of K.remaining K.has_failed transcript.old transcript.new) (string_bytes text)) }
-    ensures err { IfErr result (IsNotAudited newest_rules standard_limits
+    ensures err { IfErr result (IsNotAudited newest_rules limits
         (input_of J.remaining J.has_failed journal.old journal.new)
         (input_of K.remaining K.has_failed transcript.old transcript.new)) }
 {
-    let replies = count_agreeing(alloc, journal, transcript)?;
+    let replies = count_agreeing(alloc, limits, journal, transcript)?;
     Ok(agreed_line(alloc, replies)?)
 }
 
@@ -62,17 +63,18 @@ fn audit_text<J: Source, K: Source>(
 /// told in a line why, and the status says it.
 pub fn audit_command<J: Source, K: Source, W: Sink, E: Sink>(
     alloc: Global,
+    limits: Limits,
     journal: &mut J,
     transcript: &mut K,
     output: &mut W,
     errors: &mut E,
 ) -> Status
-    ensures { PrintsAudit newest_rules standard_limits
+    ensures { PrintsAudit newest_rules limits
         (input_of J.remaining J.has_failed journal.old journal.new)
         (input_of K.remaining K.has_failed transcript.old transcript.new)
         (output_of W.contents W.has_failed output.old output.new)
         (output_of E.contents E.has_failed errors.old errors.new) result }
 {
-    let made = audit_text(alloc, journal, transcript);
+    let made = audit_text(alloc, limits, journal, transcript);
     print(alloc, made, output, errors)
 }

@@ -1,7 +1,6 @@
 //! The command `desk`.
 ghost use Rattle.std.specs.Prelude.{◌≡◌, length, IfOk, IfErr, string_bytes};
 ghost use Rattle.osn_days.specs.Profile.{newest_rules};
-ghost use Rattle.osn_register.specs.Limits.{standard_limits};
 ghost use Rattle.osn_core.specs.Script.{editions_of};
 ghost use Rattle.osn_commands.specs.Streams.{input_of, output_of};
 ghost use Rattle.osn_commands.specs.Transcript.{MakeDesk, MakeNoDesk, IsTranscriptOf, IsTurnedAway};
@@ -42,15 +41,16 @@ fn desk_files<J: Source, K: Source>(
 fn desk_lines<R: Threads + Wait>(
     rt: &R,
     alloc: Global,
+    limits: Limits,
     commands: &[Command],
     lists: &[Vec<Query>],
 ) -> Result<String, CommandFault>
     ensures ok { IfOk result (λ text.
-        IsTranscriptOf newest_rules standard_limits commands.now lists.now (string_bytes text)) }
+        IsTranscriptOf newest_rules limits commands.now lists.now (string_bytes text)) }
     ensures err { IfErr result (IsTurnedAway (length lists.now)
-        (length (editions_of newest_rules standard_limits commands.now))) }
+        (length (editions_of newest_rules limits commands.now))) }
 {
-    let told = run_desk(rt, alloc, Limits::standard(), &OpenGate, commands, lists)?;
+    let told = run_desk(rt, alloc, limits, &OpenGate, commands, lists)?;
     Ok(transcript(alloc, lists, &told)?)
 }
 
@@ -58,21 +58,22 @@ fn desk_lines<R: Threads + Wait>(
 fn desk_transcript<R: Threads + Wait, J: Source, K: Source>(
     rt: &R,
     alloc: Global,
+    limits: Limits,
     script: &mut J,
     questions: &mut K,
 ) -> Result<String, CommandFault>
-    ensures ok { IfOk result (λ text. IsTranscript newest_rules standard_limits
+    ensures ok { IfOk result (λ text. IsTranscript newest_rules limits
         (input_of J.remaining J.has_failed script.old script.new)
         (input_of K.remaining K.has_failed questions.old questions.new) (string_bytes text)) }
-    ensures err { IfErr result (HasNoTranscript newest_rules standard_limits
+    ensures err { IfErr result (HasNoTranscript newest_rules limits
         (input_of J.remaining J.has_failed script.old script.new)
         (input_of K.remaining K.has_failed questions.old questions.new)) }
 {
     let (commands, lists) = desk_files(alloc, script, questions)?;
-    desk_lines(rt, alloc, &commands, &lists)
+    desk_lines(rt, alloc, limits, &commands, &lists)
 }
 
-/// The command `desk`: an editor works through the commands of a script, under the standard limits,
+/// The command `desk`: an editor works through the commands of a script, under these limits,
 /// while readers ask the questions of a question file, each in a thread of its own; then what each
 /// reader asked is printed with the reply to it, a line for each, by reader and then by place. What
 /// the editor asks for and is refused is passed over. The script is read whole before the
@@ -82,18 +83,19 @@ fn desk_transcript<R: Threads + Wait, J: Source, K: Source>(
 /// status says it.
 pub fn desk_command<R: Threads + Wait + AllocGlobal, J: Source, K: Source, W: Sink, E: Sink>(
     rt: &R,
+    limits: Limits,
     script: &mut J,
     questions: &mut K,
     output: &mut W,
     errors: &mut E,
 ) -> Status
-    ensures { PrintsTranscript newest_rules standard_limits
+    ensures { PrintsTranscript newest_rules limits
         (input_of J.remaining J.has_failed script.old script.new)
         (input_of K.remaining K.has_failed questions.old questions.new)
         (output_of W.contents W.has_failed output.old output.new)
         (output_of E.contents E.has_failed errors.old errors.new) result }
 {
     let alloc = rt.alloc();
-    let made = desk_transcript(rt, alloc, script, questions);
+    let made = desk_transcript(rt, alloc, limits, script, questions);
     print(alloc, made, output, errors)
 }

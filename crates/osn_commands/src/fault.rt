@@ -7,6 +7,7 @@ ghost use Rattle.osn_commands.specs.Streams.{output_of};
 ghost use Rattle.osn_commands.specs.Told.{WritesLine, EndsBy, Tells};
 ghost use Rattle.osn_commands.specs.declared.fault.CommandFault.{CommandFault};
 
+use crate::limits::limit_hint;
 use crate::status::Status;
 use osn_files::{FileFault, LineFault, Role};
 use osn_folder::SaveFault;
@@ -58,6 +59,8 @@ pub enum Misuse {
     DayNumber,
     /// The calendar has no such date, or has it off the line of days.
     NoSuchDate,
+    /// What stands for limits is none.
+    Limits,
 }
 
 impl Misuse {
@@ -80,6 +83,10 @@ number\n"
             }
             Misuse::NoSuchDate => {
                 "oldstyle: DATE is no date of that calendar in the years 1 to 9999\n"
+            }
+            Misuse::Limits => {
+                "oldstyle: LIMITS are none: write some of lands=N,changes=N,exceptions=N,edits=N,\
+editions=N\n"
             }
         }
     }
@@ -148,7 +155,8 @@ fn bad_line(alloc: Global, role: Role, line: u64, fault: LineFault) -> Result<St
     let file = name_of(role);
     let number = fault.number();
     let name = fault.name();
-    format!(in alloc; "oldstyle: {file} line {line}: {number} {name}\n")
+    let hint = limit_hint(fault);
+    format!(in alloc; "oldstyle: {file} line {line}: {number} {name}{hint}\n")
 }
 
 /// The line on what is refused by this number and name.

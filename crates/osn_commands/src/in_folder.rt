@@ -2,7 +2,6 @@
 ghost use Rattle.std.specs.Prelude.{◌≡◌, ◌⊎◌, ◌&&◌, ◌∷◌, [], false, is_some, option_map};
 ghost use Rattle.std.specs.Prelude.{IfOk, IfSome, OnErr, string_bytes};
 ghost use Rattle.osn_days.specs.Profile.{newest_rules};
-ghost use Rattle.osn_register.specs.Limits.{standard_limits};
 ghost use Rattle.osn_folder.specs.Folder.{Changes, CannotOpen, MayFail, Saves, Leaves, path_if};
 ghost use Rattle.osn_invocation.specs.Invocation.{page_words};
 ghost use Rattle.osn_commands.specs.Audited.{PrintsAudit};
@@ -19,7 +18,7 @@ use crate::desk::desk_command;
 use crate::fault::{CommandFault, report};
 use crate::letters::letters_command;
 use crate::page::page_command;
-use crate::progress::ProgressSource;
+use crate::progress::{ProgressSource, ReadProgress};
 use crate::replay::replay_command;
 use crate::serving::{ServeResult, serve_command};
 use crate::status::Status;
@@ -27,6 +26,7 @@ use osn_folder::{Folder, OpenFailed, open_both, open_file, open_if, save_file};
 use osn_invocation::{PageWords, ServeOptions};
 use osn_letters::ColumnNames;
 use osn_lines::{Sink, Source};
+use osn_register::Limits;
 use std::alloc::Global;
 use std::sync::Wait;
 use std::thread::Threads;
@@ -34,13 +34,14 @@ use std::thread::Threads;
 /// Opens the journal, if any, answers the request lines, and saves the journal that is left.
 pub(crate) fn serve<D: Folder, R: Source, W: Sink, E: Sink>(
     alloc: Global,
+    limits: Limits,
     folder: &mut D,
     options: ServeOptions,
     input: &mut R,
     output: &mut W,
     errors: &mut E,
 ) -> Result<Status, OpenFailed>
-    ensures ok { IfOk result (EndsService
+    ensures ok { IfOk result (EndsService limits
         (option_map (λ path. path.now) options.entry.journal)
         (option_map (λ path. path.now) options.entry.save) options.entry.readers
         (MayFail D.File.has_failed)
@@ -60,7 +61,16 @@ pub(crate) fn serve<D: Folder, R: Source, W: Sink, E: Sink>(
     } = options;
     let mut source = open_if(folder, journal)?;
     let saves = save.is_some();
-    let served = serve_command(alloc, &mut source, readers, saves, input, output, errors);
+    let served = serve_command(
+        alloc,
+        limits,
+        &mut source,
+        readers,
+        saves,
+        input,
+        output,
+        errors,
+    );
     Ok(finish(alloc, folder, served, save, errors))
 }
 
@@ -92,6 +102,7 @@ fn finish<D: Folder, E: Sink>(
 /// Opens the schedule, and replays it.
 pub(crate) fn replay<D: Folder, W: Sink, E: Sink>(
     alloc: Global,
+    limits: Limits,
     folder: &mut D,
     readers: u32,
     schedule: &str,
@@ -100,7 +111,7 @@ pub(crate) fn replay<D: Folder, W: Sink, E: Sink>(
 ) -> Result<Status, OpenFailed>
     ensures ok { IfOk result (λ status. ReadsOne schedule.now (MayFail D.File.has_failed)
         (folders_of D.known folder.old folder.new)
-        (λ file. PrintsReplay newest_rules standard_limits readers file
+        (λ file. PrintsReplay newest_rules limits readers file
         (output_of W.contents W.has_failed output.old output.new)
         (output_of E.contents E.has_failed errors.old errors.new) status)) }
     ensures err { OnErr result (CannotOpen (schedule.now ∷ [])
@@ -108,12 +119,13 @@ pub(crate) fn replay<D: Folder, W: Sink, E: Sink>(
         × (output.new ≡ output.old) × (errors.new ≡ errors.old)) }
 {
     let mut file = open_file(folder, schedule)?;
-    Ok(replay_command(alloc, readers, &mut file, output, errors))
+    Ok(replay_command(alloc, limits, readers, &mut file, output, errors))
 }
 
 /// Opens the script and then the questions, and runs their desk.
 pub(crate) fn desk<F: Threads + Wait + AllocGlobal, D: Folder, W: Sink, E: Sink>(
     rt: &F,
+    limits: Limits,
     folder: &mut D,
     script: &str,
     questions: &str,
@@ -122,7 +134,7 @@ pub(crate) fn desk<F: Threads + Wait + AllocGlobal, D: Folder, W: Sink, E: Sink>
 ) -> Result<Status, OpenFailed>
     ensures ok { IfOk result (λ status. ReadsTwo script.now questions.now
         (MayFail D.File.has_failed) (folders_of D.known folder.old folder.new)
-        (λ file other. PrintsTranscript newest_rules standard_limits file other
+        (λ file other. PrintsTranscript newest_rules limits file other
         (output_of W.contents W.has_failed output.old output.new)
         (output_of E.contents E.has_failed errors.old errors.new) status)) }
     ensures err { OnErr result (CannotOpen (script.now ∷ questions.now ∷ [])
@@ -130,12 +142,13 @@ pub(crate) fn desk<F: Threads + Wait + AllocGlobal, D: Folder, W: Sink, E: Sink>
         × (output.new ≡ output.old) × (errors.new ≡ errors.old)) }
 {
     let (mut script, mut questions) = open_both(folder, script, questions)?;
-    Ok(desk_command(rt, &mut script, &mut questions, output, errors))
+    Ok(desk_command(rt, limits, &mut script, &mut questions, output, errors))
 }
 
 /// Opens the journal, and prints a page of what it published.
 pub(crate) fn page<D: Folder, W: Sink, E: Sink>(
     alloc: Global,
+    limits: Limits,
     folder: &mut D,
     journal: &str,
     words: PageWords<'_>,
@@ -144,7 +157,7 @@ pub(crate) fn page<D: Folder, W: Sink, E: Sink>(
 ) -> Result<Status, OpenFailed>
     ensures ok { IfOk result (λ status. ReadsOne journal.now (MayFail D.File.has_failed)
         (folders_of D.known folder.old folder.new)
-        (λ file. PrintsPage newest_rules standard_limits file (page_words words.entry)
+        (λ file. PrintsPage newest_rules limits file (page_words words.entry)
         (output_of W.contents W.has_failed output.old output.new)
         (output_of E.contents E.has_failed errors.old errors.new) status)) }
     ensures err { OnErr result (CannotOpen (journal.now ∷ [])
@@ -152,22 +165,25 @@ pub(crate) fn page<D: Folder, W: Sink, E: Sink>(
         × (output.new ≡ output.old) × (errors.new ≡ errors.old)) }
 {
     let mut file = open_file(folder, journal)?;
-    Ok(page_command(alloc, &mut file, words, output, errors))
+    Ok(page_command(alloc, limits, &mut file, words, output, errors))
 }
 
-/// Opens the journal, and writes the table of letters by what it published.
-pub(crate) fn letters<D: Folder, R: Source, W: Sink, E: Sink>(
+/// Opens the journal, and writes the table of letters by what it published. A terminal, where there
+/// is one, is told how much of the table was read.
+pub(crate) fn letters<D: Folder, R: Source, W: Sink, E: Sink, T: Sink + Drop>(
     alloc: Global,
+    limits: Limits,
     folder: &mut D,
     journal: &str,
     names: ColumnNames<'_>,
     input: &mut R,
     output: &mut W,
     errors: &mut E,
+    terminal: Option<T>,
 ) -> Result<Status, OpenFailed>
     ensures ok { IfOk result (λ status. ReadsOne journal.now (MayFail D.File.has_failed)
         (folders_of D.known folder.old folder.new)
-        (λ file. PrintsLetters newest_rules standard_limits file (names_of names.entry)
+        (λ file. PrintsLetters newest_rules limits file (names_of names.entry)
         (input_of R.remaining R.has_failed input.old input.new)
         (output_of W.contents W.has_failed output.old output.new)
         (output_of E.contents E.has_failed errors.old errors.new) status)) }
@@ -176,13 +192,24 @@ pub(crate) fn letters<D: Folder, R: Source, W: Sink, E: Sink>(
         × (output.new ≡ output.old) × (errors.new ≡ errors.old)) }
 {
     let mut file = open_file(folder, journal)?;
-    Ok(letters_command(alloc, &mut file, names, input, output, errors))
+    let mut progress = ReadProgress::new(alloc, "letters", terminal);
+    Ok(letters_command(
+        alloc,
+        limits,
+        &mut file,
+        names,
+        input,
+        output,
+        errors,
+        &mut progress,
+    ))
 }
 
 /// Opens the journal and then the transcript, and audits that. A terminal, where there is one, is
 /// told how much of the transcript was read.
 pub(crate) fn audit<D: Folder, W: Sink, E: Sink, T: Sink + Drop>(
     alloc: Global,
+    limits: Limits,
     folder: &mut D,
     journal: &str,
     transcript: &str,
@@ -192,7 +219,7 @@ pub(crate) fn audit<D: Folder, W: Sink, E: Sink, T: Sink + Drop>(
 ) -> Result<Status, OpenFailed>
     ensures ok { IfOk result (λ status. ReadsTwo journal.now transcript.now
         (MayFail D.File.has_failed) (folders_of D.known folder.old folder.new)
-        (λ file other. PrintsAudit newest_rules standard_limits file other
+        (λ file other. PrintsAudit newest_rules limits file other
         (output_of W.contents W.has_failed output.old output.new)
         (output_of E.contents E.has_failed errors.old errors.new) status)) }
     ensures err { OnErr result (CannotOpen (journal.now ∷ transcript.now ∷ [])
@@ -200,6 +227,7 @@ pub(crate) fn audit<D: Folder, W: Sink, E: Sink, T: Sink + Drop>(
         × (output.new ≡ output.old) × (errors.new ≡ errors.old)) }
 {
     let (mut journal, told) = open_both(folder, journal, transcript)?;
-    let mut transcript = ProgressSource::new(alloc, told, terminal);
-    Ok(audit_command(alloc, &mut journal, &mut transcript, output, errors))
+    let progress = ReadProgress::new(alloc, "transcript", terminal);
+    let mut transcript = ProgressSource::new(told, progress);
+    Ok(audit_command(alloc, limits, &mut journal, &mut transcript, output, errors))
 }

@@ -11,6 +11,7 @@ mod desk;
 mod fault;
 mod in_folder;
 mod letters;
+mod limits;
 mod page;
 mod printing;
 mod program;

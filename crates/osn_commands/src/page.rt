@@ -1,7 +1,6 @@
 //! The commands that print a page of what a journal published.
 ghost use Rattle.std.specs.Prelude.{IfOk, IfErr, string_bytes};
 ghost use Rattle.osn_days.specs.Profile.{newest_rules};
-ghost use Rattle.osn_register.specs.Limits.{standard_limits};
 ghost use Rattle.osn_invocation.specs.Invocation.{page_words};
 ghost use Rattle.osn_pages.specs.Page.{model_of, page_refusal};
 ghost use Rattle.osn_commands.specs.Page.{published, IsPageOf, IsPage, HasNoPage, PrintsPage};
@@ -17,7 +16,7 @@ use osn_core::Object;
 use osn_invocation::PageWords;
 use osn_lines::{Sink, Source};
 use osn_pages::{Page, page_text};
-use osn_register::Refusal;
+use osn_register::{Limits, Refusal};
 use std::alloc::Global;
 
 /// The page of what an object has published.
@@ -38,37 +37,39 @@ fn page_of(alloc: Global, object: &Object, page: Page<'_>) -> Result<String, Com
 /// The page that words ask for, of what a journal published.
 fn journal_page<J: Source>(
     alloc: Global,
+    limits: Limits,
     journal: &mut J,
     words: PageWords<'_>,
 ) -> Result<String, CommandFault>
-    ensures ok { IfOk result (λ text. IsPage newest_rules standard_limits
+    ensures ok { IfOk result (λ text. IsPage newest_rules limits
         (input_of J.remaining J.has_failed journal.old journal.new)
         (page_words words.entry) (string_bytes text)) }
-    ensures err { IfErr result (HasNoPage newest_rules standard_limits
+    ensures err { IfErr result (HasNoPage newest_rules limits
         (input_of J.remaining J.has_failed journal.old journal.new) (page_words words.entry)) }
 {
     let page = asked_page(words)?;
-    let object = journal_object(alloc, journal)?;
+    let object = journal_object(alloc, limits, journal)?;
     page_of(alloc, &object, page)
 }
 
 /// The commands `almanac`, `read`, `day`, `month` and `territory`: prints the page that the words
-/// ask for, of what the journal published under the standard limits. The words are read first, and
+/// ask for, of what the journal published under these limits. The words are read first, and
 /// the journal whole before anything is printed.
 ///
 /// Where there is no page, standard error is told in a line why, and the status says it.
 pub fn page_command<J: Source, W: Sink, E: Sink>(
     alloc: Global,
+    limits: Limits,
     journal: &mut J,
     words: PageWords<'_>,
     output: &mut W,
     errors: &mut E,
 ) -> Status
-    ensures { PrintsPage newest_rules standard_limits
+    ensures { PrintsPage newest_rules limits
         (input_of J.remaining J.has_failed journal.old journal.new) (page_words words.entry)
         (output_of W.contents W.has_failed output.old output.new)
         (output_of E.contents E.has_failed errors.old errors.new) result }
 {
-    let made = journal_page(alloc, journal, words);
+    let made = journal_page(alloc, limits, journal, words);
     print(alloc, made, output, errors)
 }

@@ -1,19 +1,21 @@
 //! The program: the arguments are read, files are opened, and the command is called.
 ghost use Rattle.std.specs.Prelude.{◌≡◌, map, IfErr, IfOk, OnErr};
 ghost use Rattle.osn_folder.specs.Folder.{CannotOpen, MayFail};
-ghost use Rattle.osn_invocation.specs.Invocation.{model_of};
-ghost use Rattle.osn_commands.specs.Run.{Runs, RunsArgs, files_of, folders_of};
+ghost use Rattle.osn_invocation.specs.Invocation.{command_model, model_of};
+ghost use Rattle.osn_commands.specs.Run.{Runs, RunsArgs, RunsAsked, files_of, folders_of};
 ghost use Rattle.osn_commands.specs.Streams.{input_of, output_of};
 
 use crate::conversion::convert_command;
 use crate::fault::{CommandFault, report};
 use crate::in_folder::{audit, desk, letters, page, replay, serve};
+use crate::limits::asked_limits;
 use crate::shown::show;
 use crate::status::Status;
 use osn_folder::{Folder, OpenFailed};
-use osn_invocation::{Invocation, parse_args};
+use osn_invocation::{CommandWords, Invocation, parse_args};
 use osn_letters::ColumnNames;
 use osn_lines::{Sink, Source};
+use osn_register::Limits;
 use std::convert::AsStr;
 use std::sync::Wait;
 use std::thread::Threads;
@@ -22,7 +24,7 @@ use std::thread::Threads;
 /// answers how that ended. Files that are read are opened before the command begins, in the order
 /// of the arguments. The journal is saved where the service ended well, and nowhere else.
 ///
-/// A terminal, where there is one, is told how far a long audit is.
+/// A terminal, where there is one, is told how far a long audit or table of letters is.
 pub fn run<F, D: Folder, S: AsStr, R: Source, W: Sink, E: Sink, T: Sink + Drop>(
     rt: &F,
     folder: &mut D,
@@ -42,17 +44,13 @@ where
 {
     let alloc = rt.alloc();
     match parse_args(alloc, args) {
-        Ok(invocation) => match execute(rt, folder, invocation, input, output, errors, terminal) {
-            Ok(status) => status,
-            Err(_) => report(alloc, errors, CommandFault::ReadFault),
-        },
+        Ok(invocation) => run_asked(rt, folder, invocation, input, output, errors, terminal),
         Err(shown) => show(alloc, &shown, output, errors),
     }
 }
 
-/// Opens the files that are read, and calls the command. Where a file could not be opened, nothing
-/// was told yet, and nothing was done.
-fn execute<F, D: Folder, R: Source, W: Sink, E: Sink, T: Sink + Drop>(
+/// Does what was asked for, under the limits that were.
+fn run_asked<F, D: Folder, R: Source, W: Sink, E: Sink, T: Sink + Drop>(
     rt: &F,
     folder: &mut D,
     invocation: Invocation,
@@ -60,36 +58,72 @@ fn execute<F, D: Folder, R: Source, W: Sink, E: Sink, T: Sink + Drop>(
     output: &mut W,
     errors: &mut E,
     terminal: Option<T>,
+) -> Status
+where
+    F: Threads + Wait + AllocGlobal,
+    ensures { RunsAsked (model_of invocation.entry) (MayFail D.File.has_failed)
+        (folders_of D.known folder.old folder.new)
+        (input_of R.remaining R.has_failed input.old input.new)
+        (output_of W.contents W.has_failed output.old output.new)
+        (output_of E.contents E.has_failed errors.old errors.new) result }
+{
+    let alloc = rt.alloc();
+    let limits = match asked_limits(invocation.limits) {
+        Ok(limits) => limits,
+        Err(misuse) => return report(alloc, errors, CommandFault::Misused(misuse)),
+    };
+    let command = invocation.command;
+    match execute(rt, limits, folder, command, input, output, errors, terminal) {
+        Ok(status) => status,
+        Err(_) => report(alloc, errors, CommandFault::ReadFault),
+    }
+}
+
+/// Opens the files that are read, and calls the command. Where a file could not be opened, nothing
+/// was told yet, and nothing was done.
+fn execute<F, D: Folder, R: Source, W: Sink, E: Sink, T: Sink + Drop>(
+    rt: &F,
+    limits: Limits,
+    folder: &mut D,
+    command: CommandWords,
+    input: &mut R,
+    output: &mut W,
+    errors: &mut E,
+    terminal: Option<T>,
 ) -> Result<Status, OpenFailed>
 where
     F: Threads + Wait + AllocGlobal,
-    ensures ok { IfOk result (Runs (model_of invocation.entry) (MayFail D.File.has_failed)
+    ensures ok { IfOk result (Runs limits (command_model command.entry) (MayFail D.File.has_failed)
         (folders_of D.known folder.old folder.new)
         (input_of R.remaining R.has_failed input.old input.new)
         (output_of W.contents W.has_failed output.old output.new)
         (output_of E.contents E.has_failed errors.old errors.new)) }
-    ensures err { OnErr result (CannotOpen (files_of (model_of invocation.entry))
+    ensures err { OnErr result (CannotOpen (files_of (command_model command.entry))
         (D.known folder.old) (D.known folder.new)
         × (output.new ≡ output.old) × (errors.new ≡ errors.old)) }
 {
     let alloc = rt.alloc();
-    match invocation {
-        Invocation::Serve(options) => serve(alloc, folder, options, input, output, errors),
-        Invocation::Replay { readers, schedule } => {
-            replay(alloc, folder, readers, schedule, output, errors)
+    match command {
+        CommandWords::Serve(options) => serve(
+            alloc, limits, folder, options, input, output, errors,
+        ),
+        CommandWords::Replay { readers, schedule } => {
+            replay(alloc, limits, folder, readers, schedule, output, errors)
         }
-        Invocation::Desk { script, questions } => {
-            desk(rt, folder, script, questions, output, errors)
+        CommandWords::Desk { script, questions } => {
+            desk(rt, limits, folder, script, questions, output, errors)
         }
-        Invocation::Page {
+        CommandWords::Page {
             journal,
             page: words,
-        } => page(alloc, folder, journal, words, output, errors),
-        Invocation::Audit {
+        } => page(alloc, limits, folder, journal, words, output, errors),
+        CommandWords::Audit {
             journal,
             transcript,
-        } => audit(alloc, folder, journal, transcript, output, errors, terminal),
-        Invocation::Letters {
+        } => audit(
+            alloc, limits, folder, journal, transcript, output, errors, terminal,
+        ),
+        CommandWords::Letters {
             journal,
             place,
             date,
@@ -100,9 +134,11 @@ where
                 date,
                 weekday,
             };
-            letters(alloc, folder, journal, names, input, output, errors)
+            letters(
+                alloc, limits, folder, journal, names, input, output, errors, terminal,
+            )
         }
-        Invocation::Convert { calendar, date } => {
+        CommandWords::Convert { calendar, date } => {
             Ok(convert_command(alloc, calendar, date, output, errors))
         }
     }

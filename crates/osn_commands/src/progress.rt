@@ -1,5 +1,6 @@
 //! How far a long run is, for whoever waits at a terminal.
 
+use osn_letters::Progress;
 use osn_lines::{ReadFailed, Sink, Source, write_all};
 use std::alloc::Global;
 
@@ -8,47 +9,62 @@ const MEBIBYTE: u64 = 1 << 20;
 /// It is said again after so many mebibytes.
 const STEP: u64 = 64;
 
-/// A source that tells a terminal, where there is one, how much of it was read.
+/// How much of an input was read, which a terminal is told where there is one. Nothing rests on
+/// what is told, so it is left out where it can't be.
 #[derive(Drop)]
-pub(crate) struct ProgressSource<S, P> {
+pub(crate) struct ReadProgress<P> {
     alloc: Global,
-    source: S,
+    /// What is read, as the terminal is told.
+    what: &'static str,
     /// The bytes that were read.
     read: u64,
     terminal: Option<P>,
 }
 
-impl<S, P: Sink> ProgressSource<S, P> {
-    ghost use Rattle.std.specs.Prelude.{◌≡◌};
-    ghost use Rattle.osn_commands.specs.ProgressSource.{source_of};
-
-    /// One of which nothing was read.
-    pub(crate) fn new(alloc: Global, source: S, terminal: Option<P>) -> ProgressSource<S, P>
-        ensures { source_of result ≡ source }
-    {
-        ProgressSource {
+impl<P: Sink> ReadProgress<P> {
+    /// Of an input of which nothing was read.
+    pub(crate) fn new(alloc: Global, what: &'static str, terminal: Option<P>) -> ReadProgress<P> {
+        ReadProgress {
             alloc,
-            source,
+            what,
             read: 0,
             terminal,
         }
     }
+}
 
-    /// Counts bytes that were read, and tells where a step is done. Nothing rests on what is told,
-    /// so it is left out where it can't be.
-    fn count(&mut self, bytes: usize)
-        ensures { source_of self.new ≡ source_of self.old }
-    {
+impl<P: Sink> Progress for ReadProgress<P> {
+    fn count(&mut self, bytes: usize) {
         let before = self.read / MEBIBYTE / STEP;
         self.read = self.read.saturating_add(bytes as u64);
         let read = self.read / MEBIBYTE;
         if read / STEP == before {
             return;
         }
-        let line = format!(in self.alloc; "oldstyle: {read} MiB of the transcript read\n");
+        let what = self.what;
+        let line = format!(in self.alloc; "oldstyle: {read} MiB of the {what} read\n");
         if let (Some(terminal), Ok(line)) = (&mut self.terminal, line) {
             let _ = write_all(terminal, line.as_bytes());
         }
+    }
+}
+
+/// A source of which it is told how much was read.
+#[derive(Drop)]
+pub(crate) struct ProgressSource<S, P> {
+    source: S,
+    progress: ReadProgress<P>,
+}
+
+impl<S, P: Sink> ProgressSource<S, P> {
+    ghost use Rattle.std.specs.Prelude.{◌≡◌};
+    ghost use Rattle.osn_commands.specs.ProgressSource.{source_of};
+
+    /// One that tells this progress.
+    pub(crate) fn new(source: S, progress: ReadProgress<P>) -> ProgressSource<S, P>
+        ensures { source_of result ≡ source }
+    {
+        ProgressSource { source, progress }
     }
 }
 
@@ -61,7 +77,7 @@ impl<S: Source, P: Sink> Source for ProgressSource<S, P> {
 
     fn read(&mut self, buffer: &mut [u8]) -> Result<usize, ReadFailed> {
         let bytes = self.source.read(buffer)?;
-        self.count(bytes);
+        self.progress.count(bytes);
         Ok(bytes)
     }
 

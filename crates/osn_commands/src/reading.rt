@@ -1,7 +1,6 @@
 //! Files that a command reads whole.
 ghost use Rattle.std.specs.Prelude.{IfOk, IfErr, map};
 ghost use Rattle.osn_days.specs.Profile.{newest_rules};
-ghost use Rattle.osn_register.specs.Limits.{standard_limits};
 ghost use Rattle.osn_files.specs.Journal.{load};
 ghost use Rattle.osn_files.specs.Questions.{questions};
 ghost use Rattle.osn_files.specs.Schedule.{schedule};
@@ -18,17 +17,18 @@ use osn_lines::Source;
 use osn_register::{Limits, Query};
 use std::alloc::Global;
 
-/// The object of a journal, under the standard limits.
+/// The object of a journal, under these limits.
 pub(crate) fn journal_object<J: Source>(
     alloc: Global,
+    limits: Limits,
     journal: &mut J,
 ) -> Result<Object, CommandFault>
     ensures ok { IfOk result
-        (Makes (load newest_rules standard_limits) (J.remaining journal.old)) }
-    ensures err { IfErr result (IsFileFault Journal (load newest_rules standard_limits)
+        (Makes (load newest_rules limits) (J.remaining journal.old)) }
+    ensures err { IfErr result (IsFileFault Journal (load newest_rules limits)
         (input_of J.remaining J.has_failed journal.old journal.new)) }
 {
-    Ok(load_journal(alloc, Limits::standard(), journal)?)
+    Ok(load_journal(alloc, limits, journal)?)
 }
 
 /// The steps of a schedule.

@@ -3,7 +3,6 @@ ghost use Rattle.std.specs.Prelude.{◌≡◌, ◌⊎◌, ℕ, List, Option, Som
 ghost use Rattle.std.specs.Prelude.{MatchResult, false, option_map, string_bytes};
 ghost use Rattle.std.specs.Option.{option_map_or};
 ghost use Rattle.osn_days.specs.Profile.{newest_rules};
-ghost use Rattle.osn_register.specs.Limits.{standard_limits};
 ghost use Rattle.osn_commands.specs.Journal.{Begins, HasNoObject};
 ghost use Rattle.osn_commands.specs.Serving.{AnswersAll, AnswersUntil, Serves};
 ghost use Rattle.osn_commands.specs.Streams.{output_of};
@@ -30,16 +29,20 @@ pub struct ServeResult {
 }
 
 /// The object of the journal, where there is one, or else an empty one.
-fn initial_object<J: Source>(alloc: Global, journal: &mut Option<J>) -> Result<Object, CommandFault>
+fn initial_object<J: Source>(
+    alloc: Global,
+    limits: Limits,
+    journal: &mut Option<J>,
+) -> Result<Object, CommandFault>
     ensures ok { IfOk result
-        (Begins newest_rules standard_limits (option_map J.remaining journal.old)) }
+        (Begins newest_rules limits (option_map J.remaining journal.old)) }
     ensures err { IfErr result
-        (HasNoObject newest_rules standard_limits (option_map J.remaining journal.old)
+        (HasNoObject newest_rules limits (option_map J.remaining journal.old)
         (option_map_or J.has_failed journal.new false)) }
 {
     match journal {
-        Some(source) => journal_object(alloc, source),
-        None => Ok(Object::new(alloc, Limits::standard())),
+        Some(source) => journal_object(alloc, limits, source),
+        None => Ok(Object::new(alloc, limits)),
     }
 }
 
@@ -70,6 +73,7 @@ fn answer<R: Source, W: Sink>(
 
 fn serve_lines<J: Source, R: Source, W: Sink>(
     alloc: Global,
+    limits: Limits,
     journal: &mut Option<J>,
     readers: u32,
     saves: bool,
@@ -77,28 +81,29 @@ fn serve_lines<J: Source, R: Source, W: Sink>(
     output: &mut W,
 ) -> Result<Option<String>, CommandFault>
     ensures ok { IfOk result (λ text. IfSome (R.remaining input.old) (λ bytes.
-        Serves newest_rules standard_limits readers (option_map J.remaining journal.old)
+        Serves newest_rules limits readers (option_map J.remaining journal.old)
         (option_map_or J.has_failed journal.new false) saves
         (output_of W.contents W.has_failed output.old output.new) bytes
         (R.has_failed input.new) (option_map string_bytes text) None)) }
     ensures err { IfErr result (λ fault. IfSome (R.remaining input.old) (λ bytes.
-        Serves newest_rules standard_limits readers (option_map J.remaining journal.old)
+        Serves newest_rules limits readers (option_map J.remaining journal.old)
         (option_map_or J.has_failed journal.new false) saves
         (output_of W.contents W.has_failed output.old output.new) bytes
         (R.has_failed input.new) None (Some fault))) }
 {
-    let mut object = initial_object(alloc, journal)?;
+    let mut object = initial_object(alloc, limits, journal)?;
     answer(alloc, &mut object, readers, saves, input, output)
 }
 
 /// The command `serve`: answers every request line of the input, for so many readers, from the
-/// object of the journal or from an empty one, under the standard limits. The journal is read whole
+/// object of the journal or from an empty one, under these limits. The journal is read whole
 /// before a line is. Where the journal is to be saved and all lines were answered, its text is
 /// answered too.
 ///
 /// Where the service ends early, standard error is told in a line why, and the status says it.
 pub fn serve_command<J: Source, R: Source, W: Sink, E: Sink>(
     alloc: Global,
+    limits: Limits,
     journal: &mut Option<J>,
     readers: u32,
     saves: bool,
@@ -111,12 +116,12 @@ pub fn serve_command<J: Source, R: Source, W: Sink, E: Sink>(
         result.status
         × ((ending ≡ None) ⊎ (result.journal ≡ None))
         × IfSome (R.remaining input.old) (λ bytes.
-        Serves newest_rules standard_limits readers (option_map J.remaining journal.old)
+        Serves newest_rules limits readers (option_map J.remaining journal.old)
         (option_map_or J.has_failed journal.new false) saves
         (output_of W.contents W.has_failed output.old output.new) bytes
         (R.has_failed input.new) (option_map string_bytes result.journal) ending) }
 {
-    match serve_lines(alloc, journal, readers, saves, input, output) {
+    match serve_lines(alloc, limits, journal, readers, saves, input, output) {
         Ok(journal) => ServeResult {
             status: Status::Done,
             journal,

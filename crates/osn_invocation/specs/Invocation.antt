@@ -8,10 +8,11 @@ use Rattle.std.specs.Str.{bytes_eq}
 use Rattle.std.specs.Str.Parse.{digits_value, without_leading_plus}
 use Rattle.clap.specs.Words.{Row, Text, first_of, matches_of, one_of, subcommand_of}
 use Rattle.osn_invocation.specs.Grammar.{command_line}
+use Rattle.osn_invocation.specs.declared.invocation.CommandWords.{CommandWords}
+use Rattle.osn_invocation.specs.declared.invocation.CommandWords.TheVariants.{Serve, Replay, Desk}
+use Rattle.osn_invocation.specs.declared.invocation.CommandWords.TheVariants.{Page, Audit, Convert}
+use Rattle.osn_invocation.specs.declared.invocation.CommandWords.TheVariants.{Letters}
 use Rattle.osn_invocation.specs.declared.invocation.Invocation.{Invocation}
-use Rattle.osn_invocation.specs.declared.invocation.Invocation.TheVariants.{Serve, Replay, Desk}
-use Rattle.osn_invocation.specs.declared.invocation.Invocation.TheVariants.{Page, Audit, Convert}
-use Rattle.osn_invocation.specs.declared.invocation.Invocation.TheVariants.{Letters}
 use Rattle.osn_invocation.specs.declared.invocation.PageWords.{PageWords}
 use Rattle.osn_invocation.specs.declared.invocation.PageWords.TheVariants as pages
 
@@ -26,18 +27,23 @@ pub data PageWordsModel : Type 0 where
   month_words : Text → ℕ → ℕ → PageWordsModel
   territory_words : Option Text → PageWordsModel
 
--- what a command line asks for: the service by a journal, where to save it and readers; a replay by
+-- what a command is asked for: the service by a journal, where to save it and readers; a replay by
 -- readers and a schedule; a desk by a script and questions; a page by a journal and which page; an
 -- audit by a journal and a transcript; a conversion by a calendar and a date; letters by a journal
 -- and the names of the columns of places, dates and weekdays. Files are named by their paths
-pub data InvocationModel : Type 0 where
-  serving : Option Text → Option Text → ℕ → InvocationModel
-  replaying : ℕ → Text → InvocationModel
-  working : Text → Text → InvocationModel
-  printing : Text → PageWordsModel → InvocationModel
-  auditing : Text → Text → InvocationModel
-  converting : Text → Text → InvocationModel
-  reading_letters : Text → Text → Text → Text → InvocationModel
+pub data CommandModel : Type 0 where
+  serving : Option Text → Option Text → ℕ → CommandModel
+  replaying : ℕ → Text → CommandModel
+  working : Text → Text → CommandModel
+  printing : Text → PageWordsModel → CommandModel
+  auditing : Text → Text → CommandModel
+  converting : Text → Text → CommandModel
+  reading_letters : Text → Text → Text → Text → CommandModel
+
+-- what a command line asks for: a command, and what its limits are said to be, if anything
+pub record InvocationModel : Type 0 where
+  pub limits : Option Text
+  pub command : CommandModel
 
 -- decimal digits, of a number below 2 ^ 32
 abbrev pub is_number : Text → Bool
@@ -60,37 +66,37 @@ abbrev pub text_of : Text → List Row → Text
 text_of name given = unwrap_or (first_of name given) []
 
 -- what each command asks for, by what was found for its arguments
-abbrev pub serve_invocation : List Row → InvocationModel
-serve_invocation given = serving (first_of (codes "journal") given) (first_of (codes "save") given)
+abbrev pub serve_command : List Row → CommandModel
+serve_command given = serving (first_of (codes "journal") given) (first_of (codes "save") given)
     (number_of 8 (codes "readers") given)
 
-abbrev pub replay_invocation : List Row → InvocationModel
-replay_invocation given =
+abbrev pub replay_command : List Row → CommandModel
+replay_command given =
     replaying (number_of 8 (codes "readers") given) (text_of (codes "schedule") given)
 
-abbrev pub desk_invocation : List Row → InvocationModel
-desk_invocation given = working (text_of (codes "script") given) (text_of (codes "questions") given)
+abbrev pub desk_command : List Row → CommandModel
+desk_command given = working (text_of (codes "script") given) (text_of (codes "questions") given)
 
-abbrev pub audit_invocation : List Row → InvocationModel
-audit_invocation given =
+abbrev pub audit_command : List Row → CommandModel
+audit_command given =
     auditing (text_of (codes "journal") given) (text_of (codes "transcript") given)
 
-abbrev pub convert_invocation : List Row → InvocationModel
-convert_invocation given =
+abbrev pub convert_command : List Row → CommandModel
+convert_command given =
     converting (text_of (codes "calendar") given) (text_of (codes "date") given)
 
 -- the name of a column, which is that of its option where none is given
 abbrev pub column_of : Text → List Row → Text
 column_of name given = unwrap_or (first_of name given) name
 
-abbrev pub letters_invocation : List Row → InvocationModel
-letters_invocation given = reading_letters (text_of (codes "journal") given)
+abbrev pub letters_command : List Row → CommandModel
+letters_command given = reading_letters (text_of (codes "journal") given)
     (column_of (codes "place") given) (column_of (codes "date") given)
     (column_of (codes "weekday") given)
 
 -- a command that prints a page of a journal
-abbrev pub page_invocation : List Row → PageWordsModel → InvocationModel
-page_invocation given = printing (text_of (codes "journal") given)
+abbrev pub page_command : List Row → PageWordsModel → CommandModel
+page_command given = printing (text_of (codes "journal") given)
 
 -- which page each of these commands asks for
 abbrev pub almanac_page : List Row → PageWordsModel
@@ -112,29 +118,34 @@ abbrev pub territory_page : List Row → PageWordsModel
 territory_page given = territory_words (first_of (codes "code") given)
 
 -- which page a command asks for, by its name, and what it asks for where it prints none
-abbrev pub page_or_serve : Text → List Row → InvocationModel
+abbrev pub page_or_serve : Text → List Row → CommandModel
 page_or_serve name given =
-    if bytes_eq name (codes "almanac") then page_invocation given (almanac_page given)
-    else (if bytes_eq name (codes "read") then page_invocation given (read_page given)
-    else (if bytes_eq name (codes "day") then page_invocation given (day_page given)
-    else (if bytes_eq name (codes "month") then page_invocation given (month_page given)
-    else (if bytes_eq name (codes "territory") then page_invocation given (territory_page given)
-    else serve_invocation given))))
+    if bytes_eq name (codes "almanac") then page_command given (almanac_page given)
+    else (if bytes_eq name (codes "read") then page_command given (read_page given)
+    else (if bytes_eq name (codes "day") then page_command given (day_page given)
+    else (if bytes_eq name (codes "month") then page_command given (month_page given)
+    else (if bytes_eq name (codes "territory") then page_command given (territory_page given)
+    else serve_command given))))
 
 -- what a command asks for, by its name
-abbrev pub command_invocation : Text → List Row → InvocationModel
-command_invocation name given =
-    if bytes_eq name (codes "replay") then replay_invocation given
-    else (if bytes_eq name (codes "desk") then desk_invocation given
-    else (if bytes_eq name (codes "audit") then audit_invocation given
-    else (if bytes_eq name (codes "convert") then convert_invocation given
-    else (if bytes_eq name (codes "letters") then letters_invocation given
+abbrev pub command_by : Text → List Row → CommandModel
+command_by name given =
+    if bytes_eq name (codes "replay") then replay_command given
+    else (if bytes_eq name (codes "desk") then desk_command given
+    else (if bytes_eq name (codes "audit") then audit_command given
+    else (if bytes_eq name (codes "convert") then convert_command given
+    else (if bytes_eq name (codes "letters") then letters_command given
     else page_or_serve name given))))
+
+-- a command with what its limits are said to be
+abbrev pub with_limits : List Row → CommandModel → InvocationModel
+with_limits given command =
+    record { limits = first_of (codes "limits") given; command = command }
 
 -- of no command, what `serve` asks for
 abbrev pub invocation_by : List Row → Option (Text × List Row) → InvocationModel
-invocation_by given None = serve_invocation given
-invocation_by given (Some command) = command_invocation command.0 command.1
+invocation_by given None = with_limits given (serve_command given)
+invocation_by given (Some command) = with_limits command.1 (command_by command.0 command.1)
 
 -- what the arguments ask for, by what the grammar finds in them
 abbrev pub invocation_in : List Text → InvocationModel
@@ -150,14 +161,20 @@ page_words (pages.Day code date) = day_words code.now date.now
 page_words (pages.Month code year month) = month_words code.now year month
 page_words (pages.Territory code) = territory_words (option_map (λ code. code.now) code)
 
-abbrev pub model_of : Invocation → InvocationModel
-model_of (Serve given) =
+abbrev pub command_model : CommandWords → CommandModel
+command_model (Serve given) =
     serving (option_map (λ path. path.now) given.journal) (option_map (λ path. path.now) given.save)
     given.readers
-model_of (Replay readers schedule) = replaying readers schedule.now
-model_of (Desk script questions) = working script.now questions.now
-model_of (Page journal page) = printing journal.now (page_words page)
-model_of (Audit journal transcript) = auditing journal.now transcript.now
-model_of (Convert calendar date) = converting calendar.now date.now
-model_of (Letters journal place date weekday) =
+command_model (Replay readers schedule) = replaying readers schedule.now
+command_model (Desk script questions) = working script.now questions.now
+command_model (Page journal page) = printing journal.now (page_words page)
+command_model (Audit journal transcript) = auditing journal.now transcript.now
+command_model (Convert calendar date) = converting calendar.now date.now
+command_model (Letters journal place date weekday) =
     reading_letters journal.now place.now date.now weekday.now
+
+abbrev pub model_of : Invocation → InvocationModel
+model_of asked = record {
+  limits = option_map (λ words. words.now) asked.limits;
+  command = command_model asked.command;
+}

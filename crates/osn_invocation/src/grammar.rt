@@ -1,9 +1,10 @@
 //! The grammar of the command line, as `clap` reads it.
 
 ghost use Rattle.std.specs.Prelude.{◌≡◌, IfOk};
+ghost use Rattle.clap.specs.Words.{App};
 ghost use Rattle.osn_invocation.specs.Grammar.{IsArg, IsCommand, almanac_grammar, audit_grammar};
 ghost use Rattle.osn_invocation.specs.Grammar.{command_line, convert_grammar, day_grammar};
-ghost use Rattle.osn_invocation.specs.Grammar.{desk_grammar, letters_grammar, month_arg};
+ghost use Rattle.osn_invocation.specs.Grammar.{desk_grammar, letters_grammar, limited, month_arg};
 ghost use Rattle.osn_invocation.specs.Grammar.{month_grammar};
 ghost use Rattle.osn_invocation.specs.Grammar.{optional_arg, read_grammar, readers_option};
 ghost use Rattle.osn_invocation.specs.Grammar.{replay_grammar, required_arg, serve_grammar};
@@ -278,6 +279,16 @@ const AUDIT_EXAMPLE: &str = "Example:
   ./oldstyle desk examples/rome.script examples/rome.questions > rome.transcript
   ./oldstyle audit examples/rome.script rome.transcript";
 
+/// A command with the option `--limits` behind what it has.
+fn limited<'a>(alloc: Global, command: Command<'a>) -> Result<Command<'a>, AllocError>
+    ensures { IfOk result (λ made. (grammar : App) → IsCommand grammar command.entry
+        → IsCommand (limited grammar) made) }
+{
+    command.arg(option_arg(alloc, "limits", "LIMITS").help(
+        "The most that the register holds, as lands=5000,changes=200",
+    ))
+}
+
 /// The program with all its commands.
 pub(crate) fn command_line<'a>(alloc: Global) -> Result<Command<'a>, AllocError>
     ensures { IfOk result (IsCommand command_line) }
@@ -286,15 +297,15 @@ pub(crate) fn command_line<'a>(alloc: Global) -> Result<Command<'a>, AllocError>
         .version("0.1.0")
         .about(ABOUT)
         .after_help(STATUSES)
-        .subcommand(read_grammar(alloc)?)?
+        .subcommand(limited(alloc, read_grammar(alloc)?)?)?
         .subcommand(convert_grammar(alloc)?)?
-        .subcommand(day_grammar(alloc)?)?
-        .subcommand(month_grammar(alloc)?)?
-        .subcommand(territory_grammar(alloc)?)?
-        .subcommand(letters_grammar(alloc)?)?
-        .subcommand(serve_grammar(alloc)?)?
-        .subcommand(replay_grammar(alloc)?)?
-        .subcommand(desk_grammar(alloc)?)?
-        .subcommand(almanac_grammar(alloc)?)?
-        .subcommand(audit_grammar(alloc)?)
+        .subcommand(limited(alloc, day_grammar(alloc)?)?)?
+        .subcommand(limited(alloc, month_grammar(alloc)?)?)?
+        .subcommand(limited(alloc, territory_grammar(alloc)?)?)?
+        .subcommand(limited(alloc, letters_grammar(alloc)?)?)?
+        .subcommand(limited(alloc, serve_grammar(alloc)?)?)?
+        .subcommand(limited(alloc, replay_grammar(alloc)?)?)?
+        .subcommand(limited(alloc, desk_grammar(alloc)?)?)?
+        .subcommand(limited(alloc, almanac_grammar(alloc)?)?)?
+        .subcommand(limited(alloc, audit_grammar(alloc)?)?)
 }

@@ -5,14 +5,13 @@ ghost use Rattle.clap.specs.Words.{FailsBy, fault_of, first_of, found_of, kind_o
 ghost use Rattle.clap.specs.Words.{subcommand_rows_of, takes};
 ghost use Rattle.clap.specs.declared.error.kind.ErrorKind.TheVariants.{OutOfMemory};
 ghost use Rattle.osn_invocation.specs.Grammar.{HasMatches, command_line};
-ghost use Rattle.osn_invocation.specs.Invocation.{almanac_page, audit_invocation};
-ghost use Rattle.osn_invocation.specs.Invocation.{command_invocation, convert_invocation};
-ghost use Rattle.osn_invocation.specs.Invocation.{day_page, desk_invocation, invocation_by};
-ghost use Rattle.osn_invocation.specs.Invocation.{invocation_in, letters_invocation, model_of};
-ghost use Rattle.osn_invocation.specs.Invocation.{month_page, number_of};
-ghost use Rattle.osn_invocation.specs.Invocation.{page_invocation, page_words, read_page};
-ghost use Rattle.osn_invocation.specs.Invocation.{replay_invocation, serve_invocation};
-ghost use Rattle.osn_invocation.specs.Invocation.{territory_page, text_of};
+ghost use Rattle.osn_invocation.specs.Invocation.{almanac_page, audit_command, command_by};
+ghost use Rattle.osn_invocation.specs.Invocation.{command_model, convert_command, day_page};
+ghost use Rattle.osn_invocation.specs.Invocation.{desk_command, invocation_by, invocation_in};
+ghost use Rattle.osn_invocation.specs.Invocation.{letters_command, model_of, month_page, number_of};
+ghost use Rattle.osn_invocation.specs.Invocation.{page_command, page_words, read_page, with_limits};
+ghost use Rattle.osn_invocation.specs.Invocation.{replay_command, serve_command, territory_page};
+ghost use Rattle.osn_invocation.specs.Invocation.{text_of};
 
 use crate::grammar::command_line;
 use clap::{ArgMatches, Error};
@@ -75,9 +74,9 @@ pub enum PageWords<'a> {
     },
 }
 
-/// What a command line asks for. Files are named by their paths.
+/// What a command is asked for. Files are named by their paths.
 #[derive(Clone, Copy, Debug, PartialEq, Eq)]
-pub enum Invocation<'a> {
+pub enum CommandWords<'a> {
     /// To answer request lines.
     Serve(ServeOptions<'a>),
     /// To print what each step of a schedule gives. The readers are 1 to 64.
@@ -128,6 +127,15 @@ pub enum Invocation<'a> {
     },
 }
 
+/// What a command line asks for.
+#[derive(Clone, Copy, Debug, PartialEq, Eq)]
+pub struct Invocation<'a> {
+    /// What the limits of the register are said to be, if anything.
+    pub limits: Option<&'a str>,
+    /// The command.
+    pub command: CommandWords<'a>,
+}
+
 /// What the grammar finds in the arguments of a command line.
 fn matches_in<'a, S: AsStr>(alloc: Global, args: &'a [S]) -> Result<ArgMatches<'a>, Error>
     ensures ok { IfOk result (HasMatches (map S.text args.now)) }
@@ -160,14 +168,25 @@ fn invocation_of<'a>(found: &ArgMatches<'a>) -> Invocation<'a>
         ≡ invocation_by (rows_of (found_of found.now)) (subcommand_rows_of found.now) }
 {
     match found.subcommand() {
-        Some((name, given)) => command_of(name, given),
-        None => serve_of(found),
+        Some((name, given)) => with_limits(given, command_of(name, given)),
+        None => with_limits(found, serve_of(found)),
+    }
+}
+
+/// A command, with what its limits are said to be.
+fn with_limits<'a>(given: &ArgMatches<'a>, command: CommandWords<'a>) -> Invocation<'a>
+    ensures { model_of result
+        ≡ with_limits (rows_of (found_of given.now)) (command_model command.entry) }
+{
+    Invocation {
+        limits: value_of(given, "limits"),
+        command,
     }
 }
 
 /// What a command asks for, by its name and the arguments behind it.
-fn command_of<'a>(name: &str, given: &ArgMatches<'a>) -> Invocation<'a>
-    ensures { model_of result ≡ command_invocation name.now (rows_of (found_of given.now)) }
+fn command_of<'a>(name: &str, given: &ArgMatches<'a>) -> CommandWords<'a>
+    ensures { command_model result ≡ command_by name.now (rows_of (found_of given.now)) }
 {
     match name {
         "replay" => replay_of(given),
@@ -185,10 +204,10 @@ fn command_of<'a>(name: &str, given: &ArgMatches<'a>) -> Invocation<'a>
 }
 
 /// What the options of `serve` ask for; of none, that nothing is named.
-fn serve_of<'a>(given: &ArgMatches<'a>) -> Invocation<'a>
-    ensures { model_of result ≡ serve_invocation (rows_of (found_of given.now)) }
+fn serve_of<'a>(given: &ArgMatches<'a>) -> CommandWords<'a>
+    ensures { command_model result ≡ serve_command (rows_of (found_of given.now)) }
 {
-    Invocation::Serve(ServeOptions {
+    CommandWords::Serve(ServeOptions {
         journal: value_of(given, "journal"),
         save: value_of(given, "save"),
         readers: number_of(given, "readers", READERS),
@@ -196,50 +215,50 @@ fn serve_of<'a>(given: &ArgMatches<'a>) -> Invocation<'a>
 }
 
 /// What the arguments of `replay` ask for.
-fn replay_of<'a>(given: &ArgMatches<'a>) -> Invocation<'a>
-    ensures { model_of result ≡ replay_invocation (rows_of (found_of given.now)) }
+fn replay_of<'a>(given: &ArgMatches<'a>) -> CommandWords<'a>
+    ensures { command_model result ≡ replay_command (rows_of (found_of given.now)) }
 {
-    Invocation::Replay {
+    CommandWords::Replay {
         readers: number_of(given, "readers", READERS),
         schedule: text_of(given, "schedule"),
     }
 }
 
 /// What the arguments of `desk` ask for.
-fn desk_of<'a>(given: &ArgMatches<'a>) -> Invocation<'a>
-    ensures { model_of result ≡ desk_invocation (rows_of (found_of given.now)) }
+fn desk_of<'a>(given: &ArgMatches<'a>) -> CommandWords<'a>
+    ensures { command_model result ≡ desk_command (rows_of (found_of given.now)) }
 {
-    Invocation::Desk {
+    CommandWords::Desk {
         script: text_of(given, "script"),
         questions: text_of(given, "questions"),
     }
 }
 
 /// What the arguments of `audit` ask for.
-fn audit_of<'a>(given: &ArgMatches<'a>) -> Invocation<'a>
-    ensures { model_of result ≡ audit_invocation (rows_of (found_of given.now)) }
+fn audit_of<'a>(given: &ArgMatches<'a>) -> CommandWords<'a>
+    ensures { command_model result ≡ audit_command (rows_of (found_of given.now)) }
 {
-    Invocation::Audit {
+    CommandWords::Audit {
         journal: text_of(given, "journal"),
         transcript: text_of(given, "transcript"),
     }
 }
 
 /// What the arguments of `convert` ask for.
-fn convert_of<'a>(given: &ArgMatches<'a>) -> Invocation<'a>
-    ensures { model_of result ≡ convert_invocation (rows_of (found_of given.now)) }
+fn convert_of<'a>(given: &ArgMatches<'a>) -> CommandWords<'a>
+    ensures { command_model result ≡ convert_command (rows_of (found_of given.now)) }
 {
-    Invocation::Convert {
+    CommandWords::Convert {
         calendar: text_of(given, "calendar"),
         date: text_of(given, "date"),
     }
 }
 
 /// What the arguments of `letters` ask for.
-fn letters_of<'a>(given: &ArgMatches<'a>) -> Invocation<'a>
-    ensures { model_of result ≡ letters_invocation (rows_of (found_of given.now)) }
+fn letters_of<'a>(given: &ArgMatches<'a>) -> CommandWords<'a>
+    ensures { command_model result ≡ letters_command (rows_of (found_of given.now)) }
 {
-    Invocation::Letters {
+    CommandWords::Letters {
         journal: text_of(given, "journal"),
         place: value_of(given, "place").unwrap_or("place"),
         date: value_of(given, "date").unwrap_or("date"),
@@ -248,11 +267,11 @@ fn letters_of<'a>(given: &ArgMatches<'a>) -> Invocation<'a>
 }
 
 /// What the arguments of a command ask for that prints this page.
-fn page_of<'a>(given: &ArgMatches<'a>, page: PageWords<'a>) -> Invocation<'a>
-    ensures { model_of result
-        ≡ page_invocation (rows_of (found_of given.now)) (page_words page.entry) }
+fn page_of<'a>(given: &ArgMatches<'a>, page: PageWords<'a>) -> CommandWords<'a>
+    ensures { command_model result
+        ≡ page_command (rows_of (found_of given.now)) (page_words page.entry) }
 {
-    Invocation::Page {
+    CommandWords::Page {
         journal: text_of(given, "journal"),
         page,
     }

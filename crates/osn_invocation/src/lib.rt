@@ -6,4 +6,4 @@
 mod grammar;
 mod invocation;
 
-pub use invocation::{Invocation, PageWords, ServeOptions, parse_args};
+pub use invocation::{CommandWords, Invocation, PageWords, ServeOptions, parse_args};

@@ -2,9 +2,9 @@
 use Rattle.std.proofs.Common.{◌≡◌, ◌≢◌, ◌<◌, ◌∙◌, ℕ, suc, ◌+◌, true, false, List, [], ◌∷◌}
 use Rattle.std.proofs.Common.{◌++◌, length, take, drop, get_or, Option, Some, None, refl, sym, ap}
 use Rattle.std.proofs.Common.{subst, append_assoc, append-nil, Result, Ok, Err, OnOk, IfErr}
-use Rattle.std.proofs.Common.{add-one}
+use Rattle.std.proofs.Common.{add-one, arith, length-append, ◌≤◌}
 use Rattle.std.specs.Io.KnownBytes.{Appends}
-use Rattle.osn_lines.proofs.ByteLemmas.{Appends-then}
+use Rattle.osn_lines.proofs.ByteLemmas.{Appends-nothing, Appends-then}
 use Rattle.std.specs.Result.{IsErrAnd}
 use Rattle.std.proofs.lemmas.Result.{err_from_is_err_and}
 use Rattle.std.proofs.Math.Seq.{drop-cons, take-suc}
@@ -16,8 +16,9 @@ use Rattle.osn_letters.specs.declared.fault.LettersFault.TheVariants.{ReadFault}
 use Rattle.osn_letters.specs.declared.letters.Letters.{Letters}
 use Rattle.osn_letters.specs.declared.parser.RecordParser.{RecordParser}
 use Rattle.osn_letters.specs.declared.table.Rows.{Rows}
+use Rattle.osn_letters.specs.declared.table.Table.{Table}
 use Rattle.osn_letters.specs.LettersInside.{text_from, Wrote, Stops, TakesBytes, StopsAt}
-use Rattle.osn_letters.specs.LettersInside.{AppendsPart}
+use Rattle.osn_letters.specs.LettersInside.{Waits, is_known}
 use Rattle.osn_letters.specs.LettersInside.{text_behind, TakesBehind, StopsBehind}
 use Rattle.osn_letters.specs.declared.start.Start.{Start}
 use Rattle.osn_letters.specs.declared.start.Start.TheVariants.{Past, TwoBytes}
@@ -27,10 +28,11 @@ use Rattle.osn_letters.specs.LettersInside.{Passes}
 use Rattle.osn_letters.specs.Records.{Reading, too_long}
 use Rattle.osn_letters.specs.Records.{records_from, after}
 use Rattle.osn_letters.specs.RecordsInside.{reading_of, record_in, Takes, RefusesByte}
-use Rattle.osn_letters.specs.Table.{EndsEarly, IsWhole, whole}
+use Rattle.osn_letters.specs.Table.{EndsEarly, IsLong, IsWhole, whole}
 use Rattle.osn_letters.specs.Table.{TableBasis, Written, behind, ended_by, written_from}
 use Rattle.osn_letters.specs.Faults.{is_of_table, is_of_stream}
 use Rattle.osn_letters.specs.TableInside.{written_of, RefusesRecord}
+use Rattle.osn_letters.specs.WriterInside.{waiting}
 
 -- the fault that a `?` passes on
 pub told : {T E : Type 0} (P : E → Type 0) (r : Result T E) (fault : E)
@@ -59,21 +61,16 @@ wrote_then {a = a} {u = u} x y = record {
 -- a first part was written, and then it stops
 pub wrote_stops : {a b c : List ℕ} {w v : Written} {fault : LettersFault} → Wrote a b w v
     → Stops b c v fault → Stops a c w fault
-wrote_stops x y = record {
-  rest = y.rest;
-  wrote = wrote_then x y.wrote;
-  ended = y.ended;
-  inner = y.inner;
-}
+wrote_stops x y = record { inner = y.inner; wrote = λ told. wrote_then x (y.wrote told) }
 
 -- it stops before anything was written
-pub stops_here : (out new : List ℕ) (w : Written) (fault : LettersFault) → new ≡ out
-    → is_of_stream fault ≡ false → (fault ≢ NoMemory → w ≡ ended_by fault) → Stops out new w fault
-stops_here out new w fault same inner ended = record {
-  rest = w;
-  wrote = record { text = []; out = same ∙ sym (append-nil out); begins = refl };
-  ended = λ told. ended (not_memory fault told);
+pub stops_here : (out new : List ℕ) (w : Written) (fault : LettersFault)
+    → is_of_stream fault ≡ false → (fault ≢ NoMemory → (new ≡ out) × (w ≡ ended_by fault))
+    → Stops out new w fault
+stops_here out new w fault inner ended = record {
   inner = inner;
+  wrote = λ told. (let why = ended (not_memory fault told) in
+      record { text = []; out = why.0 ∙ sym (append-nil out); begins = why.1 });
 }
 
 too_long_ends : (s : TableBasis) (rows : Option Rows) (r : Reading)
@@ -86,37 +83,41 @@ pub byte_refused : (s : Letters) (p : RecordParser) (b : ℕ) (fault : LettersFa
     → RefusesByte s.parser b fault
     → StopsBehind s (record { start = s.start; parser = p; table = s.table }) (b ∷ []) fault
 byte_refused s p b fault refuses more =
-    let out = s.table.out.items in
-    stops_here out out (text_behind s (b ∷ more)) fault refl refuses.0
+    let out = waiting s.table.out in
+    stops_here out out (text_behind s (b ∷ more)) fault refuses.0
     (λ other.
-    let why = refuses.1 other in
-    ap (written_of s.table) (why.1 (records_from (after (reading_of s.parser) b) more))
-    ∙ too_long_ends _ s.table.rows (reading_of s.parser)
-    ∙ ap ended_by (sym why.0))
+    let why = refuses.1 other in (
+      refl,
+      ap (written_of s.table) (why.1 (records_from (after (reading_of s.parser) b) more))
+          ∙ too_long_ends _ s.table.rows (reading_of s.parser)
+          ∙ ap ended_by (sym why.0),
+    ))
 
 -- the record that a byte ended was not taken
-pub record_refused : (s : Letters) (out : List ℕ) (q : RecordParser) (b line : ℕ)
-    (fault : LettersFault) → Takes s.parser q b (Some line) → out ≡ s.table.out.items
-    → RefusesRecord s.table (record_in q line) fault
-    → (more : List ℕ) → Stops s.table.out.items out (text_behind s (b ∷ more)) fault
-record_refused s out q b line fault takes same refuses more =
-    stops_here s.table.out.items out (text_behind s (b ∷ more)) fault same refuses.0
+pub record_refused : (s : Letters) (table : Table) (q : RecordParser) (b line : ℕ)
+    (fault : LettersFault) → Takes s.parser q b (Some line)
+    → RefusesRecord s.table table (record_in q line) fault
+    → (more : List ℕ)
+    → Stops (waiting s.table.out) (waiting table.out) (text_behind s (b ∷ more)) fault
+record_refused s table q b line fault takes refuses more =
+    stops_here (waiting s.table.out) (waiting table.out) (text_behind s (b ∷ more)) fault refuses.0
     (λ other.
     let rest = records_from (after (reading_of s.parser) b) more in
-    ap (written_of s.table) (takes.0 rest) ∙ refuses.1 other rest)
+    let why = refuses.1 other in
+    (why.0, ap (written_of s.table) (takes.0 rest) ∙ why.1 rest))
 
 -- bytes behind bytes, behind the beginning
 pub behind_then : (s t u : Letters) (xs ys : List ℕ) → TakesBehind s t xs → TakesBehind t u ys
     → TakesBehind s u (xs ++ ys)
 behind_then s t u xs ys x y more =
-    subst (λ bytes. Wrote s.table.out.items u.table.out.items (text_behind s bytes)
+    subst (λ bytes. Wrote (waiting s.table.out) (waiting u.table.out) (text_behind s bytes)
     (text_behind u more)) (sym (append_assoc xs ys more))
     (wrote_then (x (ys ++ more)) (y more))
 
 pub behind_stops : (s t u : Letters) (xs ys : List ℕ) (fault : LettersFault) → TakesBehind s t xs
     → StopsBehind t u ys fault → StopsBehind s u (xs ++ ys) fault
 behind_stops s t u xs ys fault x y more =
-    subst (λ bytes. Stops s.table.out.items u.table.out.items (text_behind s bytes) fault)
+    subst (λ bytes. Stops (waiting s.table.out) (waiting u.table.out) (text_behind s bytes) fault)
     (sym (append_assoc xs ys more))
     (wrote_stops (x (ys ++ more)) (y more))
 
@@ -124,7 +125,7 @@ behind_stops s t u xs ys fault x y more =
 pub stops_first : (s u : Letters) (xs ys : List ℕ) (fault : LettersFault)
     → StopsBehind s u xs fault → StopsBehind s u (xs ++ ys) fault
 stops_first s u xs ys fault x more =
-    subst (λ bytes. Stops s.table.out.items u.table.out.items (text_behind s bytes) fault)
+    subst (λ bytes. Stops (waiting s.table.out) (waiting u.table.out) (text_behind s bytes) fault)
     (sym (append_assoc xs ys more)) (x (ys ++ more))
 
 -- a byte that goes on with the mark
@@ -132,7 +133,7 @@ pub mark_taken : (s : Letters) (next : Start) (b : ℕ) → next_start s.start b
     → TakesBytes s (record { start = next; parser = s.parser; table = s.table }) (b ∷ [])
 mark_taken s next b h more = record {
   text = [];
-  out = sym (append-nil s.table.out.items);
+  out = sym (append-nil (waiting s.table.out));
   begins = ap (text_behind s) (marked s.start next b h more);
 }
 
@@ -140,45 +141,45 @@ mark_taken s next b h more = record {
 pub text_taken : (s u : Letters) (b : ℕ) → next_start s.start b ≡ None → u.start ≡ Past
     → TakesBehind s u (held s.start ++ b ∷ []) → TakesBytes s u (b ∷ [])
 text_taken s u b h past x more =
-    subst (λ bytes. Wrote s.table.out.items u.table.out.items (text_behind s bytes)
+    subst (λ bytes. Wrote (waiting s.table.out) (waiting u.table.out) (text_behind s bytes)
     (text_from u more))
     (append_assoc (held s.start) (b ∷ []) more ∙ sym (unmarked_held s.start b h more))
-    (subst (λ start. Wrote s.table.out.items u.table.out.items
+    (subst (λ start. Wrote (waiting s.table.out) (waiting u.table.out)
     (text_behind s ((held s.start ++ b ∷ []) ++ more)) (text_behind u (unmarked start more)))
     (sym past) (x more))
 
 pub text_stops : (s u : Letters) (b : ℕ) (fault : LettersFault) → next_start s.start b ≡ None
     → StopsBehind s u (held s.start ++ b ∷ []) fault → StopsAt s u (b ∷ []) fault
 text_stops s u b fault h x more =
-    subst (λ bytes. Stops s.table.out.items u.table.out.items (text_behind s bytes) fault)
+    subst (λ bytes. Stops (waiting s.table.out) (waiting u.table.out) (text_behind s bytes) fault)
     (append_assoc (held s.start) (b ∷ []) more ∙ sym (unmarked_held s.start b h more)) (x more)
 
 -- at the end of the text
 pub end_taken : (s t : Letters) (c : List ℕ) (w : Written) → TakesBehind s t (held s.start)
-    → Wrote t.table.out.items c (text_behind t []) w → Wrote s.table.out.items c (text_from s []) w
+    → Wrote (waiting t.table.out) c (text_behind t []) w → Wrote (waiting s.table.out) c (text_from s []) w
 end_taken s t c w x y =
-    subst (λ bytes. Wrote s.table.out.items c (text_behind s bytes) w)
+    subst (λ bytes. Wrote (waiting s.table.out) c (text_behind s bytes) w)
     (sym (unmarked_end s.start)) (wrote_then (x []) y)
 
 pub end_stops : (s t : Letters) (c : List ℕ) (fault : LettersFault)
-    → TakesBehind s t (held s.start) → Stops t.table.out.items c (text_behind t []) fault
-    → Stops s.table.out.items c (text_from s []) fault
+    → TakesBehind s t (held s.start) → Stops (waiting t.table.out) c (text_behind t []) fault
+    → Stops (waiting s.table.out) c (text_from s []) fault
 end_stops s t c fault x y =
-    subst (λ bytes. Stops s.table.out.items c (text_behind s bytes) fault)
+    subst (λ bytes. Stops (waiting s.table.out) c (text_behind s bytes) fault)
     (sym (unmarked_end s.start)) (wrote_stops (x []) y)
 
 pub end_stops_held : (s t : Letters) (fault : LettersFault)
     → StopsBehind s t (held s.start) fault
-    → Stops s.table.out.items t.table.out.items (text_from s []) fault
+    → Stops (waiting s.table.out) (waiting t.table.out) (text_from s []) fault
 end_stops_held s t fault x =
-    subst (λ bytes. Stops s.table.out.items t.table.out.items (text_behind s bytes) fault)
+    subst (λ bytes. Stops (waiting s.table.out) (waiting t.table.out) (text_behind s bytes) fault)
     (sym (unmarked_end s.start)) (x [])
 
 -- bytes behind bytes
 pub bytes_then : (s t u : Letters) (xs ys : List ℕ) → TakesBytes s t xs → TakesBytes t u ys
     → TakesBytes s u (xs ++ ys)
 bytes_then s t u xs ys x y more =
-    subst (λ bytes. Wrote s.table.out.items u.table.out.items (text_from s bytes)
+    subst (λ bytes. Wrote (waiting s.table.out) (waiting u.table.out) (text_from s bytes)
     (text_from u more)) (sym (append_assoc xs ys more))
     (wrote_then (x (ys ++ more)) (y more))
 
@@ -207,62 +208,104 @@ pub piece_stops : (s t u : Letters) (piece : List ℕ) (i b : ℕ) (fault : Lett
     → StopsAt t u (b ∷ []) fault → StopsAt s u piece fault
 piece_stops s t u piece i b fault low is x y more =
     let rest = drop (suc i) piece ++ more in
-    subst (λ bytes. Stops s.table.out.items u.table.out.items (text_from s bytes) fault)
+    subst (λ bytes. Stops (waiting s.table.out) (waiting u.table.out) (text_from s bytes) fault)
     (split_at piece i b low is more)
     (wrote_stops (x (b ∷ rest)) (y rest))
 
--- what was taken or not, a first part of what is written waits
-pub either : {T : Type 0} (s t : Letters) (bytes : List ℕ) (r : Result T LettersFault)
-    → OnOk r (TakesBytes s t bytes) → IfErr r (StopsAt s t bytes) → (more : List ℕ)
-    → (rest : Written)
-    × Wrote s.table.out.items t.table.out.items (text_from s (bytes ++ more)) rest
-either s t bytes (Ok x) takes stops more = (text_from t more, takes more)
-either s t bytes (Err fault) takes stops more = ((stops more).rest, (stops more).wrote)
+-- nothing was written, for a fault that is none of the table
+pub nothing_written : (c : Option (List ℕ)) (w : Written) (fault : LettersFault)
+    → is_of_table fault ≡ false → EndsEarly c c w fault
+nothing_written c w fault other = record {
+  text = [];
+  appended = Appends-nothing c;
+  rest = w;
+  begins = refl;
+  ended = λ told. absurd (cc (sym other ∙ told));
+}
+
+-- what was taken or not, what waits is a first part of what is written
+pub piece_waits : {T : Type 0} (s t : Letters) (bytes : List ℕ) (r : Result T LettersFault)
+    → waiting s.table.out ≡ [] → OnOk r (TakesBytes s t bytes) → IfErr r (StopsAt s t bytes)
+    → (more : List ℕ) → Waits (waiting t.table.out) r (text_from s (bytes ++ more))
+piece_waits s t bytes (Ok x) none takes stops more =
+    let text = text_from s (bytes ++ more) in
+    let rest = text_from t more in
+    (rest, subst (λ a. Wrote a (waiting t.table.out) text rest) none (takes more))
+piece_waits s t bytes (Err fault) none takes stops more =
+    subst (λ a. Stops a (waiting t.table.out) (text_from s (bytes ++ more)) fault) none (stops more)
 
 -- the same at the end of the text
-pub either_end : {T : Type 0} (s t : Letters) (r : Result T LettersFault)
-    → OnOk r (Wrote s.table.out.items t.table.out.items (text_from s []) whole)
-    → IfErr r (Stops s.table.out.items t.table.out.items (text_from s []))
-    → (rest : Written) × Wrote s.table.out.items t.table.out.items (text_from s []) rest
-either_end s t (Ok x) takes stops = (whole, takes)
-either_end s t (Err fault) takes stops = (stops.rest, stops.wrote)
+pub end_waits : {T : Type 0} (s t : Letters) (r : Result T LettersFault)
+    → waiting s.table.out ≡ []
+    → OnOk r (Wrote (waiting s.table.out) (waiting t.table.out) (text_from s []) whole)
+    → IfErr r (Stops (waiting s.table.out) (waiting t.table.out) (text_from s []))
+    → Waits (waiting t.table.out) r (text_from s [])
+end_waits s t (Ok x) none takes stops =
+    (whole, subst (λ a. Wrote a (waiting t.table.out) (text_from s []) whole) none takes)
+end_waits s t (Err fault) none takes stops =
+    subst (λ a. Stops a (waiting t.table.out) (text_from s []) fault) none stops
 
--- what waited was written in part
-pub part_early : {c d : Option (List ℕ)} {a out : List ℕ} {w v : Written} (fault : LettersFault)
-    → a ≡ [] → Wrote a out w v → AppendsPart c d out → fault ≡ WriteFault → EndsEarly c d w fault
-part_early {out = out} {w = w} {v = v} fault none wrote part is = record {
-  text = part.written;
-  appended = part.appended;
-  rest = behind part.left v;
-  begins =
-      wrote.begins
-      ∙ ap (λ t. record { text = t ++ v.text; fault = v.fault })
-      (sym (wrote.out ∙ ap (λ l. l ++ wrote.text) none) ∙ part.parts)
-      ∙ ap (λ t. record { text = t; fault = v.fault })
-      (append_assoc part.written part.left v.text);
-  ended = λ told. absurd (cc (subst (λ f. is_of_table f ≡ true) is told));
-}
+-- where it is known what waits, there is a rest behind it
+known_waits : {T : Type 0} (out : List ℕ) (r : Result T LettersFault) (w : Written)
+    → is_known r ≡ true → Waits out r w → (rest : Written) × Wrote [] out w rest
+known_waits out (Ok x) w known waits = waits
+known_waits out (Err fault) w known waits = (ended_by fault, waits.wrote known)
 
--- what waited was written
-pub written_passes : {c d : Option (List ℕ)} {a out : List ℕ} {w v : Written} → a ≡ []
-    → Wrote a out w v → Appends c d out → Passes c d w v
-written_passes {c = c} {d = d} none wrote appended = record {
-  text = wrote.text;
-  appended = subst (Appends c d) (wrote.out ∙ ap (λ l. l ++ wrote.text) none) appended;
-  begins = wrote.begins;
-}
+-- so what is written is as long as what waits
+pub waits_long : {T : Type 0} (out : List ℕ) (r : Result T LettersFault) (w : Written)
+    → is_known r ≡ true → Waits out r w → 4294967295 ≤ length out → IsLong w
+waits_long out r w known waits long =
+    let (rest, wrote) = known_waits out r w known waits in
+    omega (
+      arith,
+      long,
+      ap length wrote.out,
+      ap (λ u. length u.text) wrote.begins,
+      length-append wrote.text rest.text,
+    )
 
-pub written_early : {c d : Option (List ℕ)} {a out : List ℕ} {w : Written} {fault : LettersFault}
-    → a ≡ [] → Stops a out w fault → Appends c d out → EndsEarly c d w fault
-written_early none stops appended =
-    let passes = written_passes none stops.wrote appended in
+-- what waits was written in part
+pub part_early : {T : Type 0} (c d : Option (List ℕ)) (out : List ℕ) (n : ℕ)
+    (r : Result T LettersFault) (fault : LettersFault) (w : Written) → is_known r ≡ true
+    → Appends c d (take n out) → is_of_table fault ≡ false → Waits out r w
+    → EndsEarly c d w fault
+part_early c d out n r fault w known appended other waits =
+    let (rest, wrote) = known_waits out r w known waits in
     record {
-      text = passes.text;
-      appended = passes.appended;
-      rest = stops.rest;
-      begins = passes.begins;
-      ended = stops.ended;
+      text = take n out;
+      appended = appended;
+      rest = behind (drop n out) rest;
+      begins =
+          wrote.begins
+          ∙ ap (λ t. record { text = t ++ rest.text; fault = rest.fault })
+          (sym wrote.out ∙ sym (take-append-drop n out))
+          ∙ ap (λ t. record { text = t; fault = rest.fault })
+          (append_assoc (take n out) (drop n out) rest.text);
+      ended = λ told. absurd (cc (sym other ∙ told));
     }
+
+-- all of it was written
+pub all_early : {T : Type 0} (c d : Option (List ℕ)) (out : List ℕ) (r : Result T LettersFault)
+    → is_known r ≡ true → Appends c d out
+    → IfErr r (λ fault. (w : Written) → Waits out r w → EndsEarly c d w fault)
+all_early c d out (Ok x) known appended = tt
+all_early c d out (Err fault) known appended =
+    λ w waits.
+    let wrote = waits.wrote known in
+    record {
+      text = wrote.text;
+      appended = subst (Appends c d) wrote.out appended;
+      rest = ended_by fault;
+      begins = wrote.begins;
+      ended = λ told. refl;
+    }
+
+-- it is not known what waits, and nothing was written
+pub unknown_early : {T : Type 0} (c : Option (List ℕ)) (out : List ℕ) (r : Result T LettersFault)
+    → is_known r ≡ false
+    → IfErr r (λ fault. (w : Written) → Waits out r w → EndsEarly c c w fault)
+unknown_early c out (Ok x) unknown = absurd (cc unknown)
+unknown_early c out (Err fault) unknown = λ w waits. nothing_written c w fault unknown
 
 pub passes_then : {c d e : Option (List ℕ)} {w v u : Written} → Passes c d w v → Passes d e v u
     → Passes c e w u
@@ -337,9 +380,7 @@ table_inner NoMemory h = absurd (cc h)
 -- all that is written was, and a fault of the table ends it
 pub last_stops : {a b : List ℕ} {w v : Written} (fault : LettersFault) → Wrote a b w v
     → v ≡ ended_by fault → is_of_table fault ≡ true → Stops a b w fault
-last_stops {v = v} fault wrote ended of_table = record {
-  rest = v;
-  wrote = wrote;
-  ended = λ told. ended;
+last_stops {a} {b} {w} {v} fault wrote ended of_table = record {
   inner = table_inner fault of_table;
+  wrote = λ told. subst (Wrote a b w) ended wrote;
 }

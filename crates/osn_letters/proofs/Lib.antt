@@ -1,8 +1,11 @@
 pub mod ColumnFacts
 pub mod DayFacts
+pub mod LaterFacts
 pub mod LawFacts
 pub mod LetterFacts
+pub mod PartFacts
 pub mod QuietFacts
+pub mod RowFacts
 pub mod StartFacts
 pub mod StreamFacts
 pub mod TableFacts

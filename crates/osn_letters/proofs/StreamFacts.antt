@@ -10,12 +10,9 @@ use Rattle.std.specs.Io.KnownBytes.{Consumes, IsAtEnd}
 use Rattle.osn_lines.proofs.ByteLemmas.{Appends-nothing}
 use Rattle.osn_lines.proofs.InputLemmas.{known, known_whole}
 use Rattle.osn_letters.specs.declared.fault.LettersFault.{LettersFault}
-use Rattle.osn_letters.specs.declared.fault.LettersFault.TheVariants.{LacksColumn, BadRecord}
-use Rattle.osn_letters.specs.declared.fault.LettersFault.TheVariants.{TooLong, ReadFault}
-use Rattle.osn_letters.specs.declared.fault.LettersFault.TheVariants.{WriteFault, NoMemory}
 use Rattle.osn_letters.specs.LettersInside.{Passes}
 use Rattle.osn_letters.specs.Table.{Written, EndsEarly, IsWhole, IsLong}
-use Rattle.osn_letters.specs.Faults.{is_of_table, is_of_stream, is_read_fault, EndsStream}
+use Rattle.osn_letters.specs.Faults.{is_of_table, is_read_fault, EndsStream}
 use Rattle.osn_letters.proofs.LetterFacts.{passes_then, passes_early, passes_whole, passes_ends}
 
 -- a part of what is written of the input stands written: of what was read, whatever comes behind it
@@ -82,15 +79,6 @@ read_passes all rest next c d e read got piece same passes more_passes more =
     (passes_then (passes (piece ++ more)) (more_passes more))
 
 -- ---- what fails
-
--- a fault of no stream is none of the input
-pub is_unread : (fault : LettersFault) → is_of_stream fault ≡ false → is_read_fault fault ≡ false
-is_unread (LacksColumn column) h = refl
-is_unread (BadRecord line) h = refl
-is_unread (TooLong line) h = refl
-is_unread ReadFault h = absurd (cc h)
-is_unread WriteFault h = refl
-is_unread NoMemory h = refl
 
 pub ends_weaker : (is_it old old2 new : Bool) (P Q : Type 0) → old ≡ old2 → (P → Q)
     → EndsStream is_it old new P → EndsStream is_it old2 new Q

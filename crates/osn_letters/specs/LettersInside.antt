@@ -1,6 +1,10 @@
 -- What is written of the bytes that letters are read from.
-use Rattle.std.specs.Prelude.{◌≡◌, ℕ, List, ◌++◌, Bool, true, false, Option}
+use Rattle.std.specs.Prelude.{◌≡◌, ℕ, List, [], ◌++◌, Bool, true, false, Option}
+use Rattle.std.specs.Prelude.{Result, Ok, Err, is_ok, Vec}
+use Rattle.std.specs.declared.alloc.Global.{Global}
 use Rattle.std.specs.Io.KnownBytes.{Appends}
+use Rattle.csv.specs.Records.{partial_of}
+use Rattle.csv.specs.declared.writer.Writer.{Writer}
 use Rattle.osn_letters.specs.declared.letters.Letters.{Letters}
 use Rattle.osn_letters.specs.declared.fault.LettersFault.{LettersFault}
 use Rattle.osn_letters.specs.Records.{records_from}
@@ -9,6 +13,12 @@ use Rattle.osn_letters.specs.Start.{unmarked}
 use Rattle.osn_letters.specs.Table.{Written, behind, ended_by, EndsEarly, IsLong}
 use Rattle.osn_letters.specs.Faults.{is_of_table, is_of_stream, EndsStream, is_write_fault}
 use Rattle.osn_letters.specs.TableInside.{written_of}
+use Rattle.osn_letters.specs.WriterInside.{IsBetweenRows, waiting}
+
+-- no part of a field stands in the record at hand, and what waits ends between two rows
+pub record IsReady (s : Letters) : Type 0 where
+  pub partial : partial_of s.parser.record ≡ []
+  pub between : IsBetweenRows s.table.out
 
 -- what is written of further bytes behind the beginning, up to the end of the text
 abbrev pub text_behind : Letters → List ℕ → Written
@@ -28,32 +38,49 @@ pub record Wrote (old new : List ℕ) (written rest : Written) : Type 0 where
 -- of more
 abbrev pub TakesBytes : Letters → Letters → List ℕ → Type 0
 TakesBytes old new bytes = (more : List ℕ) →
-    Wrote old.table.out.items new.table.out.items
+    Wrote (waiting old.table.out) (waiting new.table.out)
     (text_from old (bytes ++ more)) (text_from new more)
 
 -- the same of bytes behind the beginning
 abbrev pub TakesBehind : Letters → Letters → List ℕ → Type 0
 TakesBehind old new bytes = (more : List ℕ) →
-    Wrote old.table.out.items new.table.out.items
+    Wrote (waiting old.table.out) (waiting new.table.out)
     (text_behind old (bytes ++ more)) (text_behind new more)
 
--- what waits grew by a first part of what is written, and by all of it where the fault is one of
--- the table
+-- what waits grew by all that is written, where the fault is one of the table. Where memory ran out
+-- it is not known
 pub record Stops (old new : List ℕ) (written : Written) (fault : LettersFault) : Type 0 where
-  pub rest : Written
-  pub wrote : Wrote old new written rest
-  pub ended : is_of_table fault ≡ true → rest ≡ ended_by fault
   pub inner : is_of_stream fault ≡ false
+  pub wrote : is_of_table fault ≡ true → Wrote old new written (ended_by fault)
 
 -- some bytes were not all taken, by that fault
 abbrev pub StopsAt : Letters → Letters → List ℕ → LettersFault → Type 0
 StopsAt old new bytes fault = (more : List ℕ) →
-    Stops old.table.out.items new.table.out.items (text_from old (bytes ++ more)) fault
+    Stops (waiting old.table.out) (waiting new.table.out) (text_from old (bytes ++ more)) fault
 
 -- the same of bytes behind the beginning
 abbrev pub StopsBehind : Letters → Letters → List ℕ → LettersFault → Type 0
 StopsBehind old new bytes fault = (more : List ℕ) →
-    Stops old.table.out.items new.table.out.items (text_behind old (bytes ++ more)) fault
+    Stops (waiting old.table.out) (waiting new.table.out) (text_behind old (bytes ++ more)) fault
+
+-- whether it is known what waits of what was taken: not where memory ran out
+abbrev pub is_known : {T : Type 0} → Result T LettersFault → Bool
+is_known (Ok x) = true
+is_known (Err fault) = is_of_table fault
+
+-- a first part of what is written waits, where it is known what does, and all of it where a fault
+-- of the table ended it
+abbrev pub Waits : {T : Type 0} → List ℕ → Result T LettersFault → Written → Type 0
+Waits out (Ok x) written = (rest : Written) × Wrote [] out written rest
+Waits out (Err fault) written = Stops [] out written fault
+
+-- all was taken, what waited was written, and nothing waits
+pub record WritesAll {T : Type 0} (c d : Option (List ℕ)) (old new : Writer (Vec ℕ Global))
+    (taken : Result T LettersFault) : Type 0 where
+  pub took : is_ok taken ≡ true
+  pub appended : Appends c d (waiting old)
+  pub empty : waiting new ≡ []
+  pub between : IsBetweenRows new
 
 -- the bytes were taken, and what came of them was written
 pub record Passes (old new : Option (List ℕ)) (written rest : Written) : Type 0 where
@@ -69,13 +96,6 @@ PassesBytes c d old new bytes = (more : List ℕ) →
 abbrev pub EndsBytes : Option (List ℕ) → Option (List ℕ) → Letters → List ℕ → LettersFault → Type 0
 EndsBytes c d old bytes fault =
     (more : List ℕ) → EndsEarly c d (text_from old (bytes ++ more)) fault
-
--- a first part of a text was appended
-pub record AppendsPart (old new : Option (List ℕ)) (text : List ℕ) : Type 0 where
-  pub written : List ℕ
-  pub left : List ℕ
-  pub appended : Appends old new written
-  pub parts : text ≡ written ++ left
 
 -- whether the sink failed, where some bytes ended the table by that fault
 abbrev pub SinkEnds : Bool → Bool → Letters → List ℕ → LettersFault → Type 0

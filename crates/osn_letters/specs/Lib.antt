@@ -5,6 +5,9 @@ pub mod Records
 pub mod Law
 pub mod RecordsInside
 pub mod Table
+pub mod Parts
+pub mod TableLaws
+pub mod WriterInside
 pub mod TableInside
 pub mod Start
 pub mod LettersInside

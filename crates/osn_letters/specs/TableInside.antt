@@ -7,6 +7,7 @@ use Rattle.osn_letters.specs.declared.fault.LettersFault.TheVariants.{NoMemory}
 use Rattle.osn_letters.specs.Faults.{is_of_stream}
 use Rattle.osn_letters.specs.Records.{PlacedRecord}
 use Rattle.osn_letters.specs.Table.{TableBasis, basis, Written, written_from, behind, ended_by}
+use Rattle.osn_letters.specs.WriterInside.{waiting}
 
 -- by what it is made
 abbrev pub source_of : Table → TableBasis
@@ -19,13 +20,15 @@ written_of t records = written_from (source_of t) t.rows records
 -- of these records, a text was written, and the table goes on
 pub record TakesRecords (old new : Table) (taken : List PlacedRecord) : Type 0 where
   pub text : List ℕ
-  pub out : new.out.items ≡ old.out.items ++ text
+  pub out : waiting new.out ≡ waiting old.out ++ text
   pub source : source_of new ≡ source_of old
   pub goes : (more : List PlacedRecord) → written_of old (taken ++ more)
       ≡ behind text (written_of new more)
 
--- a record was not taken, by that fault or for want of memory, and nothing was written of it
-abbrev pub RefusesRecord : Table → PlacedRecord → LettersFault → Type 0
-RefusesRecord t r fault = (is_of_stream fault ≡ false)
+-- a record was not taken, by that fault or for want of memory, and nothing was written of it. What
+-- waits is not known where memory ran out
+abbrev pub RefusesRecord : Table → Table → PlacedRecord → LettersFault → Type 0
+RefusesRecord old new r fault = (is_of_stream fault ≡ false)
     × ((fault ≢ NoMemory)
-    → (more : List PlacedRecord) → written_of t (r ∷ more) ≡ ended_by fault)
+    → (waiting new.out ≡ waiting old.out)
+    × ((more : List PlacedRecord) → written_of old (r ∷ more) ≡ ended_by fault))

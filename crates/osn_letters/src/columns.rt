@@ -24,10 +24,10 @@ pub struct Columns {
 }
 
 /// The field at a place. One that the record lacks is empty.
-pub(crate) fn field_at(record: &ByteRecord, place: usize) -> &[u8]
-    ensures { result.now ≡ get_or (fields_of record.now) place [] }
+pub(crate) fn field_at(row: &ByteRecord, place: usize) -> &[u8]
+    ensures { result.now ≡ get_or (fields_of row.now) place [] }
 {
-    match record.get(place) {
+    match row.get(place) {
         Some(field) => field,
         None => &[],
     }

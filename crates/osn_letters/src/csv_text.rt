@@ -1,64 +1,72 @@
-//! The text of a record.
-ghost use Rattle.std.specs.Prelude.{◌≡◌, ◌++◌, [], map, IfOk, OnOk, OnErr};
+//! The text of rows.
+ghost use Rattle.std.specs.Prelude.{◌≡◌, ◌++◌, [], map, IfOk, OnOk};
 ghost use Rattle.csv.specs.Records.{fields_of, partial_of};
 ghost use Rattle.csv.specs.Writing.{default_writer, row_text};
+ghost use Rattle.osn_letters.specs.WriterInside as inside;
 
 use crate::columns::field_at;
-use csv::{ByteRecord, Error, WriterBuilder};
+use csv::{ByteRecord, Writer, WriterBuilder};
 use std::alloc::{AllocError, Global};
+use std::mem;
 
-/// The text of a record, with its line end.
-fn record_text(alloc: Global, record: &ByteRecord) -> Result<Vec<u8>, Error>
-    ensures { IfOk result (λ text. text.items
-        ≡ row_text default_writer (fields_of record.now)) }
+/// A writer of rows into memory, each of any number of fields.
+pub(crate) fn row_writer(alloc: Global) -> Writer<Vec<u8>>
+    ensures between { inside.IsBetweenRows result }
+    ensures empty { inside.waiting result ≡ [] }
 {
-    let mut writer = WriterBuilder::new().from_writer(Vec::new(alloc));
-    writer.write_byte_record(record)?;
-    match writer.into_inner() {
-        Ok(text) => Ok(text),
-        Err(e) => Err(e.into_error()),
+    WriterBuilder::new()
+        .flexible(true)
+        .from_writer(Vec::new(alloc))
+}
+
+/// Writes a row, with its line end, behind the text that waits. An error of the writer is want of
+/// memory, since nothing else fails where a text goes into memory. What waits then is not known.
+pub(crate) fn write_row(out: &mut Writer<Vec<u8>>, row: &ByteRecord) -> Result<(), AllocError>
+    requires { inside.IsBetweenRows out.old }
+    ensures between { OnOk result (inside.IsBetweenRows out.new) }
+    ensures text { OnOk result (inside.waiting out.new
+        ≡ inside.waiting out.old ++ row_text default_writer (fields_of row.now)) }
+{
+    match out.write_byte_record(row) {
+        Ok(()) => Ok(()),
+        Err(_) => Err(AllocError),
     }
 }
 
-/// Appends the text of a record, with its line end. An error of the writer is want of memory, since
-/// nothing else fails where a text goes into memory.
-pub(crate) fn push_record(
-    alloc: Global,
-    out: &mut Vec<u8>,
-    record: &ByteRecord,
-) -> Result<(), AllocError>
-    ensures text { OnOk result (out.new.items
-        ≡ out.old.items ++ row_text default_writer (fields_of record.now)) }
-    ensures kept { OnErr result (out.new.items ≡ out.old.items) }
+/// Takes the text that waits, so that none waits then. An error is want of memory, as above.
+pub(crate) fn take_text(alloc: Global, out: &mut Writer<Vec<u8>>) -> Result<Vec<u8>, AllocError>
+    ensures text { IfOk result (λ text. text.items ≡ inside.waiting out.old) }
+    ensures between { inside.IsBetweenRows out.new }
+    ensures empty { inside.waiting out.new ≡ [] }
 {
-    match record_text(alloc, record) {
-        Ok(text) => out.extend_from_slice(&text),
+    match mem::replace(out, row_writer(alloc)).into_inner() {
+        Ok(text) => Ok(text),
         Err(_) => Err(AllocError),
     }
 }
 
 /// Appends the fields of another record.
-pub(crate) fn push_fields(record: &mut ByteRecord, fields: &ByteRecord) -> Result<(), AllocError>
-    requires { partial_of record.old ≡ [] }
+pub(crate) fn push_fields(row: &mut ByteRecord, fields: &ByteRecord) -> Result<(), AllocError>
+    requires { partial_of row.old ≡ [] }
     ensures fields { OnOk result
-        (fields_of record.new ≡ fields_of record.old ++ fields_of fields.now) }
-    ensures partial { OnOk result (partial_of record.new ≡ []) }
+        (fields_of row.new ≡ fields_of row.old ++ fields_of fields.now) }
+    ensures partial { OnOk result (partial_of row.new ≡ []) }
 {
     for place in 0..fields.len() {
-        record.push_field(field_at(fields, place))?;
+        row.push_field(field_at(fields, place))?;
     }
     Ok(())
 }
 
 /// Appends fields of these texts.
-pub(crate) fn push_texts(record: &mut ByteRecord, texts: &[&str]) -> Result<(), AllocError>
-    requires { partial_of record.old ≡ [] }
+pub(crate) fn push_texts(row: &mut ByteRecord, texts: &[&str]) -> Result<(), AllocError>
+    requires { partial_of row.old ≡ [] }
     ensures fields { OnOk result
-        (fields_of record.new ≡ fields_of record.old ++ map (λ t. t.now) texts.now) }
-    ensures partial { OnOk result (partial_of record.new ≡ []) }
+        (fields_of row.new ≡ fields_of row.old ++ map (λ t. t.now) texts.now) }
+    ensures partial { OnOk result (partial_of row.new ≡ []) }
 {
     for text in texts {
-        record.push_field(text.as_bytes())?;
+        row.push_field(text.as_bytes())?;
     }
     Ok(())
 }

@@ -1,4 +1,6 @@
 //! How a table of letters ends early.
+ghost use Rattle.std.specs.Prelude.{◌≡◌};
+ghost use Rattle.osn_letters.specs.Faults as spec;
 
 /// A column that a table of letters has to have.
 #[derive(Clone, Copy, Debug, PartialEq, Eq)]
@@ -26,4 +28,18 @@ pub enum LettersFault {
     WriteFault,
     /// Memory ran out.
     NoMemory,
+}
+
+impl LettersFault {
+    /// Whether it is one of the table itself, and not of memory, of the input or of the output.
+    pub(crate) fn is_of_table(self) -> bool
+        ensures { result ≡ spec.is_of_table self }
+    {
+        match self {
+            LettersFault::LacksColumn(_)
+            | LettersFault::BadRecord { .. }
+            | LettersFault::TooLong { .. } => true,
+            LettersFault::ReadFault | LettersFault::WriteFault | LettersFault::NoMemory => false,
+        }
+    }
 }

@@ -1,7 +1,6 @@
 //! A table of letters, as the bytes of its text come.
 ghost use Rattle.std.specs.Prelude.{ℕ, List, ◌≡◌, ◌+◌, ◌≤◌, ◌<◌, ◌^◌, ◌∷◌, [], length};
 ghost use Rattle.std.specs.Prelude.{OnOk, IfErr};
-ghost use Rattle.csv.specs.Records.{partial_of};
 ghost use Rattle.osn_letters.specs.LettersInside as inside;
 ghost use Rattle.osn_days.specs.Profile.{newest_rules};
 ghost use Rattle.osn_letters.specs.declared.start.Start.TheVariants.{Past};
@@ -9,8 +8,10 @@ ghost use Rattle.osn_letters.specs.Records.{next_line};
 ghost use Rattle.osn_letters.specs.Start.{held};
 ghost use Rattle.osn_letters.specs.Table.{whole, basis, letters_written};
 ghost use Rattle.osn_letters.specs.TableInside.{written_of};
+ghost use Rattle.osn_letters.specs.WriterInside.{waiting};
 
 use crate::columns::ColumnNames;
+use crate::csv_text::row_writer;
 use crate::fault::LettersFault;
 use crate::parser::RecordParser;
 use crate::start::{MARK, Start};
@@ -34,9 +35,9 @@ impl<'a> Letters<'a> {
         edition: usize,
         names: ColumnNames<'a>,
     ) -> Letters<'a>
-        ensures partial { partial_of result.parser.record ≡ [] }
+        ensures ready { inside.IsReady result }
         ensures line { result.parser.line ≡ 1 }
-        ensures empty { result.table.out.items ≡ [] }
+        ensures empty { waiting result.table.out ≡ [] }
         ensures text { (text : List ℕ) → inside.text_from result text
             ≡ letters_written (basis newest_rules register.now.lands edition names.entry) text }
     {
@@ -49,7 +50,7 @@ impl<'a> Letters<'a> {
                 edition,
                 names,
                 rows: None,
-                out: Vec::new(alloc),
+                out: row_writer(alloc),
             },
         }
     }
@@ -58,9 +59,9 @@ impl<'a> Letters<'a> {
 impl Letters<'_> {
     /// Takes the next byte behind the beginning of the text.
     fn take_behind(&mut self, byte: u8) -> Result<(), LettersFault>
-        requires partial { partial_of self.old.parser.record ≡ [] }
+        requires ready { inside.IsReady self.old }
         requires line { self.old.parser.line + 1 < 2 ^ 64 }
-        ensures partial { OnOk result (partial_of self.new.parser.record ≡ []) }
+        ensures ready { OnOk result (inside.IsReady self.new) }
         ensures line { OnOk result
             (self.new.parser.line ≡ next_line self.old.parser.line byte) }
         ensures start { self.new.start ≡ self.old.start }
@@ -77,9 +78,9 @@ impl Letters<'_> {
 
     /// Takes the bytes that are held back, which are no mark.
     fn take_held(&mut self) -> Result<(), LettersFault>
-        requires partial { partial_of self.old.parser.record ≡ [] }
+        requires ready { inside.IsReady self.old }
         requires line { self.old.parser.line + 1 < 2 ^ 64 }
-        ensures partial { OnOk result (partial_of self.new.parser.record ≡ []) }
+        ensures ready { OnOk result (inside.IsReady self.new) }
         ensures line { OnOk result (self.new.parser.line ≡ self.old.parser.line) }
         ensures start { self.new.start ≡ Past }
         ensures takes { OnOk result (inside.TakesBehind self.old self.new (held self.old.start)) }
@@ -100,9 +101,9 @@ impl Letters<'_> {
 
     /// Takes the next byte.
     fn take_byte(&mut self, byte: u8) -> Result<(), LettersFault>
-        requires partial { partial_of self.old.parser.record ≡ [] }
+        requires ready { inside.IsReady self.old }
         requires line { self.old.parser.line + 1 < 2 ^ 64 }
-        ensures partial { OnOk result (partial_of self.new.parser.record ≡ []) }
+        ensures ready { OnOk result (inside.IsReady self.new) }
         ensures line { OnOk result (self.new.parser.line ≤ self.old.parser.line + 1) }
         ensures takes { OnOk result (inside.TakesBytes self.old self.new (byte ∷ [])) }
         ensures stops { IfErr result (inside.StopsAt self.old self.new (byte ∷ [])) }
@@ -117,9 +118,9 @@ impl Letters<'_> {
 
     /// Takes the next bytes.
     pub(crate) fn take_piece(&mut self, piece: &[u8]) -> Result<(), LettersFault>
-        requires partial { partial_of self.old.parser.record ≡ [] }
+        requires ready { inside.IsReady self.old }
         requires line { self.old.parser.line + length piece.now < 2 ^ 64 }
-        ensures partial { OnOk result (partial_of self.new.parser.record ≡ []) }
+        ensures ready { OnOk result (inside.IsReady self.new) }
         ensures line { OnOk result
             (self.new.parser.line ≤ self.old.parser.line + length piece.now) }
         ensures takes { OnOk result (inside.TakesBytes self.old self.new piece.now) }
@@ -133,11 +134,12 @@ impl Letters<'_> {
 
     /// Takes the record that the end of the text ends, if any.
     fn take_last(&mut self) -> Result<(), LettersFault>
-        requires { partial_of self.old.parser.record ≡ [] }
-        ensures takes { OnOk result (inside.Wrote self.old.table.out.items self.new.table.out.items
+        requires { inside.IsReady self.old }
+        ensures takes { OnOk result (inside.Wrote (waiting self.old.table.out)
+            (waiting self.new.table.out)
             (inside.text_behind self.old []) (written_of self.new.table [])) }
-        ensures stops { IfErr result (inside.Stops self.old.table.out.items
-            self.new.table.out.items (inside.text_behind self.old [])) }
+        ensures stops { IfErr result (inside.Stops (waiting self.old.table.out)
+            (waiting self.new.table.out) (inside.text_behind self.old [])) }
     {
         if let Some(line) = self.parser.finish()? {
             self.table.take(&mut self.parser.record, line)?;
@@ -147,12 +149,13 @@ impl Letters<'_> {
 
     /// Ends the text.
     pub(crate) fn finish(&mut self) -> Result<(), LettersFault>
-        requires partial { partial_of self.old.parser.record ≡ [] }
+        requires ready { inside.IsReady self.old }
         requires line { self.old.parser.line + 1 < 2 ^ 64 }
-        ensures takes { OnOk result (inside.Wrote self.old.table.out.items self.new.table.out.items
+        ensures takes { OnOk result (inside.Wrote (waiting self.old.table.out)
+            (waiting self.new.table.out)
             (inside.text_from self.old []) whole) }
-        ensures stops { IfErr result (inside.Stops self.old.table.out.items
-            self.new.table.out.items (inside.text_from self.old [])) }
+        ensures stops { IfErr result (inside.Stops (waiting self.old.table.out)
+            (waiting self.new.table.out) (inside.text_from self.old [])) }
     {
         self.take_held()?;
         self.take_last()?;

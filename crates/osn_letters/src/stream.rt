@@ -2,18 +2,19 @@
 ghost use Rattle.std.specs.Prelude.{◌≡◌, ◌+◌, ◌≤◌, ◌<◌, ◌^◌, [], length, true, false, IfOk, IfErr};
 ghost use Rattle.std.specs.Prelude.{IfSome, OnOk, OnErr, MatchResult};
 ghost use Rattle.std.specs.Io.KnownBytes.{Appends, IsAtEnd};
-ghost use Rattle.csv.specs.Records.{partial_of};
 ghost use Rattle.osn_days.specs.Profile.{newest_rules};
-ghost use Rattle.osn_letters.specs.declared.fault.LettersFault.TheVariants as fault;
-ghost use Rattle.osn_letters.specs.Faults.{EndsStream, is_read_fault, is_write_fault};
-ghost use Rattle.osn_letters.specs.Law.{AreKitRecords};
+ghost use Rattle.osn_letters.specs.Faults.{EndsStream, is_of_stream, is_read_fault, is_write_fault};
 ghost use Rattle.osn_letters.specs.LettersInside as inside;
-ghost use Rattle.osn_lines.specs.Faults.{WriteFails};
+ghost use Rattle.osn_letters.specs.TableLaws.{AreTableLaws};
 ghost use Rattle.osn_letters.specs.Table as spec;
+ghost use Rattle.osn_letters.specs.WriterInside.{waiting};
 
 use crate::columns::ColumnNames;
+use crate::csv_text::take_text;
 use crate::fault::LettersFault;
 use crate::letters::Letters;
+use crate::progress::Progress;
+use csv::Writer;
 use osn_lines::{Sink, Source, write_all};
 use osn_register::Register;
 use std::alloc::{AllocError, Global};
@@ -28,23 +29,42 @@ fn zeros(alloc: Global, size: usize) -> Result<Vec<u8>, AllocError>
     vec![in alloc; 0u8; size]
 }
 
-/// Writes all that waits, so that nothing waits then.
-fn write_out<W: Sink>(sink: &mut W, out: &mut Vec<u8>) -> Result<(), LettersFault>
-    ensures ok { OnOk result (Appends (W.contents sink.old) (W.contents sink.new) out.old.items) }
-    ensures empty { OnOk result (out.new.items ≡ []) }
-    ensures passed { OnOk result (W.holds_back sink.new ≡ false) }
-    ensures fault { IfErr result (λ f. f ≡ fault.WriteFault) }
-    ensures part { IfErr result (λ _. inside.AppendsPart (W.contents sink.old)
-        (W.contents sink.new) out.old.items) }
-    ensures reason { OnErr result
-        (WriteFails (W.has_failed sink.old) (W.has_failed sink.new) out.old.items) }
-    ensures sound { OnOk result (W.has_failed sink.new ≡ W.has_failed sink.old) }
+/// Whether it is known what waits of what was taken: not where memory ran out.
+fn is_known(taken: Result<(), LettersFault>) -> bool
+    ensures { result ≡ inside.is_known taken }
 {
-    match write_all(sink, out) {
-        Ok(()) => {
-            out.clear();
-            Ok(())
-        }
+    match taken {
+        Ok(()) => true,
+        Err(fault) => fault.is_of_table(),
+    }
+}
+
+/// Writes what waits of what was taken, so that nothing waits then, if it is known what does.
+fn write_out<W: Sink>(
+    alloc: Global,
+    sink: &mut W,
+    out: &mut Writer<Vec<u8>>,
+    taken: Result<(), LettersFault>,
+) -> Result<(), LettersFault>
+    requires inner { IfErr taken (λ f. is_of_stream f ≡ false) }
+    ensures all { OnOk result (inside.WritesAll (W.contents sink.old) (W.contents sink.new)
+        out.old out.new taken) }
+    ensures passed { OnOk result (W.holds_back sink.new ≡ false) }
+    ensures early { IfErr result (λ f. (w : spec.Written) → inside.Waits (waiting out.old) taken w
+        → spec.EndsEarly (W.contents sink.old) (W.contents sink.new) w f) }
+    ensures sink { MatchResult result (λ _. W.has_failed sink.new ≡ W.has_failed sink.old)
+        (λ f. EndsStream (is_write_fault f) (W.has_failed sink.old) (W.has_failed sink.new)
+        ((w : spec.Written) → inside.Waits (waiting out.old) taken w → spec.IsLong w)) }
+    ensures unread { IfErr result (λ f. is_read_fault f ≡ false) }
+{
+    if !is_known(taken) {
+        return taken;
+    }
+    let Ok(text) = take_text(alloc, out) else {
+        return Err(LettersFault::NoMemory);
+    };
+    match write_all(sink, &text) {
+        Ok(()) => taken,
         Err(_) => Err(LettersFault::WriteFault),
     }
 }
@@ -55,13 +75,13 @@ fn take_and_write<W: Sink>(
     sink: &mut W,
     piece: &[u8],
 ) -> Result<(), LettersFault>
-    requires partial { partial_of letters.old.parser.record ≡ [] }
+    requires ready { inside.IsReady letters.old }
     requires line { letters.old.parser.line + length piece.now < 2 ^ 64 }
-    requires empty { letters.old.table.out.items ≡ [] }
-    ensures partial { OnOk result (partial_of letters.new.parser.record ≡ []) }
+    requires empty { waiting letters.old.table.out ≡ [] }
+    ensures ready { OnOk result (inside.IsReady letters.new) }
     ensures line { OnOk result
         (letters.new.parser.line ≤ letters.old.parser.line + length piece.now) }
-    ensures empty { OnOk result (letters.new.table.out.items ≡ []) }
+    ensures empty { OnOk result (waiting letters.new.table.out ≡ []) }
     ensures passes { OnOk result (inside.PassesBytes (W.contents sink.old) (W.contents sink.new)
         letters.old letters.new piece.now) }
     ensures early { IfErr result (inside.EndsBytes (W.contents sink.old) (W.contents sink.new)
@@ -72,15 +92,14 @@ fn take_and_write<W: Sink>(
     ensures unread { IfErr result (λ f. is_read_fault f ≡ false) }
 {
     let taken = letters.take_piece(piece);
-    write_out(sink, &mut letters.table.out)?;
-    taken
+    write_out(letters.table.alloc, sink, &mut letters.table.out, taken)
 }
 
 /// Ends the text, and writes what comes of that.
 fn finish_and_write<W: Sink>(letters: &mut Letters<'_>, sink: &mut W) -> Result<(), LettersFault>
-    requires partial { partial_of letters.old.parser.record ≡ [] }
+    requires ready { inside.IsReady letters.old }
     requires line { letters.old.parser.line + 1 < 2 ^ 64 }
-    requires empty { letters.old.table.out.items ≡ [] }
+    requires empty { waiting letters.old.table.out ≡ [] }
     ensures whole { OnOk result (spec.IsWhole (W.contents sink.old) (W.contents sink.new)
         (inside.text_from letters.old [])) }
     ensures passed { OnOk result (W.holds_back sink.new ≡ false) }
@@ -92,8 +111,7 @@ fn finish_and_write<W: Sink>(letters: &mut Letters<'_>, sink: &mut W) -> Result<
     ensures unread { IfErr result (λ f. is_read_fault f ≡ false) }
 {
     let finished = letters.finish();
-    write_out(sink, &mut letters.table.out)?;
-    finished
+    write_out(letters.table.alloc, sink, &mut letters.table.out, finished)
 }
 
 /// Writes a table of letters in CSV from one in CSV: the header with nine names behind those that
@@ -103,7 +121,10 @@ fn finish_and_write<W: Sink>(letters: &mut Letters<'_>, sink: &mut W) -> Result<
 ///
 /// What comes of a read is written before the next one. Besides the register there is one read of
 /// at most 65,536 bytes, what is written of them, and of a record that hasn't ended yet at most
-/// 65,536 bytes.
+/// 65,536 bytes. `progress` is told of each read that gave bytes.
+///
+/// A table may be cut between its records and written in parts, each behind the same header: the
+/// rows of each part, one behind another, are those of the whole.
 ///
 /// # Errors
 ///
@@ -113,14 +134,15 @@ fn finish_and_write<W: Sink>(letters: &mut Letters<'_>, sink: &mut W) -> Result<
 /// failed or gave no end within 4,294,967,295 reads, `WriteFault` where the sink failed or did not
 /// take a text within as many writes, and `NoMemory`: of these a beginning of the table was
 /// written.
-#[tactic(auto, using(crate::proofs::LawFacts::kit_records))]
-pub fn write_letters<R: Source, W: Sink>(
+#[tactic(auto, using(crate::proofs::PartFacts::table_laws))]
+pub fn write_letters<R: Source, W: Sink, P: Progress>(
     alloc: Global,
     register: &Register,
     edition: usize,
     names: ColumnNames<'_>,
     source: &mut R,
     sink: &mut W,
+    progress: &mut P,
 ) -> Result<(), LettersFault>
     ensures whole { OnOk result (IfSome (R.remaining source.old) (λ text.
         spec.IsWhole (W.contents sink.old) (W.contents sink.new)
@@ -149,8 +171,9 @@ pub fn write_letters<R: Source, W: Sink>(
         (IfSome (R.remaining source.old) (λ text. spec.IsLong (spec.letters_written
         (spec.basis newest_rules register.now.lands edition names.entry) text)))) }
 
-    // As a law: the records of a text are those that the kit reads, where none is too long.
-    ensures kit { AreKitRecords }
+    // As laws: the records of a text are those that the kit reads, where none is too long; and a
+    // table may be cut between its records and written in parts, each behind the header.
+    ensures laws { AreTableLaws }
 {
     let Ok(mut buffer) = zeros(alloc, READ_SIZE) else {
         return Err(LettersFault::NoMemory);
@@ -163,6 +186,7 @@ pub fn write_letters<R: Source, W: Sink>(
         if read == 0 {
             return finish_and_write(&mut letters, sink);
         }
+        progress.count(read);
         take_and_write(&mut letters, sink, &buffer[..read])?;
     }
     Err(LettersFault::ReadFault)

@@ -5,12 +5,13 @@ ghost use Rattle.csv.specs.Records.{fields_of, partial_of};
 ghost use Rattle.osn_letters.specs.Faults.{is_of_table};
 ghost use Rattle.osn_letters.specs.Table as spec;
 ghost use Rattle.osn_letters.specs.TableInside as inside;
+ghost use Rattle.osn_letters.specs.WriterInside.{IsBetweenRows, waiting};
 
 use crate::columns::{ColumnNames, Columns, field_at, find_columns};
-use crate::csv_text::{push_fields, push_record, push_texts};
+use crate::csv_text::{push_fields, push_texts, write_row};
 use crate::fault::{Column, LettersFault};
 use crate::letter::letter_fields;
-use csv::ByteRecord;
+use csv::{ByteRecord, Writer};
 use osn_register::Register;
 use std::alloc::{AllocError, Global};
 
@@ -44,16 +45,16 @@ pub(crate) struct Table<'a> {
     pub(crate) edition: usize,
     pub(crate) names: ColumnNames<'a>,
     pub(crate) rows: Option<Rows>,
-    pub(crate) out: Vec<u8>,
+    pub(crate) out: Writer<Vec<u8>>,
 }
 
 /// The weekday of a record, where there is such a column.
-fn weekday_at(record: &ByteRecord, place: Option<usize>) -> Option<&[u8]>
+fn weekday_at(row: &ByteRecord, place: Option<usize>) -> Option<&[u8]>
     ensures { option_map (λ w. w.now) result
-        ≡ option_map (λ n. get_or (fields_of record.now) n []) place }
+        ≡ option_map (λ n. get_or (fields_of row.now) n []) place }
 {
     match place {
-        Some(place) => Some(field_at(record, place)),
+        Some(place) => Some(field_at(row, place)),
         None => None,
     }
 }
@@ -61,26 +62,28 @@ fn weekday_at(record: &ByteRecord, place: Option<usize>) -> Option<&[u8]>
 impl Table<'_> {
     /// Appends to the text that waits the header, with the nine names.
     fn push_header(&mut self, header: &mut ByteRecord) -> Result<(), AllocError>
-        requires { partial_of header.old ≡ [] }
-        ensures text { OnOk result (self.new.out.items
-            ≡ self.old.out.items ++ spec.header_text (fields_of header.old)) }
-        ensures kept { OnErr result (self.new.out.items ≡ self.old.out.items) }
+        requires partial { partial_of header.old ≡ [] }
+        requires between { IsBetweenRows self.old.out }
+        ensures text { OnOk result (waiting self.new.out
+            ≡ waiting self.old.out ++ spec.header_text (fields_of header.old)) }
+        ensures between { OnOk result (IsBetweenRows self.new.out) }
         ensures source { inside.source_of self.new ≡ inside.source_of self.old }
         ensures rows { self.new.rows ≡ self.old.rows }
     {
         push_texts(header, &FIELD_NAMES)?;
-        push_record(self.alloc, &mut self.out, header)
+        write_row(&mut self.out, header)
     }
 
     /// Takes the header.
     fn take_header(&mut self, header: &mut ByteRecord) -> Result<(), LettersFault>
         requires partial { partial_of header.old ≡ [] }
+        requires between { IsBetweenRows self.old.out }
         requires rows { self.old.rows ≡ None }
         ensures takes { OnOk result ((line : ℕ) → inside.TakesRecords self.old self.new
             (record { line = line; fields = Some (fields_of header.old) } ∷ [])) }
-        ensures refuses { IfErr result (λ fault. (line : ℕ) → inside.RefusesRecord self.old
+        ensures refuses { IfErr result (λ fault. (line : ℕ) → inside.RefusesRecord self.old self.new
             (record { line = line; fields = Some (fields_of header.old) }) fault) }
-        ensures kept { OnErr result (self.new.out.items ≡ self.old.out.items) }
+        ensures between { OnOk result (IsBetweenRows self.new.out) }
     {
         let columns = find_columns(header, self.names)?;
         let width = header.len();
@@ -93,10 +96,11 @@ impl Table<'_> {
 
     /// Appends to the text that waits the row of a record.
     fn push_row(&mut self, columns: Columns, row: &mut ByteRecord) -> Result<(), AllocError>
-        requires { partial_of row.old ≡ [] }
-        ensures text { OnOk result (self.new.out.items ≡ self.old.out.items
+        requires partial { partial_of row.old ≡ [] }
+        requires between { IsBetweenRows self.old.out }
+        ensures text { OnOk result (waiting self.new.out ≡ waiting self.old.out
             ++ spec.letter_text (inside.source_of self.old) columns (fields_of row.old)) }
-        ensures kept { OnErr result (self.new.out.items ≡ self.old.out.items) }
+        ensures between { OnOk result (IsBetweenRows self.new.out) }
         ensures source { inside.source_of self.new ≡ inside.source_of self.old }
         ensures rows { self.new.rows ≡ self.old.rows }
     {
@@ -109,18 +113,19 @@ impl Table<'_> {
             weekday_at(row, columns.weekday),
         )?;
         push_fields(row, &fields)?;
-        push_record(self.alloc, &mut self.out, row)
+        write_row(&mut self.out, row)
     }
 
     /// Takes a record behind the header.
     fn take_row(&mut self, rows: Rows, row: &mut ByteRecord, line: u64) -> Result<(), LettersFault>
         requires partial { partial_of row.old ≡ [] }
+        requires between { IsBetweenRows self.old.out }
         requires rows { self.old.rows ≡ Some rows }
         ensures takes { OnOk result (inside.TakesRecords self.old self.new
             (record { line = line; fields = Some (fields_of row.old) } ∷ [])) }
-        ensures refuses { IfErr result (inside.RefusesRecord self.old
+        ensures refuses { IfErr result (inside.RefusesRecord self.old self.new
             (record { line = line; fields = Some (fields_of row.old) })) }
-        ensures kept { OnErr result (self.new.out.items ≡ self.old.out.items) }
+        ensures between { OnOk result (IsBetweenRows self.new.out) }
     {
         if row.len() != rows.width {
             return Err(LettersFault::BadRecord { line });
@@ -137,12 +142,13 @@ impl Table<'_> {
     ///
     /// `LacksColumn` of a header, `BadRecord` of a record behind it, and `NoMemory`.
     pub(crate) fn take(&mut self, row: &mut ByteRecord, line: u64) -> Result<(), LettersFault>
-        requires { partial_of row.old ≡ [] }
+        requires partial { partial_of row.old ≡ [] }
+        requires between { IsBetweenRows self.old.out }
         ensures takes { OnOk result (inside.TakesRecords self.old self.new
             (record { line = line; fields = Some (fields_of row.old) } ∷ [])) }
-        ensures refuses { IfErr result (inside.RefusesRecord self.old
+        ensures refuses { IfErr result (inside.RefusesRecord self.old self.new
             (record { line = line; fields = Some (fields_of row.old) })) }
-        ensures kept { OnErr result (self.new.out.items ≡ self.old.out.items) }
+        ensures between { OnOk result (IsBetweenRows self.new.out) }
     {
         match self.rows {
             None => self.take_header(row),

@@ -6,6 +6,7 @@ use crate::session::joined;
 use osn_commands::{ServeResult, Status, run, serve_command, tell_no_words};
 use osn_folder::{Disk, Folder};
 use osn_lines::Plain;
+use osn_register::Limits;
 use std::alloc::Global;
 use std::io;
 use std::io::{ErrorKind, Read, Write};
@@ -90,6 +91,7 @@ fn served(alloc: Global, journal: Option<&str>, requests: &str) -> (Left, Option
     let mut source = journal.map(|text| Plain::new(text.as_bytes()));
     let ServeResult { status, journal } = serve_command(
         alloc,
+        Limits::standard(),
         &mut source,
         8,
         true,
@@ -164,6 +166,7 @@ fn streams_that_fail(rt: HostRuntime) -> Result<(), Fail> {
     let mut input = Plain::new(LANDS.as_bytes());
     let left = serve_command(
         alloc,
+        Limits::standard(),
         &mut failing,
         8,
         true,
@@ -183,6 +186,7 @@ fn streams_that_fail(rt: HostRuntime) -> Result<(), Fail> {
     let mut output = Plain::new(Failing);
     let left = serve_command(
         alloc,
+        Limits::standard(),
         &mut none,
         8,
         true,

@@ -53,8 +53,9 @@ Arguments:
   <DATE>     The date as the document has it
 
 Options:
-      --weekday <DAY>  The weekday that the document names, as Friday, to compare
-  -h, --help           Print help
+      --weekday <DAY>    The weekday that the document names, as Friday, to compare
+      --limits <LIMITS>  The most that the register holds, as lands=5000,changes=200
+  -h, --help             Print help
 
 Examples:
   ./oldstyle read examples/samples.journal GB \"11 February 1731/2\" --weekday Friday
@@ -85,7 +86,7 @@ The day number is what an editor writes into a change.
 
 const DAY: &str = "Says how a territory dated a day, and in which of its periods the day is
 
-Usage: oldstyle day <JOURNAL> <CODE> <DATE>
+Usage: oldstyle day [OPTIONS] <JOURNAL> <CODE> <DATE>
 
 Arguments:
   <JOURNAL>  The file of the journal
@@ -93,7 +94,8 @@ Arguments:
   <DATE>     A Gregorian date, or a day number
 
 Options:
-  -h, --help  Print help
+      --limits <LIMITS>  The most that the register holds, as lands=5000,changes=200
+  -h, --help             Print help
 
 Examples:
   ./oldstyle day examples/samples.journal GB 1732-02-22
@@ -102,7 +104,7 @@ Examples:
 
 const MONTH: &str = "Prints a month as a territory lived it
 
-Usage: oldstyle month <JOURNAL> <CODE> <YEAR> <MONTH>
+Usage: oldstyle month [OPTIONS] <JOURNAL> <CODE> <YEAR> <MONTH>
 
 Arguments:
   <JOURNAL>  The file of the journal
@@ -111,7 +113,8 @@ Arguments:
   <MONTH>    The month, 1 to 12
 
 Options:
-  -h, --help  Print help
+      --limits <LIMITS>  The most that the register holds, as lands=5000,changes=200
+  -h, --help             Print help
 
 Example:
   ./oldstyle month examples/samples.journal GB 1752 9
@@ -121,14 +124,15 @@ A month that the year has twice, since the year began within it, is printed twic
 
 const TERRITORY: &str = "Lists the territories, or the periods of one
 
-Usage: oldstyle territory <JOURNAL> [CODE]
+Usage: oldstyle territory [OPTIONS] <JOURNAL> [CODE]
 
 Arguments:
   <JOURNAL>  The file of the journal
   [CODE]     The code of the territory whose periods are listed
 
 Options:
-  -h, --help  Print help
+      --limits <LIMITS>  The most that the register holds, as lands=5000,changes=200
+  -h, --help             Print help
 
 Examples:
   ./oldstyle territory examples/samples.journal
@@ -143,10 +147,11 @@ Arguments:
   <JOURNAL>  The file of the journal
 
 Options:
-      --place <NAME>    The name of the column of territories' codes [default: place]
-      --date <NAME>     That of the column of dates [default: date]
-      --weekday <NAME>  That of the column of weekdays, which may be missing [default: weekday]
-  -h, --help            Print help
+      --place <NAME>     The name of the column of territories' codes [default: place]
+      --date <NAME>      That of the column of dates [default: date]
+      --weekday <NAME>   That of the column of weekdays, which may be missing [default: weekday]
+      --limits <LIMITS>  The most that the register holds, as lands=5000,changes=200
+  -h, --help             Print help
 
 Example:
   ./oldstyle letters examples/samples.journal < examples/letters.csv
@@ -160,10 +165,11 @@ const SERVE: &str = "Answers request lines on standard input (so does the progra
 Usage: oldstyle serve [OPTIONS]
 
 Options:
-      --journal <FILE>  The journal to begin with; else there are no territories
-      --save <FILE>     Where the journal is saved at the end of the input, unless a fault ended it
-      --readers <N>     How many readers ask, 1 to 64 [default: 8]
-  -h, --help            Print help
+      --journal <FILE>   The journal to begin with; else there are no territories
+      --save <FILE>      Where the journal is saved at the end of the input, unless a fault ended it
+      --readers <N>      How many readers ask, 1 to 64 [default: 8]
+      --limits <LIMITS>  The most that the register holds, as lands=5000,changes=200
+  -h, --help             Print help
 
 Example:
   ./oldstyle serve --journal examples/samples.journal --save new.journal < examples/added.jsonl
@@ -173,14 +179,15 @@ Requests and replies are JSON lines. The journal is saved only where all lines w
 
 const REPLAY: &str = "Takes the steps of one editor and of readers, and prints what each gives
 
-Usage: oldstyle replay --readers <N> <SCHEDULE>
+Usage: oldstyle replay [OPTIONS] --readers <N> <SCHEDULE>
 
 Arguments:
   <SCHEDULE>  The file of the steps
 
 Options:
-      --readers <N>  How many readers there are, 1 to 64
-  -h, --help         Print help
+      --readers <N>      How many readers there are, 1 to 64
+      --limits <LIMITS>  The most that the register holds, as lands=5000,changes=200
+  -h, --help             Print help
 
 Example:
   ./oldstyle replay --readers 2 examples/two_readers.schedule
@@ -190,14 +197,15 @@ A step is a JSON line. All steps are taken before anything is printed.
 
 const DESK: &str = "Lets readers ask while an editor works, each in a thread of its own
 
-Usage: oldstyle desk <SCRIPT> <QUESTIONS>
+Usage: oldstyle desk [OPTIONS] <SCRIPT> <QUESTIONS>
 
 Arguments:
   <SCRIPT>     The file of what the editor does, in the form of a journal
   <QUESTIONS>  The file of what the readers ask
 
 Options:
-  -h, --help  Print help
+      --limits <LIMITS>  The most that the register holds, as lands=5000,changes=200
+  -h, --help             Print help
 
 Example:
   ./oldstyle desk examples/rome.script examples/rome.questions
@@ -209,7 +217,7 @@ edition a reply is of may differ from run to run.
 const ALMANAC: &str = "\
 Prints the almanac of a territory and year, as a journal published the territory
 
-Usage: oldstyle almanac <JOURNAL> <CODE> <YEAR>
+Usage: oldstyle almanac [OPTIONS] <JOURNAL> <CODE> <YEAR>
 
 Arguments:
   <JOURNAL>  The file of the journal
@@ -217,7 +225,8 @@ Arguments:
   <YEAR>     The year, 1 to 9999
 
 Options:
-  -h, --help  Print help
+      --limits <LIMITS>  The most that the register holds, as lands=5000,changes=200
+  -h, --help             Print help
 
 Example:
   ./oldstyle almanac examples/samples.journal GB 1752
@@ -225,14 +234,15 @@ Example:
 
 const AUDIT: &str = "Says whether each reply of a transcript is the one that a journal gives
 
-Usage: oldstyle audit <JOURNAL> <TRANSCRIPT>
+Usage: oldstyle audit [OPTIONS] <JOURNAL> <TRANSCRIPT>
 
 Arguments:
   <JOURNAL>     The file of the journal
   <TRANSCRIPT>  The file of what readers asked and were told
 
 Options:
-  -h, --help  Print help
+      --limits <LIMITS>  The most that the register holds, as lands=5000,changes=200
+  -h, --help             Print help
 
 Example:
   ./oldstyle desk examples/rome.script examples/rome.questions > rome.transcript

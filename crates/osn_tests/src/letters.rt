@@ -1,11 +1,11 @@
 //! Tables of letters, as CSV that is read and written. What stands behind each row was written
 //! apart, by counts of days.
 use crate::compare::same;
-use crate::printed::{Wanted, is_left, left_by, sink};
+use crate::printed::{Left, Wanted, is_left, left_by, sink};
 use crate::session::joined;
 use csv::ByteRecord;
 use osn_commands::letters_command;
-use osn_letters::{ColumnNames, Columns, find_columns, letter_fields, write_letters};
+use osn_letters::{ColumnNames, Columns, Progress, find_columns, letter_fields, write_letters};
 use osn_lines::Plain;
 use osn_register::Limits;
 use osn_wire::load_journal;
@@ -169,16 +169,40 @@ const NO_PLACES: &str = "oldstyle: letters line 1: no column of places: name it 
 
 const NO_DATES: &str = "oldstyle: letters line 1: no column of dates: name it by --date\n";
 
+/// How many bytes were read.
+#[derive(Drop)]
+struct BytesRead(usize);
+
+impl Progress for BytesRead {
+    fn count(&mut self, bytes: usize) {
+        self.0 = self.0.saturating_add(bytes);
+    }
+}
+
+/// What a table leaves behind a journal.
+fn written(alloc: Global, journal: &str, names: ColumnNames<'_>, table: &str) -> Left {
+    let (mut output, mut errors) = (sink(alloc), sink(alloc));
+    let mut source = Plain::new(journal.as_bytes());
+    let mut input = Plain::new(table.as_bytes());
+    let status = letters_command(
+        alloc,
+        Limits::standard(),
+        &mut source,
+        names,
+        &mut input,
+        &mut output,
+        &mut errors,
+        &mut BytesRead(0),
+    );
+    left_by(status, output, errors)
+}
+
 /// That each table is written so.
 fn are_written(rt: &impl Abort, alloc: Global, rows: &[Row]) -> Result<(), Fail> {
     let journal = joined(alloc, JOURNAL)?;
     for (names, table, wanted) in rows {
-        let (mut output, mut errors) = (sink(alloc), sink(alloc));
-        let mut source = Plain::new(journal.as_bytes());
-        let mut input = Plain::new(table.as_bytes());
-        let (out, told) = (&mut output, &mut errors);
-        let status = letters_command(alloc, &mut source, *names, &mut input, out, told);
-        is_left(rt, alloc, left_by(status, output, errors), wanted)?;
+        let left = written(alloc, journal.as_str(), *names, table);
+        is_left(rt, alloc, left, wanted)?;
     }
     Ok(())
 }
@@ -205,12 +229,8 @@ fn long_records(rt: HostRuntime) -> Result<(), Fail> {
         for _letter in 0..*size {
             table.push('x')?;
         }
-        let (mut output, mut errors) = (sink(alloc), sink(alloc));
-        let mut source = Plain::new(journal.as_bytes());
-        let mut input = Plain::new(table.as_bytes());
-        let (out, line) = (&mut output, &mut errors);
-        letters_command(alloc, &mut source, NAMES, &mut input, out, line);
-        same(&rt, (size, errors.into_inner().len()), (size, *told));
+        let left = written(alloc, journal.as_str(), NAMES, table.as_str());
+        same(&rt, (size, left.told.len()), (size, *told));
     }
     Ok(())
 }
@@ -238,8 +258,10 @@ fn a_letter_and_its_table(rt: HostRuntime) -> Result<(), Fail> {
     );
     let mut output = sink(alloc);
     let mut input = Plain::new(b"place,date\n".as_slice());
-    let written = write_letters(alloc, object.register(), 7, NAMES, &mut input, &mut output);
-    same(&rt, written, Ok(()));
+    let mut read = BytesRead(0);
+    let (register, out) = (object.register(), &mut output);
+    let written = write_letters(alloc, register, 7, NAMES, &mut input, out, &mut read);
+    same(&rt, (written, read.0), (Ok(()), 11));
     let text = "place,date,days,gregorian,julian,dual,weekday_found,jdn,edtf,edition,remark\n";
     same(&rt, str::from_utf8(&output.into_inner())?, text);
     Ok(())

@@ -63,6 +63,8 @@ mod lands;
 #[cfg(test)]
 mod letters;
 #[cfg(test)]
+mod limit_words;
+#[cfg(test)]
 mod limits;
 #[cfg(test)]
 mod live;

@@ -304,7 +304,7 @@ For more information, try '--help'.
             "",
             "error: unexpected argument 'none' found
 
-Usage: oldstyle desk <SCRIPT> <QUESTIONS>
+Usage: oldstyle desk [OPTIONS] <SCRIPT> <QUESTIONS>
 
 For more information, try '--help'.
 ",

@@ -224,6 +224,7 @@ Tuesday 1 April 1543/4    11 April 1544 Gregorian    1 April 1544 Julian    day 
 /// That a journal gives each page.
 fn are_pages(rt: &impl Abort, alloc: Global, journal: &str, rows: &[Reading]) -> Result<(), Fail> {
     let journal = joined(alloc, journal)?;
+    let limits = Limits::standard();
     for (code, date, weekday, wanted) in rows {
         let (mut output, mut errors) = (sink(alloc), sink(alloc));
         let mut source = Plain::new(journal.as_bytes());
@@ -232,7 +233,7 @@ fn are_pages(rt: &impl Abort, alloc: Global, journal: &str, rows: &[Reading]) ->
             date,
             weekday: *weekday,
         };
-        let status = page_command(alloc, &mut source, words, &mut output, &mut errors);
+        let status = page_command(alloc, limits, &mut source, words, &mut output, &mut errors);
         is_left(rt, alloc, left_by(status, output, errors), wanted)?;
     }
     Ok(())

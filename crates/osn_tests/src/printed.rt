@@ -5,6 +5,7 @@ use crate::session::joined;
 use osn_commands::{Status, audit_command, desk_command, page_command, replay_command};
 use osn_invocation::PageWords;
 use osn_lines::Plain;
+use osn_register::Limits;
 use std::alloc::Global;
 use std::process::Abort;
 use std::str;
@@ -84,11 +85,12 @@ const ALMANACS: [Almanac; 7] = [
 ];
 
 fn almanacs(rt: &impl Abort, alloc: Global, rows: &[Almanac]) -> Result<(), Fail> {
+    let limits = Limits::standard();
     for (journal, code, year, wanted) in rows {
         let (mut output, mut errors) = (sink(alloc), sink(alloc));
         let mut source = Plain::new(journal.as_bytes());
         let words = PageWords::Almanac { code, year: *year };
-        let status = page_command(alloc, &mut source, words, &mut output, &mut errors);
+        let status = page_command(alloc, limits, &mut source, words, &mut output, &mut errors);
         is_left(rt, alloc, left_by(status, output, errors), wanted)?;
     }
     Ok(())
@@ -102,12 +104,20 @@ fn almanacs_are_refused(rt: HostRuntime) -> Result<(), Fail> {
 #[test]
 fn an_almanac_is_printed(rt: HostRuntime) -> Result<(), Fail> {
     let (mut output, mut errors) = (sink(rt.alloc()), sink(rt.alloc()));
+    let limits = Limits::standard();
     let mut source = Plain::new(RM.as_bytes());
     let words = PageWords::Almanac {
         code: "RM",
         year: 1500,
     };
-    let status = page_command(rt.alloc(), &mut source, words, &mut output, &mut errors);
+    let status = page_command(
+        rt.alloc(),
+        limits,
+        &mut source,
+        words,
+        &mut output,
+        &mut errors,
+    );
     let left = left_by(status, output, errors);
     let text = str::from_utf8(&left.written)?;
     assert!(rt; text.starts_with("Almanac of Rome (RM) for 1500\nGolden number 19, indiction 3\n"));
@@ -184,11 +194,19 @@ const REPLAYS: [Replay; 12] = [
 ];
 
 fn replays(rt: &impl Abort, alloc: Global, rows: &[Replay]) -> Result<(), Fail> {
+    let limits = Limits::standard();
     for (readers, schedule, wanted) in rows {
         let (mut output, mut errors) = (sink(alloc), sink(alloc));
         let schedule = joined(alloc, schedule)?;
         let mut source = Plain::new(schedule.as_bytes());
-        let status = replay_command(alloc, *readers, &mut source, &mut output, &mut errors);
+        let status = replay_command(
+            alloc,
+            limits,
+            *readers,
+            &mut source,
+            &mut output,
+            &mut errors,
+        );
         is_left(rt, alloc, left_by(status, output, errors), wanted)?;
     }
     Ok(())
@@ -279,11 +297,19 @@ const DESKS: [Desk; 10] = [
 
 fn desks<R: Threads + Wait + Abort + AllocGlobal>(rt: &R, rows: &[Desk]) -> Result<(), Fail> {
     let alloc = rt.alloc();
+    let limits = Limits::standard();
     for (script, questions, wanted) in rows {
         let (mut output, mut errors) = (sink(alloc), sink(alloc));
         let mut script = Plain::new(script.as_bytes());
         let mut questions = Plain::new(questions.as_bytes());
-        let status = desk_command(rt, &mut script, &mut questions, &mut output, &mut errors);
+        let status = desk_command(
+            rt,
+            limits,
+            &mut script,
+            &mut questions,
+            &mut output,
+            &mut errors,
+        );
         is_left(rt, alloc, left_by(status, output, errors), wanted)?;
     }
     Ok(())
@@ -319,12 +345,20 @@ const AUDITS: [Audit; 4] = [
 ];
 
 fn audits(rt: &impl Abort, alloc: Global, rows: &[Audit]) -> Result<(), Fail> {
+    let limits = Limits::standard();
     for (journal, transcript, wanted) in rows {
         let (mut output, mut errors) = (sink(alloc), sink(alloc));
         let transcript = joined(alloc, transcript)?;
         let mut journal = Plain::new(journal.as_bytes());
         let mut told = Plain::new(transcript.as_bytes());
-        let status = audit_command(alloc, &mut journal, &mut told, &mut output, &mut errors);
+        let status = audit_command(
+            alloc,
+            limits,
+            &mut journal,
+            &mut told,
+            &mut output,
+            &mut errors,
+        );
         is_left(rt, alloc, left_by(status, output, errors), wanted)?;
     }
     Ok(())

@@ -4,6 +4,7 @@ use crate::session::joined;
 use osn_commands::page_command;
 use osn_invocation::PageWords;
 use osn_lines::Plain;
+use osn_register::Limits;
 use std::alloc::Global;
 use std::process::Abort;
 use std::test::Fail;
@@ -245,10 +246,11 @@ always: julian calendar, pisan style (years from the 25 March before), julian ru
 /// That the journal gives each page.
 fn are_pages(rt: &impl Abort, alloc: Global, rows: &[Row]) -> Result<(), Fail> {
     let journal = joined(alloc, JOURNAL)?;
+    let limits = Limits::standard();
     for (words, wanted) in rows {
         let (mut output, mut errors) = (sink(alloc), sink(alloc));
         let mut source = Plain::new(journal.as_bytes());
-        let status = page_command(alloc, &mut source, *words, &mut output, &mut errors);
+        let status = page_command(alloc, limits, &mut source, *words, &mut output, &mut errors);
         is_left(rt, alloc, left_by(status, output, errors), wanted)?;
     }
     Ok(())

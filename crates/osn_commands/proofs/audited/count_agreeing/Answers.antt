@@ -1,7 +1,6 @@
-use Rattle.std.proofs.Common.{subst, sym, IfErr}
+use Rattle.std.proofs.Common.{subst, sym}
 use Rattle.osn_days.specs.Profile.{newest_rules}
-use Rattle.osn_register.specs.declared.limits.Limits.{Limits}
-use Rattle.osn_commands.specs.Audited.{Agree, IsNotAudited}
+use Rattle.osn_commands.specs.Audited.{IsNotAudited}
 use Rattle.osn_commands.specs.Streams.{input_of}
 use Rattle.osn_commands.proofs.AuditLemmas.{agree, audit_fault}
 use Rattle.osn_commands.proofs.FileLemmas.{if_err_made}
@@ -13,18 +12,11 @@ returns-in_err-audit-clause-err g c =
     c.audit.new.journal in
     let told = input_of g.K.Source.remaining g.K.Source.has_failed c.args.transcript.now
     c.audit.new.transcript in
-    subst (λ (l : Limits). IfErr c.from_residual.result (IsNotAudited newest_rules l edits told))
-    c.standard.ensures
-    (if_err_made c.from_residual.result c.from_residual.ensures.1
-    (λ e is. subst (IsNotAudited newest_rules c.standard.result edits told) (sym is)
-    (audit_fault newest_rules c.standard.result c.in_err-audit.field-0.0 _ _ _ _ _ _ _ _
-    c.in_err-audit.ensures.files)))
+    if_err_made c.from_residual.result c.from_residual.ensures.1
+    (λ e is. subst (IsNotAudited newest_rules c.args.limits edits told) (sym is)
+    (audit_fault newest_rules c.args.limits c.in_err-audit.field-0.0 _ _ _ _ _ _ _ _
+    c.in_err-audit.ensures.files))
 
 pub returns-clause-ok : goal.returns-clause-ok
 returns-clause-ok g c =
-    subst (λ (l : Limits). Agree newest_rules l
-    (input_of g.J.Source.remaining g.J.Source.has_failed c.args.journal.now c.audit.new.journal)
-    (input_of g.K.Source.remaining g.K.Source.has_failed c.args.transcript.now
-    c.audit.new.transcript) c.in_ok-audit.field-0)
-    c.standard.ensures
-    (agree newest_rules c.standard.result _ _ _ _ _ _ _ _ _ c.in_ok-audit.ensures.files)
+    agree newest_rules c.args.limits _ _ _ _ _ _ _ _ _ c.in_ok-audit.ensures.files

@@ -11,7 +11,7 @@ returns-clause-ok g c =
     s.1 s.2 c.finish.ensures.unsaved c.finish.ensures.saved in (
       e.0,
       e.1,
-      service_ran _ _ c.is_some-saves.result _ (MayFail g.D.File.Source.has_failed) _ _ _ _
+      service_ran c.args.limits _ _ c.is_some-saves.result _ (MayFail g.D.File.Source.has_failed) _ _ _ _
           _ _ _ s.0 e.0
           (c.is_some-saves.ensures ∙ sym (mapped _ c.args.options.save))
           c.in_ok-source.ensures.file (may_fail_if g.D.File.Source.has_failed _)

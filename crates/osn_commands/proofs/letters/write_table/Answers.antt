@@ -1,4 +1,4 @@
-use Rattle.std.proofs.Common.{sym, inr, refl, ap, length}
+use Rattle.std.proofs.Common.{sym, inr, ap, length}
 use Rattle.osn_days.specs.Profile.{newest_rules}
 use Rattle.osn_commands.proofs.FileLemmas.{if_err_made}
 use Rattle.osn_commands.proofs.LettersLemmas.{ended_table}
@@ -14,7 +14,7 @@ returns-in_err-write_letters-clause-err g c =
       c.in_ok-object.ensures.ok,
       _,
       is,
-      ended_table newest_rules c.in_ok-object.object _ _ _ _ _ _ _ _ (sym c.register.ensures.lands)
+      ended_table newest_rules c.in_ok-object.object _ _ _ _ _ _ _ _ (sym c.register-register.ensures.lands)
           (sym (ap length c.batches-edition.ensures.value)) ended.ensures.early
           ended.ensures.source.0 ended.ensures.sink,
     ))

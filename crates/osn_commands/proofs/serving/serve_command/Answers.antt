@@ -1,6 +1,5 @@
 use Rattle.std.proofs.Common.{Some, refl, inr}
 use Rattle.osn_days.specs.Profile.{newest_rules}
-use Rattle.osn_register.specs.Limits.{standard_limits}
 use Rattle.osn_commands.proofs.ReportLemmas.{serves_known}
 use Rattle.osn_commands.proofs.serving.serve_command.Goals as goal
 
@@ -10,6 +9,6 @@ returns-in-Err g c =
       Some t.0,
       t.2,
       inr refl,
-      serves_known newest_rules standard_limits _ _ _ c.args.saves _ _ _ _ c.in-Err.fault
+      serves_known newest_rules c.args.limits _ _ _ c.args.saves _ _ _ _ c.in-Err.fault
           t.0 t.1 c.in-Err.ensures.err,
     )

@@ -18,25 +18,25 @@ returns c =
     let program = explained _ _ c.after_help.result _ _ _ versioned
     c.about.ensures c.after_help.ensures in
     let first = one_more_command _ _ _ _ _ c.in_ok-subcommand.ensures
-    program c.in_ok-read_grammar.ensures in
+    program (c.in_ok-limited.ensures _ c.in_ok-read_grammar.ensures) in
     let second = one_more_command _ _ _ _ _ c.in_ok-subcommand-2.ensures
     first c.in_ok-convert_grammar.ensures in
     let third = one_more_command _ _ _ _ _ c.in_ok-subcommand-3.ensures
-    second c.in_ok-day_grammar.ensures in
+    second (c.in_ok-limited-2.ensures _ c.in_ok-day_grammar.ensures) in
     let fourth = one_more_command _ _ _ _ _ c.in_ok-subcommand-4.ensures
-    third c.in_ok-month_grammar.ensures in
+    third (c.in_ok-limited-3.ensures _ c.in_ok-month_grammar.ensures) in
     let fifth = one_more_command _ _ _ _ _ c.in_ok-subcommand-5.ensures
-    fourth c.in_ok-territory_grammar.ensures in
+    fourth (c.in_ok-limited-4.ensures _ c.in_ok-territory_grammar.ensures) in
     let sixth = one_more_command _ _ _ _ _ c.in_ok-subcommand-6.ensures
-    fifth c.in_ok-letters_grammar.ensures in
+    fifth (c.in_ok-limited-5.ensures _ c.in_ok-letters_grammar.ensures) in
     let seventh = one_more_command _ _ _ _ _ c.in_ok-subcommand-7.ensures
-    sixth c.in_ok-serve_grammar.ensures in
+    sixth (c.in_ok-limited-6.ensures _ c.in_ok-serve_grammar.ensures) in
     let eighth = one_more_command _ _ _ _ _ c.in_ok-subcommand-8.ensures
-    seventh c.in_ok-replay_grammar.ensures in
+    seventh (c.in_ok-limited-7.ensures _ c.in_ok-replay_grammar.ensures) in
     let ninth = one_more_command _ _ _ _ _ c.in_ok-subcommand-9.ensures
-    eighth c.in_ok-desk_grammar.ensures in
+    eighth (c.in_ok-limited-8.ensures _ c.in_ok-desk_grammar.ensures) in
     let tenth = one_more_command _ _ _ _ _ c.in_ok-subcommand-10.ensures
-    ninth c.in_ok-almanac_grammar.ensures in
+    ninth (c.in_ok-limited-9.ensures _ c.in_ok-almanac_grammar.ensures) in
     IfOk-weaker c.subcommand-11.result _ _
-    (λ new added. one_more_command _ new _ _ _ added tenth c.in_ok-audit_grammar.ensures)
+    (λ new added. one_more_command _ new _ _ _ added tenth (c.in_ok-limited-10.ensures _ c.in_ok-audit_grammar.ensures))
     c.subcommand-11.ensures

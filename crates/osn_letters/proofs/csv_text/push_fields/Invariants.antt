@@ -5,5 +5,5 @@ use Rattle.osn_letters.proofs.csv_text.push_fields.Given as goal
 -- the fields so far
 abbrev pub invariant-loop-place : goal.invariant-loop-place
 invariant-loop-place l =
-    (fields_of l.record ≡ fields_of l.initial.record ++ take l.place (fields_of l.fields))
-    × (partial_of l.record ≡ [])
+    (fields_of l.row ≡ fields_of l.initial.row ++ take l.place (fields_of l.fields))
+    × (partial_of l.row ≡ [])

@@ -206,7 +206,7 @@ loop-call-preserved g c =
             c.loop-call.invariant.buffer,
             c.loop-call.buffer.ok.0,
           );
-      partial = c.in_ok-take_and_write.ensures.partial;
+      ready = c.in_ok-take_and_write.ensures.ready;
       empty = c.in_ok-take_and_write.ensures.empty;
       source = c.in-Ok-read.ensures.failed ∙ c.loop-call.invariant.source;
       sink = c.in_ok-take_and_write.ensures.sound ∙ c.loop-call.invariant.sink;

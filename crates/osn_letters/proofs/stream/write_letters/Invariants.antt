@@ -1,9 +1,9 @@
 use Rattle.std.proofs.Common.{◌≡◌, ◌+◌, ◌*◌, ◌≤◌, ℕ, List, [], ◌++◌, length}
 use Rattle.std.specs.Io.KnownBytes.{Consumes}
-use Rattle.csv.specs.Records.{partial_of}
 use Rattle.osn_days.specs.Profile.{newest_rules}
-use Rattle.osn_letters.specs.LettersInside.{Passes, text_from}
+use Rattle.osn_letters.specs.LettersInside.{IsReady, Passes, text_from}
 use Rattle.osn_letters.specs.Table.{letters_written, basis}
+use Rattle.osn_letters.specs.WriterInside.{waiting}
 use Rattle.osn_letters.proofs.stream.write_letters.Given as goal
 
 -- of what was read all that comes of it was written
@@ -12,8 +12,8 @@ invariant-loop-call g l =
     record {
       buffer : length l.buffer.items ≡ 65536;
       few : l.letters.parser.line ≤ 1 + 65536 * l._call;
-      partial : partial_of l.letters.parser.record ≡ [];
-      empty : l.letters.table.out.items ≡ [];
+      ready : IsReady l.letters;
+      empty : waiting l.letters.table.out ≡ [];
       source : g.R.Source.has_failed l.source ≡ g.R.Source.has_failed l.fn.source;
       sink : g.W.Sink.has_failed l.sink ≡ g.W.Sink.has_failed l.fn.sink;
       taken : (read : List ℕ) × (l._call ≤ length read)

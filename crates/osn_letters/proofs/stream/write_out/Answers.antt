@@ -1,15 +1,34 @@
-use Rattle.std.proofs.Common.{take, drop, sym, ◌∙◌, rules, ◌≡◌}
-use Rattle.std.proofs.lemmas.List.{take-append-drop}
+use Rattle.std.proofs.Common.{◌≡◌, true, false, refl, rules, subst, take}
+use Rattle.std.specs.Io.KnownBytes.{Appends}
+use Rattle.osn_letters.specs.declared.fault.LettersFault.TheVariants.{NoMemory, WriteFault}
+use Rattle.osn_letters.specs.LettersInside.{is_known}
+use Rattle.osn_letters.specs.WriterInside.{waiting}
+use Rattle.osn_letters.proofs.LetterFacts.{all_early, nothing_written, part_early, unknown_early}
 use Rattle.osn_letters.proofs.stream.write_out.Goals as goal
 
-pub returns-in-Err-clause-part : goal.returns-in-Err-clause-part
-returns-in-Err-clause-part g c =
-    let bytes = c.deref.result.now in
-    let n = c.in-Err.field-0 in
-    let same : c.args.out.now.items ≡ bytes = search rules in
-    record {
-      written = take n bytes;
-      left = drop n bytes;
-      appended = c.in-Err.ensures.err.1;
-      parts = same ∙ sym (take-append-drop n bytes);
-    }
+pub returns-then-not-is_known-clause-early : goal.returns-then-not-is_known-clause-early
+returns-then-not-is_known-clause-early g c =
+    let unknown : is_known c.args.taken ≡ false = search rules in
+    unknown_early (g.W.Sink.contents c.args.sink.now) (waiting c.args.out.now) c.args.taken unknown
+
+pub returns-in_default-clause-early : goal.returns-in_default-clause-early
+returns-in_default-clause-early g c = λ w waits. nothing_written _ w NoMemory refl
+
+pub returns-in-Ok-write_all-clause-early : goal.returns-in-Ok-write_all-clause-early
+returns-in-Ok-write_all-clause-early g c =
+    let known : is_known c.args.taken ≡ true = search rules in
+    let text : c.deref.result.now ≡ waiting c.args.out.now = search rules in
+    all_early _ _ (waiting c.args.out.now) c.args.taken known
+    (subst (Appends (g.W.Sink.contents c.args.sink.now) (g.W.Sink.contents c.write_all.new.sink))
+    text c.in-Ok-write_all.ensures.ok)
+
+pub returns-clause-early : goal.returns-clause-early
+returns-clause-early g c =
+    let known : is_known c.args.taken ≡ true = search rules in
+    let text : c.deref.result.now ≡ waiting c.args.out.now = search rules in
+    λ w waits.
+    part_early _ _ (waiting c.args.out.now) c.in-Err.field-0 c.args.taken WriteFault w known
+    (subst (λ l. Appends (g.W.Sink.contents c.args.sink.now)
+    (g.W.Sink.contents c.write_all.new.sink) (take c.in-Err.field-0 l)) text
+    c.in-Err.ensures.err.1)
+    refl waits

@@ -2,6 +2,7 @@ use Rattle.std.proofs.Common.{[], subst}
 use Rattle.std.proofs.lemmas.Result.{on_ok_weaker, IfErr-weaker}
 use Rattle.osn_letters.specs.LettersInside.{Wrote, text_behind}
 use Rattle.osn_letters.specs.Table.{whole}
+use Rattle.osn_letters.specs.WriterInside.{waiting}
 use Rattle.osn_letters.proofs.LetterFacts.{told, end_taken, end_stops, end_stops_held, last_stops}
 use Rattle.osn_letters.proofs.letters.Letters.finish.Goals as goal
 
@@ -14,17 +15,17 @@ returns-in_err-take_held-clause-stops c = told _ c.from_residual.result
 pub returns-in_err-take_last-clause-stops : goal.returns-in_err-take_last-clause-stops
 returns-in_err-take_last-clause-stops c = told _ c.from_residual-in_err-take_last.result
     c.in_err-take_last.field-0.0 c.from_residual-in_err-take_last.ensures.1
-    (end_stops c.args.self.now c.take_held.new.self c.take_last.new.self.table.out.items
+    (end_stops c.args.self.now c.take_held.new.self (waiting c.take_last.new.self.table.out)
     c.in_err-take_last.field-0.0 c.in_ok-take_held.ensures.takes
     c.in_err-take_last.ensures.stops)
 
 pub returns-clause-takes : goal.returns-clause-takes
 returns-clause-takes c =
     let t = c.take_held.new.self in
-    let out = c.take_last.new.self.table.out.items in
+    let out = waiting c.take_last.new.self.table.out in
     on_ok_weaker c.finish.result
     (λ ended. end_taken c.args.self.now t out whole c.in_ok-take_held.ensures.takes
-    (subst (λ w. Wrote t.table.out.items out (text_behind t []) w) ended
+    (subst (λ w. Wrote (waiting t.table.out) out (text_behind t []) w) ended
     c.in_ok-take_last.ensures.takes))
     c.finish.ensures.whole
 
@@ -32,6 +33,6 @@ pub returns-clause-stops : goal.returns-clause-stops
 returns-clause-stops c =
     IfErr-weaker c.finish.result _ _
     (λ fault h. end_stops c.args.self.now c.take_held.new.self
-    c.take_last.new.self.table.out.items fault c.in_ok-take_held.ensures.takes
+    (waiting c.take_last.new.self.table.out) fault c.in_ok-take_held.ensures.takes
     (last_stops fault c.in_ok-take_last.ensures.takes h.0 h.1))
     c.finish.ensures.fault

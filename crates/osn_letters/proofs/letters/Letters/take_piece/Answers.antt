@@ -11,7 +11,7 @@ returns-in_err-take_byte-clause-stops c = told _ c.from_residual.result
 
 pub loop-byte-preserved : goal.loop-byte-preserved
 loop-byte-preserved c = record {
-  partial = c.in_ok-take_byte.ensures.partial;
+  ready = c.in_ok-take_byte.ensures.ready;
   line = omega (arith, c.in_ok-take_byte.ensures.line, c.loop-byte.invariant.line);
   taken =
       byte_then c.args.self.now c.loop-byte.self c.take_byte.new.self c.args.piece.now

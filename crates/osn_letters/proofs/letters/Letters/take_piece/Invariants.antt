@@ -1,13 +1,12 @@
-use Rattle.std.proofs.Common.{◌≡◌, ◌+◌, ◌≤◌, [], take}
-use Rattle.csv.specs.Records.{partial_of}
-use Rattle.osn_letters.specs.LettersInside.{TakesBytes}
+use Rattle.std.proofs.Common.{◌+◌, ◌≤◌, take}
+use Rattle.osn_letters.specs.LettersInside.{IsReady, TakesBytes}
 use Rattle.osn_letters.proofs.letters.Letters.take_piece.Given as goal
 
 -- the bytes so far were taken
 abbrev pub invariant-loop-byte : goal.invariant-loop-byte
 invariant-loop-byte l =
     record {
-      partial : partial_of l.self.parser.record ≡ [];
+      ready : IsReady l.self;
       line : l.self.parser.line ≤ l.initial.self.parser.line + l.byte-index;
       taken : TakesBytes l.initial.self l.self (take l.byte-index l.piece);
     }

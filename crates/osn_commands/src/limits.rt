@@ -1,0 +1,85 @@
+//! The limits of the register, as the command line names them.
+ghost use Rattle.std.specs.Prelude.{◌≡◌, ◌<◌, option_map};
+ghost use Rattle.osn_pages.specs.WrittenDate.{parts_at};
+ghost use Rattle.osn_register.specs.Limits.{standard_limits};
+ghost use Rattle.osn_commands.specs.Limits as spec;
+
+use crate::fault::Misuse;
+use osn_files::LineFault;
+use osn_register::{Limits, Refusal};
+
+/// The number that a text is, 0 to 4,294,967,295, if it is one.
+fn number_of(text: &str) -> Option<u32>
+    ensures { result ≡ spec.number_of text.now }
+{
+    text.parse::<u32>().ok()
+}
+
+/// The limits with the one of this name set, if there is one.
+fn with_limit(limits: Limits, name: &str, number: u32) -> Option<Limits>
+    ensures { result ≡ spec.with_limit limits name.now number }
+{
+    let mut limits = limits;
+    match name {
+        "lands" => limits.lands = number,
+        "changes" => limits.changes = number,
+        "exceptions" => limits.exceptions = number,
+        "edits" => limits.edits = number,
+        "editions" => limits.editions = number,
+        _ => return None,
+    }
+    Some(limits)
+}
+
+/// The parts of a text before and behind the first such character.
+fn parts_at(text: &str, separator: char) -> Option<(&str, &str)>
+    requires { separator < 128 }
+    ensures { option_map (λ x. (x.0.now, x.1.now)) result ≡ parts_at separator text.now }
+{
+    text.split_once(separator)
+}
+
+/// The limits with one set as a text says, `NAME=NUMBER`.
+fn with_setting(limits: Limits, text: &str) -> Option<Limits>
+    ensures { result ≡ spec.with_setting limits text.now }
+{
+    let (name, number) = parts_at(text, '=')?;
+    with_limit(limits, name, number_of(number)?)
+}
+
+/// The standard limits with those set that a text names.
+fn limits_of(text: &str) -> Option<Limits>
+    ensures { result ≡ spec.with_settings standard_limits (spec.settings text.now) }
+{
+    let mut limits = Limits::standard();
+    let mut rest = text;
+    while let Some((first, further)) = parts_at(rest, ',') {
+        limits = with_setting(limits, first)?;
+        rest = further;
+    }
+    with_setting(limits, rest)
+}
+
+/// The limits that words ask for: of no words the standard ones.
+pub(crate) fn asked_limits(words: Option<&str>) -> Result<Limits, Misuse>
+    ensures { result ≡ spec.limits_asked (option_map (λ words. words.now) words.entry) }
+{
+    match words {
+        None => Ok(Limits::standard()),
+        Some(text) => limits_of(text).ok_or(Misuse::Limits),
+    }
+}
+
+/// How more is allowed, where a line is refused at a limit.
+pub(crate) fn limit_hint(fault: LineFault) -> &'static str
+    ensures { result.now ≡ spec.limit_hint fault }
+{
+    match fault {
+        LineFault::Register(Refusal::TooManyLands) => " (--limits lands=N allows more)",
+        LineFault::Register(Refusal::TooManyChanges) => " (--limits changes=N allows more)",
+        LineFault::Register(Refusal::TooManyExceptions) => " (--limits exceptions=N allows more)",
+        LineFault::Register(Refusal::JournalFull) => " (--limits edits=N allows more)",
+        LineFault::Register(Refusal::EditionsFull) => " (--limits editions=N allows more)",
+        _ => "",
+    }
+}
