@@ -229,10 +229,14 @@ def run_watched(command, source=None):
     return usage.ru_utime + usage.ru_stime, peak, told
 
 
-def print_head(title, commands):
-    print(f"{title:28}" + "".join(f"{name:>12}" for name in commands) + f"{'ratio':>8}")
+def print_head(title, commands, *more):
+    names = "".join(f"{name:>12}" for name in commands)
+    print(f"{title:28}{names}{'ratio':>8}" + "".join(f"{name:>10}" for name in more))
 
 
-def print_rates(title, rates):
+def print_rates(title, rates, floor=None):
+    """The rates of the two programs and their ratio; and, where there is one, that of the floor, with
+    how many times its time the first program takes."""
     numbers = "".join(f"{rate:12,.0f}" for rate in rates)
-    print(f"{title:28}{numbers}{rates[0] / rates[1]:8.2f}")
+    beside = f"{floor:10,.0f}{floor / rates[0]:10.2f}" if floor else ""
+    print(f"{title:28}{numbers}{rates[0] / rates[1]:8.2f}{beside}")

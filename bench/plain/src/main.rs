@@ -47,6 +47,19 @@ fn parse_lines() -> io::Result<()> {
     Ok(())
 }
 
+/// Reads every line into a JSON value, and writes for each a line of this many bytes.
+fn answer_blindly(length: usize) -> io::Result<()> {
+    let mut input = BufReader::with_capacity(1 << 16, io::stdin().lock());
+    let mut output = BufWriter::with_capacity(1 << 16, io::stdout().lock());
+    let reply = [vec![b' '; length], vec![b'\n']].concat();
+    let mut line = Vec::new();
+    while next_line(&mut input, &mut output, &mut line)? {
+        let _value: serde_json::Value = serde_json::from_slice(&line)?;
+        output.write_all(&reply)?;
+    }
+    output.flush()
+}
+
 /// Makes the edits of all requests, and then lets readers ask their queries at a desk.
 fn run_desk(words: &[String]) -> io::Result<()> {
     let mut input = BufReader::with_capacity(1 << 16, io::stdin().lock());
@@ -84,11 +97,13 @@ fn serve() -> io::Result<()> {
     output.flush()
 }
 
-/// With no word it serves; `parse`, or `desk` with a lock, readers, readings and editions.
+/// With no word it serves; `parse`, `floor` with the length of a reply, or `desk` with a lock, readers,
+/// readings and editions.
 fn main() -> io::Result<()> {
     let words: Vec<String> = std::env::args().skip(1).collect();
     match words.first().map(String::as_str) {
         Some("parse") => parse_lines(),
+        Some("floor") => answer_blindly(words[1].parse().expect("a number")),
         Some("desk") => run_desk(&words[1..]),
         _ => serve(),
     }

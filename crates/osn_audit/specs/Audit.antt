@@ -2,10 +2,10 @@
 -- that is refused. This project's profile.
 use Rattle.std.specs.Prelude.{ℕ, ◌-◌, ℤ, pos, int_le, unsigned_abs, nat_lt, ◌&&◌, not, Bool, List}
 use Rattle.std.specs.Prelude.{length, take, replicate, slice_index, slice_set, if◌then◌else◌}
-use Rattle.std.specs.Prelude.{Option, Some, None, is_some, option_and_then, Result, Ok, Err}
+use Rattle.std.specs.Prelude.{Option, Some, None, option_and_then, Result, Ok, Err}
 use Rattle.std.specs.Str.{bytes_eq}
 use Rattle.serde_json.specs.Data.{Data}
-use Rattle.serde_json.specs.Find.{get, as_object}
+use Rattle.serde_json.specs.Find.{get}
 use Rattle.serde_json.specs.Written.{has_float}
 use Rattle.osn_days.specs.Profile.{Profile}
 use Rattle.osn_register.specs.declared.query.Query.{Query}
@@ -16,6 +16,7 @@ use Rattle.osn_format.specs.declared.wire_fault.WireFault.{WireFault}
 use Rattle.osn_format.specs.declared.wire_fault.WireFault.TheVariants.{BadField, WrongReply}
 use Rattle.osn_format.specs.declared.wire_fault.WireFault.TheVariants.{UnknownEdition, EditionFell}
 use Rattle.osn_request.specs.Field.{◌>>=◌, or_fault, whole_at}
+use Rattle.osn_request.specs.LineObject.{if_object}
 use Rattle.osn_format.specs.Member.{member_name}
 use Rattle.osn_format.specs.declared.version.Version.{Version}
 use Rattle.osn_format.specs.Version.{newest_version}
@@ -31,9 +32,6 @@ pub record TranscriptLine : Type 0 where
   pub query : Query
   pub edition : ℕ
   pub reply : Data
-
-abbrev pub if_object : Data → Option Data
-if_object d = if is_some (as_object d) then Some d else None
 
 -- a member that is an object
 abbrev pub object_at : Member → Data → Result Data WireFault

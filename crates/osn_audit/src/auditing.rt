@@ -14,7 +14,7 @@ use osn_core::MOST_READERS;
 use osn_files::{LineFold, LineStop};
 use osn_format::{Version, WireFault};
 use osn_reply::{Outcome, push_reply};
-use osn_request::RequestError;
+use osn_request::{LineObject, RequestError};
 use serde_json::Value;
 use std::alloc::{AllocError, Global};
 
@@ -94,7 +94,7 @@ impl LineFold for Followers {
         &mut self,
         alloc: Global,
         _version: Version,
-        object: &Value,
+        object: &LineObject<'_>,
     ) -> Result<(), LineStop> {
         let entry = entry_in(alloc, object)?;
         take_entry(alloc, self, &entry)?;

@@ -1,6 +1,7 @@
 //! What a line of a transcript says.
 ghost use Rattle.std.specs.Prelude.{◌≡◌, ◌<◌, ◌≤◌, MatchResult, IfOk, Ok, Err};
 ghost use Rattle.serde_json.specs.View.{view};
+ghost use Rattle.osn_request.specs.LineObject.{line_data};
 ghost use Rattle.osn_request.specs.Request.{Fails};
 ghost use Rattle.osn_audit.specs.Audit as spec;
 ghost use Rattle.osn_audit.specs.Inside.{entry_shown};
@@ -9,19 +10,19 @@ use osn_core::MOST_READERS;
 use osn_files::question_in;
 use osn_format::{Member, WireFault};
 use osn_register::Query;
-use osn_request::{RequestError, whole_at};
+use osn_request::{LineObject, RequestError, whole_at};
 use serde_json::Value;
 use std::alloc::Global;
 
 /// A member that is an object.
-fn object_at(value: &Value, member: Member) -> Result<&Value, WireFault>
+fn object_at<'a>(object: &'a LineObject<'_>, member: Member) -> Result<&'a Value, WireFault>
     ensures { MatchResult result
-        (λ v. spec.object_at member (view value.now) ≡ Ok (view v.now))
-        (λ f. spec.object_at member (view value.now) ≡ Err f) }
+        (λ v. spec.object_at member (line_data object.now) ≡ Ok (view v.now))
+        (λ f. spec.object_at member (line_data object.now) ≡ Err f) }
 {
-    match value.get(member.name()) {
-        Some(object) if object.is_object() => Ok(object),
-        _ => Err(WireFault::BadField(member)),
+    match object.object(member.name()) {
+        Some(value) => Ok(value),
+        None => Err(WireFault::BadField(member)),
     }
 }
 
@@ -47,15 +48,18 @@ pub(crate) struct TranscriptLine<'a> {
 
 /// What the object of a line says.
 #[tactic(auto, unfolding(crate::specs::Audit::entry_in))]
-pub(crate) fn entry_in(alloc: Global, value: &Value) -> Result<TranscriptLine, RequestError>
+pub(crate) fn entry_in<'a>(
+    alloc: Global,
+    object: &'a LineObject<'_>,
+) -> Result<TranscriptLine<'a>, RequestError>
     ensures entry { MatchResult result
-        (λ e. spec.entry_in (view value.now) ≡ Ok (entry_shown e))
-        (λ e. Fails e (spec.entry_in (view value.now))) }
+        (λ e. spec.entry_in (line_data object.now) ≡ Ok (entry_shown e))
+        (λ e. Fails e (spec.entry_in (line_data object.now))) }
     ensures reader { IfOk result (λ e. (0 < e.reader) × (e.reader ≤ MOST_READERS)) }
 {
-    let ask = object_at(value, Member::Ask)?;
+    let ask = object_at(object, Member::Ask)?;
     let (reader, query) = question_in(alloc, ask)?;
-    let reply = object_at(value, Member::Reply)?;
+    let reply = object_at(object, Member::Reply)?;
     let edition = edition_of(reply)?;
     Ok(TranscriptLine {
         reader,

@@ -67,24 +67,22 @@ in_turn-line {A = A} step n (Some version) a line more =
       | Err f ↦ refl
     ]
 
--- the object of a line was taken
+-- a line was taken
 pub Reads-line : {S A : Type 0} (step : Rule S A) (state : S → A) (begun old new : Reading S)
-    (before : List (List ℕ)) (line : List ℕ) (d : Data) → Reads step state begun before old
-    → object_of line ≡ Ok d
-    → taken (step old.fold) old.version (state old.fold) d ≡ Ok (new.version, state new.fold)
+    (before : List (List ℕ)) (line : List ℕ) → Reads step state begun before old
+    → on_read (object_of line) (taken (step old.fold) old.version (state old.fold))
+    ≡ Ok (new.version, state new.fold)
     → step new.fold ≡ step old.fold
     → Reads step state begun (before ++ line ∷ []) new
-Reads-line step state begun old new before line d h read one same = λ more.
+Reads-line step state begun old new before line h one same = λ more.
     let n = length before + 1 in
     ap (goes_on step state begun 1) (append_assoc before (line ∷ []) more)
     ∙ (h (line ∷ more)
     ∙ (in_turn-line (step old.fold) n old.version (state old.fold) line more
-    ∙ (ap (λ r. go_on n (on_read r (taken (step old.fold) old.version (state old.fold)))
-    (λ t. in_turn (step old.fold) (n + 1) t.0 t.1 more)) read
     ∙ (ap (λ r. go_on n r (λ t. in_turn (step old.fold) (n + 1) t.0 t.1 more)) one
     ∙ (ap (λ rule. in_turn rule (n + 1) new.version (state new.fold) more) (sym same)
     ∙ ap (λ k. goes_on step state new k more)
-    (omega (arith, length-append before (line ∷ []))))))))
+    (omega (arith, length-append before (line ∷ [])))))))
 
 -- a line stopped the reading
 pub StopsReading-line : {S A : Type 0} (step : Rule S A) (state : S → A) (begun old : Reading S)
@@ -97,6 +95,11 @@ StopsReading-line step state begun old before line (Fault f) h stop = λ more.
     h (line ∷ more)
     ∙ (in_turn-line (step old.fold) n old.version (state old.fold) line more
     ∙ ap (λ r. go_on n r (λ t. in_turn (step old.fold) (n + 1) t.0 t.1 more)) stop)
+
+-- a line has an object, of which this is made
+pub made-object : {A : Type 0} (make : Data → Result A LineFault) (line : List ℕ) (d : Data) (a : A)
+    → object_of line ≡ Ok d → make d ≡ Ok a → on_read (object_of line) make ≡ Ok a
+made-object make line d a read one = ap (λ r. on_read r make) read ∙ one
 
 -- a line has no object
 pub Stops-none : {A : Type 0} (make : Data → Result A LineFault) (line : List ℕ)

@@ -1,13 +1,12 @@
 //! The command of a line of a journal or a script.
-ghost use Rattle.serde_json.specs.View.{view};
+ghost use Rattle.osn_request.specs.LineObject.{line_data};
 ghost use Rattle.osn_request.specs.Request.{Gives};
 ghost use Rattle.osn_format.specs.Version.{rules_of};
 ghost use Rattle.osn_files.specs.Commands as spec;
 
 use osn_core::Command;
 use osn_format::{Version, WireFault};
-use osn_request::{Op, RequestError, edit_of, op_of};
-use serde_json::Value;
+use osn_request::{LineObject, Op, RequestError, edit_of, op_of};
 use std::alloc::Global;
 
 /// The command of a line's object by the rules of a version.
@@ -17,12 +16,12 @@ use std::alloc::Global;
 pub(crate) fn command_in(
     alloc: Global,
     version: Version,
-    value: &Value,
+    object: &LineObject<'_>,
 ) -> Result<Command, RequestError>
-    ensures { Gives result (spec.command_in (rules_of version) (view value.now)) }
+    ensures { Gives result (spec.command_in (rules_of version) (line_data object.now)) }
 {
-    match op_of(value)? {
-        Op::Edit(op) => Ok(Command::Stage(edit_of(alloc, version, op, value)?)),
+    match op_of(object)? {
+        Op::Edit(op) => Ok(Command::Stage(edit_of(alloc, version, op, object)?)),
         Op::Publish => Ok(Command::Publish),
         Op::Query(_) => Err(RequestError::Fault(WireFault::UnknownOp)),
     }

@@ -2,7 +2,8 @@
 //! schedules, and what else a `LineFold` makes of lines, read. What the crate promises to those
 //! above: each call that reads gives what the definition makes of the lines, in whatever pieces the
 //! bytes come, or the first fault with its line; and what `journal_text` writes of an object is
-//! loaded as that object again, its pending edits included.
+//! loaded as that object again, its pending edits included. `head_line`, `with_edit` and
+//! `with_publish` write the lines of which that text consists.
 #![tactic(auto)]
 
 mod command_line;
@@ -28,4 +29,4 @@ pub use reading::{LineFold, read_lines};
 pub use schedule::read_schedule;
 pub use script::read_script;
 pub use stop::LineStop;
-pub use written::journal_text;
+pub use written::{head_line, journal_text, with_edit, with_publish};

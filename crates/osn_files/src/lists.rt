@@ -8,7 +8,7 @@ use crate::reading::LineFold;
 use crate::stop::LineStop;
 use osn_format::Version;
 use osn_register::Query;
-use serde_json::Value;
+use osn_request::LineObject;
 use std::alloc::{AllocError, Global};
 use std::marker::Model;
 
@@ -85,7 +85,7 @@ impl LineFold for Lists {
         &mut self,
         alloc: Global,
         _version: Version,
-        object: &Value,
+        object: &LineObject<'_>,
     ) -> Result<(), LineStop> {
         let (reader, query) = question_in(alloc, object)?;
         self.put(alloc, reader, query)?;

@@ -1,22 +1,23 @@
 //! The lines of a file, taken one after another.
 ghost use Rattle.std.specs.Prelude.{◌≡◌, ◌<◌, ◌^◌, Result, Ok, IfOk, IfErr, IfSome, OnOk};
-ghost use Rattle.std.specs.Prelude.{length};
+ghost use Rattle.std.specs.Prelude.{length, List, ℕ};
 ghost use Rattle.serde_json.specs.Data.{Data};
-ghost use Rattle.serde_json.specs.View.{view};
-ghost use Rattle.osn_lines.specs.Lines.{lines};
+ghost use Rattle.osn_lines.specs.Lines.{IsLine, lines};
 ghost use Rattle.osn_format.specs.declared.version.Version.{Version as LineVersion};
+ghost use Rattle.osn_request.specs.LineObject.{line_data};
+ghost use Rattle.osn_request.specs.Request as spec;
 ghost use Rattle.osn_files.specs.declared.fault.LineFault.{LineFault as Fault};
 ghost use Rattle.osn_files.specs.Files.{ReadsFile};
 ghost use Rattle.osn_files.specs.Stops.{Stops, file_fault};
-ghost use Rattle.osn_files.specs.Turns.{in_turn};
+ghost use Rattle.osn_files.specs.Turns.{in_turn, on_read};
 
 use crate::fault::{FileFault, LineFault, Role};
 use crate::stop::LineStop;
 use crate::version::version_of;
+use json::Scratch;
 use osn_format::{Version, WireFault};
 use osn_lines::{Interrupted, Line, LineTaker, Source, TakeFault, take_lines};
-use osn_request::object_of;
-use serde_json::Value;
+use osn_request::{LineObject, object_of};
 use std::alloc::Global;
 
 /// What makes a value of the lines of a file, one after another.
@@ -39,22 +40,23 @@ pub trait LineFold {
         &mut self,
         alloc: Global,
         version: Version,
-        object: &Value,
+        object: &LineObject<'_>,
     ) -> Result<(), LineStop>
         ensures ok { OnOk result
-            (step self.old version (state self.old) (view object.now) ≡ Ok (state self.new)) }
+            (step self.old version (state self.old) (line_data object.now) ≡ Ok (state self.new)) }
         ensures err { IfErr result
-            (Stops (step self.old version (state self.old) (view object.now))) }
+            (Stops (step self.old version (state self.old) (line_data object.now))) }
 
         // The rule stays the same.
         ensures same { OnOk result (step self.new ≡ step self.old) };
 }
 
-/// A file that is being read: the version by which its lines are read, once that is known, and what
-/// makes a value of them.
+/// A file that is being read: what reads its lines, the version by which they are read, once that is
+/// known, and what makes a value of them.
 #[derive(Drop)]
 pub(crate) struct Reading<F> {
     alloc: Global,
+    scratch: Scratch,
     version: Option<Version>,
     fold: F,
 }
@@ -63,21 +65,45 @@ impl<F: LineFold> Reading<F> {
     ghost use Rattle.osn_files.specs.ReadingInside.{taken};
 
     /// Takes the object of a line: it says the version, where none is known.
-    fn take_object(&mut self, object: &Value) -> Result<(), LineStop>
-        ensures ok { OnOk result ((taken (F.step self.old.fold) self.old.version
-            (F.state self.old.fold) (view object.now)
-            ≡ Ok (self.new.version, F.state self.new.fold))
-            × (F.step self.new.fold ≡ F.step self.old.fold)) }
-        ensures err { IfErr result (Stops (taken (F.step self.old.fold) self.old.version
-            (F.state self.old.fold) (view object.now))) }
+    fn take_object(
+        alloc: Global,
+        version: &mut Option<Version>,
+        fold: &mut F,
+        object: &LineObject<'_>,
+    ) -> Result<(), LineStop>
+        ensures ok { OnOk result ((taken (F.step fold.old) version.old (F.state fold.old)
+            (line_data object.now) ≡ Ok (version.new, F.state fold.new))
+            × (F.step fold.new ≡ F.step fold.old)) }
+        ensures err { IfErr result (Stops (taken (F.step fold.old) version.old (F.state fold.old)
+            (line_data object.now))) }
     {
-        match self.version {
-            Some(version) => self.fold.take_object(self.alloc, version, object),
+        match *version {
+            Some(version) => fold.take_object(alloc, version, object),
             None => {
-                self.version = Some(version_of(object)?);
+                *version = Some(version_of(object)?);
                 Ok(())
             }
         }
+    }
+
+    /// Takes a line: its object is gone before the next line is read.
+    fn take_line(
+        alloc: Global,
+        scratch: &mut Scratch,
+        version: &mut Option<Version>,
+        fold: &mut F,
+        line: Line<'_>,
+    ) -> Result<(), LineStop>
+        ensures ok { OnOk result (((whole : List ℕ) → IsLine line.entry whole →
+            on_read (spec.object_of whole) (taken (F.step fold.old) version.old (F.state fold.old))
+            ≡ Ok (version.new, F.state fold.new))
+            × (F.step fold.new ≡ F.step fold.old)) }
+        ensures err { IfErr result (λ why. (whole : List ℕ) → IsLine line.entry whole →
+            Stops (on_read (spec.object_of whole)
+            (taken (F.step fold.old) version.old (F.state fold.old))) why) }
+    {
+        let object = object_of(alloc, scratch, line)?;
+        Reading::take_object(alloc, version, fold, &object)
     }
 }
 
@@ -91,8 +117,13 @@ impl<F: LineFold> LineTaker for Reading<F> {
     ghost stopped = { λ begun lines at _ why. StopsReading F.step F.state begun lines at why };
 
     fn take(&mut self, line: Line<'_>) -> Result<(), LineStop> {
-        let object = object_of(self.alloc, line)?;
-        self.take_object(&object)
+        Reading::take_line(
+            self.alloc,
+            &mut self.scratch,
+            &mut self.version,
+            &mut self.fold,
+            line,
+        )
     }
 }
 
@@ -134,6 +165,7 @@ pub fn read_lines<F: LineFold + Drop, R: Source>(
 {
     let mut reading = Reading {
         alloc,
+        scratch: Scratch::new(alloc),
         version,
         fold,
     };

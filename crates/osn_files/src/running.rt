@@ -11,7 +11,7 @@ use crate::stop::LineStop;
 use osn_core::{Command, Object};
 use osn_format::Version;
 use osn_register::Edit;
-use serde_json::Value;
+use osn_request::LineObject;
 use std::alloc::Global;
 
 fn stage(object: &mut Object, edit: Edit) -> Result<(), LineStop>
@@ -59,7 +59,7 @@ impl LineFold for Object {
         &mut self,
         alloc: Global,
         version: Version,
-        object: &Value,
+        object: &LineObject<'_>,
     ) -> Result<(), LineStop> {
         run(self, command_in(alloc, version, object)?)
     }

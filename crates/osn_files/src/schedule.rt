@@ -10,7 +10,7 @@ use crate::stop::LineStop;
 use osn_core::Step;
 use osn_format::Version;
 use osn_lines::Source;
-use serde_json::Value;
+use osn_request::LineObject;
 use std::alloc::Global;
 
 /// The steps of one editor and of so many readers.
@@ -35,7 +35,7 @@ impl LineFold for Steps {
         &mut self,
         alloc: Global,
         version: Version,
-        object: &Value,
+        object: &LineObject<'_>,
     ) -> Result<(), LineStop> {
         let step = step_in(alloc, version, self.readers, object)?;
         match self.steps.push(step) {

@@ -10,7 +10,7 @@ use crate::stop::LineStop;
 use osn_core::Command;
 use osn_format::Version;
 use osn_lines::Source;
-use serde_json::Value;
+use osn_request::LineObject;
 use std::alloc::Global;
 
 impl LineFold for Vec<Command> {
@@ -28,7 +28,7 @@ impl LineFold for Vec<Command> {
         &mut self,
         alloc: Global,
         version: Version,
-        object: &Value,
+        object: &LineObject<'_>,
     ) -> Result<(), LineStop> {
         let command = command_in(alloc, version, object)?;
         match self.push(command) {

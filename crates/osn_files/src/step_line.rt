@@ -1,14 +1,15 @@
 //! The step of a line of a schedule.
 ghost use Rattle.std.specs.Prelude.{◌≡◌};
-ghost use Rattle.serde_json.specs.View.{view};
+ghost use Rattle.osn_request.specs.LineObject.{line_data};
 ghost use Rattle.osn_request.specs.Request.{Gives};
 ghost use Rattle.osn_format.specs.Version.{rules_of};
 ghost use Rattle.osn_files.specs.Schedule as spec;
 
 use osn_core::Step;
 use osn_format::{Member, Version, WireFault};
-use osn_request::{Op, RequestError, edit_of, op_of, query_of, reader_in, text_at, whole_at};
-use serde_json::Value;
+use osn_request::{
+    LineObject, Op, RequestError, edit_of, op_of, query_of, reader_in, text_at, whole_at,
+};
 use std::alloc::Global;
 
 /// The kinds of step.
@@ -42,38 +43,38 @@ fn kind_named(word: &str) -> Option<StepKind>
     }
 }
 
-fn kind_of(value: &Value) -> Result<StepKind, WireFault>
-    ensures { result ≡ spec.kind_of (view value.now) }
+fn kind_of(object: &LineObject<'_>) -> Result<StepKind, WireFault>
+    ensures { result ≡ spec.kind_of (line_data object.now) }
 {
-    match kind_named(text_at(value, Member::Step)?) {
+    match kind_named(text_at(object, Member::Step)?) {
         Some(kind) => Ok(kind),
         None => Err(WireFault::UnknownStep),
     }
 }
 
-fn reader_of(readers: u32, value: &Value) -> Result<u32, WireFault>
-    ensures { result ≡ spec.reader_of readers (view value.now) }
+fn reader_of(readers: u32, object: &LineObject<'_>) -> Result<u32, WireFault>
+    ensures { result ≡ spec.reader_of readers (line_data object.now) }
 {
-    reader_in(readers, whole_at(value, Member::Reader)?)
+    reader_in(readers, whole_at(object, Member::Reader)?)
 }
 
-fn look_of(alloc: Global, readers: u32, value: &Value) -> Result<Step, RequestError>
-    ensures { Gives result (spec.look_of readers (view value.now)) }
+fn look_of(alloc: Global, readers: u32, object: &LineObject<'_>) -> Result<Step, RequestError>
+    ensures { Gives result (spec.look_of readers (line_data object.now)) }
 {
-    match op_of(value)? {
+    match op_of(object)? {
         Op::Query(op) => {
-            let (reader, query) = query_of(alloc, readers, op, value)?;
+            let (reader, query) = query_of(alloc, readers, op, object)?;
             Ok(Step::Look { reader, query })
         }
         Op::Edit(_) | Op::Publish => Err(RequestError::Fault(WireFault::UnknownOp)),
     }
 }
 
-fn stage_of(alloc: Global, version: Version, value: &Value) -> Result<Step, RequestError>
-    ensures { Gives result (spec.stage_of (rules_of version) (view value.now)) }
+fn stage_of(alloc: Global, version: Version, object: &LineObject<'_>) -> Result<Step, RequestError>
+    ensures { Gives result (spec.stage_of (rules_of version) (line_data object.now)) }
 {
-    match op_of(value)? {
-        Op::Edit(op) => Ok(Step::Stage(edit_of(alloc, version, op, value)?)),
+    match op_of(object)? {
+        Op::Edit(op) => Ok(Step::Stage(edit_of(alloc, version, op, object)?)),
         Op::Publish | Op::Query(_) => Err(RequestError::Fault(WireFault::UnknownOp)),
     }
 }
@@ -84,25 +85,25 @@ fn step_by(
     version: Version,
     readers: u32,
     kind: StepKind,
-    value: &Value,
+    object: &LineObject<'_>,
 ) -> Result<Step, RequestError>
-    ensures { Gives result (spec.step_by (rules_of version) readers (view value.now) kind) }
+    ensures { Gives result (spec.step_by (rules_of version) readers (line_data object.now) kind) }
 {
     match kind {
-        StepKind::Look => look_of(alloc, readers, value),
+        StepKind::Look => look_of(alloc, readers, object),
         StepKind::Pin => Ok(Step::Pin {
-            reader: reader_of(readers, value)?,
+            reader: reader_of(readers, object)?,
         }),
         StepKind::Check => Ok(Step::Check {
-            reader: reader_of(readers, value)?,
+            reader: reader_of(readers, object)?,
         }),
         StepKind::Answer => Ok(Step::Answer {
-            reader: reader_of(readers, value)?,
+            reader: reader_of(readers, object)?,
         }),
         StepKind::Leave => Ok(Step::Leave {
-            reader: reader_of(readers, value)?,
+            reader: reader_of(readers, object)?,
         }),
-        StepKind::Stage => stage_of(alloc, version, value),
+        StepKind::Stage => stage_of(alloc, version, object),
         StepKind::Publish => Ok(Step::Publish),
         StepKind::Claim => Ok(Step::Claim),
         StepKind::Absorb => Ok(Step::Absorb),
@@ -117,9 +118,9 @@ pub(crate) fn step_in(
     alloc: Global,
     version: Version,
     readers: u32,
-    value: &Value,
+    object: &LineObject<'_>,
 ) -> Result<Step, RequestError>
-    ensures { Gives result (spec.step_in (rules_of version) readers (view value.now)) }
+    ensures { Gives result (spec.step_in (rules_of version) readers (line_data object.now)) }
 {
-    step_by(alloc, version, readers, kind_of(value)?, value)
+    step_by(alloc, version, readers, kind_of(object)?, object)
 }

@@ -1,25 +1,25 @@
 //! The head of a journal or a script: the version of its form.
 ghost use Rattle.std.specs.Prelude.{◌≡◌};
-ghost use Rattle.serde_json.specs.View.{view};
+ghost use Rattle.osn_request.specs.LineObject.{line_data};
 ghost use Rattle.osn_request.specs.Field.{or_fault};
 ghost use Rattle.osn_format.specs.declared.wire_fault.WireFault.TheVariants.{BadHead};
 ghost use Rattle.osn_files.specs.Version as spec;
 
 use osn_format::{Member, Version, WireFault};
-use serde_json::Value;
+use osn_request::{JsonObject, LineObject};
 
 /// The version that the object of a head says, if it says one.
-fn version_in(value: &Value) -> Option<Version>
-    ensures { result ≡ spec.version_in (view value.now) }
+fn version_in(object: &LineObject<'_>) -> Option<Version>
+    ensures { result ≡ spec.version_in (line_data object.now) }
 {
-    Version::numbered(value.get(Member::Journal.name())?.as_i64()?)
+    Version::numbered(object.whole(Member::Journal.name())?)
 }
 
 /// The version of a head's object, or its fault.
-pub(crate) fn version_of(value: &Value) -> Result<Version, WireFault>
-    ensures { result ≡ or_fault BadHead (spec.version_in (view value.now)) }
+pub(crate) fn version_of(object: &LineObject<'_>) -> Result<Version, WireFault>
+    ensures { result ≡ or_fault BadHead (spec.version_in (line_data object.now)) }
 {
-    match version_in(value) {
+    match version_in(object) {
         Some(version) => Ok(version),
         None => Err(WireFault::BadHead),
     }

@@ -150,8 +150,13 @@ fn end_line(out: Writer) -> Result<Vec<u8>, AllocError>
     Ok(bytes)
 }
 
-/// The head of a journal.
-fn head_line(alloc: Global, room: usize) -> Result<Vec<u8>, AllocError>
+/// The bytes of the first line of a journal: a head of the newest version. They get this room at
+/// first, so that more can be put behind them.
+///
+/// # Errors
+///
+/// Only where no memory is found.
+pub fn head_line(alloc: Global, room: usize) -> Result<Vec<u8>, AllocError>
     ensures { IfOk result (λ bytes.
         bytes.items ≡ spec.line_text (head_data newest_version)) }
 {
@@ -160,8 +165,12 @@ fn head_line(alloc: Global, room: usize) -> Result<Vec<u8>, AllocError>
     end_line(out)
 }
 
-/// The bytes, and an edit behind them.
-fn with_edit(bytes: Vec<u8>, edit: &Edit) -> Result<Vec<u8>, AllocError>
+/// The bytes, and behind them an edit as a line of a journal.
+///
+/// # Errors
+///
+/// Only where no memory is found. The bytes are gone then.
+pub fn with_edit(bytes: Vec<u8>, edit: &Edit) -> Result<Vec<u8>, AllocError>
     ensures { IfOk result (λ more.
         more.items ≡ bytes.items ++ spec.line_text (spec.edit_data edit.now)) }
 {
@@ -170,8 +179,12 @@ fn with_edit(bytes: Vec<u8>, edit: &Edit) -> Result<Vec<u8>, AllocError>
     end_line(out)
 }
 
-/// The bytes, and a publish behind them.
-fn with_publish(bytes: Vec<u8>) -> Result<Vec<u8>, AllocError>
+/// The bytes, and behind them a publish as a line of a journal.
+///
+/// # Errors
+///
+/// Only where no memory is found. The bytes are gone then.
+pub fn with_publish(bytes: Vec<u8>) -> Result<Vec<u8>, AllocError>
     ensures { IfOk result (λ more.
         more.items ≡ bytes.items ++ spec.line_text spec.publish_data) }
 {

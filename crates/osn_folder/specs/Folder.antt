@@ -1,6 +1,6 @@
 -- What is known of a folder, and what was done in it.
 use Rattle.std.specs.Prelude.{◌≡◌, ◌≢◌, ◌⊎◌, ⊤, ℕ, Bool, true, false, List, [], ◌∷◌, ◌++◌}
-use Rattle.std.specs.Prelude.{Option, Some, None, codes, is_some, if◌then◌else◌}
+use Rattle.std.specs.Prelude.{Option, Some, None, codes, is_some, unwrap_or, if◌then◌else◌}
 use Rattle.std.specs.List.{list_all}
 
 -- what is known of a folder: what the file of a path holds, where there is one; which paths were
@@ -73,6 +73,23 @@ abbrev pub Becomes : List ℕ → Option (List ℕ) → Known → Known → Type
 Becomes path file k n =
     (n.opened ≡ k.opened) × (n.at path ≡ file)
     × ((other : List ℕ) → other ≢ path → n.at other ≡ k.at other)
+
+-- what the file of this path holds, or nothing where there is none
+abbrev pub held_at : Known → List ℕ → List ℕ
+held_at k path = unwrap_or (k.at path) []
+
+-- the file of this path is there, with what it held, or empty where there was none, and nothing
+-- else was changed
+abbrev pub Keeps : List ℕ → Known → Known → Type 0
+Keeps path k n =
+    Becomes path (Some (held_at k path)) k n
+    × (n.is_stream path ≡ false)
+    × ((other : List ℕ) → other ≢ path → n.is_stream other ≡ k.is_stream other)
+
+-- a file that is kept holds what that of this path did, or nothing where there was none
+abbrev pub IsKeptAt : Option Known → List ℕ → Option (List ℕ) → Type 0
+IsKeptAt None path contents = ⊤
+IsKeptAt (Some k) path contents = contents ≡ Some (held_at k path)
 
 -- a file was put in the place of another
 abbrev pub Moves : List ℕ → List ℕ → Known → Known → Type 0

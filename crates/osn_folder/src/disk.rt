@@ -1,11 +1,12 @@
 //! The files of the disk.
 ghost use Rattle.std.specs.Prelude.{None};
 
-use crate::fault::{ChangeFailed, OpenFailed, SaveFault};
+use crate::fault::{ChangeFailed, KeepFault, OpenFailed, SaveFault};
 use crate::folder::Folder;
+use crate::keeping::keep_file;
 use osn_lines::Plain;
 use std::alloc::Global;
-use std::fs::OpenFile;
+use std::fs::{File, OpenFile};
 use std::io::{ErrorKind, Write};
 use std::rt::Files;
 use std::{fs, io};
@@ -23,12 +24,14 @@ impl<'a, R> Disk<'a, R> {
     }
 }
 
-impl<R: Files + AllocGlobal> Folder for Disk<'_, R> {
-    type File = Plain<R::File>;
+impl<R: Files<File = File> + AllocGlobal> Folder for Disk<'_, R> {
+    type File = Plain<File>;
+
+    type Kept = File;
 
     ghost known = { λ _. None };
 
-    fn open(&mut self, path: &str) -> Result<Plain<R::File>, OpenFailed> {
+    fn open(&mut self, path: &str) -> Result<Plain<File>, OpenFailed> {
         match fs::open(self.files, path) {
             Ok(file) => Ok(Plain::new(file)),
             Err(_) => Err(OpenFailed),
@@ -73,6 +76,10 @@ impl<R: Files + AllocGlobal> Folder for Disk<'_, R> {
 
     fn remove(&mut self, path: &str) {
         let _ = fs::remove_file(self.files, path);
+    }
+
+    fn keep(&mut self, path: &str) -> Result<File, KeepFault> {
+        keep_file(self.files, path)
     }
 }
 

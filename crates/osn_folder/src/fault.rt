@@ -12,6 +12,15 @@ pub struct OpenFailed;
 #[derive(Clone, Copy, Debug, PartialEq, Eq)]
 pub struct ChangeFailed;
 
+/// Why a file is not kept.
+#[derive(Clone, Copy, Debug, PartialEq, Eq)]
+pub enum KeepFault {
+    /// Another open of the file keeps it.
+    Held,
+    /// It can't be opened, made or locked, or is no file, as a folder or a pipe.
+    NotOpened,
+}
+
 /// Why a file could not be saved.
 #[derive(Clone, Copy, Debug, PartialEq, Eq)]
 pub enum SaveFault {

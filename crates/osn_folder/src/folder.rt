@@ -2,9 +2,10 @@
 ghost use Rattle.std.specs.Prelude.{◌≡◌, ◌∷◌, [], ℕ, List, Option, Some, None, IfOk, IfSome};
 ghost use Rattle.std.specs.Prelude.{OnOk, OnErr, string_bytes};
 ghost use Rattle.osn_folder.specs.Folder.{Known, Changes, IsFileOf, HasNoFile, Opens, Becomes};
-ghost use Rattle.osn_folder.specs.Folder.{Moves};
+ghost use Rattle.osn_folder.specs.Folder.{Moves, IsKeptAt, Keeps};
 
-use crate::fault::{ChangeFailed, OpenFailed, SaveFault};
+use crate::fault::{ChangeFailed, KeepFault, OpenFailed, SaveFault};
+use crate::kept_file::KeptFile;
 use osn_lines::Source;
 use std::alloc::Global;
 
@@ -12,6 +13,9 @@ use std::alloc::Global;
 pub trait Folder {
     /// A file that is open to be read.
     type File: Source + Drop;
+
+    /// A file that is kept. No other open of it keeps it before it is dropped.
+    type Kept: KeptFile + Drop;
 
     // What its files hold, and which were opened, where that is known.
     ghost known: { Self → Option Known };
@@ -60,4 +64,16 @@ pub trait Folder {
     /// Takes a file away, where it can be.
     fn remove(&mut self, path: &str)
         ensures { Changes (Becomes path.now None) (known self.old) (known self.new) };
+
+    /// Opens a file to be kept. It is made where there is none, and locked, so that no other run of
+    /// the program keeps it at the same time.
+    ///
+    /// # Errors
+    ///
+    /// `Held` where another open of the file keeps it, `NotOpened` where it can't be kept.
+    fn keep(&mut self, path: &str) -> Result<Self::Kept, KeepFault>
+        ensures file { IfOk result
+            (λ kept. IsKeptAt (known self.old) path.now (Self.Kept.contents kept)) }
+        ensures ok { OnOk result (Changes (Keeps path.now) (known self.old) (known self.new)) }
+        ensures err { OnErr result (known self.new ≡ known self.old) };
 }

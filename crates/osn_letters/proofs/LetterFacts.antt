@@ -156,7 +156,8 @@ text_stops s u b fault h x more =
 
 -- at the end of the text
 pub end_taken : (s t : Letters) (c : List ℕ) (w : Written) → TakesBehind s t (held s.start)
-    → Wrote (waiting t.table.out) c (text_behind t []) w → Wrote (waiting s.table.out) c (text_from s []) w
+    → Wrote (waiting t.table.out) c (text_behind t []) w
+    → Wrote (waiting s.table.out) c (text_from s []) w
 end_taken s t c w x y =
     subst (λ bytes. Wrote (waiting s.table.out) c (text_behind s bytes) w)
     (sym (unmarked_end s.start)) (wrote_then (x []) y)

@@ -1,4 +1,4 @@
--- Rows of any number of fields have the text that rows of one number have.
+-- A writer of rows of any number of fields writes each of them as one of rows of one number.
 use Rattle.std.proofs.Common.{◌≡◌, ◌∙◌, ℕ, ◌==◌, List, [], ◌∷◌, ◌++◌, refl, ap, true, length}
 use Rattle.std.proofs.Common.{if◌then◌else◌}
 use Rattle.csv.specs.Writing.{escaped, fields_text, field_text, is_blank, end_text}

@@ -50,8 +50,8 @@ pub record IsWrittenInParts (s : TableBasis) (header : List ℕ) (parts : List (
       ≡ option_map (later_fault (line_feeds (concat parts)))
       (letters_written s (header ++ last)).fault
 
--- so is every table, wherever it is cut between its records, where no part before the last one has a
--- fault
+-- so is every table, wherever it is cut between its records, where no part before the last one has
+-- a fault
 unfoldable pub MayEachTableBeCut : Type 0
 MayEachTableBeCut =
     (s : TableBasis) (header : List ℕ) (parts : List (List ℕ)) (last : List ℕ)

@@ -1,7 +1,7 @@
 //! Letters from a source to a sink.
 ghost use Rattle.std.specs.Prelude.{◌≡◌, ◌+◌, ◌≤◌, ◌<◌, ◌^◌, [], length, true, false, IfOk, IfErr};
-ghost use Rattle.std.specs.Prelude.{IfSome, OnOk, OnErr, MatchResult};
-ghost use Rattle.std.specs.Io.KnownBytes.{Appends, IsAtEnd};
+ghost use Rattle.std.specs.Prelude.{IfSome, OnOk, MatchResult};
+ghost use Rattle.std.specs.Io.KnownBytes.{IsAtEnd};
 ghost use Rattle.osn_days.specs.Profile.{newest_rules};
 ghost use Rattle.osn_letters.specs.Faults.{EndsStream, is_of_stream, is_read_fault, is_write_fault};
 ghost use Rattle.osn_letters.specs.LettersInside as inside;
@@ -39,7 +39,8 @@ fn is_known(taken: Result<(), LettersFault>) -> bool
     }
 }
 
-/// Writes what waits of what was taken, so that nothing waits then, if it is known what does.
+/// Writes what waits of what was taken, so that nothing waits then. Where memory ran out it is not
+/// known what waits, and nothing is written.
 fn write_out<W: Sink>(
     alloc: Global,
     sink: &mut W,

@@ -1,5 +1,5 @@
 //! The table that is written, record by record.
-ghost use Rattle.std.specs.Prelude.{ℕ, ◌≡◌, ◌∷◌, ◌++◌, [], true, get_or, IfErr, OnOk, OnErr, Some};
+ghost use Rattle.std.specs.Prelude.{ℕ, ◌≡◌, ◌∷◌, ◌++◌, [], true, get_or, IfErr, OnOk, Some};
 ghost use Rattle.std.specs.Prelude.{None, option_map};
 ghost use Rattle.csv.specs.Records.{fields_of, partial_of};
 ghost use Rattle.osn_letters.specs.Faults.{is_of_table};

@@ -1,3 +1,5 @@
+pub mod Flat
+pub mod LineObject
 pub mod Field
 pub mod Op
 pub mod EditRequest

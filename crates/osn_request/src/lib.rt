@@ -6,6 +6,6 @@
 mod request;
 
 pub use request::{
-    EditOp, Op, QueryOp, Request, RequestError, edit_of, object_of, op_of, query_of, read_request,
-    reader_in, request_of_line, text_at, whole_at,
+    EditOp, JsonObject, LineObject, Op, QueryOp, Request, RequestError, edit_of, object_of, op_of,
+    query_of, read_request, reader_in, request_of_line, text_at, whole_at,
 };

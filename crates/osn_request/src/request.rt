@@ -1,20 +1,29 @@
 //! Reads one line into a request, or names its first fault.
 ghost use Rattle.std.specs.Prelude.{◌≡◌, ◌<◌, ℕ, List, length, MatchResult, IfErr, Ok, Err, Some};
 ghost use Rattle.std.specs.Str.{IsUtf8};
+ghost use Rattle.serde_json.specs.Read.{read};
 ghost use Rattle.serde_json.specs.View.{view};
 ghost use Rattle.osn_days.specs.Profile.{newest_rules};
 ghost use Rattle.osn_lines.specs.Lines.{IsLine};
+ghost use Rattle.osn_request.specs.LineObject.{line_data};
 ghost use Rattle.osn_request.specs.Request as spec;
 ghost use Rattle.osn_request.specs.declared.request.RequestError.TheVariants.{NoMemory};
 ghost use Rattle.osn_format.specs.Version.{rules_of};
 
 mod edit;
 mod field;
+mod flat;
+mod json_object;
+mod line_object;
 mod op;
 mod query;
 
 pub use edit::edit_of;
 pub use field::{text_at, whole_at};
+use flat::flat_object_of;
+use json::Scratch;
+pub use json_object::JsonObject;
+pub use line_object::LineObject;
 pub use op::{EditOp, Op, QueryOp, op_of};
 use osn_format::{Version, WireFault};
 use osn_lines::{LONGEST_LINE, Line};
@@ -66,18 +75,15 @@ impl From<WireFault> for RequestError {
     }
 }
 
-/// The value of a line of UTF-8 that is JSON.
-fn value_of(alloc: Global, line: &[u8]) -> Result<Value, RequestError>
+/// The value of a text that is JSON.
+fn value_of(alloc: Global, text: &str) -> Result<Value, RequestError>
     ensures text { MatchResult result
-        (λ _. IsUtf8 line.now × (0 < length line.now))
-        (λ e. e ≡ NoMemory → IsUtf8 line.now × (0 < length line.now)) }
+        (λ _. 0 < length text.now)
+        (λ e. e ≡ NoMemory → 0 < length text.now) }
     ensures value { MatchResult result
-        (λ v. spec.value_of line.now ≡ Some (view v))
-        (λ e. spec.Fails e (spec.no_value (spec.value_of line.now))) }
+        (λ v. read text.now ≡ Some (view v))
+        (λ e. spec.Fails e (spec.no_value (read text.now))) }
 {
-    let Ok(text) = str::from_utf8(line) else {
-        return Err(RequestError::Fault(WireFault::NotJson));
-    };
     match Value::from_str(alloc, text) {
         Ok(value) => Ok(value),
         Err(error) if error.is_memory() => Err(RequestError::NoMemory),
@@ -85,75 +91,124 @@ fn value_of(alloc: Global, line: &[u8]) -> Result<Value, RequestError>
     }
 }
 
-/// The object of a line that is not too long.
-fn object_of_whole(alloc: Global, line: &[u8]) -> Result<Value, RequestError>
+/// The value of a text that is an object.
+fn tree_of(alloc: Global, text: &str) -> Result<Value, RequestError>
     ensures object { MatchResult result
-        (λ v. spec.object_in (spec.value_of line.now) ≡ Ok (view v))
-        (λ e. spec.Fails e (spec.object_in (spec.value_of line.now))) }
-    ensures memory { MatchResult result
-        (λ _. IsUtf8 line.now × (0 < length line.now))
-        (λ e. e ≡ NoMemory → IsUtf8 line.now × (0 < length line.now)) }
+        (λ v. spec.object_in (read text.now) ≡ Ok (view v))
+        (λ e. spec.Fails e (spec.object_in (read text.now))) }
+    ensures text { MatchResult result
+        (λ _. 0 < length text.now)
+        (λ e. e ≡ NoMemory → 0 < length text.now) }
 {
-    let value = value_of(alloc, line)?;
+    let value = value_of(alloc, text)?;
     if !value.is_object() {
         return Err(RequestError::Fault(WireFault::NotObject));
     }
     Ok(value)
 }
 
-/// The object of a line.
+/// The object that a text is.
+fn object_in<'a>(
+    alloc: Global,
+    scratch: &'a mut Scratch,
+    text: &'a str,
+) -> Result<LineObject<'a>, RequestError>
+    ensures object { MatchResult result
+        (λ o. spec.object_in (read text.now) ≡ Ok (line_data o))
+        (λ e. spec.Fails e (spec.object_in (read text.now))) }
+    ensures text { MatchResult result
+        (λ _. 0 < length text.now)
+        (λ e. e ≡ NoMemory → 0 < length text.now) }
+{
+    match flat_object_of(text, scratch)? {
+        Some(object) => Ok(LineObject::Flat(object)),
+        None => Ok(LineObject::Tree(tree_of(alloc, text)?)),
+    }
+}
+
+/// The object of a line that is not too long.
+fn object_of_whole<'a>(
+    alloc: Global,
+    scratch: &'a mut Scratch,
+    line: &'a [u8],
+) -> Result<LineObject<'a>, RequestError>
+    ensures object { MatchResult result
+        (λ o. spec.object_in (spec.value_of line.now) ≡ Ok (line_data o))
+        (λ e. spec.Fails e (spec.object_in (spec.value_of line.now))) }
+    ensures memory { MatchResult result
+        (λ _. IsUtf8 line.now × (0 < length line.now))
+        (λ e. e ≡ NoMemory → IsUtf8 line.now × (0 < length line.now)) }
+{
+    let Ok(text) = str::from_utf8(line) else {
+        return Err(RequestError::Fault(WireFault::NotJson));
+    };
+    object_in(alloc, scratch, text)
+}
+
+/// The object of a line. The scratch serves one line after another, and grows to the length of the
+/// longest one; the object may borrow from it.
 ///
 /// # Errors
-/// Memory is taken for the value of a line alone that is a text and not too long.
-pub fn object_of(alloc: Global, line: Line<'_>) -> Result<Value, RequestError>
+/// Memory is taken for the object of a line alone that is a text and not too long.
+pub fn object_of<'a>(
+    alloc: Global,
+    scratch: &'a mut Scratch,
+    line: Line<'a>,
+) -> Result<LineObject<'a>, RequestError>
     ensures object { (whole : List ℕ) → IsLine line.entry whole → MatchResult result
-        (λ v. spec.object_of whole ≡ Ok (view v))
+        (λ o. spec.object_of whole ≡ Ok (line_data o))
         (λ e. spec.Fails e (spec.object_of whole)) }
     ensures memory { (whole : List ℕ) → IsLine line.entry whole → MatchResult result
         (λ _. spec.IsReadable whole)
         (λ e. e ≡ NoMemory → spec.IsReadable whole) }
 {
     match line {
-        Line::Whole(bytes) => object_of_whole(alloc, bytes),
+        Line::Whole(bytes) => object_of_whole(alloc, scratch, bytes),
         Line::TooLong => Err(RequestError::Fault(WireFault::LineTooLong)),
     }
 }
 
 /// The request of a line's object, by the rules of a version.
-fn request_of(
+fn request_of<O: JsonObject>(
     alloc: Global,
     version: Version,
     readers: u32,
-    value: &Value,
+    object: &O,
 ) -> Result<Request, RequestError>
-    ensures { spec.Gives result (spec.request_of (rules_of version) readers (view value.now)) }
+    ensures { spec.Gives result (spec.request_of (rules_of version) readers (O.value object.now)) }
 {
-    match op_of(value)? {
-        Op::Edit(op) => Ok(Request::Stage(edit_of(alloc, version, op, value)?)),
+    match op_of(object)? {
+        Op::Edit(op) => Ok(Request::Stage(edit_of(alloc, version, op, object)?)),
         Op::Publish => Ok(Request::Publish),
         Op::Query(op) => {
-            let (reader, query) = query_of(alloc, readers, op, value)?;
+            let (reader, query) = query_of(alloc, readers, op, object)?;
             Ok(Request::Ask { reader, query })
         }
     }
 }
 
-/// The request of a line, where there are so many readers, or its first fault.
+/// The request of a line, where there are so many readers, or its first fault. The scratch serves one
+/// line after another, as for `object_of`.
 ///
 /// # Errors
 /// The first fault of the line; or want of memory, for a line alone that is a text, not an empty
 /// one and not too long.
-pub fn request_of_line(alloc: Global, readers: u32, line: Line<'_>) -> Result<Request, RequestError>
+pub fn request_of_line(
+    alloc: Global,
+    scratch: &mut Scratch,
+    readers: u32,
+    line: Line<'_>,
+) -> Result<Request, RequestError>
     ensures request { (whole : List ℕ) → IsLine line.entry whole →
         spec.Gives result (spec.request newest_rules readers whole) }
     ensures memory { (whole : List ℕ) → IsLine line.entry whole →
         IfErr result (λ e. e ≡ NoMemory → spec.IsReadable whole) }
 {
-    let value = object_of(alloc, line)?;
-    request_of(alloc, Version::newest(), readers, &value)
+    let object = object_of(alloc, scratch, line)?;
+    request_of(alloc, Version::newest(), readers, &object)
 }
 
-/// The request of a line of these bytes, as `request_of_line`.
+/// The request of a line of these bytes, as `request_of_line`, with a scratch of its own.
 ///
 /// # Errors
 /// The first fault of the line; or want of memory, for a line alone that is a text, not an empty
@@ -162,8 +217,9 @@ pub fn read_request(alloc: Global, readers: u32, line: &[u8]) -> Result<Request,
     ensures request { spec.Gives result (spec.request newest_rules readers line.now) }
     ensures memory { IfErr result (λ e. e ≡ NoMemory → spec.IsReadable line.now) }
 {
+    let mut scratch = Scratch::new(alloc);
     if line.len() > LONGEST_LINE {
-        return request_of_line(alloc, readers, Line::TooLong);
+        return request_of_line(alloc, &mut scratch, readers, Line::TooLong);
     }
-    request_of_line(alloc, readers, Line::Whole(line))
+    request_of_line(alloc, &mut scratch, readers, Line::Whole(line))
 }

@@ -26,12 +26,12 @@ use Rattle.osn_service.proofs.PartLemmas.{InPart-more}
 use Rattle.osn_service.proofs.ServeLemmas.{AnswersInPart-from, Fails-rest}
 use Rattle.osn_service.proofs.WaitLemmas.{replies-append, Waits-written}
 
-IfSome-weaker : {A : Type 0} (o : Option A) (P Q : A → Type 0) → ((x : A) → P x → Q x) →
+pub IfSome-weaker : {A : Type 0} (o : Option A) (P Q : A → Type 0) → ((x : A) → P x → Q x) →
     IfSome o P → IfSome o Q
 IfSome-weaker None P Q f h = tt
 IfSome-weaker (Some x) P Q f h = f x h
 
-IfSome-both : {A : Type 0} (o : Option A) (P Q R : A → Type 0) → ((x : A) → P x → Q x → R x) →
+pub IfSome-both : {A : Type 0} (o : Option A) (P Q R : A → Type 0) → ((x : A) → P x → Q x → R x) →
     IfSome o P → IfSome o Q → IfSome o R
 IfSome-both None P Q R f h k = tt
 IfSome-both (Some x) P Q R f h k = f x h k

@@ -4,3 +4,8 @@ pub mod ServeLemmas
 pub mod StopLemmas
 pub mod ClauseLemmas
 pub mod LawLemmas
+pub mod KeptLaw
+pub mod KeptLemmas
+pub mod TakingLemmas
+pub mod KeepingLemmas
+pub mod KeptTakingLemmas

@@ -10,6 +10,11 @@ pub two_on_ok : {T E P Q R : Type 0} (r : Result T E) → OnOk r P → OnOk r Q 
 two_on_ok (Ok x) p q f = f p q
 two_on_ok (Err e) p q f = tt
 
+pub two_on_err : {T E P Q R : Type 0} (r : Result T E) → OnErr r P → OnErr r Q → (P → Q → R) →
+    OnErr r R
+two_on_err (Ok x) p q f = tt
+two_on_err (Err e) p q f = f p q
+
 pub three_on_ok : {T E P Q R S : Type 0} (r : Result T E) → OnOk r P → OnOk r Q → OnOk r R →
     (P → Q → R → S) → OnOk r S
 three_on_ok (Ok x) p q s f = f p q s

@@ -136,7 +136,7 @@ Waits-settle {S} text after begun now u lines a b c w w' h settled same =
     settled)
 
 -- a line more
-after_one : {S : Type 0} (after : S → List ℕ → S) (begun s u : S) (lines : List (List ℕ))
+pub after_one : {S : Type 0} (after : S → List ℕ → S) (begun s u : S) (lines : List (List ℕ))
     (line : List ℕ) → s ≡ fold after begun lines → u ≡ after s line →
     u ≡ fold after begun (lines ++ line ∷ [])
 after_one after begun s u lines line h e =

@@ -7,3 +7,6 @@ pub mod Law
 pub mod Stop
 pub mod ServiceInside
 pub mod SessionInside
+pub mod TakingInside
+pub mod Kept
+pub mod KeptInside

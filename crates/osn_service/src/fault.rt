@@ -19,3 +19,16 @@ pub enum ServeFault {
     #[error("the output failed; the next line may have been applied")]
     WriteFault,
 }
+
+/// Why not every line was answered, where a file was kept.
+#[derive(Clone, Copy, Debug, PartialEq, Eq, Error)]
+pub enum KeptFault {
+    /// As where no file is kept. The file holds what it is to hold.
+    #[error(transparent)]
+    Serve(ServeFault),
+    /// The file failed at the change that the next line made, or memory ran out for its line of the
+    /// journal. The object has changed, and nobody was told; a front of that line may stand in the
+    /// file. No line behind it was answered.
+    #[error("the file that is kept failed; the next line may have been applied")]
+    KeepFault,
+}

@@ -1,16 +1,19 @@
 //! The service: every request line of a source is answered, in order.
-ghost use Rattle.std.specs.Prelude.{◌≡◌, [], IfOk, IfErr};
+ghost use Rattle.std.specs.Prelude.{◌≡◌, ◌≤◌, ℕ, Bool, List, [], Option, length, IfOk};
 ghost use Rattle.osn_days.specs.Profile.{newest_rules};
 ghost use Rattle.osn_core.specs.Sequential.{ObjectState, opened};
-ghost use Rattle.osn_service.specs.Faults.{MatchFault};
 ghost use Rattle.osn_service.specs.Law.{MayEachInputBeCut};
 ghost use Rattle.osn_service.specs.Serves.{Serves};
-ghost use Rattle.osn_service.specs.SessionInside.{IsSame, AnswersFirst, AnswersInPart, EndsTaking};
+ghost use Rattle.osn_service.specs.SessionInside.{IsSame};
+ghost use Rattle.osn_service.specs.TakingInside as spec;
+ghost use Rattle.osn_service.specs.TakingInside.{HasTaken, IsWithin};
+ghost use Rattle.osn_service.specs.declared.session.Session.{Session};
 
 use crate::fault::ServeFault;
 use crate::reply_buffer::ReplyBuffer;
 use crate::session::Session;
 use crate::stop::{Stop, UnwrittenReplies};
+use json::Scratch;
 use osn_core::Object;
 use osn_lines::{Interrupted, Sink, Source, TakeFault, take_lines};
 use osn_register::Limits;
@@ -18,9 +21,33 @@ use std::alloc::Global;
 
 /// How many lines were taken, and why no more, where some were not and no write failed.
 #[derive(Clone, Copy)]
-struct LinesTaken {
+pub(crate) struct LinesTaken {
+    pub(crate) lines: u64,
+    pub(crate) fault: Option<ServeFault>,
+}
+
+/// What was taken where it ended early, behind so many lines.
+pub(crate) fn taken_until(
     lines: u64,
-    fault: Option<ServeFault>,
+    cause: TakeFault<Stop>,
+) -> Result<LinesTaken, Interrupted<ServeFault>>
+    requires { IsWithin lines cause }
+    ensures { result ≡ spec.taken_until lines cause }
+{
+    match cause {
+        TakeFault::NoMemory | TakeFault::Stopped(Stop::NoMemory) => Ok(LinesTaken {
+            lines,
+            fault: Some(ServeFault::NoMemory),
+        }),
+        TakeFault::ReadFault => Ok(LinesTaken {
+            lines,
+            fault: Some(ServeFault::ReadFault),
+        }),
+        TakeFault::Stopped(Stop::WriteFailed(UnwrittenReplies { unwritten })) => Err(Interrupted {
+            lines: lines - unwritten,
+            cause: ServeFault::WriteFault,
+        }),
+    }
 }
 
 /// Answers every line of the source up to its end. The replies to the last ones wait then.
@@ -30,36 +57,42 @@ fn take_all<R: Source, W: Sink>(
 ) -> Result<LinesTaken, Interrupted<ServeFault>>
     requires text { session.old.waiting.now.text.items ≡ [] }
     requires ends { session.old.waiting.now.ends.items ≡ [] }
-    ensures ok { IfOk result (λ taken. AnswersFirst W.contents W.has_failed session.old session.new
-        (R.remaining source.old) taken.lines) }
-    ensures end { IfOk result (λ taken. EndsTaking taken.fault (R.remaining source.old)
-        (R.remaining source.new) (R.has_failed source.old) (R.has_failed source.new)
-        taken.lines) }
-    ensures err { IfErr result (λ end. MatchFault end.cause ⊥ ⊥ (AnswersInPart W.contents
-        W.has_failed session.old session.new (R.remaining source.old) end.lines)) }
+    ensures { HasTaken W.contents W.has_failed session.old session.new (R.remaining source.old)
+        (R.remaining source.new) (R.has_failed source.old) (R.has_failed source.new) result }
 {
     match take_lines(session.alloc, session, source) {
         Ok(lines) => Ok(LinesTaken { lines, fault: None }),
-        Err(Interrupted { lines, cause }) => match cause {
-            TakeFault::NoMemory => Ok(LinesTaken {
-                lines,
-                fault: Some(ServeFault::NoMemory),
-            }),
-            TakeFault::ReadFault => Ok(LinesTaken {
-                lines,
-                fault: Some(ServeFault::ReadFault),
-            }),
-            TakeFault::Stopped(stop) => match stop {
-                Stop::NoMemory => Ok(LinesTaken {
-                    lines,
-                    fault: Some(ServeFault::NoMemory),
-                }),
-                Stop::WriteFailed(UnwrittenReplies { unwritten }) => Err(Interrupted {
-                    lines: lines - unwritten,
-                    cause: ServeFault::WriteFault,
-                }),
-            },
-        },
+        Err(Interrupted { lines, cause }) => taken_until(lines, cause),
+    }
+}
+
+/// Writes the replies that wait, where no write has failed. Answers how many lines were answered,
+/// if they are all.
+pub(crate) fn write_rest<W: Sink>(
+    sink: &mut W,
+    waiting: &mut ReplyBuffer,
+    taken: Result<LinesTaken, Interrupted<ServeFault>>,
+) -> Result<u64, Interrupted<ServeFault>>
+    requires { IfOk taken (λ taken. length waiting.old.ends.items ≤ taken.lines) }
+    // Whatever the session.
+    ensures { (begun : Session W) (now : Session W) (input : Option (List ℕ))
+        (rest : Option (List ℕ)) (unread_before : Bool) (unread : Bool) →
+        now.sink.now ≡ sink.old → now.waiting.now ≡ waiting.old →
+        HasTaken W.contents W.has_failed begun now input rest unread_before unread taken →
+        Serves newest_rules begun.readers begun.object.now now.object.now input rest
+        unread_before unread (W.contents begun.sink.now) (W.contents sink.new)
+        (W.has_failed begun.sink.now) (W.has_failed sink.new) (W.holds_back sink.new) result }
+{
+    let LinesTaken { lines, fault } = taken?;
+    if let Err(UnwrittenReplies { unwritten }) = waiting.write(sink) {
+        return Err(Interrupted {
+            lines: lines - unwritten,
+            cause: ServeFault::WriteFault,
+        });
+    }
+    match fault {
+        None => Ok(lines),
+        Some(cause) => Err(Interrupted { lines, cause }),
     }
 }
 
@@ -78,17 +111,8 @@ fn run<R: Source, W: Sink>(
         (W.has_failed session.old.sink.now) (W.has_failed session.new.sink.now)
         (W.holds_back session.new.sink.now) result }
 {
-    let LinesTaken { lines, fault } = take_all(session, source)?;
-    if let Err(UnwrittenReplies { unwritten }) = session.waiting.write(session.sink) {
-        return Err(Interrupted {
-            lines: lines - unwritten,
-            cause: ServeFault::WriteFault,
-        });
-    }
-    match fault {
-        None => Ok(lines),
-        Some(cause) => Err(Interrupted { lines, cause }),
-    }
+    let taken = take_all(session, source);
+    write_rest(session.sink, session.waiting, taken)
 }
 
 /// Answers every line of the source up to its end, from the object that is given, for readers that
@@ -121,9 +145,11 @@ pub fn serve_from<R: Source, W: Sink>(
     // as a law: an input may be cut between its lines and answered in parts
     ensures cut { MayEachInputBeCut newest_rules }
 {
+    let mut scratch = Scratch::new(alloc);
     let mut waiting = ReplyBuffer::new(alloc);
     let mut session = Session {
         alloc,
+        scratch: &mut scratch,
         readers,
         object,
         sink,

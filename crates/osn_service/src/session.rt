@@ -15,6 +15,7 @@ ghost use Rattle.osn_service.specs.Stop.{MatchStop};
 
 use crate::reply_buffer::ReplyBuffer;
 use crate::stop::{Stop, UnwrittenReplies};
+use json::Scratch;
 use osn_core::Object;
 use osn_lines::{Line, LineTaker, Sink};
 use osn_register::{Edit, Query};
@@ -130,8 +131,9 @@ fn ask(
 
 /// Answers a line: adds the reply to its request, or to its first fault, which leaves the object. A
 /// stop leaves the object too.
-fn answer<W: Sink>(
+pub(crate) fn answer<W: Sink>(
     alloc: Global,
+    scratch: &mut Scratch,
     readers: u32,
     object: &mut Object,
     sink: &mut W,
@@ -152,7 +154,7 @@ fn answer<W: Sink>(
         (W.has_failed sink.new ≡ W.has_failed sink.old)
         (λ _. WriteFails (W.has_failed sink.old) (W.has_failed sink.new) waiting.old.text.items)) }
 {
-    match request_of_line(alloc, readers, line) {
+    match request_of_line(alloc, scratch, readers, line) {
         Ok(Request::Stage(edit)) => stage(alloc, object, sink, waiting, edit),
         Ok(Request::Publish) => publish(alloc, object, sink, waiting),
         Ok(Request::Ask { reader, query }) => Ok(ask(alloc, object, reader, &query, waiting)?),
@@ -162,7 +164,10 @@ fn answer<W: Sink>(
 }
 
 /// Writes what waits where it is so much that it is to be written, so that less waits then.
-fn make_room<W: Sink>(sink: &mut W, waiting: &mut ReplyBuffer) -> Result<(), UnwrittenReplies>
+pub(crate) fn make_room<W: Sink>(
+    sink: &mut W,
+    waiting: &mut ReplyBuffer,
+) -> Result<(), UnwrittenReplies>
     ensures ok { OnOk result
         (Settles (W.contents sink.old) (W.contents sink.new) waiting.old waiting.new) }
     ensures room { OnOk result (length waiting.new.text.items < full) }
@@ -178,11 +183,12 @@ fn make_room<W: Sink>(sink: &mut W, waiting: &mut ReplyBuffer) -> Result<(), Unw
     Ok(())
 }
 
-/// An object and a sink, with the replies that wait and the number of readers. It owns no memory,
-/// so that what it borrows is known again once it is gone.
+/// An object and a sink, with the replies that wait, the number of readers, and what reads lines. It
+/// owns no memory, so that what it borrows is known again once it is gone.
 #[derive(Drop)]
 pub(crate) struct Session<'a, W> {
     pub(crate) alloc: Global,
+    pub(crate) scratch: &'a mut Scratch,
     pub(crate) readers: u32,
     pub(crate) object: &'a mut Object,
     pub(crate) sink: &'a mut W,
@@ -203,6 +209,7 @@ impl<'a, W: Sink> LineTaker for Session<'a, W> {
         make_room(self.sink, self.waiting)?;
         answer(
             self.alloc,
+            self.scratch,
             self.readers,
             self.object,
             self.sink,

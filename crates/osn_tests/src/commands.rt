@@ -8,13 +8,13 @@ use osn_folder::{Disk, Folder};
 use osn_lines::Plain;
 use osn_register::Limits;
 use std::alloc::Global;
-use std::io;
 use std::io::{ErrorKind, Read, Write};
 use std::process::Abort;
 use std::rt::Files;
 use std::sync::Wait;
 use std::test::Fail;
 use std::thread::Threads;
+use std::{fs, io};
 
 const RM: &str = r#"{"journal":1}
 {"op":"add_land","code":"RM","name":"Rome","calendar":"julian","style":"january","rule":"julian"}
@@ -236,7 +236,7 @@ pub fn left_in<R: Threads + Wait + AllocGlobal, D: Folder>(
 }
 
 /// The same over the files of the system.
-pub fn left_over<R: Files + Threads + Wait + AllocGlobal>(
+pub fn left_over<R: Files<File = fs::File> + Threads + Wait + AllocGlobal>(
     rt: &R,
     line: &str,
     read: &str,
@@ -245,7 +245,7 @@ pub fn left_over<R: Files + Threads + Wait + AllocGlobal>(
 }
 
 /// That standard error is told something where the status is not 0, and nothing else.
-fn have_status<R: Files + Threads + Wait + AllocGlobal + Abort>(
+fn have_status<R: Files<File = fs::File> + Threads + Wait + AllocGlobal + Abort>(
     rt: &R,
     rows: &[(&str, u8)],
 ) -> Result<(), Fail> {
@@ -303,7 +303,7 @@ const FAULTS: [RunRow; 6] = [
 ];
 
 /// That runs leave this, one behind the other.
-pub fn are_run<R: Files + Threads + Wait + AllocGlobal + Abort>(
+pub fn are_run<R: Files<File = fs::File> + Threads + Wait + AllocGlobal + Abort>(
     rt: &R,
     rows: &[RunRow],
 ) -> Result<(), Fail> {

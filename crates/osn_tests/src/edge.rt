@@ -162,7 +162,7 @@ fn write_transcript<R: Files + AllocGlobal>(rt: &R, path: &str, lines: u32) -> R
 }
 
 /// What a terminal is told of an audit that agrees.
-fn told_of_an_audit<R: Files + Threads + Wait + AllocGlobal + Abort>(
+fn told_of_an_audit<R: Files<File = fs::File> + Threads + Wait + AllocGlobal + Abort>(
     rt: &R,
 ) -> Result<Vec<u8>, Fail> {
     let (mut output, mut errors) = (sink(rt.alloc()), sink(rt.alloc()));

@@ -298,7 +298,9 @@ const AGREED: [RunRow; 1] = [(
 )];
 
 /// That what a desk tells two readers, under whatever editions, is what its script gives.
-fn is_agreed<R: Files + Threads + Wait + AllocGlobal + Abort>(rt: &R) -> Result<(), Fail> {
+fn is_agreed<R: Files<File = fs::File> + Threads + Wait + AllocGlobal + Abort>(
+    rt: &R,
+) -> Result<(), Fail> {
     let left = left_over(rt, "oldstyle desk a.script a.questions", "")?;
     same(rt, (left.status.code(), left.told.len()), (0, 0));
     fs::write(rt, "a.transcript", left.written.as_slice())?;

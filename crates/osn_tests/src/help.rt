@@ -3,10 +3,10 @@ use crate::commands::left_over;
 use crate::compare::same;
 use std::process::Abort;
 use std::rt::Files;
-use std::str;
 use std::sync::Wait;
 use std::test::Fail;
 use std::thread::Threads;
+use std::{fs, str};
 
 /// A command line, and what is printed.
 type Printed = (&'static str, &'static str);
@@ -268,7 +268,7 @@ const SHOWN: [Printed; 15] = [
 ];
 
 /// That each is printed, and that it ends well.
-fn are_shown<R: Files + Threads + Wait + AllocGlobal + Abort>(
+fn are_shown<R: Files<File = fs::File> + Threads + Wait + AllocGlobal + Abort>(
     rt: &R,
     rows: &[Printed],
 ) -> Result<(), Fail> {

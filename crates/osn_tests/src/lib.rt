@@ -57,6 +57,8 @@ mod hostile;
 #[cfg(test)]
 mod journals;
 #[cfg(test)]
+mod kept;
+#[cfg(test)]
 mod labels;
 #[cfg(test)]
 mod lands;

@@ -7,9 +7,10 @@ ghost use Rattle.osn_tests.specs.Memory.{holds, known_of};
 use crate::commands::{RunRow, left_in};
 use crate::compare::same;
 use crate::files::{ADDED, File, NAMED, NOTED, RUNS, SAVED};
+use crate::kept::MemoryFile;
 use crate::printed::is_left;
 use crate::session::joined;
-use osn_folder::{ChangeFailed, Folder, OpenFailed, SaveFault};
+use osn_folder::{ChangeFailed, Folder, KeepFault, OpenFailed, SaveFault};
 use osn_lines::Plain;
 use std::alloc::{AllocError, Global};
 use std::io::Cursor;
@@ -85,6 +86,8 @@ impl<'a, R: Abort + AllocGlobal> MemoryFolder<'a, R> {
 impl<R: Abort + AllocGlobal> Folder for MemoryFolder<'_, R> {
     type File = Plain<Cursor<String>>;
 
+    type Kept = MemoryFile;
+
     ghost known = { λ f. Some (known_of f.changes.items f.opened.items) };
 
     fn open(&mut self, path: &str) -> Result<Plain<Cursor<String>>, OpenFailed> {
@@ -94,6 +97,19 @@ impl<R: Abort + AllocGlobal> Folder for MemoryFolder<'_, R> {
             Some(text) => Ok(Plain::new(Cursor::new(text))),
             None => Err(OpenFailed),
         }
+    }
+
+    fn keep(&mut self, path: &str) -> Result<MemoryFile, KeepFault> {
+        let held = self
+            .copy(path)
+            .unwrap_or_else(|| String::new(self.rt.alloc()));
+        self.leave(path, Some(owned(self.rt, held.as_str())));
+        Ok(MemoryFile {
+            alloc: self.rt.alloc(),
+            contents: held.into_bytes(),
+            synced: Vec::new(self.rt.alloc()),
+            appends: u32::MAX,
+        })
     }
 
     fn place(&self, alloc: Global, path: &str) -> Result<String, SaveFault> {

@@ -6,8 +6,8 @@
 pub use osn_almanac::almanac_text;
 pub use osn_audit::audit;
 pub use osn_files::{
-    FileFault, LineFault, Role, journal_text, load_journal, read_questions, read_schedule,
-    read_script,
+    FileFault, LineFault, Role, head_line, journal_text, load_journal, read_questions,
+    read_schedule, read_script, with_edit, with_publish,
 };
 pub use osn_format::{Member, WireFault};
 pub use osn_lines::{
@@ -16,4 +16,4 @@ pub use osn_lines::{
 };
 pub use osn_reply::{Outcome, out_text, reply_text, transcript_text};
 pub use osn_request::{Request, RequestError, read_request};
-pub use osn_service::{ServeFault, serve, serve_from};
+pub use osn_service::{KeptFault, ServeFault, serve, serve_from, serve_kept};

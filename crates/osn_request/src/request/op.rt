@@ -1,11 +1,10 @@
 //! What a line asks for, by the word of its member `op`.
 ghost use Rattle.std.specs.Prelude.{◌≡◌};
-ghost use Rattle.serde_json.specs.View.{view};
 ghost use Rattle.osn_request.specs.Op as spec;
 
 use crate::request::field::text_at;
+use crate::request::json_object::JsonObject;
 use osn_format::{Member, WireFault};
-use serde_json::Value;
 
 /// What a line asks for.
 #[derive(Clone, Copy, Debug, PartialEq, Eq)]
@@ -59,10 +58,10 @@ fn op_named(word: &str) -> Option<Op>
 }
 
 /// What the object of a line asks for.
-pub fn op_of(value: &Value) -> Result<Op, WireFault>
-    ensures { result ≡ spec.op_of (view value.now) }
+pub fn op_of<O: JsonObject>(object: &O) -> Result<Op, WireFault>
+    ensures { result ≡ spec.op_of (O.value object.now) }
 {
-    match op_named(text_at(value, Member::Op)?) {
+    match op_named(text_at(object, Member::Op)?) {
         Some(op) => Ok(op),
         None => Err(WireFault::UnknownOp),
     }

@@ -1,17 +1,16 @@
 //! The query of a line's object. The questions of a desk, a schedule and a transcript read theirs
 //! by the same call.
 ghost use Rattle.std.specs.Prelude.{◌≡◌, ◌≤◌, true, IfOk, IfErr};
-ghost use Rattle.serde_json.specs.View.{view};
 ghost use Rattle.osn_request.specs.declared.request.RequestError.TheVariants.{NoMemory};
 ghost use Rattle.osn_request.specs.QueryRequest as spec;
 ghost use Rattle.osn_request.specs.Request.{Gives, GivesLast};
 
 use crate::request::RequestError;
 use crate::request::field::{text_at, whole_at};
+use crate::request::json_object::JsonObject;
 use crate::request::op::QueryOp;
 use osn_format::{Member, WireFault};
 use osn_register::{Query, Text};
-use serde_json::Value;
 use std::alloc::Global;
 
 /// The reader of a number, where there are so many readers, who are counted from 1.
@@ -29,13 +28,13 @@ pub fn reader_in(readers: u32, reader: i64) -> Result<u32, WireFault>
 }
 
 #[tactic(auto, unfolding(crate::specs::QueryRequest::read_of))]
-fn read_of(alloc: Global, value: &Value) -> Result<Query, RequestError>
-    ensures { GivesLast result (spec.read_of (view value.now)) }
+fn read_of<O: JsonObject>(alloc: Global, object: &O) -> Result<Query, RequestError>
+    ensures { GivesLast result (spec.read_of (O.value object.now)) }
 {
-    let code = text_at(value, Member::Code)?;
-    let year = whole_at(value, Member::Year)?;
-    let month = whole_at(value, Member::Month)?;
-    let day = whole_at(value, Member::Day)?;
+    let code = text_at(object, Member::Code)?;
+    let year = whole_at(object, Member::Year)?;
+    let month = whole_at(object, Member::Month)?;
+    let day = whole_at(object, Member::Day)?;
     let code = Text::from_str(alloc, code)?;
     Ok(Query::Read {
         code,
@@ -46,54 +45,54 @@ fn read_of(alloc: Global, value: &Value) -> Result<Query, RequestError>
 }
 
 #[tactic(auto, unfolding(crate::specs::QueryRequest::day_in_of))]
-fn day_in_of(alloc: Global, value: &Value) -> Result<Query, RequestError>
-    ensures { GivesLast result (spec.day_in_of (view value.now)) }
+fn day_in_of<O: JsonObject>(alloc: Global, object: &O) -> Result<Query, RequestError>
+    ensures { GivesLast result (spec.day_in_of (O.value object.now)) }
 {
-    let code = text_at(value, Member::Code)?;
-    let day = whole_at(value, Member::Day)?;
+    let code = text_at(object, Member::Code)?;
+    let day = whole_at(object, Member::Day)?;
     let code = Text::from_str(alloc, code)?;
     Ok(Query::DayIn { code, day })
 }
 
 #[tactic(auto, unfolding(crate::specs::QueryRequest::easter_of))]
-fn easter_of(alloc: Global, value: &Value) -> Result<Query, RequestError>
-    ensures { GivesLast result (spec.easter_of (view value.now)) }
+fn easter_of<O: JsonObject>(alloc: Global, object: &O) -> Result<Query, RequestError>
+    ensures { GivesLast result (spec.easter_of (O.value object.now)) }
 {
-    let code = text_at(value, Member::Code)?;
-    let year = whole_at(value, Member::Year)?;
+    let code = text_at(object, Member::Code)?;
+    let year = whole_at(object, Member::Year)?;
     let code = Text::from_str(alloc, code)?;
     Ok(Query::Easter { code, year })
 }
 
 #[tactic(auto, unfolding(crate::specs::QueryRequest::periods_of))]
-fn periods_of(alloc: Global, value: &Value) -> Result<Query, RequestError>
-    ensures { GivesLast result (spec.periods_of (view value.now)) }
+fn periods_of<O: JsonObject>(alloc: Global, object: &O) -> Result<Query, RequestError>
+    ensures { GivesLast result (spec.periods_of (O.value object.now)) }
 {
-    let code = text_at(value, Member::Code)?;
+    let code = text_at(object, Member::Code)?;
     let code = Text::from_str(alloc, code)?;
     Ok(Query::Periods { code })
 }
 
 #[tactic(auto, unfolding(crate::specs::QueryRequest::year_figures_of))]
-fn year_figures_of(value: &Value) -> Result<Query, WireFault>
-    ensures { result ≡ spec.year_figures_of (view value.now) }
+fn year_figures_of<O: JsonObject>(object: &O) -> Result<Query, WireFault>
+    ensures { result ≡ spec.year_figures_of (O.value object.now) }
 {
-    let year = whole_at(value, Member::Year)?;
+    let year = whole_at(object, Member::Year)?;
     Ok(Query::YearFigures { year })
 }
 
 /// The query of a line's object by itself, without the reader who asks it.
-fn query_by(alloc: Global, op: QueryOp, value: &Value) -> Result<Query, RequestError>
-    ensures query { GivesLast result (spec.query_by op (view value.now)) }
+fn query_by<O: JsonObject>(alloc: Global, op: QueryOp, object: &O) -> Result<Query, RequestError>
+    ensures query { GivesLast result (spec.query_by op (O.value object.now)) }
     ensures memory { IfErr result (λ e. e ≡ NoMemory → spec.has_code op ≡ true) }
 {
     match op {
-        QueryOp::Read => read_of(alloc, value),
-        QueryOp::DayIn => day_in_of(alloc, value),
-        QueryOp::Easter => easter_of(alloc, value),
-        QueryOp::YearFigures => Ok(year_figures_of(value)?),
+        QueryOp::Read => read_of(alloc, object),
+        QueryOp::DayIn => day_in_of(alloc, object),
+        QueryOp::Easter => easter_of(alloc, object),
+        QueryOp::YearFigures => Ok(year_figures_of(object)?),
         QueryOp::Lands => Ok(Query::Lands),
-        QueryOp::Periods => periods_of(alloc, value),
+        QueryOp::Periods => periods_of(alloc, object),
     }
 }
 
@@ -103,18 +102,18 @@ fn query_by(alloc: Global, op: QueryOp, value: &Value) -> Result<Query, RequestE
 /// # Errors
 /// Memory is taken for the code of a query that has one.
 #[tactic(auto, unfolding(crate::specs::QueryRequest::query_of))]
-pub fn query_of(
+pub fn query_of<O: JsonObject>(
     alloc: Global,
     readers: u32,
     op: QueryOp,
-    value: &Value,
+    object: &O,
 ) -> Result<(u32, Query), RequestError>
-    ensures query { Gives result (spec.query_of readers op (view value.now)) }
+    ensures query { Gives result (spec.query_of readers op (O.value object.now)) }
     ensures among { IfOk result (λ asked. (1 ≤ asked.0) × (asked.0 ≤ readers)) }
     ensures memory { IfErr result (λ e. e ≡ NoMemory → spec.has_code op ≡ true) }
 {
-    let reader = whole_at(value, Member::Reader)?;
-    let query = query_by(alloc, op, value)?;
+    let reader = whole_at(object, Member::Reader)?;
+    let query = query_by(alloc, op, object)?;
     let reader = reader_in(readers, reader)?;
     Ok((reader, query))
 }

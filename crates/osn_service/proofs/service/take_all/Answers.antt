@@ -1,37 +1,35 @@
-use Rattle.std.proofs.Common.{arith}
-use Rattle.osn_service.proofs.ServeLemmas.{AnswersFirst-all, AnswersFirst-first}
-use Rattle.osn_service.proofs.ServeLemmas.{AnswersFirst-stopped}
-use Rattle.osn_service.proofs.ServeLemmas.{Fails-stopped, Fails-few, AnswersInPart-from}
+use Rattle.osn_service.proofs.ServeLemmas.{AnswersFirst-all}
+use Rattle.osn_service.proofs.TakingLemmas.{Ended-from, IsWithin-ended, HasTaken-ended}
+use Rattle.osn_service.proofs.TakingLemmas.{HasTaken-all, all_counted}
 use Rattle.osn_service.proofs.service.take_all.Goals as goal
 
-pub returns-in-Ok-clause-ok : goal.returns-in-Ok-clause-ok
-returns-in-Ok-clause-ok g c =
-    AnswersFirst-all c.requires.text c.requires.ends c.in-Ok.ensures.taken
+pub returns-in-Ok : goal.returns-in-Ok
+returns-in-Ok g c =
+    let took = c.in-Ok.ensures in
+    HasTaken-all _ _ _ _ _ _ _ _ _
+    (AnswersFirst-all c.requires.text c.requires.ends took.taken)
+    (all_counted _ took.taken.taken _ took.taken.count took.taken.all) took.end took.sound
 
-pub returns-in-NoMemory-clause-ok : goal.returns-in-NoMemory-clause-ok
-returns-in-NoMemory-clause-ok g c =
-    AnswersFirst-first c.requires.text c.requires.ends
-    (rw c.in-NoMemory.is at c.in-Err.ensures.fault)
+pub taken_until-requires : goal.taken_until-requires
+taken_until-requires g c =
+    let session = c.args.session.now in
+    let input = g.R.Source.remaining c.args.source.now in
+    let rest = g.R.Source.remaining c.take_lines.new.source in
+    let n = c.in-Err.field-0.lines in
+    IsWithin-ended g.W.Sink.contents g.W.Sink.has_failed session c.take_lines.new.taker input rest n
+    c.in-Err.field-0.cause
+    (Ended-from g.W.Sink.contents g.W.Sink.has_failed session c.take_lines.new.taker input rest n
+    c.in-Err.field-0.cause c.requires.text c.requires.ends c.in-Err.ensures.fault)
 
-pub returns-in-ReadFault-clause-ok : goal.returns-in-ReadFault-clause-ok
-returns-in-ReadFault-clause-ok g c =
-    let ended = rw c.in-ReadFault.is at c.in-Err.ensures.fault in
-    AnswersFirst-first c.requires.text c.requires.ends ended.first
-
-pub returns-in-NoMemory-stop-clause-ok : goal.returns-in-NoMemory-stop-clause-ok
-returns-in-NoMemory-stop-clause-ok g c =
-    AnswersFirst-stopped c.requires.text c.requires.ends c.in-NoMemory-stop.is
-    (rw c.in-Stopped.is at c.in-Err.ensures.fault)
-
-pub overflow_sub-result : goal.overflow_sub-result
-overflow_sub-result g c =
-    Fails-few (Fails-stopped c.requires.text c.requires.ends c.in-WriteFailed.is
-    (rw c.in-Stopped.is at c.in-Err.ensures.fault))
-
-pub returns-in-WriteFailed-clause-err : goal.returns-in-WriteFailed-clause-err
-returns-in-WriteFailed-clause-err g c =
-    let fails =
-    Fails-stopped c.requires.text c.requires.ends c.in-WriteFailed.is
-    (rw c.in-Stopped.is at c.in-Err.ensures.fault) in
-    let few = Fails-few fails in
-    AnswersInPart-from fails (omega arith)
+pub returns-in-Err : goal.returns-in-Err
+returns-in-Err g c =
+    let session = c.args.session.now in
+    let input = g.R.Source.remaining c.args.source.now in
+    let rest = g.R.Source.remaining c.take_lines.new.source in
+    let n = c.in-Err.field-0.lines in
+    rw c.taken_until.ensures
+    (HasTaken-ended g.W.Sink.contents g.W.Sink.has_failed session c.take_lines.new.taker input rest
+    _ _ n c.in-Err.field-0.cause
+    (Ended-from g.W.Sink.contents g.W.Sink.has_failed session c.take_lines.new.taker input rest n
+    c.in-Err.field-0.cause c.requires.text c.requires.ends c.in-Err.ensures.fault)
+    c.in-Err.ensures.reason)

@@ -1,0 +1,46 @@
+//! A file that is kept while a program runs.
+ghost use Rattle.std.specs.Prelude.{◌≡◌, ℕ, List, Option, take, option_map, OnOk, OnErr};
+ghost use Rattle.std.specs.Io.KnownBytes.{Appends};
+
+use crate::fault::ChangeFailed;
+
+/// A file that is kept: what is appended to it stands behind what it holds.
+pub trait KeptFile {
+    // What it holds, where that is known.
+    ghost contents: { Self → Option (List ℕ) };
+
+    // What is on the disk for sure, where that is known.
+    ghost synced: { Self → Option (List ℕ) };
+
+    /// Appends bytes.
+    ///
+    /// # Errors
+    ///
+    /// Where a write failed. The first of the bytes may stand in the file then.
+    fn append(&mut self, bytes: &[u8]) -> Result<(), ChangeFailed>
+        ensures ok { OnOk result (Appends (contents self.old) (contents self.new) bytes.now) }
+        ensures err { OnErr result ((n : ℕ)
+            × Appends (contents self.old) (contents self.new) (take n bytes.now)) }
+        ensures disk { synced self.new ≡ synced self.old };
+
+    /// Cuts it to its first bytes. One that has no more is left as it is.
+    ///
+    /// # Errors
+    ///
+    /// Where it could not be cut.
+    fn cut(&mut self, length: u64) -> Result<(), ChangeFailed>
+        ensures ok { OnOk result
+            (contents self.new ≡ option_map (take length) (contents self.old)) }
+        ensures err { OnErr result (contents self.new ≡ contents self.old) }
+        ensures disk { OnErr result (synced self.new ≡ synced self.old) };
+
+    /// Answers once all that it holds is on the disk.
+    ///
+    /// # Errors
+    ///
+    /// Where that is not sure. What was on the disk before still is.
+    fn sync(&mut self) -> Result<(), ChangeFailed>
+        ensures same { contents self.new ≡ contents self.old }
+        ensures ok { OnOk result (synced self.new ≡ contents self.new) }
+        ensures err { OnErr result (synced self.new ≡ synced self.old) };
+}

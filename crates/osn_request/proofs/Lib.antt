@@ -1,0 +1,3 @@
+mod FlatLemmas
+mod TextLemmas
+mod TreeLemmas

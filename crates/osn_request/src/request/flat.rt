@@ -1,0 +1,76 @@
+//! An object whose members are few texts and whole numbers. It takes no memory: its texts lie in
+//! the line, or where a reader unescaped them.
+ghost use Rattle.std.specs.Prelude.{◌≡◌, option_and_then, option_map};
+
+mod reading;
+
+use arrayvec::ArrayVec;
+pub(crate) use reading::flat_object_of;
+
+/// The most members of a flat object. No line that a format asks for has more.
+const MOST_MEMBERS: usize = 8;
+
+/// A text or a whole number.
+#[derive(Clone, Copy, Drop)]
+enum Scalar<'a> {
+    Text(&'a str),
+    Whole(i64),
+}
+
+impl<'a> Default for Scalar<'a> {
+    ghost use Rattle.std.specs.Prelude.{pos};
+    ghost use Rattle.osn_request.specs.declared.request.flat.Scalar.TheVariants.{Whole};
+
+    ghost is_default = { λ s. s ≡ Whole (pos 0) };
+
+    fn default() -> Self {
+        Scalar::Whole(0)
+    }
+}
+
+/// An object whose members are few texts and whole numbers, as they stand in its line.
+#[derive(Drop)]
+pub struct FlatObject<'a> {
+    members: ArrayVec<(&'a str, Scalar<'a>), MOST_MEMBERS>,
+}
+
+impl<'a> FlatObject<'a> {
+    ghost use Rattle.serde_json.specs.Find.{as_i64, as_number, as_str, get_member};
+    ghost use Rattle.osn_request.specs.Flat.{flat_members, scalar_data};
+
+    /// The value of a member: of two with one name, of the last one.
+    fn find(&self, name: &str) -> Option<Scalar<'a>>
+        ensures { option_map scalar_data result ≡ get_member name.now (flat_members self.now) }
+    {
+        let members = self.members.as_slice();
+        let mut before = members.len();
+        while before > 0 {
+            before -= 1;
+            let (found, value) = members[before];
+            if found == name {
+                return Some(value);
+            }
+        }
+        None
+    }
+
+    pub(crate) fn text(&self, name: &str) -> Option<&'a str>
+        ensures { option_map (λ s. s.now) result
+            ≡ option_and_then as_str (get_member name.now (flat_members self.now)) }
+    {
+        match self.find(name) {
+            Some(Scalar::Text(text)) => Some(text),
+            _ => None,
+        }
+    }
+
+    pub(crate) fn whole(&self, name: &str) -> Option<i64>
+        ensures { result ≡ option_and_then as_i64
+            (option_and_then as_number (get_member name.now (flat_members self.now))) }
+    {
+        match self.find(name) {
+            Some(Scalar::Whole(number)) => Some(number),
+            _ => None,
+        }
+    }
+}

@@ -1,0 +1,156 @@
+#!/usr/bin/env python3
+"""Holds the two ways of reading a request line against each other, and against an older program.
+
+    verify/hostile_lines.py [LINES [SEED [PROGRAM [OLDER]]]]
+                                           100,000 lines and seed 1 where none is given
+
+A line that is one flat object of few texts and whole numbers is read with no tree of values, any
+other one by the tree of its JSON value. Each random line lies near the border between them: escapes
+in names and texts, members twice, nested, of other types and in any number, numbers with fractions,
+exponents and many digits, spaces, bytes that are no text, lines cut off. It is sent twice: as it is,
+and with a further member that no op has and whose value is a list, which is never read the first
+way and asks for the same. Both replies have to be the same. A line that is no object has no second
+form.
+
+Where an older program is named, files of the lines are sent to both, and they have to write the same
+bytes.
+"""
+import random
+import subprocess
+import sys
+
+from common import argument, program
+
+COUNT, SEED, PROGRAM = argument(1, 100_000), argument(2, 1), program(3)
+OLDER = argument(4, "")
+CHANCE = random.Random(SEED)
+LINES_A_FILE = 32
+
+OPS = ["add_land", "add_change", "alter_change", "drop_change", "add_exception", "drop_exception",
+       "publish", "read", "day", "periods", "lands", "easter", "figures", "fly"]
+NAMES = ["op", "reader", "code", "name", "year", "month", "day", "calendar", "style", "rule", "step",
+         "ask", "journal", "Op", "op ", "", "~", "é", "o\\u0070", "\\u006fp", "co\\u0064e", "\\n"]
+TEXTS = OPS + ["GB", "RM", "A1B2C3D4", "gb", "TOOLONGCODE", "Great Britain", "julian", "gregorian",
+               "swedish", "january", "annunciation", "easter", "pisan", "x" * 64, "x" * 65, "é", "",
+               "G\\u0042", "\\u0047B", "a\\\"b", "\\\\", "\\/", "\\ud83d\\ude00", "\\ud83d", "\t", "\\t",
+               "\x7f", "\\x", "\\u00"]
+NUMBERS = ["0", "1", "2", "7", "12", "13", "31", "1752", "9999", "10000", "639797", "3652059",
+           "3652060", "-1", "-0", "-7", "00", "01", "1.0", "1.5", "1e0", "1E2", "12e-1", "1e400",
+           "9223372036854775807", "9223372036854775808", "-9223372036854775808",
+           "-9223372036854775809", "18446744073709551615", "18446744073709551616", "9" * 40, "+1",
+           ".5", "1.", "0x1", "--1", "1_0"]
+OTHERS = ["null", "true", "false", "[]", "{}", "[1]", '{"op":"lands"}', "[[[[]]]]", "nul", "'GB'"]
+SPACES = ["", "", "", "", " ", "  ", "\t", "\r", "\u00a0"]
+
+USUAL = {
+    "add_land": ["code", "name", "calendar", "style", "rule"],
+    "add_change": ["code", "day", "calendar", "style", "rule"],
+    "alter_change": ["code", "day", "calendar", "style", "rule"],
+    "drop_change": ["code", "day"], "add_exception": ["code", "year", "day"],
+    "drop_exception": ["code", "year"], "read": ["reader", "code", "year", "month", "day"],
+    "day": ["reader", "code", "day"], "periods": ["reader", "code"], "lands": ["reader"],
+    "easter": ["reader", "code", "year"], "figures": ["reader", "year"],
+}
+VALUES = {
+    "reader": ["1", "8", "9", "0"], "code": ['"GB"', '"RM"'], "name": ['"Rome"'],
+    "year": ["1752", "1582", "1"], "month": ["9", "2"], "day": ["3", "29", "639797", "577725"],
+    "calendar": ['"julian"', '"gregorian"'], "style": ['"january"', '"annunciation"'],
+    "rule": ['"julian"', '"gregorian"'],
+}
+
+
+def space():
+    return CHANCE.choice(SPACES)
+
+
+def text_of(text):
+    return '"' + text + '"'
+
+
+def any_value():
+    kind = CHANCE.random()
+    if kind < 0.4:
+        return text_of(CHANCE.choice(TEXTS))
+    return CHANCE.choice(NUMBERS if kind < 0.85 else OTHERS)
+
+
+def usual_members():
+    """The members of a request that is one, or nearly one."""
+    op = CHANCE.choice(list(USUAL))
+    members = [("op", text_of(op))]
+    members += [(name, CHANCE.choice(VALUES[name])) for name in USUAL[op]]
+    CHANCE.shuffle(members)
+    return members
+
+
+def changed(members):
+    """The members with one of them changed, added, left out, or put in twice."""
+    place, kind = CHANCE.randrange(len(members)), CHANCE.randrange(5)
+    name, value = members[place]
+    if kind == 0:
+        return members[:place] + [(name, any_value())] + members[place + 1 :]
+    if kind == 1:
+        return members[:place] + [(CHANCE.choice(NAMES), value)] + members[place + 1 :]
+    if kind == 2:
+        return members[:place] + members[place + 1 :] or members
+    if kind == 3:
+        return members + [(name, any_value())]
+    return members[:place] + [(CHANCE.choice(NAMES), any_value())] + members[place:]
+
+
+def objects(members, more):
+    """The text of an object, and of the same with one member more; each with the same spaces."""
+    parts = [f"{space()}{text_of(name)}{space()}:{space()}{value}{space()}"
+             for name, value in members]
+    before, behind = space(), space()
+    return [before + "{" + ",".join(all_parts) + "}" + behind
+            for all_parts in (parts, parts + [text_of(more) + ":[]"])]
+
+
+def broken(line):
+    """A line cut off, with a byte more or with one in another's place, or all of it twice."""
+    place = CHANCE.randrange(len(line) + 1)
+    byte = bytes([CHANCE.choice([0, 9, 34, 44, 58, 92, 123, 125, 128, 192, 255, 48])])
+    return CHANCE.choice([line[:place], line[:place] + byte + line[place:],
+                          line[:place] + byte + line[place + 1 :], line + line])
+
+
+def lines():
+    """A line, and the same with one member more, where it is an object."""
+    members = usual_members()
+    for _ in range(CHANCE.choice([0, 0, 1, 1, 2, 3, 9])):
+        members = changed(members)
+    one, other = (text.encode() for text in objects(members, "~~"))
+    kind = CHANCE.random()
+    if kind < 0.85:
+        return one, other
+    if kind < 0.86:
+        return one + b" " * (65_536 - len(one) + CHANCE.randrange(3) - 1), None
+    return broken(one).replace(b"\n", b" "), None
+
+
+def replies(command, asked):
+    """The replies to lines, one behind the other."""
+    done = subprocess.run(command, input=b"\n".join(asked) + b"\n", capture_output=True, check=True)
+    return done.stdout.splitlines()
+
+
+def main():
+    differ = files = 0
+    for _ in range(0, COUNT, LINES_A_FILE):
+        pairs = [lines() for _ in range(LINES_A_FILE)]
+        ones = [one for one, _ in pairs]
+        others = [one if other is None else other for one, other in pairs]
+        told, again = replies([PROGRAM], ones), replies([PROGRAM], others)
+        before = replies([OLDER], ones) if OLDER else told
+        files += 1
+        for line, reply, other, old in zip(ones, told, again, before, strict=True):
+            if reply != other or reply != old:
+                differ += 1
+                print(line, reply, other, old, sep="\n    ")
+    beside = f", {files} files by both programs" if OLDER else ""
+    print(f"{files * LINES_A_FILE} lines in both forms{beside}: {differ} differ")
+    sys.exit(differ > 0)
+
+
+main()
