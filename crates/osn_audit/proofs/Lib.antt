@@ -1,5 +1,9 @@
 pub mod EditLemmas
 pub mod EntryLemmas
 pub mod FollowLemmas
+mod GuessLemmas
 pub mod LawLemmas
+mod PlainLemmas
 mod ReadLemmas
+mod ReplyLemmas
+mod ShortLemmas

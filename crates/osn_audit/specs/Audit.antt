@@ -2,7 +2,7 @@
 -- that is refused. This project's profile.
 use Rattle.std.specs.Prelude.{ℕ, ◌-◌, ℤ, pos, int_le, unsigned_abs, nat_lt, ◌&&◌, not, Bool, List}
 use Rattle.std.specs.Prelude.{length, take, replicate, slice_index, slice_set, if◌then◌else◌}
-use Rattle.std.specs.Prelude.{Option, Some, None, option_and_then, Result, Ok, Err}
+use Rattle.std.specs.Prelude.{Some, option_and_then, Result, Ok, Err}
 use Rattle.std.specs.Str.{bytes_eq}
 use Rattle.serde_json.specs.Data.{Data}
 use Rattle.serde_json.specs.Find.{get}

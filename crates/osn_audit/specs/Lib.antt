@@ -5,3 +5,4 @@ pub mod Standing
 pub mod Inside
 pub mod InsideFollower
 pub mod InsideFollowers
+pub mod Tokens

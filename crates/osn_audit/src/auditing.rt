@@ -1,20 +1,25 @@
-//! The lines of a transcript, held against the journal.
+//! The entries of a transcript, held against the journal.
 ghost use Rattle.std.specs.Prelude.{◌≡◌, ◌<◌, ◌≤◌, ◌-◌, Ok, IfOk, IfErr, OnOk};
-ghost use Rattle.std.specs.Prelude.{length, slice_set};
+ghost use Rattle.std.specs.Prelude.{length, slice_set, string_bytes, take};
+ghost use Rattle.json.specs.Lex.{tokens};
 ghost use Rattle.serde_json.specs.View.{view};
 ghost use Rattle.osn_days.specs.Profile.{newest_rules};
+ghost use Rattle.osn_core.specs.Sequential.{reply_at};
+ghost use Rattle.osn_format.specs.Json.{value_tokens};
+ghost use Rattle.osn_reply.specs.declared.outcome.Outcome.TheVariants.{Replied};
 ghost use Rattle.osn_request.specs.Request.{Fails};
 ghost use Rattle.osn_audit.specs.Audit as spec;
 ghost use Rattle.osn_audit.specs.Inside.{entry_shown};
+ghost use Rattle.osn_audit.specs.Tokens.{replied};
 
 use crate::float::has_float;
 use crate::followers::Followers;
-use crate::transcript_line::{TranscriptLine, entry_in};
+use crate::transcript_line::TranscriptLine;
 use osn_core::MOST_READERS;
-use osn_files::{LineFold, LineStop};
-use osn_format::{Version, WireFault};
-use osn_reply::{Outcome, push_reply};
-use osn_request::{LineObject, RequestError};
+use osn_format::WireFault;
+use osn_register::Query;
+use osn_reply::{Outcome, compact_reply, push_reply};
+use osn_request::RequestError;
 use serde_json::Value;
 use std::alloc::{AllocError, Global};
 
@@ -28,6 +33,50 @@ fn has_line(alloc: Global, reply: &Value, line: &[u8]) -> Result<bool, AllocErro
     let mut text = reply.to_vec(alloc)?;
     text.push(b'\n')?;
     Ok(text.as_slice() == line)
+}
+
+/// What a reader should be told of a query under an edition, which is the reader's last one then.
+fn outcome_due(
+    followers: &mut Followers,
+    reader: u32,
+    edition: u32,
+    query: &Query,
+) -> Result<Outcome, AllocError>
+    requires counted { 0 < reader }
+    requires known { reader ≤ MOST_READERS }
+    requires edition { spec.known_edition (length followers.old.object.batches)
+        (spec.last_of followers.old.last reader) edition ≡ Ok edition }
+    ensures outcome { IfOk result (λ o. o ≡ Replied reader (reply_at newest_rules
+        followers.old.object.limits (take edition followers.old.object.batches) query.now)) }
+    ensures last { OnOk result (followers.new.last
+        ≡ slice_set followers.old.last (reader - 1) edition) }
+    ensures object { followers.new.object ≡ followers.old.object }
+{
+    let reply = followers.ask(reader, edition, query)?;
+    Ok(Outcome::Replied { reader, reply })
+}
+
+/// The compact text of what a reader should be told of a query under an edition, which is the
+/// reader's last one then.
+pub(crate) fn text_due(
+    alloc: Global,
+    followers: &mut Followers,
+    reader: u32,
+    edition: u32,
+    query: &Query,
+) -> Result<String, AllocError>
+    requires counted { 0 < reader }
+    requires known { reader ≤ MOST_READERS }
+    requires edition { spec.known_edition (length followers.old.object.batches)
+        (spec.last_of followers.old.last reader) edition ≡ Ok edition }
+    ensures tokens { IfOk result (λ s. tokens (string_bytes s)
+        ≡ value_tokens (replied newest_rules followers.old.object (reader, query.now) edition)) }
+    ensures last { OnOk result (followers.new.last
+        ≡ slice_set followers.old.last (reader - 1) edition) }
+    ensures object { followers.new.object ≡ followers.old.object }
+{
+    let outcome = outcome_due(followers, reader, edition, query)?;
+    compact_reply(alloc, &outcome)
 }
 
 /// The line of the reply that an entry should have. Its edition is the reader's last one then.
@@ -47,18 +96,14 @@ fn line_due(
         ≡ slice_set followers.old.last (entry.now.reader - 1) entry.now.edition) }
     ensures object { followers.new.object ≡ followers.old.object }
 {
-    let reply = followers.ask(entry.reader, entry.edition, &entry.query)?;
-    let outcome = Outcome::Replied {
-        reader: entry.reader,
-        reply,
-    };
+    let outcome = outcome_due(followers, entry.reader, entry.edition, &entry.query)?;
     let mut line = Vec::new(alloc);
     push_reply(alloc, &outcome, &mut line)?;
     Ok(line)
 }
 
 /// Holds an entry against the journal.
-fn take_entry(
+pub(crate) fn take_entry(
     alloc: Global,
     followers: &mut Followers,
     entry: &TranscriptLine,
@@ -77,27 +122,4 @@ fn take_entry(
         return Err(RequestError::Fault(WireFault::WrongReply));
     }
     Ok(())
-}
-
-impl LineFold for Followers {
-    ghost use Rattle.std.specs.Prelude.{ℕ, List};
-    ghost use Rattle.osn_days.specs.Profile.{newest_rules};
-    ghost use Rattle.osn_audit.specs.Audit.{after_object};
-
-    ghost State = { List ℕ };
-
-    ghost state = { λ followers. followers.last };
-
-    ghost step = { λ followers. after_object newest_rules followers.object };
-
-    fn take_object(
-        &mut self,
-        alloc: Global,
-        _version: Version,
-        object: &LineObject<'_>,
-    ) -> Result<(), LineStop> {
-        let entry = entry_in(alloc, object)?;
-        take_entry(alloc, self, &entry)?;
-        Ok(())
-    }
 }

@@ -1,6 +1,6 @@
 //! The registers that replies are held against: one for each reader, at the edition of the reader's
-//! last reply. It goes on from there and is never made anew, so that an audit applies each edit
-//! once for each reader at most.
+//! last reply. It goes on from there, so that an audit applies each edit once for each reader at
+//! most, and once more where a register was taken back.
 ghost use Rattle.std.specs.Prelude.{◌≡◌, ◌<◌, ◌≤◌, ◌-◌, Ok, Err, IfOk, OnOk, MatchResult, length};
 ghost use Rattle.std.specs.Prelude.{take, slice_set};
 ghost use Rattle.osn_days.specs.Profile.{newest_rules};
@@ -69,6 +69,31 @@ impl Followers {
         if edition < self.places[(reader - 1) as usize].edition {
             return Err(WireFault::EditionFell);
         }
+        Ok(())
+    }
+
+    /// The edition of a reader's last reply.
+    pub(crate) fn last(&self, reader: u32) -> u32
+        requires counted { 0 < reader }
+        requires known { reader ≤ MOST_READERS }
+        ensures value { result ≡ last_of self.now.last reader }
+        ensures there { result ≤ length self.now.object.batches }
+    {
+        self.places[(reader - 1) as usize].edition
+    }
+
+    /// Makes an edition a reader's last one, whichever that was. The register is made anew.
+    pub(crate) fn go_back(&mut self, reader: u32, edition: u32) -> Result<(), AllocError>
+        requires counted { 0 < reader }
+        requires known { reader ≤ MOST_READERS }
+        requires there { edition ≤ length self.old.object.batches }
+        ensures last { OnOk result
+            (self.new.last ≡ slice_set self.old.last (reader - 1) edition) }
+        ensures object { self.new.object ≡ self.old.object }
+    {
+        let empty = Follower::new(self.alloc, self.object.register().limits());
+        let follower = empty.at(self.object.batches(), edition)?;
+        self.places[(reader - 1) as usize] = follower;
         Ok(())
     }
 

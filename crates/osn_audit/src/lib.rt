@@ -4,9 +4,11 @@
 #![tactic(auto)]
 
 mod auditing;
+mod auditor;
 mod float;
 mod follower;
 mod followers;
+mod tokens;
 mod transcript;
 mod transcript_line;
 

@@ -10,7 +10,7 @@ ghost use Rattle.osn_audit.specs.Audit as spec;
 ghost use Rattle.osn_audit.specs.Files.{AuditsFiles};
 ghost use Rattle.osn_audit.specs.Law.{Agrees};
 
-use crate::followers::Followers;
+use crate::auditor::Auditor;
 use osn_core::Object;
 use osn_files::{FileFault, Role, load_journal, read_lines};
 use osn_format::Version;
@@ -27,11 +27,11 @@ fn audit_lines<S: Source>(
     ensures { ReadsFile Transcript (spec.agreed_lines newest_rules object) (λ n. n) result
         S.remaining S.has_failed transcript.old transcript.new }
 {
-    let Ok(followers) = Followers::new(alloc, object) else {
+    let Ok(auditor) = Auditor::new(alloc, object) else {
         return Err(FileFault::NoMemory);
     };
     let version = Some(Version::newest());
-    let (_, count) = read_lines(alloc, Role::Transcript, version, followers, transcript)?;
+    let (_, count) = read_lines(alloc, Role::Transcript, version, auditor, transcript)?;
     Ok(count)
 }
 
@@ -43,7 +43,8 @@ fn audit_lines<S: Source>(
 /// are in no edition.
 ///
 /// Besides the object there is a register for each reader that the transcript names, which goes on
-/// from edition to edition, what `take_lines` has, and the value of one line.
+/// from edition to edition, what `take_lines` has, and the text of the reply that is due to one
+/// line, or the value of the line.
 ///
 /// # Errors
 ///

@@ -6,3 +6,4 @@ pub mod AuditLemmas
 pub mod LettersLemmas
 pub mod RunLemmas
 pub mod LimitsLemmas
+pub mod KeepingLemmas

@@ -15,6 +15,7 @@ use Rattle.osn_commands.specs.declared.fault.CommandFault.{CommandFault}
 use Rattle.osn_commands.specs.declared.fault.CommandFault.TheVariants.{BadLine, Refused, Desk}
 use Rattle.osn_commands.specs.declared.fault.CommandFault.TheVariants.{ReadFault, WriteFault}
 use Rattle.osn_commands.specs.declared.fault.CommandFault.TheVariants.{NoMemory, Misused, BadTable}
+use Rattle.osn_commands.specs.declared.fault.CommandFault.TheVariants.{KeptElsewhere, OlderVersion}
 use Rattle.osn_commands.specs.declared.status.Status.{Status}
 use Rattle.osn_commands.specs.declared.status.Status.TheVariants as statuses
 
@@ -41,14 +42,17 @@ pub same_end : (n number : ℕ) (s name : List ℕ) → n ≡ number → s ≡ n
 same_end n number s name e k = rw (e, k) refl
 
 -- other faults are no refusals
-read_is_no_refusal : statuses.ReadFault ≡ statuses.Refused → ⊥
+pub read_is_no_refusal : statuses.ReadFault ≡ statuses.Refused → ⊥
 read_is_no_refusal e = cc
 
 pub write_is_no_refusal : statuses.WriteFault ≡ statuses.Refused → ⊥
 write_is_no_refusal e = cc
 
-memory_is_no_refusal : statuses.NoMemory ≡ statuses.Refused → ⊥
+pub memory_is_no_refusal : statuses.NoMemory ≡ statuses.Refused → ⊥
 memory_is_no_refusal e = cc
+
+pub misuse_is_no_refusal : statuses.Misused ≡ statuses.Refused → ⊥
+misuse_is_no_refusal e = cc
 
 -- no object may be told as want of memory
 no_object_told : (p : Profile) (limits : Limits) (begun : Option (Option (List ℕ)))
@@ -83,6 +87,8 @@ serves_told p l n b u v o input r j (Refused refusal) told (inr k) (none, inr h)
 serves_told p l n b u v o input r j (Desk desk) told (inr k) (none, inr h) = absurd h.2
 serves_told p l n b u v o input r j (Misused misuse) told (inr k) (none, inr h) = absurd h.2
 serves_told p l n b u v o input r j (BadTable table) told (inr k) (none, inr h) = absurd h.2
+serves_told p l n b u v o input r j KeptElsewhere told (inr k) (none, inr h) = absurd h.2
+serves_told p l n b u v o input r j (OlderVersion version) told (inr k) (none, inr h) = absurd h.2
 serves_told p l n b u v o input r j ReadFault told (inr k) (none, inr h) =
     absurd (read_is_no_refusal k.0)
 serves_told p l n b u v o input r j WriteFault told (inr k) (none, inr h) =

@@ -1,5 +1,6 @@
 -- A run of the program did what its contract says of that.
-use Rattle.std.proofs.Common.{◌≡◌, ◌≢◌, ◌⊎◌, ◌&&◌, ℕ, Bool, false, List, Option, Some, None}
+use Rattle.std.proofs.Common.{◌≡◌, ◌≢◌, ◌⊎◌, ◌&&◌, ◌||◌, ℕ, Bool, true, false, List, Option, Some}
+use Rattle.std.proofs.Common.{None, Result, OnErr}
 use Rattle.std.proofs.Common.{IfSome, is_some, option_map, ap, refl, sym, subst, inl, inr}
 use Rattle.std.specs.Option.{option_map_or}
 use Rattle.clap.specs.Words.{HasKind, fault_of, kind_of}
@@ -9,19 +10,26 @@ use Rattle.clap.specs.declared.error.kind.ErrorKind.TheVariants.{OutOfMemory}
 use Rattle.osn_days.specs.Profile.{newest_rules}
 use Rattle.osn_register.specs.declared.limits.Limits.{Limits}
 use Rattle.osn_folder.specs.Folder.{Known, Changes, IsFileIf, MayFail, Opens, Saves, Leaves}
-use Rattle.osn_folder.specs.Folder.{path_if}
+use Rattle.osn_folder.specs.Folder.{CannotOpen, path_if}
+use Rattle.osn_folder.specs.declared.fault.KeepFault.{KeepFault}
+use Rattle.osn_folder.specs.declared.fault.KeepFault.TheVariants as keep_faults
 use Rattle.osn_invocation.specs.Grammar.{command_line}
-use Rattle.osn_invocation.specs.Invocation.{command_model}
+use Rattle.osn_invocation.specs.Invocation.{command_model, serving}
 use Rattle.osn_invocation.specs.declared.invocation.CommandWords.{CommandWords}
-use Rattle.osn_commands.specs.Fault.{by_save}
+use Rattle.osn_commands.proofs.ReportLemmas.{read_is_no_refusal}
+use Rattle.osn_commands.specs.Fault.{by_keep, by_save, fault_status}
 use Rattle.osn_commands.specs.Printing.{EndsPrinting}
 use Rattle.osn_commands.specs.Run.{Folders, EndsSaving, Finishes, RunsService, Runs, IsHelp}
-use Rattle.osn_commands.specs.Run.{ShowsOrEnds, RunsArgs}
+use Rattle.osn_commands.specs.Run.{ShowsOrEnds, RunsArgs, RunsServing, EndsKeeping, EndsFirst}
+use Rattle.osn_commands.specs.Run.{files_of}
 use Rattle.osn_commands.specs.Serving.{Serves}
 use Rattle.osn_commands.specs.Streams.{Input, Output}
-use Rattle.osn_commands.specs.Told.{EndsBy}
+use Rattle.osn_commands.specs.Told.{EndsBy, Tells}
 use Rattle.osn_commands.specs.declared.fault.CommandFault.{CommandFault}
+use Rattle.osn_commands.specs.declared.fault.CommandFault.TheVariants.{Misused}
+use Rattle.osn_commands.specs.declared.fault.Misuse.TheVariants.{Keep}
 use Rattle.osn_commands.specs.declared.status.Status.{Status}
+use Rattle.osn_commands.specs.declared.status.Status.TheVariants as statuses
 
 -- what was run is what these words ask for
 pub ran : (limits : Limits) (given found : CommandWords) (CanFail : Bool → Type 0) (d : Folders)
@@ -108,8 +116,8 @@ pub service_ran : (limits : Limits) (journal save : Option (List ℕ)) (kept : B
     → Changes (Opens (path_if journal)) d.before opened
     → EndsSaving save left opened d.after served ending
     → RunsService limits journal save readers CanFail d i o ending
-service_ran limits journal save kept readers CanFail d i o opened begun failed left served ending same is
-    may none h opens saved = (
+service_ran limits journal save kept readers CanFail d i o opened begun failed left served ending
+    same is may none h opens saved = (
       begun,
       is,
       failed,
@@ -149,3 +157,65 @@ shown_ran args error CanFail d i o e status (inl memory) same (inr shown) =
     absurd (shown.0 memory)
 shown_ran args error CanFail d i o e status (inr among) same (inr shown) =
     inr (same, inr (kind_of error, among, shown.1))
+
+-- ---- the service by its options
+
+-- the service was run by these options
+pub served_by : (limits : Limits) (journal save given found : Option (List ℕ)) (readers : ℕ)
+    (CanFail : Bool → Type 0) (d : Folders) (i : Input) (o e : Output) (status : Status)
+    → given ≡ found → RunsServing limits journal save found readers CanFail d i o e status
+    → RunsServing limits journal save given readers CanFail d i o e status
+served_by limits journal save given found readers CanFail d i o e status is h =
+    subst (λ k. RunsServing limits journal save k readers CanFail d i o e status) (sym is) h
+
+-- where none is kept, the journal is the file that could not be opened
+pub unserved_by : {T E : Type 0} (result : Result T E) (journal save given : Option (List ℕ))
+    (readers : ℕ) (before after : Option Known) (P Q : Type 0) → given ≡ None
+    → OnErr result (CannotOpen (path_if journal) before after × P × Q)
+    → OnErr result (CannotOpen (files_of (serving journal save given readers)) before after × P × Q)
+unserved_by {T} {E} result journal save given readers before after P Q is h =
+    subst (λ k. OnErr result
+    (CannotOpen (files_of (serving journal save k readers)) before after × P × Q)) (sym is) h
+
+-- a journal that is kept goes with no other
+module _ {P : Type 0} (now : P → List ℕ) (limits : Limits) where
+  pub misused_with : (journal save : Option P) (path : List ℕ) (readers : ℕ)
+      (CanFail : Bool → Type 0) (d : Folders) (i : Input) (o e : Output) (status : Status)
+      → (is_some journal || is_some save) ≡ true
+      → (d.after ≡ d.before) × EndsFirst (Misused Keep) o e status
+      → RunsServing limits (option_map now journal) (option_map now save) (Some path) readers
+      CanFail d i o e status
+  misused_with None None path readers CanFail d i o e status given h = absurd (cc)
+  misused_with None (Some save) path readers CanFail d i o e status given h = h
+  misused_with (Some journal) save path readers CanFail d i o e status given h = h
+
+  pub kept_alone : (journal save : Option P) (path : List ℕ) (readers : ℕ)
+      (CanFail : Bool → Type 0) (d : Folders) (i : Input) (o e : Output) (status : Status)
+      → (is_some journal || is_some save) ≡ false
+      → EndsKeeping limits path readers CanFail d i o e status
+      → RunsServing limits (option_map now journal) (option_map now save) (Some path) readers
+      CanFail d i o e status
+  kept_alone None None path readers CanFail d i o e status given h = h
+  kept_alone None (Some save) path readers CanFail d i o e status given h = absurd (cc)
+  kept_alone (Some journal) save path readers CanFail d i o e status given h = absurd (cc)
+
+-- what is no refusal was told as itself, before a command began
+pub first_told : (fault : CommandFault) (o e : Output) (status : Status)
+    → (fault_status fault ≡ statuses.Refused → ⊥) → o.new ≡ o.old → Tells e fault status
+    → EndsFirst fault o e status
+first_told fault o e status sound same (told, inl is, h) =
+    (subst (λ f. EndsBy e (Some f) status) is h, same)
+first_told fault o e status sound same (told, inr k, h) = absurd (sound k.0)
+
+-- why a file is not kept is no refusal
+keep_is_no_refusal : (fault : KeepFault) → fault_status (by_keep fault) ≡ statuses.Refused → ⊥
+keep_is_no_refusal keep_faults.Held e = read_is_no_refusal e
+keep_is_no_refusal keep_faults.NotOpened e = read_is_no_refusal e
+
+-- that a file is not kept was told
+pub keep_told : (o e : Output) (fault : KeepFault) (made : CommandFault) (status : Status)
+    → made ≡ by_keep fault → o.new ≡ o.old → Tells e made status
+    → EndsFirst (by_keep fault) o e status
+keep_told o e fault made status is same h =
+    first_told (by_keep fault) o e status (keep_is_no_refusal fault) same
+    (subst (λ f. Tells e f status) is h)

@@ -2,6 +2,8 @@
 -- project's profile.
 use Rattle.std.specs.Prelude.{ℕ, List, ◌++◌, codes}
 use Rattle.std.specs.Fmt.{decimal}
+use Rattle.osn_folder.specs.declared.fault.KeepFault.{KeepFault}
+use Rattle.osn_folder.specs.declared.fault.KeepFault.TheVariants as keep_faults
 use Rattle.osn_folder.specs.declared.fault.SaveFault.{SaveFault}
 use Rattle.osn_folder.specs.declared.fault.SaveFault.TheVariants as save_faults
 use Rattle.osn_register.specs.Refusal.{refusal_number, refusal_name}
@@ -11,21 +13,27 @@ use Rattle.osn_files.specs.declared.fault.FileFault.TheVariants as file_faults
 use Rattle.osn_files.specs.declared.fault.Role.{Role}
 use Rattle.osn_files.specs.declared.fault.Role.TheVariants.{Journal, Script, Questions, Schedule}
 use Rattle.osn_files.specs.declared.fault.Role.TheVariants.{Transcript}
+use Rattle.osn_format.specs.Version.{version_number}
+use Rattle.osn_format.specs.declared.version.Version.{Version}
 use Rattle.osn_letters.specs.declared.fault.Column.TheVariants as columns
 use Rattle.osn_letters.specs.declared.fault.LettersFault.{LettersFault}
 use Rattle.osn_letters.specs.declared.fault.LettersFault.TheVariants as letters_faults
 use Rattle.osn_live.specs.Faults.{desk_fault_number, desk_fault_name}
 use Rattle.osn_live.specs.declared.faults.DeskFault.{DeskFault}
 use Rattle.osn_live.specs.declared.faults.DeskFault.TheVariants as desk_faults
+use Rattle.osn_service.specs.declared.fault.KeptFault.{KeptFault}
+use Rattle.osn_service.specs.declared.fault.KeptFault.TheVariants as kept_faults
 use Rattle.osn_service.specs.declared.fault.ServeFault.{ServeFault}
 use Rattle.osn_service.specs.declared.fault.ServeFault.TheVariants as serve_faults
 use Rattle.osn_commands.specs.declared.fault.CommandFault.{CommandFault}
 use Rattle.osn_commands.specs.declared.fault.CommandFault.TheVariants.{BadLine, Refused, Desk}
 use Rattle.osn_commands.specs.declared.fault.CommandFault.TheVariants.{ReadFault, WriteFault}
 use Rattle.osn_commands.specs.declared.fault.CommandFault.TheVariants.{NoMemory, Misused, BadTable}
+use Rattle.osn_commands.specs.declared.fault.CommandFault.TheVariants.{KeptElsewhere, OlderVersion}
 use Rattle.osn_commands.specs.declared.fault.Misuse.{Misuse}
 use Rattle.osn_commands.specs.declared.fault.Misuse.TheVariants.{Date, Weekday, Calendar}
 use Rattle.osn_commands.specs.declared.fault.Misuse.TheVariants.{DayNumber, NoSuchDate, Limits}
+use Rattle.osn_commands.specs.declared.fault.Misuse.TheVariants.{Keep}
 use Rattle.osn_commands.specs.declared.fault.TableFault.{TableFault}
 use Rattle.osn_commands.specs.declared.fault.TableFault.TheVariants as tables
 use Rattle.osn_commands.specs.Limits.{limit_hint}
@@ -39,6 +47,8 @@ fault_status (Refused refusal) = statuses.Refused
 fault_status (Desk fault) = statuses.Refused
 fault_status (Misused misuse) = statuses.Misused
 fault_status (BadTable fault) = statuses.Refused
+fault_status KeptElsewhere = statuses.ReadFault
+fault_status (OlderVersion version) = statuses.Refused
 fault_status ReadFault = statuses.ReadFault
 fault_status WriteFault = statuses.WriteFault
 fault_status NoMemory = statuses.NoMemory
@@ -68,6 +78,7 @@ misuse_line NoSuchDate = codes
     "oldstyle: DATE is no date of that calendar in the years 1 to 9999\n"
 misuse_line Limits = codes
     "oldstyle: LIMITS are none: write some of lands=N,changes=N,exceptions=N,edits=N,editions=N\n"
+misuse_line Keep = codes "oldstyle: --keep goes with neither --journal nor --save\n"
 
 -- where a table of letters is none, and what to write
 abbrev pub table_line : TableFault → List ℕ
@@ -80,6 +91,12 @@ table_line (tables.BadRecord line) = codes "oldstyle: letters line "
 table_line (tables.TooLong line) = codes "oldstyle: letters line "
     ++ (decimal line ++ codes ": a record of more than 65536 bytes\n")
 
+-- the line on a journal of a version that is not kept
+abbrev pub older_line : Version → List ℕ
+older_line version = codes "oldstyle: a journal of version "
+    ++ (decimal (version_number version)
+    ++ codes " is not kept: save it anew by --journal and --save\n")
+
 -- the line on standard error
 abbrev pub fault_line : CommandFault → List ℕ
 fault_line (BadLine role line why) =
@@ -91,6 +108,8 @@ fault_line (Desk fault) =
     codes "oldstyle: " ++ refusal_end (desk_fault_number fault) (desk_fault_name fault)
 fault_line (Misused misuse) = misuse_line misuse
 fault_line (BadTable fault) = table_line fault
+fault_line KeptElsewhere = codes "oldstyle: another run of the program keeps that journal\n"
+fault_line (OlderVersion version) = older_line version
 fault_line ReadFault = codes "oldstyle: read fault\n"
 fault_line WriteFault = codes "oldstyle: write fault\n"
 fault_line NoMemory = codes "oldstyle: no memory\n"
@@ -100,6 +119,16 @@ abbrev pub by_service : ServeFault → CommandFault
 by_service serve_faults.NoMemory = NoMemory
 by_service serve_faults.ReadFault = ReadFault
 by_service serve_faults.WriteFault = WriteFault
+
+-- so is that of one that keeps a file; where the file failed, a write did
+abbrev pub by_kept_service : KeptFault → CommandFault
+by_kept_service (kept_faults.Serve fault) = by_service fault
+by_kept_service kept_faults.KeepFault = WriteFault
+
+-- why a file is not kept
+abbrev pub by_keep : KeepFault → CommandFault
+by_keep keep_faults.Held = KeptElsewhere
+by_keep keep_faults.NotOpened = ReadFault
 
 -- the fault of a file is the same one
 abbrev pub by_file : FileFault → CommandFault

@@ -8,6 +8,7 @@ use Rattle.osn_commands.specs.declared.fault.CommandFault.{CommandFault}
 use Rattle.osn_commands.specs.declared.fault.CommandFault.TheVariants.{BadLine, Refused, Desk}
 use Rattle.osn_commands.specs.declared.fault.CommandFault.TheVariants.{ReadFault, WriteFault}
 use Rattle.osn_commands.specs.declared.fault.CommandFault.TheVariants.{NoMemory, Misused, BadTable}
+use Rattle.osn_commands.specs.declared.fault.CommandFault.TheVariants.{KeptElsewhere, OlderVersion}
 use Rattle.osn_commands.specs.Streams.{Input}
 
 -- what the rule makes of the file, where its bytes are known
@@ -24,6 +25,8 @@ IsFileFault role rule file (Refused refusal) = ⊥
 IsFileFault role rule file (Desk fault) = ⊥
 IsFileFault role rule file (Misused misuse) = ⊥
 IsFileFault role rule file (BadTable fault) = ⊥
+IsFileFault role rule file KeptElsewhere = ⊥
+IsFileFault role rule file (OlderVersion version) = ⊥
 IsFileFault role rule file ReadFault = IsReadFault file.unread file.bytes
 IsFileFault role rule file WriteFault = ⊥
 IsFileFault role rule file NoMemory = ⊤

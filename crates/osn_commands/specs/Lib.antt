@@ -8,6 +8,8 @@ pub mod Files
 pub mod Refused
 pub mod Journal
 pub mod Serving
+pub mod Keeping
+pub mod KeepingInside
 pub mod Asked
 pub mod Page
 pub mod Conversion

@@ -5,6 +5,7 @@ use Rattle.osn_commands.specs.declared.fault.CommandFault.{CommandFault}
 use Rattle.osn_commands.specs.declared.fault.CommandFault.TheVariants.{BadLine, Refused, Desk}
 use Rattle.osn_commands.specs.declared.fault.CommandFault.TheVariants.{ReadFault, WriteFault}
 use Rattle.osn_commands.specs.declared.fault.CommandFault.TheVariants.{NoMemory, Misused, BadTable}
+use Rattle.osn_commands.specs.declared.fault.CommandFault.TheVariants.{KeptElsewhere, OlderVersion}
 use Rattle.osn_commands.specs.declared.fault.Misuse.{Misuse}
 
 -- it is refused by what applies, or memory ran out
@@ -14,6 +15,8 @@ IsRefusedBy refused (Refused refusal) = refused ≡ Some refusal
 IsRefusedBy refused (Desk fault) = ⊥
 IsRefusedBy refused (Misused misuse) = ⊥
 IsRefusedBy refused (BadTable fault) = ⊥
+IsRefusedBy refused KeptElsewhere = ⊥
+IsRefusedBy refused (OlderVersion version) = ⊥
 IsRefusedBy refused ReadFault = ⊥
 IsRefusedBy refused WriteFault = ⊥
 IsRefusedBy refused NoMemory = ⊤

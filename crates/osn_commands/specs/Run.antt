@@ -8,7 +8,8 @@ use Rattle.clap.specs.declared.error.kind.ErrorKind.TheVariants.{DisplayVersion}
 use Rattle.osn_days.specs.Profile.{newest_rules}
 use Rattle.osn_register.specs.declared.limits.Limits.{Limits}
 use Rattle.osn_folder.specs.Folder.{Known, Changes, IsFileOf, IsFileIf, Opens, CannotOpen, Saves}
-use Rattle.osn_folder.specs.Folder.{Leaves, path_if}
+use Rattle.osn_folder.specs.Folder.{Leaves, Keeps, IsKeptAt, path_if}
+use Rattle.osn_folder.specs.declared.fault.KeepFault.{KeepFault}
 use Rattle.osn_folder.specs.declared.fault.SaveFault.{SaveFault}
 use Rattle.osn_invocation.specs.Grammar.{command_line}
 use Rattle.osn_invocation.specs.Invocation.{CommandModel, InvocationModel}
@@ -17,7 +18,8 @@ use Rattle.osn_invocation.specs.Invocation.{auditing, converting, reading_letter
 use Rattle.osn_invocation.specs.Invocation.{invocation_in}
 use Rattle.osn_commands.specs.Audited.{PrintsAudit}
 use Rattle.osn_commands.specs.Conversion.{PrintsConversion}
-use Rattle.osn_commands.specs.Fault.{by_save}
+use Rattle.osn_commands.specs.Fault.{by_keep, by_save}
+use Rattle.osn_commands.specs.Keeping.{KeptState, EndsKept}
 use Rattle.osn_commands.specs.Letters.{PrintsLetters}
 use Rattle.osn_commands.specs.Limits.{limits_asked}
 use Rattle.osn_commands.specs.Page.{PrintsPage}
@@ -29,6 +31,7 @@ use Rattle.osn_commands.specs.Told.{EndsBy, WritesLine}
 use Rattle.osn_commands.specs.Transcript.{PrintsTranscript}
 use Rattle.osn_commands.specs.declared.fault.CommandFault.{CommandFault}
 use Rattle.osn_commands.specs.declared.fault.CommandFault.TheVariants.{Misused, ReadFault, NoMemory}
+use Rattle.osn_commands.specs.declared.fault.Misuse.TheVariants.{Keep}
 use Rattle.osn_commands.specs.declared.status.Status.{Status}
 use Rattle.osn_commands.specs.declared.status.Status.TheVariants as statuses
 
@@ -40,6 +43,10 @@ pub record Folders : Type 0 where
 -- the same of a folder
 abbrev pub folders_of : {D : Type 0} → (D → Option Known) → D → D → Folders
 folders_of known old new = record { before = known old; after = known new }
+
+-- the run ended by this fault before a command began
+abbrev pub EndsFirst : CommandFault → Output → Output → Status → Type 0
+EndsFirst fault o e status = EndsBy e (Some fault) status × (o.new ≡ o.old)
 
 -- ---- a command that prints
 
@@ -78,8 +85,8 @@ abbrev pub Finishes : Output → Status → Type 0
 Finishes e status = (fault : SaveFault) × EndsBy e (Some (by_save fault)) status
 
 -- the service was run, from what the journal holds, and the journal that it left was saved
-abbrev pub RunsService : Limits → Option Text → Option Text → ℕ → (Bool → Type 0) → Folders → Input → Output
-    → Option CommandFault → Type 0
+abbrev pub RunsService : Limits → Option Text → Option Text → ℕ → (Bool → Type 0) → Folders
+    → Input → Output → Option CommandFault → Type 0
 RunsService limits journal save readers CanFail d i o ending =
     (begun : Option (Option (List ℕ))) × IsFileIf d.before journal begun
     × (failed : Bool) × CanFail failed
@@ -92,17 +99,54 @@ RunsService limits journal save readers CanFail d i o ending =
     × EndsSaving save left opened d.after served ending
 
 -- that, and how it ended
-abbrev pub EndsService : Limits → Option Text → Option Text → ℕ → (Bool → Type 0) → Folders → Input → Output
-    → Output → Status → Type 0
+abbrev pub EndsService : Limits → Option Text → Option Text → ℕ → (Bool → Type 0) → Folders
+    → Input → Output → Output → Status → Type 0
 EndsService limits journal save readers CanFail d i o e status =
     (ending : Option CommandFault) × EndsBy e ending status
     × RunsService limits journal save readers CanFail d i o ending
+
+-- ---- the service of a journal that is kept
+
+-- the service was run with the file of this path, which is kept and held this, and which was opened
+-- twice to be read; or it could not be opened
+abbrev pub RunsKept : Limits → Text → ℕ → (Bool → Type 0) → Option (List ℕ) → Option Known
+    → Option Known → Input → Output → Output → Status → Type 0
+RunsKept limits path readers CanFail held begun after i o e status =
+    (CannotOpen (path ∷ path ∷ []) begun after × EndsFirst ReadFault o e status)
+    ⊎ (Changes (Opens (path ∷ path ∷ [])) begun after
+    × (measured : Option (List ℕ)) × IsFileOf begun path measured
+    × (loaded : Option (List ℕ)) × IsFileOf begun path loaded
+    × (file : KeptState)
+    × EndsKept newest_rules limits readers held file measured loaded CanFail i o e status)
+
+-- the file of this path could not be kept; or it is, and the service was run with it
+abbrev pub EndsKeeping : Limits → Text → ℕ → (Bool → Type 0) → Folders → Input → Output → Output
+    → Status → Type 0
+EndsKeeping limits path readers CanFail d i o e status =
+    ((d.after ≡ d.before) × (fault : KeepFault) × EndsFirst (by_keep fault) o e status)
+    ⊎ ((begun : Option Known) × Changes (Keeps path) d.before begun
+    × (held : Option (List ℕ)) × IsKeptAt d.before path held
+    × RunsKept limits path readers CanFail held begun d.after i o e status)
+
+-- the service was run, with a journal that is kept or without: a journal that is kept goes with no
+-- other
+abbrev pub RunsServing : Limits → Option Text → Option Text → Option Text → ℕ → (Bool → Type 0)
+    → Folders → Input → Output → Output → Status → Type 0
+RunsServing limits journal save None readers CanFail d i o e status =
+    EndsService limits journal save readers CanFail d i o e status
+RunsServing limits None None (Some path) readers CanFail d i o e status =
+    EndsKeeping limits path readers CanFail d i o e status
+RunsServing limits (Some journal) save (Some path) readers CanFail d i o e status =
+    (d.after ≡ d.before) × EndsFirst (Misused Keep) o e status
+RunsServing limits None (Some save) (Some path) readers CanFail d i o e status =
+    (d.after ≡ d.before) × EndsFirst (Misused Keep) o e status
 
 -- ---- each command
 
 -- the paths of the files that are read, in the order of the arguments
 abbrev pub files_of : CommandModel → List Text
-files_of (serving journal save readers) = path_if journal
+files_of (serving journal save None readers) = path_if journal
+files_of (serving journal save (Some kept) readers) = []
 files_of (replaying readers schedule) = schedule ∷ []
 files_of (working script questions) = script ∷ questions ∷ []
 files_of (printing journal page) = journal ∷ []
@@ -114,15 +158,16 @@ files_of (reading_letters journal place date weekday) = journal ∷ []
 -- and ended so: what it wrote to standard output, and what standard error was told
 abbrev pub Runs : Limits → CommandModel → (Bool → Type 0) → Folders → Input → Output → Output
     → Status → Type 0
-Runs limits (serving journal save readers) CanFail d i o e status =
-    EndsService limits journal save readers CanFail d i o e status
+Runs limits (serving journal save keep readers) CanFail d i o e status =
+    RunsServing limits journal save keep readers CanFail d i o e status
 Runs limits (replaying readers schedule) CanFail d i o e status = ReadsOne schedule CanFail d
     (λ file. PrintsReplay newest_rules limits readers file o e status)
 Runs limits (working script questions) CanFail d i o e status = ReadsTwo script questions CanFail d
     (λ editor readers. PrintsTranscript newest_rules limits editor readers o e status)
 Runs limits (printing journal page) CanFail d i o e status = ReadsOne journal CanFail d
     (λ file. PrintsPage newest_rules limits file page o e status)
-Runs limits (auditing journal transcript) CanFail d i o e status = ReadsTwo journal transcript CanFail d
+Runs limits (auditing journal transcript) CanFail d i o e status =
+    ReadsTwo journal transcript CanFail d
     (λ edits told. PrintsAudit newest_rules limits edits told o e status)
 Runs limits (converting calendar date) CanFail d i o e status =
     (d.after ≡ d.before) × PrintsConversion newest_rules calendar date o e status
@@ -131,10 +176,6 @@ Runs limits (reading_letters journal place date weekday) CanFail d i o e status 
     (record { place = place; date = date; weekday = weekday }) i o e status)
 
 -- ---- a run
-
--- the run ended by this fault before a command began
-abbrev pub EndsFirst : CommandFault → Output → Output → Status → Type 0
-EndsFirst fault o e status = EndsBy e (Some fault) status × (o.new ≡ o.old)
 
 abbrev pub IsHelp : ErrorKind → Type 0
 IsHelp kind = (kind ≡ DisplayHelp) ⊎ (kind ≡ DisplayVersion)

@@ -12,6 +12,7 @@ use Rattle.osn_commands.specs.declared.fault.CommandFault.{CommandFault}
 use Rattle.osn_commands.specs.declared.fault.CommandFault.TheVariants.{BadLine, Refused, Desk}
 use Rattle.osn_commands.specs.declared.fault.CommandFault.TheVariants.{ReadFault, WriteFault}
 use Rattle.osn_commands.specs.declared.fault.CommandFault.TheVariants.{NoMemory, Misused, BadTable}
+use Rattle.osn_commands.specs.declared.fault.CommandFault.TheVariants.{KeptElsewhere, OlderVersion}
 use Rattle.osn_lines.specs.Faults.{IsReadFault, IsWriteFault}
 use Rattle.osn_commands.specs.Journal.{Begins, HasNoObject}
 use Rattle.osn_commands.specs.Streams.{Output}
@@ -37,6 +38,8 @@ AnswersUntil p readers s o input unread (Refused refusal) = ⊥
 AnswersUntil p readers s o input unread (Desk fault) = ⊥
 AnswersUntil p readers s o input unread (Misused misuse) = ⊥
 AnswersUntil p readers s o input unread (BadTable fault) = ⊥
+AnswersUntil p readers s o input unread KeptElsewhere = ⊥
+AnswersUntil p readers s o input unread (OlderVersion version) = ⊥
 AnswersUntil p readers s o input unread ReadFault =
     IsReadFault unread (Some input)
     × (n : ℕ) × WritesFirst p readers s o.old o.new (lines input) n

@@ -18,6 +18,7 @@ use Rattle.osn_commands.specs.declared.fault.CommandFault.{CommandFault}
 use Rattle.osn_commands.specs.declared.fault.CommandFault.TheVariants.{BadLine, Refused, Desk}
 use Rattle.osn_commands.specs.declared.fault.CommandFault.TheVariants.{ReadFault, WriteFault}
 use Rattle.osn_commands.specs.declared.fault.CommandFault.TheVariants.{NoMemory, Misused, BadTable}
+use Rattle.osn_commands.specs.declared.fault.CommandFault.TheVariants.{KeptElsewhere, OlderVersion}
 use Rattle.osn_commands.specs.Files.{Makes, IsFileFault}
 use Rattle.osn_commands.specs.Printing.{EndsPrinting}
 use Rattle.osn_commands.specs.Streams.{Input, Output}
@@ -64,6 +65,8 @@ IsTurnedAway lists published (Refused refusal) = ⊥
 IsTurnedAway lists published (Desk fault) = IsDeskFault lists published fault
 IsTurnedAway lists published (Misused misuse) = ⊥
 IsTurnedAway lists published (BadTable fault) = ⊥
+IsTurnedAway lists published KeptElsewhere = ⊥
+IsTurnedAway lists published (OlderVersion version) = ⊥
 IsTurnedAway lists published ReadFault = ⊥
 IsTurnedAway lists published WriteFault = ⊥
 IsTurnedAway lists published NoMemory = ⊤

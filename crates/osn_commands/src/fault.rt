@@ -1,8 +1,9 @@
 //! Why a command ended early, and how standard error is told.
 ghost use Rattle.std.specs.Prelude.{◌≡◌, ◌++◌, codes, Some, IfOk, OnErr, string_bytes};
 ghost use Rattle.osn_commands.specs.Fault.{fault_status, fault_line, refusal_end, role_name};
-ghost use Rattle.osn_commands.specs.Fault.{misuse_line, table_line};
+ghost use Rattle.osn_commands.specs.Fault.{misuse_line, table_line, older_line};
 ghost use Rattle.osn_commands.specs.Fault.{by_service, by_file, by_desk, by_letters, by_save};
+ghost use Rattle.osn_commands.specs.Fault.{by_keep, by_kept_service};
 ghost use Rattle.osn_commands.specs.Streams.{output_of};
 ghost use Rattle.osn_commands.specs.Told.{WritesLine, EndsBy, Tells};
 ghost use Rattle.osn_commands.specs.declared.fault.CommandFault.{CommandFault};
@@ -10,12 +11,13 @@ ghost use Rattle.osn_commands.specs.declared.fault.CommandFault.{CommandFault};
 use crate::limits::limit_hint;
 use crate::status::Status;
 use osn_files::{FileFault, LineFault, Role};
-use osn_folder::SaveFault;
+use osn_folder::{ChangeFailed, KeepFault, SaveFault};
+use osn_format::Version;
 use osn_letters::{Column, LettersFault};
 use osn_lines::{Interrupted, Sink, write_all};
 use osn_live::DeskFault;
 use osn_register::Refusal;
-use osn_service::ServeFault;
+use osn_service::{KeptFault, ServeFault};
 use std::alloc::{AllocError, Global};
 
 /// Why a command ended early.
@@ -38,6 +40,10 @@ pub enum CommandFault {
     Misused(Misuse),
     /// A table of letters is none, from some line on.
     BadTable(TableFault),
+    /// Another run of the program keeps the journal.
+    KeptElsewhere,
+    /// A journal of this version, which is not the newest, is not kept.
+    OlderVersion(Version),
     /// A read failed, or a file could not be opened.
     ReadFault,
     /// A write failed.
@@ -61,6 +67,8 @@ pub enum Misuse {
     NoSuchDate,
     /// What stands for limits is none.
     Limits,
+    /// A journal is to be kept, and another one to begin with or to be saved.
+    Keep,
 }
 
 impl Misuse {
@@ -88,6 +96,7 @@ number\n"
                 "oldstyle: LIMITS are none: write some of lands=N,changes=N,exceptions=N,edits=N,\
 editions=N\n"
             }
+            Misuse::Keep => "oldstyle: --keep goes with neither --journal nor --save\n",
         }
     }
 }
@@ -159,6 +168,17 @@ fn bad_line(alloc: Global, role: Role, line: u64, fault: LineFault) -> Result<St
     format!(in alloc; "oldstyle: {file} line {line}: {number} {name}{hint}\n")
 }
 
+/// The line on a journal of a version that is not kept.
+fn older_version(alloc: Global, version: Version) -> Result<String, AllocError>
+    ensures { IfOk result (λ text. string_bytes text ≡ older_line version) }
+{
+    let number = version.number();
+    format!(in alloc;
+        "oldstyle: a journal of version {number} is not kept: save it anew by --journal and \
+--save\n"
+    )
+}
+
 /// The line on what is refused by this number and name.
 fn refused(alloc: Global, number: u8, name: &'static str) -> Result<String, AllocError>
     ensures { IfOk result (λ text. string_bytes text
@@ -167,15 +187,53 @@ fn refused(alloc: Global, number: u8, name: &'static str) -> Result<String, Allo
     format!(in alloc; "oldstyle: {number} {name}\n")
 }
 
-impl From<Interrupted<ServeFault>> for CommandFault {
-    ghost from_gives = { λ end given. given ≡ by_service end.cause };
+impl From<ServeFault> for CommandFault {
+    ghost from_gives = { λ fault given. given ≡ by_service fault };
 
-    fn from(end: Interrupted<ServeFault>) -> CommandFault {
-        match end.cause {
+    fn from(fault: ServeFault) -> CommandFault {
+        match fault {
             ServeFault::NoMemory => CommandFault::NoMemory,
             ServeFault::ReadFault => CommandFault::ReadFault,
             ServeFault::WriteFault => CommandFault::WriteFault,
         }
+    }
+}
+
+impl From<Interrupted<ServeFault>> for CommandFault {
+    ghost from_gives = { λ end given. given ≡ by_service end.cause };
+
+    fn from(end: Interrupted<ServeFault>) -> CommandFault {
+        CommandFault::from(end.cause)
+    }
+}
+
+impl From<Interrupted<KeptFault>> for CommandFault {
+    ghost from_gives = { λ end given. given ≡ by_kept_service end.cause };
+
+    fn from(end: Interrupted<KeptFault>) -> CommandFault {
+        match end.cause {
+            KeptFault::Serve(fault) => CommandFault::from(fault),
+            KeptFault::KeepFault => CommandFault::WriteFault,
+        }
+    }
+}
+
+impl From<KeepFault> for CommandFault {
+    ghost from_gives = { λ fault given. given ≡ by_keep fault };
+
+    fn from(fault: KeepFault) -> CommandFault {
+        match fault {
+            KeepFault::Held => CommandFault::KeptElsewhere,
+            KeepFault::NotOpened => CommandFault::ReadFault,
+        }
+    }
+}
+
+impl From<ChangeFailed> for CommandFault {
+    ghost from_gives = { λ _ given. given ≡ CommandFault.WriteFault };
+
+    fn from(_error: ChangeFailed) -> CommandFault {
+        CommandFault::WriteFault
     }
 }
 
@@ -303,6 +361,14 @@ pub(crate) fn report<E: Sink>(alloc: Global, errors: &mut E, fault: CommandFault
             Status::Misused
         }
         CommandFault::BadTable(fault) => tell_refusal(errors, fault.line(alloc)),
+        CommandFault::KeptElsewhere => {
+            write_line(
+                errors,
+                "oldstyle: another run of the program keeps that journal\n",
+            );
+            Status::ReadFault
+        }
+        CommandFault::OlderVersion(version) => tell_refusal(errors, older_version(alloc, version)),
         CommandFault::ReadFault => {
             write_line(errors, "oldstyle: read fault\n");
             Status::ReadFault

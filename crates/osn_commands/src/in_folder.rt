@@ -58,6 +58,7 @@ pub(crate) fn serve<D: Folder, R: Source, W: Sink, E: Sink>(
         journal,
         save,
         readers,
+        ..
     } = options;
     let mut source = open_if(folder, journal)?;
     let saves = save.is_some();

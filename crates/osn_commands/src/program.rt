@@ -7,7 +7,8 @@ ghost use Rattle.osn_commands.specs.Streams.{input_of, output_of};
 
 use crate::conversion::convert_command;
 use crate::fault::{CommandFault, report};
-use crate::in_folder::{audit, desk, letters, page, replay, serve};
+use crate::in_folder::{audit, desk, letters, page, replay};
+use crate::kept_in_folder::serve_by;
 use crate::limits::asked_limits;
 use crate::shown::show;
 use crate::status::Status;
@@ -104,7 +105,7 @@ where
 {
     let alloc = rt.alloc();
     match command {
-        CommandWords::Serve(options) => serve(
+        CommandWords::Serve(options) => serve_by(
             alloc, limits, folder, options, input, output, errors,
         ),
         CommandWords::Replay { readers, schedule } => {

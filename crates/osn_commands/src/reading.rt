@@ -1,7 +1,9 @@
 //! Files that a command reads whole.
-ghost use Rattle.std.specs.Prelude.{IfOk, IfErr, map};
+ghost use Rattle.std.specs.Prelude.{IfOk, IfErr, IfSome, map};
 ghost use Rattle.osn_days.specs.Profile.{newest_rules};
+ghost use Rattle.osn_lines.specs.Lines.{lines};
 ghost use Rattle.osn_files.specs.Journal.{load};
+ghost use Rattle.osn_files.specs.Loaded.{IsOfVersion};
 ghost use Rattle.osn_files.specs.Questions.{questions};
 ghost use Rattle.osn_files.specs.Schedule.{schedule};
 ghost use Rattle.osn_files.specs.Script.{script};
@@ -12,7 +14,8 @@ ghost use Rattle.osn_commands.specs.Streams.{input_of};
 
 use crate::fault::CommandFault;
 use osn_core::{Command, Object, Step};
-use osn_files::{load_journal, read_questions, read_schedule, read_script};
+use osn_files::{load_journal, load_with_version, read_questions, read_schedule, read_script};
+use osn_format::Version;
 use osn_lines::Source;
 use osn_register::{Limits, Query};
 use std::alloc::Global;
@@ -29,6 +32,21 @@ pub(crate) fn journal_object<J: Source>(
         (input_of J.remaining J.has_failed journal.old journal.new)) }
 {
     Ok(load_journal(alloc, limits, journal)?)
+}
+
+/// The object of a journal, under these limits, and the version that its head says.
+pub(crate) fn journal_with_version<J: Source>(
+    alloc: Global,
+    limits: Limits,
+    journal: &mut J,
+) -> Result<(Object, Version), CommandFault>
+    ensures ok { IfOk result (λ read.
+        Makes (load newest_rules limits) (J.remaining journal.old) read.0
+        × IfSome (J.remaining journal.old) (λ input. IsOfVersion read.1 (lines input))) }
+    ensures err { IfErr result (IsFileFault Journal (load newest_rules limits)
+        (input_of J.remaining J.has_failed journal.old journal.new)) }
+{
+    Ok(load_with_version(alloc, limits, journal)?)
 }
 
 /// The steps of a schedule.

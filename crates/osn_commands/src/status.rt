@@ -10,7 +10,7 @@ pub enum Status {
     Refused,
     /// The words of the command line ask for nothing that the program does.
     Misused,
-    /// A read failed, or a file could not be opened.
+    /// A read failed, or a file could not be opened, or is kept by another run of the program.
     ReadFault,
     /// A write failed.
     WriteFault,

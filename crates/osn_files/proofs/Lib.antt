@@ -1,4 +1,6 @@
 pub mod FileLemmas
+pub mod LoadFacts
+pub mod VersionFacts
 mod ReadLemmas
 mod QuestionLemmas
 mod AskedLemmas
@@ -12,3 +14,7 @@ mod Utf8Facts
 mod OldFacts
 mod NewerFacts
 mod KeptFacts
+mod WholeLemmas
+mod MeasureLemmas
+mod LastLineLemmas
+mod FirstLemmas

@@ -1,7 +1,9 @@
 -- What comes of a file that is being read, by its lines and at their end.
 use Rattle.std.proofs.Common.{◌≡◌, ℕ, ◌+◌, List, [], ◌∷◌, ◌++◌, length, take, drop, unwrap_or, zero}
 use Rattle.std.proofs.Common.{suc, Option, Some, None, Result, Ok, Err, IfSome, refl, sym, ap}
-use Rattle.std.proofs.Common.{Bool, ◌∙◌, arith, append-nil, append_assoc, length-append}
+use Rattle.std.proofs.Common.{Bool, true, false, ◌∙◌, arith, append-nil, append_assoc}
+use Rattle.std.proofs.Common.{length-append, subst}
+use Rattle.std.specs.Bool.{MatchBool}
 use Rattle.std.specs.Prelude.{slice_get}
 use Rattle.serde_json.specs.Data.{Data}
 use Rattle.osn_lines.specs.Lines.{lines}
@@ -11,6 +13,7 @@ use Rattle.osn_lines.specs.Faults.{MatchFault, IsReadFault}
 use Rattle.osn_lines.specs.Taking.{TakesAll, StopsAfter}
 use Rattle.osn_request.specs.declared.request.RequestError.{RequestError}
 use Rattle.osn_request.specs.declared.request.RequestError.TheVariants as errors
+use Rattle.osn_format.specs.declared.wire_fault.WireFault.{WireFault}
 use Rattle.osn_format.specs.declared.wire_fault.WireFault.TheVariants.{BadHead}
 use Rattle.osn_request.specs.Field.{◌>>=◌, or_fault}
 use Rattle.osn_request.specs.Request.{object_of, Fails}
@@ -22,7 +25,9 @@ use Rattle.osn_files.specs.declared.reading.Reading.{Reading}
 use Rattle.osn_files.specs.declared.stop.LineStop.{LineStop}
 use Rattle.osn_files.specs.declared.stop.LineStop.TheVariants.{NoMemory, Fault}
 use Rattle.osn_files.specs.Files.{ReadsFile}
-use Rattle.osn_files.specs.ReadingInside.{taken, with_version, goes_on, Reads, Faults, StopsReading}
+use Rattle.osn_files.specs.Loaded.{IsOfVersion}
+use Rattle.osn_files.specs.ReadingInside.{taken, with_version, goes_on, IsKnownOf, Reads, Faults}
+use Rattle.osn_files.specs.ReadingInside.{StopsReading}
 use Rattle.osn_files.specs.Stops.{Stops, stop_of, file_fault}
 use Rattle.osn_files.specs.Turns.{on_read, go_on, in_turn}
 use Rattle.osn_files.specs.Version.{version_in}
@@ -67,6 +72,60 @@ in_turn-line {A = A} step n (Some version) a line more =
       | Err f ↦ refl
     ]
 
+-- the version that comes of a line, if there is one
+abbrev version_read : {A : Type 0} → Result (Option Version × A) LineFault → Option Version
+version_read (Ok t) = t.0
+version_read (Err f) = None
+
+-- of a line that is a head
+head_says : {A : Type 0} (line : List ℕ) (a b : A) (new : Option Version)
+    (step : Version → A → Data → Result A LineFault)
+    → on_read (object_of line) (taken step None a) ≡ Ok (new, b)
+    → IsKnownOf (line ∷ []) new
+head_says {A = A} line a b new step =
+    elim (object_of line) as (λ r.
+    on_read r (taken step None a) ≡ Ok (new, b)
+    → KnownBy (r >>= λ d. or_fault BadHead (version_in d)) new) [
+      | Ok d ↦ said (version_in d)
+      | Err f ↦ λ h. absurd (cc)
+    ]
+  where
+    KnownBy : Result Version WireFault → Option Version → Type 0
+    KnownBy r None = line ∷ [] ≡ []
+    KnownBy r (Some v) = r ≡ Ok v
+
+    said : (o : Option Version)
+        → on_read {S = Option Version × A} (or_fault BadHead o) (λ v. Ok (Some v, a)) ≡ Ok (new, b)
+        → KnownBy (or_fault BadHead o) new
+    said (Some v) h = subst (KnownBy (Ok v)) (ap version_read h) refl
+    said None h = absurd (cc)
+
+-- of one behind a head
+is_same : {A : Type 0} (line : List ℕ) (a b : A) (version : Version) (new : Option Version)
+    (step : Version → A → Data → Result A LineFault)
+    → on_read (object_of line) (taken step (Some version) a) ≡ Ok (new, b) → Some version ≡ new
+is_same {A = A} line a b version new step =
+    elim (object_of line) as (λ r.
+    on_read r (taken step (Some version) a) ≡ Ok (new, b) → Some version ≡ new) [
+      | Ok d ↦ kept (step version a d)
+      | Err f ↦ λ h. absurd (cc)
+    ]
+  where
+    kept : (r : Result A LineFault) → with_version version r ≡ Ok (new, b) → Some version ≡ new
+    kept (Ok t) h = ap version_read h
+    kept (Err f) h = absurd (cc)
+
+-- the version is known by one line more
+known-line : {A : Type 0} (step : Version → A → Data → Result A LineFault)
+    (old new : Option Version) (a b : A) (before : List (List ℕ)) (line : List ℕ)
+    → on_read (object_of line) (taken step old a) ≡ Ok (new, b)
+    → IsKnownOf before old → IsKnownOf (before ++ line ∷ []) new
+known-line step None new a b before line one h =
+    subst (λ ls. IsKnownOf (ls ++ line ∷ []) new) (sym h) (head_says line a b new step one)
+known-line step (Some version) new a b [] line one h = absurd h
+known-line step (Some version) new a b (head ∷ rest) line one h =
+    subst (IsKnownOf (head ∷ (rest ++ line ∷ []))) (is_same line a b version new step one) h
+
 -- a line was taken
 pub Reads-line : {S A : Type 0} (step : Rule S A) (state : S → A) (begun old new : Reading S)
     (before : List (List ℕ)) (line : List ℕ) → Reads step state begun before old
@@ -74,15 +133,19 @@ pub Reads-line : {S A : Type 0} (step : Rule S A) (state : S → A) (begun old n
     ≡ Ok (new.version, state new.fold)
     → step new.fold ≡ step old.fold
     → Reads step state begun (before ++ line ∷ []) new
-Reads-line step state begun old new before line h one same = λ more.
-    let n = length before + 1 in
-    ap (goes_on step state begun 1) (append_assoc before (line ∷ []) more)
-    ∙ (h (line ∷ more)
-    ∙ (in_turn-line (step old.fold) n old.version (state old.fold) line more
-    ∙ (ap (λ r. go_on n r (λ t. in_turn (step old.fold) (n + 1) t.0 t.1 more)) one
-    ∙ (ap (λ rule. in_turn rule (n + 1) new.version (state new.fold) more) (sym same)
-    ∙ ap (λ k. goes_on step state new k more)
-    (omega (arith, length-append before (line ∷ [])))))))
+Reads-line step state begun old new before line h one same = (
+  λ more.
+      let n = length before + 1 in
+      ap (goes_on step state begun 1) (append_assoc before (line ∷ []) more)
+      ∙ (h.0 (line ∷ more)
+      ∙ (in_turn-line (step old.fold) n old.version (state old.fold) line more
+      ∙ (ap (λ r. go_on n r (λ t. in_turn (step old.fold) (n + 1) t.0 t.1 more)) one
+      ∙ (ap (λ rule. in_turn rule (n + 1) new.version (state new.fold) more) (sym same)
+      ∙ ap (λ k. goes_on step state new k more)
+      (omega (arith, length-append before (line ∷ []))))))),
+  λ none. known-line (step old.fold) old.version new.version (state old.fold) (state new.fold)
+      before line one (h.1 none),
+)
 
 -- a line stopped the reading
 pub StopsReading-line : {S A : Type 0} (step : Rule S A) (state : S → A) (begun old : Reading S)
@@ -92,28 +155,45 @@ pub StopsReading-line : {S A : Type 0} (step : Rule S A) (state : S → A) (begu
 StopsReading-line step state begun old before line NoMemory h stop = tt
 StopsReading-line step state begun old before line (Fault f) h stop = λ more.
     let n = length before + 1 in
-    h (line ∷ more)
+    h.0 (line ∷ more)
     ∙ (in_turn-line (step old.fold) n old.version (state old.fold) line more
     ∙ ap (λ r. go_on n r (λ t. in_turn (step old.fold) (n + 1) t.0 t.1 more)) stop)
 
--- a line has an object, of which this is made
-pub made-object : {A : Type 0} (make : Data → Result A LineFault) (line : List ℕ) (d : Data) (a : A)
-    → object_of line ≡ Ok d → make d ≡ Ok a → on_read (object_of line) make ≡ Ok a
-made-object make line d a read one = ap (λ r. on_read r make) read ∙ one
+-- an object was read, of which this is made
+pub made-object : {A : Type 0} (make : Data → Result A LineFault) (r : Result Data WireFault)
+    (d : Data) (a : A) → r ≡ Ok d → make d ≡ Ok a → on_read r make ≡ Ok a
+made-object make r d a read one = ap (λ o. on_read o make) read ∙ one
 
--- a line has no object
-pub Stops-none : {A : Type 0} (make : Data → Result A LineFault) (line : List ℕ)
-    (why : RequestError) → Fails why (object_of line)
-    → Stops (on_read (object_of line) make) (stop_of why)
-Stops-none make line errors.NoMemory none = tt
-Stops-none make line (errors.Fault f) none = ap (λ r. on_read r make) none
+-- no object was read
+pub Stops-none : {A : Type 0} (make : Data → Result A LineFault) (r : Result Data WireFault)
+    (why : RequestError) → Fails why r → Stops (on_read r make) (stop_of why)
+Stops-none make r errors.NoMemory none = tt
+Stops-none make r (errors.Fault f) none = ap (λ o. on_read o make) none
 
--- the object of a line stops the reading
-pub Stops-object : {A : Type 0} (make : Data → Result A LineFault) (line : List ℕ) (d : Data)
-    (why : LineStop) → object_of line ≡ Ok d → Stops (make d) why
-    → Stops (on_read (object_of line) make) why
-Stops-object make line d NoMemory read stop = tt
-Stops-object make line d (Fault f) read stop = ap (λ r. on_read r make) read ∙ stop
+pub Stops-fault : {A : Type 0} (make : Data → Result A LineFault) (r : Result Data WireFault)
+    (f : WireFault) → r ≡ Err f → Stops (on_read r make) (Fault (Wire f))
+Stops-fault make r f none = ap (λ o. on_read o make) none
+
+-- an object that was read stops the reading
+pub Stops-object : {A : Type 0} (make : Data → Result A LineFault) (r : Result Data WireFault)
+    (d : Data) (why : LineStop) → r ≡ Ok d → Stops (make d) why → Stops (on_read r make) why
+Stops-object make r d NoMemory read stop = tt
+Stops-object make r d (Fault f) read stop = ap (λ o. on_read o make) read ∙ stop
+
+-- a line that was not taken by its text left what was made as it was
+pub passed : (P Q : Type 0) (b : Bool) → b ≡ false → MatchBool b P Q → Q
+passed P Q true is h = absurd (cc)
+passed P Q false is h = h
+
+pub same-taken : {A : Type 0} (t s : Version → A → Data → Result A LineFault)
+    (version : Option Version) (b a : A) → t ≡ s → b ≡ a → taken t version b ≡ taken s version a
+same-taken t s version b a rule kept =
+    ap (λ r. taken r version b) rule ∙ ap (taken s version) kept
+
+-- nothing was taken
+begun_so : {S A : Type 0} (step : Rule S A) (state : S → A) (begun : Reading S)
+    → Reads step state begun [] begun
+begun_so step state begun = (λ more. refl, λ none. subst (IsKnownOf []) (sym none) refl)
 
 -- where all lines were taken, what comes of them is what comes of none behind them
 ended : {S A : Type 0} (step : Rule S A) (state : S → A) (begun now : Reading S)
@@ -124,7 +204,7 @@ ended : {S A : Type 0} (step : Rule S A) (state : S → A) (begun now : Reading 
 ended step state begun now input n r h is =
     if_some input
     (λ bytes all. ap (goes_on step state begun 1) (all ∙ sym (append-nil h.taken))
-    ∙ (h.takes begun [] (λ more. refl) [] ∙ is (length h.taken + 1)))
+    ∙ ((h.takes begun [] (begun_so step state begun)).0 [] ∙ is (length h.taken + 1)))
     h.all
 
 pub made-all : {S A : Type 0} (step : Rule S A) (state : S → A) (begun now : Reading S)
@@ -142,6 +222,16 @@ pub no-head : {S A : Type 0} (step : Rule S A) (state : S → A) (begun now : Re
 no-head step state begun now input n none h =
     ended step state begun now input n (Err (1, Wire BadHead)) h
     (λ k. ap (λ v. in_turn (step now.fold) k v (state now.fold) []) none)
+
+-- the version is the one that the first line says, where none was given
+pub said_first : {S A : Type 0} (step : Rule S A) (state : S → A) (begun now : Reading S)
+    (input : Option (List ℕ)) (n : ℕ) (version : Version) → now.version ≡ Some version
+    → TakesAll (Reads step state) begun now input n → begun.version ≡ None
+    → IfSome input (λ bytes. IsOfVersion version (lines bytes))
+said_first step state begun now input n version known h none =
+    let said =
+    subst (IsKnownOf h.taken) known ((h.takes begun [] (begun_so step state begun)).1 none) in
+    if_some input (λ bytes all. subst (IsOfVersion version) (sym all) said) h.all
 
 -- they were counted
 pub counted : {S A : Type 0} (step : Rule S A) (state : S → A) (begun now : Reading S)
@@ -200,7 +290,7 @@ interrupted step state begun now view role n (ends.Stopped (Fault f)) P Q remain
       fault = (
         refl,
         stopped_at step state begun (remaining old) n h.taken h.at f
-            (h.stops begun [] (λ more. refl)) h.count h.first h.next,
+            (h.stops begun [] (begun_so step state begun)) h.count h.first h.next,
       );
       reason = reason;
     }

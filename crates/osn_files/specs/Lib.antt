@@ -12,3 +12,9 @@ pub mod Stops
 pub mod ReadingInside
 pub mod QuestionsInside
 pub mod Kept
+pub mod Loaded
+pub mod LastLine
+pub mod LastLineInside
+pub mod WholePart
+pub mod WholePartInside
+pub mod FirstBytesInside

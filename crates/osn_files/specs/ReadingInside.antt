@@ -1,6 +1,6 @@
 -- A file that is being read, as what takes lines.
-use Rattle.std.specs.Prelude.{◌≡◌, ◌+◌, ℕ, List, ◌∷◌, ◌++◌, length, Option, Some, None, Result, Ok}
-use Rattle.std.specs.Prelude.{Err}
+use Rattle.std.specs.Prelude.{◌≡◌, ◌+◌, ℕ, List, [], ◌∷◌, ◌++◌, length, Option, Some, None}
+use Rattle.std.specs.Prelude.{Result, Ok, Err}
 use Rattle.serde_json.specs.Data.{Data}
 use Rattle.osn_format.specs.declared.wire_fault.WireFault.TheVariants.{BadHead}
 use Rattle.osn_request.specs.Field.{or_fault}
@@ -9,6 +9,7 @@ use Rattle.osn_files.specs.declared.fault.LineFault.{LineFault}
 use Rattle.osn_files.specs.declared.reading.Reading.{Reading}
 use Rattle.osn_files.specs.declared.stop.LineStop.{LineStop}
 use Rattle.osn_files.specs.declared.stop.LineStop.TheVariants.{NoMemory, Fault}
+use Rattle.osn_files.specs.Loaded.{IsOfVersion}
 use Rattle.osn_files.specs.Turns.{on_read, in_turn}
 use Rattle.osn_files.specs.Version.{version_in}
 
@@ -29,13 +30,19 @@ abbrev pub goes_on : {S A : Type 0} → (S → Version → A → Data → Result
     → Reading S → ℕ → List (List ℕ) → Result A (ℕ × LineFault)
 goes_on step state r n lines = in_turn (step r.fold) n r.version (state r.fold) lines
 
+-- none is known where there is no line, and else the one that the first line says
+abbrev pub IsKnownOf : List (List ℕ) → Option Version → Type 0
+IsKnownOf lines None = lines ≡ []
+IsKnownOf lines (Some version) = IsOfVersion version lines
+
 -- what was begun is now, once it took these lines: the same comes of it by whatever stands behind
--- them
+-- them, and the version is known where it wasn't
 abbrev pub Reads : {S A : Type 0} → (S → Version → A → Data → Result A LineFault) → (S → A)
     → Reading S → List (List ℕ) → Reading S → Type 0
 Reads step state begun lines now =
-    (more : List (List ℕ))
-    → goes_on step state begun 1 (lines ++ more) ≡ goes_on step state now (length lines + 1) more
+    ((more : List (List ℕ))
+    → goes_on step state begun 1 (lines ++ more) ≡ goes_on step state now (length lines + 1) more)
+    × (begun.version ≡ None → IsKnownOf lines now.version)
 
 -- what was begun took these lines and met a fault at the next, whatever stands behind it
 abbrev pub Faults : {S A : Type 0} → (S → Version → A → Data → Result A LineFault) → (S → A)

@@ -1,14 +1,17 @@
 //! Loads a journal.
-ghost use Rattle.std.specs.Prelude.{ℕ, List};
+ghost use Rattle.std.specs.Prelude.{ℕ, List, IfOk, IfSome};
 ghost use Rattle.osn_days.specs.Profile.{newest_rules};
+ghost use Rattle.osn_lines.specs.Lines.{lines};
 ghost use Rattle.osn_files.specs.Files.{ReadsFile};
 ghost use Rattle.osn_files.specs.Journal.{load};
 ghost use Rattle.osn_files.specs.Kept.{KeepsEditions};
+ghost use Rattle.osn_files.specs.Loaded.{IsOfVersion};
 ghost use Rattle.osn_files.specs.declared.fault.Role.TheVariants.{Journal};
 
 use crate::fault::{FileFault, Role};
-use crate::reading::read_lines;
+use crate::reading::read_file;
 use osn_core::Object;
+use osn_format::Version;
 use osn_lines::Source;
 use osn_register::Limits;
 use std::alloc::Global;
@@ -36,7 +39,26 @@ pub fn load_journal<R: Source>(
     // rules load too, and each of its editions is the same register under both.
     ensures kept { (journal : List (List ℕ)) → KeepsEditions limits journal }
 {
-    let none = Object::new(alloc, limits);
-    let (object, _) = read_lines(alloc, Role::Journal, None, none, source)?;
+    let (object, _) = load_with_version(alloc, limits, source)?;
     Ok(object)
+}
+
+/// The object of a journal, as for `load_journal`, and the version that its head says.
+///
+/// # Errors
+///
+/// As for `load_journal`.
+pub fn load_with_version<R: Source>(
+    alloc: Global,
+    limits: Limits,
+    source: &mut R,
+) -> Result<(Object, Version), FileFault>
+    ensures file { ReadsFile Journal (load newest_rules limits) (λ read. read.0) result
+        R.remaining R.has_failed source.old source.new }
+    ensures version { IfOk result (λ read. IfSome (R.remaining source.old) (λ input.
+        IsOfVersion read.1 (lines input))) }
+{
+    let none = Object::new(alloc, limits);
+    let read = read_file(alloc, Role::Journal, None, none, source)?;
+    Ok((read.made, read.version))
 }

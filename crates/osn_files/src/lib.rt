@@ -8,7 +8,9 @@
 
 mod command_line;
 mod fault;
+mod first_bytes;
 mod journal;
+mod last_line;
 mod lists;
 mod question_line;
 mod questions;
@@ -19,14 +21,18 @@ mod script;
 mod step_line;
 mod stop;
 mod version;
+mod whole_lines;
 mod written;
 
 pub use fault::{FileFault, LineFault, Role};
-pub use journal::load_journal;
+pub use first_bytes::FirstBytes;
+pub use journal::{load_journal, load_with_version};
+pub use last_line::LastLine;
 pub use question_line::question_in;
 pub use questions::read_questions;
 pub use reading::{LineFold, read_lines};
 pub use schedule::read_schedule;
 pub use script::read_script;
 pub use stop::LineStop;
+pub use whole_lines::{WholePart, whole_part};
 pub use written::{head_line, journal_text, with_edit, with_publish};

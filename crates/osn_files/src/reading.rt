@@ -1,13 +1,16 @@
 //! The lines of a file, taken one after another.
 ghost use Rattle.std.specs.Prelude.{◌≡◌, ◌<◌, ◌^◌, Result, Ok, IfOk, IfErr, IfSome, OnOk};
-ghost use Rattle.std.specs.Prelude.{length, List, ℕ};
+ghost use Rattle.std.specs.Prelude.{length, List, ℕ, None};
+ghost use Rattle.std.specs.Bool.{MatchBool};
 ghost use Rattle.serde_json.specs.Data.{Data};
+ghost use Rattle.serde_json.specs.Read.{read};
 ghost use Rattle.osn_lines.specs.Lines.{IsLine, lines};
 ghost use Rattle.osn_format.specs.declared.version.Version.{Version as LineVersion};
 ghost use Rattle.osn_request.specs.LineObject.{line_data};
 ghost use Rattle.osn_request.specs.Request as spec;
 ghost use Rattle.osn_files.specs.declared.fault.LineFault.{LineFault as Fault};
 ghost use Rattle.osn_files.specs.Files.{ReadsFile};
+ghost use Rattle.osn_files.specs.Loaded.{IsOfVersion};
 ghost use Rattle.osn_files.specs.Stops.{Stops, file_fault};
 ghost use Rattle.osn_files.specs.Turns.{in_turn, on_read};
 
@@ -17,8 +20,8 @@ use crate::version::version_of;
 use json::Scratch;
 use osn_format::{Version, WireFault};
 use osn_lines::{Interrupted, Line, LineTaker, Source, TakeFault, take_lines};
-use osn_request::{LineObject, object_of};
-use std::alloc::Global;
+use osn_request::{LineObject, object_in, text_of};
+use std::alloc::{AllocError, Global};
 
 /// What makes a value of the lines of a file, one after another.
 pub trait LineFold {
@@ -49,10 +52,34 @@ pub trait LineFold {
 
         // The rule stays the same.
         ensures same { OnOk result (step self.new ≡ step self.old) };
+
+    /// Takes a line by its text, with no object of it, where it can tell what the object gives, and
+    /// answers whether it did.
+    ///
+    /// # Errors
+    ///
+    /// Want of memory. No further line is given to it then.
+    fn take_text(
+        &mut self,
+        _alloc: Global,
+        version: Version,
+        _scratch: &mut Scratch,
+        text: &str,
+    ) -> Result<bool, AllocError>
+        ensures taken { IfOk result (λ is_taken. MatchBool is_taken
+            (on_read (spec.object_in (read text.now)) (step self.old version (state self.old))
+            ≡ Ok (state self.new))
+            (state self.new ≡ state self.old)) }
+
+        // The rule stays the same.
+        ensures same { OnOk result (step self.new ≡ step self.old) }
+    {
+        Ok(false)
+    }
 }
 
-/// A file that is being read: what reads its lines, the version by which they are read, once that is
-/// known, and what makes a value of them.
+/// A file that is being read: what reads its lines, the version by which they are read, once that
+/// is known, and what makes a value of them.
 #[derive(Drop)]
 pub(crate) struct Reading<F> {
     alloc: Global,
@@ -86,7 +113,48 @@ impl<F: LineFold> Reading<F> {
         }
     }
 
-    /// Takes a line: its object is gone before the next line is read.
+    /// Whether a line was taken by its text, which is tried once a version is known.
+    fn is_taken(
+        alloc: Global,
+        scratch: &mut Scratch,
+        version: Option<Version>,
+        fold: &mut F,
+        text: &str,
+    ) -> Result<bool, AllocError>
+        ensures taken { IfOk result (λ is_taken. MatchBool is_taken
+            (on_read (spec.object_in (read text.now))
+            (taken (F.step fold.old) version (F.state fold.old)) ≡ Ok (version, F.state fold.new))
+            (F.state fold.new ≡ F.state fold.old)) }
+        ensures same { OnOk result (F.step fold.new ≡ F.step fold.old) }
+    {
+        match version {
+            Some(version) => fold.take_text(alloc, version, scratch, text),
+            None => Ok(false),
+        }
+    }
+
+    /// Takes the text of a line: its object is gone before the next line is read.
+    fn take_text(
+        alloc: Global,
+        scratch: &mut Scratch,
+        version: &mut Option<Version>,
+        fold: &mut F,
+        text: &str,
+    ) -> Result<(), LineStop>
+        ensures ok { OnOk result ((on_read (spec.object_in (read text.now))
+            (taken (F.step fold.old) version.old (F.state fold.old))
+            ≡ Ok (version.new, F.state fold.new))
+            × (F.step fold.new ≡ F.step fold.old)) }
+        ensures err { IfErr result (Stops (on_read (spec.object_in (read text.now))
+            (taken (F.step fold.old) version.old (F.state fold.old)))) }
+    {
+        if Reading::is_taken(alloc, scratch, *version, fold, text)? {
+            return Ok(());
+        }
+        let object = object_in(alloc, scratch, text)?;
+        Reading::take_object(alloc, version, fold, &object)
+    }
+
     fn take_line(
         alloc: Global,
         scratch: &mut Scratch,
@@ -102,8 +170,8 @@ impl<F: LineFold> Reading<F> {
             Stops (on_read (spec.object_of whole)
             (taken (F.step fold.old) version.old (F.state fold.old))) why) }
     {
-        let object = object_of(alloc, scratch, line)?;
-        Reading::take_object(alloc, version, fold, &object)
+        let text = text_of(line)?;
+        Reading::take_text(alloc, scratch, version, fold, text)
     }
 }
 
@@ -143,6 +211,56 @@ fn fault_of(role: Role, end: Interrupted<TakeFault<LineStop>>) -> FileFault
     }
 }
 
+/// What was read of a file.
+#[derive(Drop)]
+pub(crate) struct FileRead<F> {
+    /// What its lines made.
+    pub(crate) made: F,
+    /// How many lines it has.
+    pub(crate) lines: u64,
+    /// The version by whose rules they were read.
+    pub(crate) version: Version,
+}
+
+/// What the lines of a file of this role make, as for `read_lines`, and the version by which they
+/// were read.
+pub(crate) fn read_file<F: LineFold + Drop, R: Source>(
+    alloc: Global,
+    role: Role,
+    version: Option<Version>,
+    fold: F,
+    source: &mut R,
+) -> Result<FileRead<F>, FileFault>
+    ensures file { ReadsFile role (in_turn (F.step fold) 1 version (F.state fold))
+        (λ read. F.state read.made) result R.remaining R.has_failed source.old source.new }
+    ensures count { IfOk result (λ read. IfSome (R.remaining source.old) (λ input.
+        read.lines ≡ length (lines input))) }
+    ensures version { IfOk result (λ read. version ≡ None →
+        IfSome (R.remaining source.old) (λ input. IsOfVersion read.version (lines input))) }
+{
+    let mut reading = Reading {
+        alloc,
+        scratch: Scratch::new(alloc),
+        version,
+        fold,
+    };
+    match take_lines(alloc, &mut reading, source) {
+        Ok(lines) => match reading.version {
+            Some(version) => Ok(FileRead {
+                made: reading.fold,
+                lines,
+                version,
+            }),
+            None => Err(FileFault::BadLine {
+                role,
+                line: 1,
+                fault: LineFault::Wire(WireFault::BadHead),
+            }),
+        },
+        Err(end) => Err(fault_of(role, end)),
+    }
+}
+
 /// What the lines of a file of this role make, from what was begun, and their number. They are read
 /// by the rules of the version; where there is none, the first line is a head that says it.
 ///
@@ -163,21 +281,6 @@ pub fn read_lines<F: LineFold + Drop, R: Source>(
     ensures count { IfOk result (λ read. IfSome (R.remaining source.old) (λ input.
         read.1 ≡ length (lines input))) }
 {
-    let mut reading = Reading {
-        alloc,
-        scratch: Scratch::new(alloc),
-        version,
-        fold,
-    };
-    match take_lines(alloc, &mut reading, source) {
-        Ok(count) => match reading.version {
-            Some(_) => Ok((reading.fold, count)),
-            None => Err(FileFault::BadLine {
-                role,
-                line: 1,
-                fault: LineFault::Wire(WireFault::BadHead),
-            }),
-        },
-        Err(end) => Err(fault_of(role, end)),
-    }
+    let read = read_file(alloc, role, version, fold, source)?;
+    Ok((read.made, read.lines))
 }

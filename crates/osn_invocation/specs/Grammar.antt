@@ -39,11 +39,11 @@ year_arg =
 abbrev pub month_arg : Rule
 month_arg = record (required_arg (codes "month")) { parser = Some (Signed (pos 1) (pos 12)) }
 
--- `serve [--journal FILE] [--save FILE] [--readers N]`
+-- `serve [--journal FILE] [--save FILE] [--keep FILE] [--readers N]`
 abbrev pub serve_grammar : App
-serve_grammar = with_rule (with_rule
+serve_grammar = with_rule (with_rule (with_rule
     (with_rule (new_app (codes "serve")) (value_option (codes "journal")))
-    (value_option (codes "save"))) readers_option
+    (value_option (codes "save"))) (value_option (codes "keep"))) readers_option
 
 -- `replay --readers N SCHEDULE`
 abbrev pub replay_grammar : App

@@ -27,12 +27,13 @@ pub data PageWordsModel : Type 0 where
   month_words : Text → ℕ → ℕ → PageWordsModel
   territory_words : Option Text → PageWordsModel
 
--- what a command is asked for: the service by a journal, where to save it and readers; a replay by
--- readers and a schedule; a desk by a script and questions; a page by a journal and which page; an
--- audit by a journal and a transcript; a conversion by a calendar and a date; letters by a journal
--- and the names of the columns of places, dates and weekdays. Files are named by their paths
+-- what a command is asked for: the service by a journal, where to save it, where to keep it, and
+-- readers; a replay by readers and a schedule; a desk by a script and questions; a page by a
+-- journal and which page; an audit by a journal and a transcript; a conversion by a calendar and a
+-- date; letters by a journal and the names of the columns of places, dates and weekdays. Files are
+-- named by their paths
 pub data CommandModel : Type 0 where
-  serving : Option Text → Option Text → ℕ → CommandModel
+  serving : Option Text → Option Text → Option Text → ℕ → CommandModel
   replaying : ℕ → Text → CommandModel
   working : Text → Text → CommandModel
   printing : Text → PageWordsModel → CommandModel
@@ -68,7 +69,7 @@ text_of name given = unwrap_or (first_of name given) []
 -- what each command asks for, by what was found for its arguments
 abbrev pub serve_command : List Row → CommandModel
 serve_command given = serving (first_of (codes "journal") given) (first_of (codes "save") given)
-    (number_of 8 (codes "readers") given)
+    (first_of (codes "keep") given) (number_of 8 (codes "readers") given)
 
 abbrev pub replay_command : List Row → CommandModel
 replay_command given =
@@ -164,7 +165,7 @@ page_words (pages.Territory code) = territory_words (option_map (λ code. code.n
 abbrev pub command_model : CommandWords → CommandModel
 command_model (Serve given) =
     serving (option_map (λ path. path.now) given.journal) (option_map (λ path. path.now) given.save)
-    given.readers
+    (option_map (λ path. path.now) given.keep) given.readers
 command_model (Replay readers schedule) = replaying readers schedule.now
 command_model (Desk script questions) = working script.now questions.now
 command_model (Page journal page) = printing journal.now (page_words page)

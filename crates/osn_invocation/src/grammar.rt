@@ -82,13 +82,17 @@ fn serve_grammar<'a>(alloc: Global) -> Result<Command<'a>, AllocError>
         .arg(option_arg(alloc, "save", "FILE").help(
             "Where the journal is saved at the end of the input, unless a fault ended it",
         ))?
+        .arg(option_arg(alloc, "keep", "FILE").help(
+            "Where the journal is kept while the service runs; it begins with it",
+        ))?
         .arg(readers_arg(alloc).help("How many readers ask, 1 to 64 [default: 8]"))
 }
 
 const SERVE_EXAMPLE: &str = "Example:
   ./oldstyle serve --journal examples/samples.journal --save new.journal < examples/added.jsonl
 
-Requests and replies are JSON lines. The journal is saved only where all lines were answered.";
+Requests and replies are JSON lines. --save saves the journal only where all lines were answered;
+--keep has each change in it before its reply is written.";
 
 /// The command `read`, its arguments and its option.
 fn read_grammar<'a>(alloc: Global) -> Result<Command<'a>, AllocError>

@@ -28,6 +28,8 @@ pub struct ServeOptions<'a> {
     pub journal: Option<&'a str>,
     /// Where the journal is saved in the end, if anywhere.
     pub save: Option<&'a str>,
+    /// Where the journal is kept while the service runs, if anywhere.
+    pub keep: Option<&'a str>,
     /// How many readers ask.
     pub readers: u32,
 }
@@ -210,6 +212,7 @@ fn serve_of<'a>(given: &ArgMatches<'a>) -> CommandWords<'a>
     CommandWords::Serve(ServeOptions {
         journal: value_of(given, "journal"),
         save: value_of(given, "save"),
+        keep: value_of(given, "keep"),
         readers: number_of(given, "readers", READERS),
     })
 }

@@ -1,10 +1,10 @@
 //! The reply lines of the service, and the lines of a step's out and of a transcript. What the
-//! crate promises to those above: a text is the compact text of the definition's JSON value, with a
-//! line feed.
+//! crate promises to those above: a line is the compact text of the definition's JSON value, with a
+//! line feed; of a reply that text is given alone as well.
 #![tactic(auto)]
 
 mod outcome;
 mod reply;
 
 pub use outcome::Outcome;
-pub use reply::{out_text, push_reply, reply_text, transcript_text};
+pub use reply::{compact_reply, out_text, push_reply, reply_text, transcript_text};

@@ -8,6 +8,7 @@ ghost use Rattle.osn_reply.specs.Transcript.{transcript_line};
 ghost use Rattle.osn_format.specs.Json.{value_tokens};
 
 mod answer;
+mod compact;
 mod date;
 mod figures;
 mod found;
@@ -18,6 +19,7 @@ mod write_json;
 
 use crate::outcome::Outcome;
 use answer::write_reply;
+pub use compact::compact_reply;
 use json::Writer;
 use osn_core::{Out, Reply};
 use osn_format::{WireFault, write_number, write_text};

@@ -1,3 +1,3 @@
 mod FlatLemmas
 mod TextLemmas
-mod TreeLemmas
+pub mod TreeLemmas

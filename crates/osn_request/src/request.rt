@@ -1,5 +1,6 @@
 //! Reads one line into a request, or names its first fault.
-ghost use Rattle.std.specs.Prelude.{◌≡◌, ◌<◌, ℕ, List, length, MatchResult, IfErr, Ok, Err, Some};
+ghost use Rattle.std.specs.Prelude.{◌≡◌, ◌<◌, ℕ, List, length, MatchResult, IfErr, IfOk, Ok, Err};
+ghost use Rattle.std.specs.Prelude.{Some};
 ghost use Rattle.std.specs.Str.{IsUtf8};
 ghost use Rattle.serde_json.specs.Read.{read};
 ghost use Rattle.serde_json.specs.View.{view};
@@ -21,6 +22,7 @@ mod query;
 pub use edit::edit_of;
 pub use field::{text_at, whole_at};
 use flat::flat_object_of;
+pub use flat::{FlatObject, flat_object_in};
 use json::Scratch;
 pub use json_object::JsonObject;
 pub use line_object::LineObject;
@@ -107,8 +109,12 @@ fn tree_of(alloc: Global, text: &str) -> Result<Value, RequestError>
     Ok(value)
 }
 
-/// The object that a text is.
-fn object_in<'a>(
+/// The object that a text is. The scratch serves one text after another, and grows to the length of
+/// the longest one; the object may borrow from it.
+///
+/// # Errors
+/// `NotJson` and `NotObject`; memory is taken for a text alone that is not empty.
+pub fn object_in<'a>(
     alloc: Global,
     scratch: &'a mut Scratch,
     text: &'a str,
@@ -126,23 +132,34 @@ fn object_in<'a>(
     }
 }
 
-/// The object of a line that is not too long.
-fn object_of_whole<'a>(
-    alloc: Global,
-    scratch: &'a mut Scratch,
-    line: &'a [u8],
-) -> Result<LineObject<'a>, RequestError>
+/// The text of a line that is not too long.
+fn text_of_whole(line: &[u8]) -> Result<&str, WireFault>
     ensures object { MatchResult result
-        (λ o. spec.object_in (spec.value_of line.now) ≡ Ok (line_data o))
-        (λ e. spec.Fails e (spec.object_in (spec.value_of line.now))) }
-    ensures memory { MatchResult result
-        (λ _. IsUtf8 line.now × (0 < length line.now))
-        (λ e. e ≡ NoMemory → IsUtf8 line.now × (0 < length line.now)) }
+        (λ text. spec.object_in (spec.value_of line.now) ≡ spec.object_in (read text.now))
+        (λ f. spec.object_in (spec.value_of line.now) ≡ Err f) }
+    ensures text { IfOk result (λ text. (text.now ≡ line.now) × IsUtf8 line.now) }
 {
-    let Ok(text) = str::from_utf8(line) else {
-        return Err(RequestError::Fault(WireFault::NotJson));
-    };
-    object_in(alloc, scratch, text)
+    match str::from_utf8(line) {
+        Ok(text) => Ok(text),
+        Err(_) => Err(WireFault::NotJson),
+    }
+}
+
+/// The text of a line, whose object is that of the line.
+///
+/// # Errors
+/// `LineTooLong`, and `NotJson` for a line that is no text.
+pub fn text_of<'a>(line: Line<'a>) -> Result<&'a str, WireFault>
+    ensures object { (whole : List ℕ) → IsLine line.entry whole → MatchResult result
+        (λ text. spec.object_of whole ≡ spec.object_in (read text.now))
+        (λ f. spec.object_of whole ≡ Err f) }
+    ensures readable { (whole : List ℕ) → IsLine line.entry whole →
+        IfOk result (λ text. 0 < length text.now → spec.IsReadable whole) }
+{
+    match line {
+        Line::Whole(bytes) => text_of_whole(bytes),
+        Line::TooLong => Err(WireFault::LineTooLong),
+    }
 }
 
 /// The object of a line. The scratch serves one line after another, and grows to the length of the
@@ -162,10 +179,8 @@ pub fn object_of<'a>(
         (λ _. spec.IsReadable whole)
         (λ e. e ≡ NoMemory → spec.IsReadable whole) }
 {
-    match line {
-        Line::Whole(bytes) => object_of_whole(alloc, scratch, bytes),
-        Line::TooLong => Err(RequestError::Fault(WireFault::LineTooLong)),
-    }
+    let text = text_of(line)?;
+    object_in(alloc, scratch, text)
 }
 
 /// The request of a line's object, by the rules of a version.
@@ -187,8 +202,8 @@ fn request_of<O: JsonObject>(
     }
 }
 
-/// The request of a line, where there are so many readers, or its first fault. The scratch serves one
-/// line after another, as for `object_of`.
+/// The request of a line, where there are so many readers, or its first fault. The scratch serves
+/// one line after another, as for `object_of`.
 ///
 /// # Errors
 /// The first fault of the line; or want of memory, for a line alone that is a text, not an empty

@@ -1,21 +1,23 @@
 -- How a session that keeps a file goes on.
 use Rattle.std.proofs.Common.{◌≡◌, ◌∙◌, ℕ, Bool, List, [], ◌∷◌, ◌++◌, Option, Some, refl, sym, ap}
-use Rattle.std.proofs.Common.{subst, ⊎_elim}
+use Rattle.std.proofs.Common.{subst, ⊎_elim, ◌⊎◌, false}
 use Rattle.osn_days.specs.Profile.{newest_rules}
 use Rattle.osn_core.specs.Sequential.{ObjectState}
+use Rattle.osn_files.specs.JournalText.{journal_text}
 use Rattle.osn_lines.specs.Faults.{WriteFails}
 use Rattle.osn_service.specs.declared.kept_session.KeptSession.{KeptSession}
 use Rattle.osn_service.specs.declared.stop.Stop.{Stop}
 use Rattle.osn_service.specs.declared.stop.Stop.TheVariants.{NoMemory, WriteFailed}
 use Rattle.osn_service.specs.declared.stop.UnwrittenReplies.{UnwrittenReplies}
 use Rattle.osn_service.specs.declared.reply_buffer.ReplyBuffer.{ReplyBuffer}
-use Rattle.osn_service.specs.Kept.{HoldsInPart, IsOnDisk, Keeps}
+use Rattle.osn_service.specs.Kept.{Keeps}
 use Rattle.osn_service.specs.KeptInside.{KeptServing, KeptStopping, Unkept, IsSameKept, FailsToKeep}
 use Rattle.osn_service.specs.Served.{line_text}
 use Rattle.osn_service.specs.ServiceInside.{Adds, Settles, WritesSome}
 use Rattle.osn_service.specs.Session.{line_after}
 use Rattle.osn_service.specs.Stop.{MatchStop}
-use Rattle.osn_service.proofs.KeptLemmas.{Keeps-then, Keeps-at}
+use Rattle.osn_service.proofs.ChangeLemmas.{line_once}
+use Rattle.osn_service.proofs.KeptLemmas.{Keeps-same, Keeps-then, Keeps-at}
 use Rattle.osn_service.proofs.ServeLemmas.{IsSame-then, Serving-settle, Serving-add, Failing-from}
 use Rattle.osn_service.proofs.ServeLemmas.{Serving-nothing}
 use Rattle.osn_service.proofs.WaitLemmas.{Waits-settle, Waits-written, after_one}
@@ -28,7 +30,7 @@ module _ {W K : Type 0} (contents : W → Option (List ℕ)) (has_failed : W →
   KeptServing-nothing s text ends = record {
     serving = Serving-nothing contents has_failed s.session text ends;
     keeper = refl;
-    keeps = record { journal = λ h. h; disk = λ h d. d };
+    keeps = Keeps-same s.session.object.now (held s.keeper.now) (synced s.keeper.now);
   }
 
   module _ (begun s t : KeptSession W K) (lines : List (List ℕ))
@@ -117,22 +119,27 @@ module _ {W K : Type 0} (contents : W → Option (List ℕ)) (has_failed : W →
           Serving-add contents has_failed begun.session s.session t.session lines line mid w
           h.serving lent.session settled adds e sound;
       keeper = lent.keeper ∙ h.keeper;
-      keeps = Keeps-then _ _ _ _ _ _ _ _ _ h.keeps keeps;
+      keeps =
+          Keeps-then _ _ _ _ _ _ _ _ _
+          (line_once s.session.readers s.session.object.now t.session.object.now line e)
+          h.keeps keeps;
     }
 
     -- a line was answered, and its change was not kept
-    pub Unkept-from : (line : List ℕ) (v : ReplyBuffer) →
+    pub Unkept-from : (holds_back : W → Bool) (line : List ℕ) (v : ReplyBuffer) →
         Adds s.session.object.now t.session.object.now
         (line_text newest_rules s.session.readers s.session.object.now line) mid
         (contents t.session.sink.now) w v →
         t.session.object.now
         ≡ line_after newest_rules s.session.readers s.session.object.now line →
+        (t.session.object.now ≡ s.session.object.now)
+        ⊎ (holds_back t.session.sink.now ≡ false) →
         t.session.waiting.now.text.items ≡ [] →
         has_failed t.session.sink.now ≡ has_failed s.session.sink.now →
         FailsToKeep s.session.object.now t.session.object.now (held s.keeper.now)
         (held t.keeper.now) (synced s.keeper.now) (synced t.keeper.now) →
-        Unkept contents has_failed held synced begun lines (Some line) t
-    Unkept-from line v adds e none sound fails =
+        Unkept contents has_failed holds_back held synced begun lines (Some line) t
+    Unkept-from holds_back line v adds e passed none sound fails =
         let readers = begun.session.readers in
         let text = line_text newest_rules readers in
         let after = line_after newest_rules readers in
@@ -152,17 +159,23 @@ module _ {W K : Type 0} (contents : W → Option (List ℕ)) (has_failed : W →
           written =
               ⊎_elim (λ k. absurd (fails.changed k.0))
               (λ k. Waits-written text after first now lines _ mid _ w before k.0) adds;
+          passed = ⊎_elim (λ same. absurd (fails.changed same)) (λ given. given) passed;
           none = none;
           sound = sound ∙ h.serving.sound;
           reached =
               after_one after first now t.session.object.now lines line waits.reached (e ∙ stands);
           keeps = record {
-            journal = λ j.
-                subst (λ (u : ObjectState). HoldsInPart u t.session.object.now (held t.keeper.now))
-                waits.reached (fails.journal (h.keeps.journal j));
-            disk = λ j d.
-                let disk = h.keeps.disk j d in
-                subst (λ (u : ObjectState). IsOnDisk u (synced t.keeper.now)) waits.reached
-                (record { more = disk.more; held = fails.disk ∙ disk.held });
+            kept = held s.keeper.now;
+            keeps =
+                subst (λ (u : ObjectState). Keeps first u (held begun.keeper.now)
+                (held s.keeper.now) (synced begun.keeper.now) (synced t.keeper.now)) waits.reached
+                (subst (λ (o : Option (List ℕ)). Keeps first now (held begun.keeper.now)
+                (held s.keeper.now) (synced begun.keeper.now) o) (sym fails.disk) h.keeps);
+            line = fails.line;
+            next =
+                fails.next
+                ∙ ap (λ (u : ObjectState). journal_text u ++ fails.line) waits.reached;
+            bytes = fails.journal.0;
+            journal = fails.journal.1;
           };
         }

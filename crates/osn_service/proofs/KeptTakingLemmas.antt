@@ -41,7 +41,7 @@ take_next all n line h =
     ∙ (take-suc all n line (slice_get_within all n line h)
     ∙ ap (λ l. take n all ++ l ∷ []) (get_or_from_slice_get all n line line h))
 
-module _ {W K : Type 0} (contents : W → Option (List ℕ)) (has_failed : W → Bool)
+module _ {W K : Type 0} (contents : W → Option (List ℕ)) (has_failed holds_back : W → Bool)
     (held synced : K → Option (List ℕ)) (s t : KeptSession W K) (input rest : Option (List ℕ)) where
   -- what one session became, by why no more lines were taken
   abbrev pub KeptEnded : ℕ → TakeFault KeptStop → Type 0
@@ -49,7 +49,7 @@ module _ {W K : Type 0} (contents : W → Option (List ℕ)) (has_failed : W →
       fault.MatchFault cause (TakesFirst (KeptServing contents has_failed held synced) s t input n)
       (TakesEnded (KeptServing contents has_failed held synced) s t input rest n)
       (StopsAfter (KeptServing contents has_failed held synced)
-      (StopsKept contents has_failed held synced) s t input n)
+      (StopsKept contents has_failed holds_back held synced) s t input n)
 
   -- it became what one without a file does, and kept its file
   abbrev pub EndedKept : ℕ → TakeFault Stop → Type 0
@@ -132,7 +132,7 @@ module _ {W K : Type 0} (contents : W → Option (List ℕ)) (has_failed : W →
     Ended-kept n (take.Stopped KeepFailed) other e h = absurd (none_is_some other e)
 
     pub StopsUnkept-from : (n : ℕ) (cause : TakeFault KeptStop) → serve_cause cause ≡ None →
-        KeptEnded n cause → StopsUnkept contents has_failed held synced s t input n
+        KeptEnded n cause → StopsUnkept contents has_failed holds_back held synced s t input n
     StopsUnkept-from n take.NoMemory e h = absurd (none_is_some _ (sym e))
     StopsUnkept-from n take.ReadFault e h = absurd (none_is_some _ (sym e))
     StopsUnkept-from n (take.Stopped (Stopped stop)) e h = absurd (none_is_some _ (sym e))
@@ -163,16 +163,17 @@ EndsSource-unkept input before now take.NoMemory e h = absurd (none_is_some _ (s
 EndsSource-unkept input before now take.ReadFault e h = absurd (none_is_some _ (sym e))
 EndsSource-unkept input before now (take.Stopped why) e h = h
 
-module _ {W K : Type 0} (contents : W → Option (List ℕ)) (has_failed : W → Bool)
+module _ {W K : Type 0} (contents : W → Option (List ℕ)) (has_failed holds_back : W → Bool)
     (held synced : K → Option (List ℕ)) (s t : KeptSession W K) (input rest : Option (List ℕ))
     (text : s.session.waiting.now.text.items ≡ []) (ends : s.session.waiting.now.ends.items ≡ [])
     (n : ℕ) (cause : TakeFault KeptStop)
-    (h : KeptEnded contents has_failed held synced s t input rest n cause) where
+    (h : KeptEnded contents has_failed holds_back held synced s t input rest n cause) where
   -- it ended as without a file
   pub IsWithin-kept : (other : TakeFault Stop) → serve_cause cause ≡ Some other → IsWithin n other
   IsWithin-kept other e =
       let k =
-      Ended-kept contents has_failed held synced s t input rest text ends n cause other e h in
+      Ended-kept contents has_failed holds_back held synced s t input rest text ends n cause other e
+      h in
       IsWithin-ended contents has_failed s.session t.session input rest n other k.0
 
   pub HasTaken-kept : (before now : Bool) (other : TakeFault Stop) →
@@ -182,7 +183,8 @@ module _ {W K : Type 0} (contents : W → Option (List ℕ)) (has_failed : W →
       × KeepsFor contents has_failed held synced s t × IsSameKept s t
   HasTaken-kept before now other e source =
       let k =
-      Ended-kept contents has_failed held synced s t input rest text ends n cause other e h in (
+      Ended-kept contents has_failed holds_back held synced s t input rest text ends n cause other e
+      h in (
         HasTaken-ended contents has_failed s.session t.session input rest before now n other k.0
             (EndsSource-kept input before now cause other e source),
         k.1,
@@ -197,15 +199,17 @@ next_line : (at : Option (List ℕ)) (line : List ℕ) (all : List (List ℕ)) (
 next_line at line all n is h =
     subst (λ (o : Option (List ℕ)). IfSome o (λ l. slice_get all n ≡ Some l)) is h
 
-module _ {W K : Type 0} (contents : W → Option (List ℕ)) (has_failed : W → Bool)
+module _ {W K : Type 0} (contents : W → Option (List ℕ)) (has_failed holds_back : W → Bool)
     (held synced : K → Option (List ℕ)) (s t : KeptSession W K) where
   pub ServesUnkept-from : (input : Option (List ℕ)) (before now : Bool) (n : ℕ) →
-      StopsUnkept contents has_failed held synced s t input n → now ≡ before →
+      StopsUnkept contents has_failed holds_back held synced s t input n → now ≡ before →
       ServesUnkept newest_rules s.session.readers s.session.object.now t.session.object.now input
       before now (contents s.session.sink.now) (contents t.session.sink.now)
-      (has_failed s.session.sink.now) (has_failed t.session.sink.now) n
+      (has_failed s.session.sink.now) (has_failed t.session.sink.now)
+      (holds_back t.session.sink.now) n
   ServesUnkept-from None before now n h source = record {
     written = tt;
+    passed = h.unkept.passed;
     next = tt;
     object = tt;
     source = source;
@@ -224,6 +228,7 @@ module _ {W K : Type 0} (contents : W → Option (List ℕ)) (has_failed : W →
               (contents t.session.sink.now) (outputs newest_rules readers first l)) (sym h.first)
               h.unkept.written;
         };
+        passed = h.unkept.passed;
         next = slice_get_within all n h.unkept.line line;
         object =
             h.unkept.reached
@@ -235,7 +240,7 @@ module _ {W K : Type 0} (contents : W → Option (List ℕ)) (has_failed : W →
       }
 
   pub KeepsFirst-from : (input : Option (List ℕ)) (n : ℕ) →
-      StopsUnkept contents has_failed held synced s t input n →
+      StopsUnkept contents has_failed holds_back held synced s t input n →
       KeepsFirst newest_rules s.session.readers s.session.object.now t.session.object.now input
       (held s.keeper.now) (held t.keeper.now) (synced s.keeper.now) (synced t.keeper.now) n
   KeepsFirst-from None n h = tt

@@ -1,5 +1,5 @@
 -- That an input may be cut between its lines.
-use Rattle.std.proofs.Common.{◌≡◌, ◌==◌, ℕ, Bool, true, false, cond, List, [], ◌∷◌, ◌++◌}
+use Rattle.std.proofs.Common.{◌≡◌, ℕ, List, [], ◌∷◌, ◌++◌}
 use Rattle.std.proofs.Common.{Option, Some, None, Result, Ok, Err, refl, sym, ap, subst, ◌∙◌}
 use Rattle.std.proofs.Common.{append_assoc, inl, inr}
 use Rattle.std.specs.List.{All, concat, flat_map}
@@ -9,12 +9,13 @@ use Rattle.osn_days.specs.Profile.{Profile, newest_rules}
 use Rattle.osn_register.specs.declared.refusal.Refusal.{Refusal}
 use Rattle.osn_core.specs.Sequential.{ObjectState, state_unless, stage_refusal, with_pending}
 use Rattle.osn_core.specs.Sequential.{publish_refusal, with_edition}
-use Rattle.osn_lines.specs.Lines.{lines, onto_first}
+use Rattle.osn_lines.specs.Lines.{lines}
 use Rattle.osn_format.specs.declared.wire_fault.WireFault.{WireFault}
 use Rattle.osn_request.specs.declared.request.Request.{Request}
 use Rattle.osn_request.specs.declared.request.Request.TheVariants.{Stage, Publish, Ask}
 use Rattle.osn_request.specs.Request.{request}
 use Rattle.osn_reply.specs.declared.outcome.Outcome.{Outcome}
+use Rattle.osn_files.proofs.LoadFacts.{lines-behind}
 use Rattle.osn_service.specs.Served.{line_text, outputs, after_lines}
 use Rattle.osn_service.specs.Session.{unless_refused, outcome_of, state_after, line_after}
 use Rattle.osn_service.specs.Law.{LeavesObject, EndsBetweenLines, IsQueryOrFault}
@@ -22,54 +23,19 @@ use Rattle.osn_service.specs.Law.{HasChangedNothing, input_outputs, IsAnsweredIn
 use Rattle.osn_service.specs.Law.{MayEachInputBeCut}
 use Rattle.osn_service.proofs.WaitLemmas.{replies-append}
 
--- bytes that have a line, and behind which further bytes begin a line of their own
-record Ends (bytes : List ℕ) : Type 0 where
-  first : List ℕ
-  rest : List (List ℕ)
-  is : lines bytes ≡ first ∷ rest
-  more : (ys : List ℕ) → lines (bytes ++ ys) ≡ first ∷ rest ++ lines ys
-
--- so with one byte more in front, which is a line feed or not
-Ends-more : (b : ℕ) (bytes : List ℕ) (t : Bool) → (b == 10) ≡ t → Ends bytes → Ends (b ∷ bytes)
-Ends-more b bytes true e h =
-    let cut : (ys : List ℕ) → lines (b ∷ ys) ≡ [] ∷ lines ys =
-    λ ys. ap (λ t. cond t ([] ∷ lines ys) (onto_first b (lines ys))) e in
-    record {
-      first = [];
-      rest = h.first ∷ h.rest;
-      is = cut bytes ∙ ap (λ ls. [] ∷ ls) h.is;
-      more = λ ys. cut (bytes ++ ys) ∙ ap (λ ls. [] ∷ ls) (h.more ys);
-    }
-Ends-more b bytes false e h =
-    let kept : (ys : List ℕ) → lines (b ∷ ys) ≡ onto_first b (lines ys) =
-    λ ys. ap (λ t. cond t ([] ∷ lines ys) (onto_first b (lines ys))) e in
-    record {
-      first = b ∷ h.first;
-      rest = h.rest;
-      is = kept bytes ∙ ap (onto_first b) h.is;
-      more = λ ys. kept (bytes ++ ys) ∙ ap (onto_first b) (h.more ys);
-    }
-
-Ends-feed : (front : List ℕ) → Ends (front ++ 10 ∷ [])
-Ends-feed [] = record { first = []; rest = []; is = refl; more = λ ys. refl }
-Ends-feed (b ∷ front) = Ends-more b (front ++ 10 ∷ []) (b == 10) refl (Ends-feed front)
-
 -- the lines of two texts, the first of which ends between two lines
-pub lines-append : (xs ys : List ℕ) → EndsBetweenLines xs → lines (xs ++ ys) ≡ lines xs ++ lines ys
+lines-append : (xs ys : List ℕ) → EndsBetweenLines xs → lines (xs ++ ys) ≡ lines xs ++ lines ys
 lines-append xs ys (inl none) =
     subst (λ l. lines (l ++ ys) ≡ lines l ++ lines ys) (sym none) refl
-lines-append xs ys (inr ended) =
-    let h = Ends-feed ended.0 in
-    subst (λ l. lines (l ++ ys) ≡ lines l ++ lines ys) (sym ended.1)
-    (h.more ys ∙ ap (λ l. l ++ lines ys) (sym h.is))
+lines-append xs ys (inr ended) = lines-behind xs ys ended
 
 -- what each of two lists has, the first has and the second
-All-first : (P : List ℕ → Type 0) (xs ys : List (List ℕ)) → All P (xs ++ ys) → All P xs
+pub All-first : {A : Type 0} (P : A → Type 0) (xs ys : List A) → All P (xs ++ ys) → All P xs
 All-first P [] ys h = All-nil P
 All-first P (x ∷ xs) ys h =
     All-cons P x xs (All-head P x (xs ++ ys) h) (All-first P xs ys (All-tail P x (xs ++ ys) h))
 
-All-second : (P : List ℕ → Type 0) (xs ys : List (List ℕ)) → All P (xs ++ ys) → All P ys
+pub All-second : {A : Type 0} (P : A → Type 0) (xs ys : List A) → All P (xs ++ ys) → All P ys
 All-second P [] ys h = h
 All-second P (x ∷ xs) ys h = All-second P xs ys (All-tail P x (xs ++ ys) h)
 

@@ -5,6 +5,7 @@ pub mod StopLemmas
 pub mod ClauseLemmas
 pub mod LawLemmas
 pub mod KeptLaw
+pub mod ChangeLemmas
 pub mod KeptLemmas
 pub mod TakingLemmas
 pub mod KeepingLemmas

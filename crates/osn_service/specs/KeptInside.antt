@@ -1,10 +1,12 @@
 -- What holds while lines are served and a file is kept.
-use Rattle.std.specs.Prelude.{◌≡◌, ◌≢◌, ◌⊎◌, ℕ, Bool, List, [], ◌∷◌, ◌++◌, length, take, slice_get}
-use Rattle.std.specs.Prelude.{Option, Some, None, IfSome}
+use Rattle.std.specs.Prelude.{◌≡◌, ◌≢◌, ◌⊎◌, ℕ, Bool, false, List, [], ◌∷◌, ◌++◌, length, take}
+use Rattle.std.specs.Prelude.{slice_get, Option, Some, None, IfSome}
 use Rattle.std.specs.Io.KnownBytes.{Appends}
 use Rattle.osn_days.specs.Profile.{newest_rules}
 use Rattle.osn_register.specs.declared.edit.Edit.{Edit}
-use Rattle.osn_core.specs.Sequential.{ObjectState, with_pending, with_edition}
+use Rattle.osn_core.specs.Sequential.{ObjectState, with_pending, with_edition, stage_refusal}
+use Rattle.osn_core.specs.Sequential.{publish_refusal}
+use Rattle.osn_files.specs.JournalText.{journal_text}
 use Rattle.osn_lines.specs.declared.fault.TakeFault.{TakeFault}
 use Rattle.osn_lines.specs.declared.fault.TakeFault.TheVariants as take
 use Rattle.osn_lines.specs.Lines.{lines}
@@ -12,7 +14,7 @@ use Rattle.osn_service.specs.declared.kept_session.KeptSession.{KeptSession}
 use Rattle.osn_service.specs.declared.stop.KeptStop.{KeptStop}
 use Rattle.osn_service.specs.declared.stop.KeptStop.TheVariants.{Stopped, KeepFailed}
 use Rattle.osn_service.specs.declared.stop.Stop.{Stop}
-use Rattle.osn_service.specs.Kept.{HoldsJournal, HoldsInPart, Keeps, KeepsInPart}
+use Rattle.osn_service.specs.Kept.{Keeps, KeepsInPart}
 use Rattle.osn_service.specs.Served.{after_lines, outputs}
 use Rattle.osn_service.specs.SessionInside.{IsSame, Serving, StopsServing}
 
@@ -29,16 +31,21 @@ AppendsFront old new bytes = (n : ℕ) × Appends old new (take n bytes)
 abbrev pub IsCounted : ObjectState → ℕ → ℕ → Type 0
 IsCounted s editions pending = (length s.batches ≡ editions) × (length s.pending ≡ pending)
 
--- an object is what it was, or has one edit more that is pending, or one edition more
+-- an object is what it was, or has one edit more that is pending, or one edition more, neither of
+-- which was refused
 abbrev pub ChangesOnce : ObjectState → ObjectState → Type 0
 ChangesOnce s t =
-    (t ≡ s) ⊎ (((edit : Edit) × (t ≡ with_pending s edit)) ⊎ (t ≡ with_edition s))
+    (t ≡ s)
+    ⊎ (((edit : Edit) × (t ≡ with_pending s edit) × (stage_refusal newest_rules s edit ≡ None))
+    ⊎ ((t ≡ with_edition s) × (publish_refusal s ≡ None)))
 
--- a change was to be kept, and the file failed
+-- a change was to be kept, and the file failed at its line, a front of which was appended
 pub record FailsToKeep (s t : ObjectState) (old new old_synced new_synced : Option (List ℕ))
     : Type 0 where
   pub changed : t ≢ s
-  pub journal : HoldsJournal s old → HoldsInPart s t new
+  pub line : List ℕ
+  pub next : journal_text t ≡ journal_text s ++ line
+  pub journal : AppendsFront old new line
   pub disk : new_synced ≡ old_synced
 
 module _ {W K : Type 0} (contents : W → Option (List ℕ)) (has_failed : W → Bool)
@@ -64,6 +71,8 @@ module _ {W K : Type 0} (contents : W → Option (List ℕ)) (has_failed : W →
     pub keeper : now.keeper.ghost_name ≡ begun.keeper.ghost_name
     pub keeps : KeepsFor begun now
 
+module _ {W K : Type 0} (contents : W → Option (List ℕ)) (has_failed holds_back : W → Bool)
+    (held synced : K → Option (List ℕ)) where
   -- it took these lines, whose replies are written, and stopped since the file failed at this one,
   -- whose reply does not wait
   pub record Unkept (begun : KeptSession W K) (lines : List (List ℕ)) (at : Option (List ℕ))
@@ -74,6 +83,7 @@ module _ {W K : Type 0} (contents : W → Option (List ℕ)) (has_failed : W →
     pub keeper : now.keeper.ghost_name ≡ begun.keeper.ghost_name
     pub written : Appends (contents begun.session.sink.now) (contents now.session.sink.now)
         (outputs newest_rules begun.session.readers begun.session.object.now lines)
+    pub passed : holds_back now.session.sink.now ≡ false
     pub none : now.session.waiting.now.text.items ≡ []
     pub sound : has_failed now.session.sink.now ≡ has_failed begun.session.sink.now
     pub reached : now.session.object.now
@@ -88,7 +98,8 @@ module _ {W K : Type 0} (contents : W → Option (List ℕ)) (has_failed : W →
   abbrev pub StopsKept : KeptSession W K → List (List ℕ) → Option (List ℕ) → KeptSession W K →
       KeptStop → Type 0
   StopsKept begun lines at now why =
-      MatchKeptStop why (KeptStopping begun lines now) (Unkept begun lines at now)
+      MatchKeptStop why (KeptStopping contents has_failed held synced begun lines now)
+      (Unkept begun lines at now)
 
   -- n lines were taken, the first n of the input where that is known, and the file failed at the
   -- next

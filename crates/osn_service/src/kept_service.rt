@@ -51,8 +51,8 @@ fn take_all<R: Source, W: Sink, K: KeptFile>(
         session.old.session session.new.session (R.remaining source.old) (R.remaining source.new)
         (R.has_failed source.old) (R.has_failed source.new) taken
         × KeepsFor W.contents W.has_failed K.contents K.synced session.old session.new) }
-    ensures err { IfErr result (λ failed. StopsUnkept W.contents W.has_failed K.contents K.synced
-        session.old session.new (R.remaining source.old) failed.lines) }
+    ensures err { IfErr result (λ failed. StopsUnkept W.contents W.has_failed W.holds_back
+        K.contents K.synced session.old session.new (R.remaining source.old) failed.lines) }
     ensures sound { OnErr result (R.has_failed source.new ≡ R.has_failed source.old) }
 {
     match take_lines(session.session.alloc, session, source) {
@@ -85,7 +85,8 @@ fn run<R: Source, W: Sink, K: KeptFile>(
         (R.has_failed source.old) (R.has_failed source.new)
         (W.contents session.old.session.sink.now) (W.contents session.new.session.sink.now)
         (W.has_failed session.old.session.sink.now)
-        (W.has_failed session.new.session.sink.now)) }
+        (W.has_failed session.new.session.sink.now)
+        (W.holds_back session.new.session.sink.now)) }
     ensures kept { MatchKept result
         (λ _. Keeps session.old.session.object.now session.new.session.object.now
         (K.contents session.old.keeper.now) (K.contents session.new.keeper.now)
@@ -114,13 +115,15 @@ fn run<R: Source, W: Sink, K: KeptFile>(
     }
 }
 
-/// Answers every line of the source up to its end, as `serve_from` does, and keeps a file, which
-/// holds the journal of the object. Answers the number of lines.
+/// Answers every line of the source up to its end, as `serve_from` does, and keeps a file, which is
+/// loaded as the object. Answers the number of lines.
 ///
 /// Each edit that is taken and each publish is appended to the file, as a line of the journal,
 /// before its reply is written, and a publish is on the disk before that. What is refused appends
-/// nothing. The file has to hold the journal of the object that is given, head and all; what is
-/// said of the disk is said where the last publish of that journal is on it.
+/// nothing. What the file held is not read, and need not be what is written of the object: if it
+/// ends with a line feed and is loaded as the object that is given, it is loaded as what becomes of
+/// it. Where its head says the first version, it is so only as long as no edit has a style that
+/// this version lacks.
 ///
 /// # Errors
 ///
@@ -145,14 +148,14 @@ pub fn serve_kept<R: Source, W: Sink, K: KeptFile>(
         (ServesUnkept newest_rules readers object.old object.new (R.remaining source.old)
         (R.has_failed source.old) (R.has_failed source.new)
         (W.contents sink.old) (W.contents sink.new)
-        (W.has_failed sink.old) (W.has_failed sink.new)) }
+        (W.has_failed sink.old) (W.has_failed sink.new) (W.holds_back sink.new)) }
     ensures kept { MatchKept result
         (λ _. Keeps object.old object.new (K.contents keeper.old) (K.contents keeper.new)
         (K.synced keeper.old) (K.synced keeper.new))
         (KeepsFirst newest_rules readers object.old object.new (R.remaining source.old)
         (K.contents keeper.old) (K.contents keeper.new)
         (K.synced keeper.old) (K.synced keeper.new)) }
-    // as a law: what a change adds to a journal is a line
+    // as a law: what a change adds to a journal is a line, by which it is loaded with that change
     ensures lines { DoesEachJournalGrowByLines }
 {
     let mut scratch = Scratch::new(alloc);

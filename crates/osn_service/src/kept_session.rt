@@ -100,7 +100,7 @@ impl<'a, 'b, W: Sink, K: KeptFile> LineTaker for KeptSession<'a, 'b, W, K> {
         KeptServing W.contents W.has_failed K.contents K.synced begun lines now };
 
     ghost stopped = { λ begun lines at now why.
-        StopsKept W.contents W.has_failed K.contents K.synced begun lines at now why };
+        StopsKept W.contents W.has_failed W.holds_back K.contents K.synced begun lines at now why };
 
     fn take(&mut self, line: Line<'_>) -> Result<(), KeptStop> {
         let session = &mut self.session;

@@ -2,7 +2,8 @@
 //!
 //! What waits is written before a line that changes the object, so that of the lines whose replies
 //! wait only the first has changed it.
-ghost use Rattle.std.specs.Prelude.{◌≡◌, ◌<◌, ℕ, List, [], ◌∷◌, length, IfErr, OnOk, OnErr};
+ghost use Rattle.std.specs.Prelude.{◌≡◌, ◌<◌, ◌⊎◌, ℕ, List, [], ◌∷◌, false, length, IfErr, OnOk};
+ghost use Rattle.std.specs.Prelude.{OnErr};
 ghost use Rattle.std.specs.Io.KnownBytes.{Appends};
 ghost use Rattle.osn_days.specs.Profile.{newest_rules};
 ghost use Rattle.osn_lines.specs.Faults.{WriteFails};
@@ -34,6 +35,7 @@ fn write_and_push<W: Sink>(
         (Appends (W.contents sink.old) (W.contents sink.new) waiting.old.text.items) }
     ensures text { OnOk result (waiting.new.text.items ≡ reply_line outcome) }
     ensures ends { OnOk result (waiting.new.ends.items ≡ length (reply_line outcome) ∷ []) }
+    ensures passed { OnOk result (W.holds_back sink.new ≡ false) }
     ensures sound { OnOk result (W.has_failed sink.new ≡ W.has_failed sink.old) }
     ensures err { IfErr result (λ stop. MatchStop stop
         (Settles (W.contents sink.old) (W.contents sink.new) waiting.old waiting.new)
@@ -57,6 +59,7 @@ fn stage<W: Sink>(
         (reply_line (spec.stage_outcome newest_rules object.old edit))
         (W.contents sink.old) (W.contents sink.new) waiting.old waiting.new) }
     ensures after { OnOk result (object.new ≡ spec.stage_after newest_rules object.old edit) }
+    ensures passed { OnOk result ((object.new ≡ object.old) ⊎ (W.holds_back sink.new ≡ false)) }
     ensures sound { OnOk result (W.has_failed sink.new ≡ W.has_failed sink.old) }
     ensures err { IfErr result (λ stop. MatchStop stop
         (Settles (W.contents sink.old) (W.contents sink.new) waiting.old waiting.new)
@@ -90,6 +93,7 @@ fn publish<W: Sink>(
         (reply_line (spec.publish_outcome object.old))
         (W.contents sink.old) (W.contents sink.new) waiting.old waiting.new) }
     ensures after { OnOk result (object.new ≡ spec.publish_after object.old) }
+    ensures passed { OnOk result ((object.new ≡ object.old) ⊎ (W.holds_back sink.new ≡ false)) }
     ensures sound { OnOk result (W.has_failed sink.new ≡ W.has_failed sink.old) }
     ensures err { IfErr result (λ stop. MatchStop stop
         (Settles (W.contents sink.old) (W.contents sink.new) waiting.old waiting.new)
@@ -145,6 +149,7 @@ pub(crate) fn answer<W: Sink>(
         (W.contents sink.old) (W.contents sink.new) waiting.old waiting.new) }
     ensures after { OnOk result ((whole : List ℕ) → IsLine line.entry whole →
         object.new ≡ spec.line_after newest_rules readers object.old whole) }
+    ensures passed { OnOk result ((object.new ≡ object.old) ⊎ (W.holds_back sink.new ≡ false)) }
     ensures sound { OnOk result (W.has_failed sink.new ≡ W.has_failed sink.old) }
     ensures err { IfErr result (λ stop. MatchStop stop
         (Settles (W.contents sink.old) (W.contents sink.new) waiting.old waiting.new)
@@ -183,8 +188,8 @@ pub(crate) fn make_room<W: Sink>(
     Ok(())
 }
 
-/// An object and a sink, with the replies that wait, the number of readers, and what reads lines. It
-/// owns no memory, so that what it borrows is known again once it is gone.
+/// An object and a sink, with the replies that wait, the number of readers, and what reads lines.
+/// It owns no memory, so that what it borrows is known again once it is gone.
 #[derive(Drop)]
 pub(crate) struct Session<'a, W> {
     pub(crate) alloc: Global,

@@ -1,10 +1,12 @@
 //! An object whose members are few texts and whole numbers. It takes no memory: its texts lie in
 //! the line, or where a reader unescaped them.
-ghost use Rattle.std.specs.Prelude.{◌≡◌, option_and_then, option_map};
+ghost use Rattle.std.specs.Prelude.{◌≡◌, option_map};
 
 mod reading;
 
+use crate::request::json_object::JsonObject;
 use arrayvec::ArrayVec;
+pub use reading::flat_object_in;
 pub(crate) use reading::flat_object_of;
 
 /// The most members of a flat object. No line that a format asks for has more.
@@ -35,7 +37,7 @@ pub struct FlatObject<'a> {
 }
 
 impl<'a> FlatObject<'a> {
-    ghost use Rattle.serde_json.specs.Find.{as_i64, as_number, as_str, get_member};
+    ghost use Rattle.serde_json.specs.Find.{get_member};
     ghost use Rattle.osn_request.specs.Flat.{flat_members, scalar_data};
 
     /// The value of a member: of two with one name, of the last one.
@@ -53,21 +55,22 @@ impl<'a> FlatObject<'a> {
         }
         None
     }
+}
 
-    pub(crate) fn text(&self, name: &str) -> Option<&'a str>
-        ensures { option_map (λ s. s.now) result
-            ≡ option_and_then as_str (get_member name.now (flat_members self.now)) }
-    {
+impl<'a> JsonObject for FlatObject<'a> {
+    ghost use Rattle.serde_json.specs.Data.{object};
+    ghost use Rattle.osn_request.specs.Flat.{flat_members};
+
+    ghost value = { λ f. object (flat_members f) };
+
+    fn text(&self, name: &str) -> Option<&str> {
         match self.find(name) {
             Some(Scalar::Text(text)) => Some(text),
             _ => None,
         }
     }
 
-    pub(crate) fn whole(&self, name: &str) -> Option<i64>
-        ensures { result ≡ option_and_then as_i64
-            (option_and_then as_number (get_member name.now (flat_members self.now))) }
-    {
+    fn whole(&self, name: &str) -> Option<i64> {
         match self.find(name) {
             Some(Scalar::Whole(number)) => Some(number),
             _ => None,

@@ -47,6 +47,19 @@ returns-in-BadTable g c =
     (λ text e. e ∙ sym (ap fault_line c.in-BadTable.is)) c.line-in-BadTable.ensures)
     c.tell_refusal-in-BadTable.ensures.ok c.tell_refusal-in-BadTable.ensures.err
 
+pub returns-in-KeptElsewhere : goal.returns-in-KeptElsewhere
+returns-in-KeptElsewhere g c =
+    told_as_it_is _ c.args.fault _ _ c.in-KeptElsewhere.is
+    (refl, c.write_line-in-KeptElsewhere.ensures)
+
+pub returns-in-OlderVersion : goal.returns-in-OlderVersion
+returns-in-OlderVersion g c =
+    told_refusal string_bytes _ c.args.fault _ c.older_version.result
+    (ap fault_status c.in-OlderVersion.is)
+    (IfOk-weaker c.older_version.result _ _
+    (λ text e. e ∙ sym (ap fault_line c.in-OlderVersion.is)) c.older_version.ensures)
+    c.tell_refusal-in-OlderVersion.ensures.ok c.tell_refusal-in-OlderVersion.ensures.err
+
 pub returns-in-ReadFault : goal.returns-in-ReadFault
 returns-in-ReadFault g c =
     told_as_it_is _ c.args.fault _ _ c.in-ReadFault.is

@@ -11,8 +11,8 @@ returns-clause-ok g c =
     s.1 s.2 c.finish.ensures.unsaved c.finish.ensures.saved in (
       e.0,
       e.1,
-      service_ran c.args.limits _ _ c.is_some-saves.result _ (MayFail g.D.File.Source.has_failed) _ _ _ _
-          _ _ _ s.0 e.0
+      service_ran c.args.limits _ _ c.is_some-saves.result _
+          (MayFail g.D.File.Source.has_failed) _ _ _ _ _ _ _ s.0 e.0
           (c.is_some-saves.ensures ∙ sym (mapped _ c.args.options.save))
           c.in_ok-source.ensures.file (may_fail_if g.D.File.Source.has_failed _)
           (none_left string_bytes s.0 _ s.2) s.3 c.in_ok-source.ensures.ok e.2,

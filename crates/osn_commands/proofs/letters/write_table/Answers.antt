@@ -14,7 +14,8 @@ returns-in_err-write_letters-clause-err g c =
       c.in_ok-object.ensures.ok,
       _,
       is,
-      ended_table newest_rules c.in_ok-object.object _ _ _ _ _ _ _ _ (sym c.register-register.ensures.lands)
+      ended_table newest_rules c.in_ok-object.object _ _ _ _ _ _ _ _
+          (sym c.register-register.ensures.lands)
           (sym (ap length c.batches-edition.ensures.value)) ended.ensures.early
           ended.ensures.source.0 ended.ensures.sink,
     ))

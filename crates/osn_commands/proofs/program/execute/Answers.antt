@@ -5,28 +5,33 @@ use Rattle.osn_commands.proofs.program.execute.Goals as goal
 
 pub returns-in-Serve-clause-ok : goal.returns-in-Serve-clause-ok
 returns-in-Serve-clause-ok g c =
-    IfOk-weaker c.serve.result _ _
-    (λ status h. ran c.args.limits c.args.command _ _ _ _ _ _ status c.in-Serve.is h) c.serve.ensures.ok
+    IfOk-weaker c.serve_by.result _ _
+    (λ status h. ran c.args.limits c.args.command _ _ _ _ _ _ status c.in-Serve.is h)
+    c.serve_by.ensures.ok
 
 pub returns-in-Replay-clause-ok : goal.returns-in-Replay-clause-ok
 returns-in-Replay-clause-ok g c =
     IfOk-weaker c.replay.result _ _
-    (λ status h. ran c.args.limits c.args.command _ _ _ _ _ _ status c.in-Replay.is h) c.replay.ensures.ok
+    (λ status h. ran c.args.limits c.args.command _ _ _ _ _ _ status c.in-Replay.is h)
+    c.replay.ensures.ok
 
 pub returns-in-Desk-clause-ok : goal.returns-in-Desk-clause-ok
 returns-in-Desk-clause-ok g c =
     IfOk-weaker c.desk.result _ _
-    (λ status h. ran c.args.limits c.args.command _ _ _ _ _ _ status c.in-Desk.is h) c.desk.ensures.ok
+    (λ status h. ran c.args.limits c.args.command _ _ _ _ _ _ status c.in-Desk.is h)
+    c.desk.ensures.ok
 
 pub returns-in-Page-clause-ok : goal.returns-in-Page-clause-ok
 returns-in-Page-clause-ok g c =
     IfOk-weaker c.page.result _ _
-    (λ status h. ran c.args.limits c.args.command _ _ _ _ _ _ status c.in-Page.is h) c.page.ensures.ok
+    (λ status h. ran c.args.limits c.args.command _ _ _ _ _ _ status c.in-Page.is h)
+    c.page.ensures.ok
 
 pub returns-in-Audit-clause-ok : goal.returns-in-Audit-clause-ok
 returns-in-Audit-clause-ok g c =
     IfOk-weaker c.audit.result _ _
-    (λ status h. ran c.args.limits c.args.command _ _ _ _ _ _ status c.in-Audit.is h) c.audit.ensures.ok
+    (λ status h. ran c.args.limits c.args.command _ _ _ _ _ _ status c.in-Audit.is h)
+    c.audit.ensures.ok
 
 pub returns-in-Convert-clause-ok : goal.returns-in-Convert-clause-ok
 returns-in-Convert-clause-ok g c =
@@ -36,4 +41,5 @@ returns-in-Convert-clause-ok g c =
 pub returns-in-Letters-clause-ok : goal.returns-in-Letters-clause-ok
 returns-in-Letters-clause-ok g c =
     IfOk-weaker c.letters.result _ _
-    (λ status h. ran c.args.limits c.args.command _ _ _ _ _ _ status c.in-Letters.is h) c.letters.ensures.ok
+    (λ status h. ran c.args.limits c.args.command _ _ _ _ _ _ status c.in-Letters.is h)
+    c.letters.ensures.ok

@@ -38,5 +38,6 @@ returns c =
     let tenth = one_more_command _ _ _ _ _ c.in_ok-subcommand-10.ensures
     ninth (c.in_ok-limited-9.ensures _ c.in_ok-almanac_grammar.ensures) in
     IfOk-weaker c.subcommand-11.result _ _
-    (λ new added. one_more_command _ new _ _ _ added tenth (c.in_ok-limited-10.ensures _ c.in_ok-audit_grammar.ensures))
+    (λ new added. one_more_command _ new _ _ _ added tenth
+    (c.in_ok-limited-10.ensures _ c.in_ok-audit_grammar.ensures))
     c.subcommand-11.ensures

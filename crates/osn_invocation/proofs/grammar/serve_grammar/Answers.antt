@@ -10,9 +10,12 @@ returns c =
     c.help.ensures c.option_arg.ensures in
     let save = helped c.option_arg-2.result c.help-2.result _ _
     c.help-2.ensures c.option_arg-2.ensures in
-    let readers = helped c.readers_arg.result c.help-3.result _ _
-    c.help-3.ensures c.readers_arg.ensures in
+    let keep = helped c.option_arg-3.result c.help-3.result _ _
+    c.help-3.ensures c.option_arg-3.ensures in
+    let readers = helped c.readers_arg.result c.help-4.result _ _
+    c.help-4.ensures c.readers_arg.ensures in
     let first = one_more_arg _ _ _ _ _ c.in_ok-arg.ensures command journal in
     let second = one_more_arg _ _ _ _ _ c.in_ok-arg-2.ensures first save in
-    IfOk-weaker c.arg-3.result _ _
-    (λ new added. one_more_arg _ new _ _ _ added second readers) c.arg-3.ensures
+    let third = one_more_arg _ _ _ _ _ c.in_ok-arg-3.ensures second keep in
+    IfOk-weaker c.arg-4.result _ _
+    (λ new added. one_more_arg _ new _ _ _ added third readers) c.arg-4.ensures

@@ -81,6 +81,19 @@ fn members_in<'a>(reader: &mut Reader<'a>) -> Option<FlatObject<'a>>
     Some(FlatObject { members })
 }
 
+/// The object that a reader has next, where its members are few texts and whole numbers. Where
+/// there is none, the reader stands behind the tokens that were tried.
+pub fn flat_object_in<'a>(reader: &mut Reader<'a>) -> Option<FlatObject<'a>>
+    ensures { IfSome result (λ found. (depth : ℕ) → 0 < depth →
+        converted of_json (value depth reader.old)
+        ≡ Some (object (flat_members found), reader.new)) }
+{
+    match reader.next()? {
+        Token::BeginObject => members_in(reader),
+        _ => None,
+    }
+}
+
 /// The object that a text is, where its members are few texts and whole numbers.
 ///
 /// # Errors
@@ -94,10 +107,7 @@ pub(crate) fn flat_object_of<'a>(
     ensures full { OnErr result (0 < length text.now) }
 {
     let mut reader = Reader::new(text, scratch)?;
-    let Some(Token::BeginObject) = reader.next() else {
-        return Ok(None);
-    };
-    let Some(found) = members_in(&mut reader) else {
+    let Some(found) = flat_object_in(&mut reader) else {
         return Ok(None);
     };
     if reader.next().is_some() {

@@ -5,14 +5,15 @@ use Rattle.osn_service.proofs.kept_service.run.Goals as goal
 
 pub returns-in-Err-clause-serves : goal.returns-in-Err-clause-serves
 returns-in-Err-clause-serves g c =
-    ServesUnkept-from g.W.Sink.contents g.W.Sink.has_failed g.K.KeptFile.contents
-    g.K.KeptFile.synced c.args.session.now c.take_all.new.session _ _ _ _ c.in-Err.ensures.err
-    c.in-Err.ensures.sound
+    ServesUnkept-from g.W.Sink.contents g.W.Sink.has_failed g.W.Sink.holds_back
+    g.K.KeptFile.contents g.K.KeptFile.synced c.args.session.now c.take_all.new.session _ _ _ _
+    c.in-Err.ensures.err c.in-Err.ensures.sound
 
 pub returns-in-Err-clause-kept : goal.returns-in-Err-clause-kept
 returns-in-Err-clause-kept g c =
-    KeepsFirst-from g.W.Sink.contents g.W.Sink.has_failed g.K.KeptFile.contents
-    g.K.KeptFile.synced c.args.session.now c.take_all.new.session _ _ c.in-Err.ensures.err
+    KeepsFirst-from g.W.Sink.contents g.W.Sink.has_failed g.W.Sink.holds_back
+    g.K.KeptFile.contents g.K.KeptFile.synced c.args.session.now c.take_all.new.session _ _
+    c.in-Err.ensures.err
 
 pub write_rest-requires : goal.write_rest-requires
 write_rest-requires g c =

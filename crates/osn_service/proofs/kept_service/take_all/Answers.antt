@@ -6,8 +6,8 @@ use Rattle.osn_service.proofs.kept_service.take_all.Goals as goal
 
 pub taken_until-requires : goal.taken_until-requires
 taken_until-requires g c =
-    IsWithin-kept g.W.Sink.contents g.W.Sink.has_failed g.K.KeptFile.contents
-    g.K.KeptFile.synced c.args.session.now c.take_lines.new.taker
+    IsWithin-kept g.W.Sink.contents g.W.Sink.has_failed g.W.Sink.holds_back
+    g.K.KeptFile.contents g.K.KeptFile.synced c.args.session.now c.take_lines.new.taker
     (g.R.Source.remaining c.args.source.now) (g.R.Source.remaining c.take_lines.new.source)
     c.requires.text c.requires.ends
     c.in-Err.field-0.lines c.in-Err.field-0.cause c.in-Err.ensures.fault c.in-Some.cause
@@ -16,8 +16,8 @@ taken_until-requires g c =
 pub returns-in-Ok-clause-same : goal.returns-in-Ok-clause-same
 returns-in-Ok-clause-same g c =
     let kept =
-    AnswersFirst-kept g.W.Sink.contents g.W.Sink.has_failed g.K.KeptFile.contents
-    g.K.KeptFile.synced c.args.session.now c.take_lines.new.taker
+    AnswersFirst-kept g.W.Sink.contents g.W.Sink.has_failed g.W.Sink.holds_back
+    g.K.KeptFile.contents g.K.KeptFile.synced c.args.session.now c.take_lines.new.taker
     (g.R.Source.remaining c.args.source.now) (g.R.Source.remaining c.take_lines.new.source)
     c.requires.text c.requires.ends
     _ c.in-Ok.ensures.taken in
@@ -26,8 +26,8 @@ returns-in-Ok-clause-same g c =
 pub returns-in-Ok-clause-ok : goal.returns-in-Ok-clause-ok
 returns-in-Ok-clause-ok g c =
     let kept =
-    AnswersFirst-kept g.W.Sink.contents g.W.Sink.has_failed g.K.KeptFile.contents
-    g.K.KeptFile.synced c.args.session.now c.take_lines.new.taker
+    AnswersFirst-kept g.W.Sink.contents g.W.Sink.has_failed g.W.Sink.holds_back
+    g.K.KeptFile.contents g.K.KeptFile.synced c.args.session.now c.take_lines.new.taker
     (g.R.Source.remaining c.args.source.now) (g.R.Source.remaining c.take_lines.new.source)
     c.requires.text c.requires.ends
     _ c.in-Ok.ensures.taken in
@@ -38,8 +38,8 @@ returns-in-Ok-clause-ok g c =
 pub returns-in-Some-clause-same : goal.returns-in-Some-clause-same
 returns-in-Some-clause-same g c =
     let kept =
-    HasTaken-kept g.W.Sink.contents g.W.Sink.has_failed g.K.KeptFile.contents
-    g.K.KeptFile.synced c.args.session.now c.take_lines.new.taker
+    HasTaken-kept g.W.Sink.contents g.W.Sink.has_failed g.W.Sink.holds_back
+    g.K.KeptFile.contents g.K.KeptFile.synced c.args.session.now c.take_lines.new.taker
     (g.R.Source.remaining c.args.source.now) (g.R.Source.remaining c.take_lines.new.source)
     c.requires.text c.requires.ends
     c.in-Err.field-0.lines c.in-Err.field-0.cause c.in-Err.ensures.fault _ _ c.in-Some.cause
@@ -49,8 +49,8 @@ returns-in-Some-clause-same g c =
 pub returns-in-Some-clause-ok : goal.returns-in-Some-clause-ok
 returns-in-Some-clause-ok g c =
     let kept =
-    HasTaken-kept g.W.Sink.contents g.W.Sink.has_failed g.K.KeptFile.contents
-    g.K.KeptFile.synced c.args.session.now c.take_lines.new.taker
+    HasTaken-kept g.W.Sink.contents g.W.Sink.has_failed g.W.Sink.holds_back
+    g.K.KeptFile.contents g.K.KeptFile.synced c.args.session.now c.take_lines.new.taker
     (g.R.Source.remaining c.args.source.now) (g.R.Source.remaining c.take_lines.new.source)
     c.requires.text c.requires.ends
     c.in-Err.field-0.lines c.in-Err.field-0.cause c.in-Err.ensures.fault _ _ c.in-Some.cause
@@ -60,8 +60,8 @@ returns-in-Some-clause-ok g c =
 pub returns-in-None-clause-same : goal.returns-in-None-clause-same
 returns-in-None-clause-same g c =
     let unkept =
-    StopsUnkept-from g.W.Sink.contents g.W.Sink.has_failed g.K.KeptFile.contents
-    g.K.KeptFile.synced c.args.session.now c.take_lines.new.taker
+    StopsUnkept-from g.W.Sink.contents g.W.Sink.has_failed g.W.Sink.holds_back
+    g.K.KeptFile.contents g.K.KeptFile.synced c.args.session.now c.take_lines.new.taker
     (g.R.Source.remaining c.args.source.now) (g.R.Source.remaining c.take_lines.new.source)
     c.requires.text c.requires.ends
     c.in-Err.field-0.lines c.in-Err.field-0.cause (sym c.serve_cause.ensures ∙ c.in-None.is)
@@ -71,8 +71,8 @@ returns-in-None-clause-same g c =
 pub returns-in-None-clause-err : goal.returns-in-None-clause-err
 returns-in-None-clause-err g c =
     let unkept =
-    StopsUnkept-from g.W.Sink.contents g.W.Sink.has_failed g.K.KeptFile.contents
-    g.K.KeptFile.synced c.args.session.now c.take_lines.new.taker
+    StopsUnkept-from g.W.Sink.contents g.W.Sink.has_failed g.W.Sink.holds_back
+    g.K.KeptFile.contents g.K.KeptFile.synced c.args.session.now c.take_lines.new.taker
     (g.R.Source.remaining c.args.source.now) (g.R.Source.remaining c.take_lines.new.source)
     c.requires.text c.requires.ends
     c.in-Err.field-0.lines c.in-Err.field-0.cause (sym c.serve_cause.ensures ∙ c.in-None.is)

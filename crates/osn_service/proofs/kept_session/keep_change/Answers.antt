@@ -2,8 +2,8 @@ use Rattle.std.proofs.Common.{◌∙◌, ◌<◌, ◌≤◌, ap, arith, length, 
 use Rattle.std.proofs.lemmas.Option.{slice_get_read}
 use Rattle.std.proofs.lemmas.Result.{on_ok_weaker, on_err_weaker}
 use Rattle.osn_service.proofs.KeptLemmas.{Keeps-same, Keeps-edit, Keeps-publish, Keeps-at}
+use Rattle.osn_service.proofs.ChangeLemmas.{is_same, is_edit, is_edition}
 use Rattle.osn_service.proofs.KeptLemmas.{Fails-edit, Fails-publish, Fails-at}
-use Rattle.osn_service.proofs.KeptLemmas.{is_same, is_edit, is_edition}
 use Rattle.osn_service.proofs.StopLemmas.{two_on_ok, two_on_err}
 use Rattle.osn_service.proofs.kept_session.keep_change.Goals as goal
 
@@ -14,8 +14,8 @@ returns-then-batches-editions-clause-ok g c =
     let publish = c.sync_publish.ensures in
     two_on_ok c.sync_publish.result publish.ok publish.synced
     (λ grows synced before counted once.
-    Keeps-at (is_edition before _ _ _ counted once more)
-    (Keeps-publish before _ _ _ _ grows synced))
+    let edition = is_edition before _ _ _ counted once more in
+    Keeps-at edition.0 (Keeps-publish before _ _ _ _ edition.1 grows synced))
 
 pub returns-then-batches-editions-clause-err : goal.returns-then-batches-editions-clause-err
 returns-then-batches-editions-clause-err g c =
@@ -24,7 +24,7 @@ returns-then-batches-editions-clause-err g c =
     let publish = c.sync_publish.ensures in
     two_on_err c.sync_publish.result publish.err publish.disk
     (λ grows same before counted once.
-    Fails-at (is_edition before _ _ _ counted once more)
+    Fails-at (is_edition before _ _ _ counted once more).0
     (Fails-publish before _ _ _ _ grows same))
 
 pub returns-in-Some-clause-ok : goal.returns-in-Some-clause-ok
@@ -38,8 +38,8 @@ returns-in-Some-clause-ok g c =
     let edit = c.keep_edit.ensures in
     on_ok_weaker c.keep_edit.result
     (λ grows before counted once.
-    Keeps-at (is_edit before _ _ _ _ counted once few found)
-    (Keeps-edit before _ _ _ _ _ grows edit.disk))
+    let staged = is_edit before _ _ _ _ counted once few found in
+    Keeps-at staged.0 (Keeps-edit before _ _ _ _ _ staged.1 grows edit.disk))
     edit.ok
 
 pub returns-in-Some-clause-err : goal.returns-in-Some-clause-err
@@ -53,7 +53,7 @@ returns-in-Some-clause-err g c =
     let edit = c.keep_edit.ensures in
     on_err_weaker c.keep_edit.result
     (λ grows before counted once.
-    Fails-at (is_edit before _ _ _ _ counted once few found)
+    Fails-at (is_edit before _ _ _ _ counted once few found).0
     (Fails-edit before _ _ _ _ _ grows edit.disk))
     edit.err
 

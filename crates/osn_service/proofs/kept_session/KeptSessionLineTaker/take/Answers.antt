@@ -1,10 +1,9 @@
 use Rattle.std.proofs.Common.{◌∙◌, ap, length, refl, inl, sym}
 use Rattle.std.proofs.lemmas.Result.{err_from_is_err_and}
-use Rattle.osn_days.specs.Profile.{newest_rules}
 use Rattle.osn_lines.proofs.InputLemmas.{if_err_at}
 use Rattle.osn_service.proofs.KeepingLemmas.{KeptServing-add, KeptStopping-failed, Unkept-from}
 use Rattle.osn_service.proofs.KeepingLemmas.{KeptStopping-stop}
-use Rattle.osn_service.proofs.KeptLemmas.{line_once}
+use Rattle.osn_service.proofs.ChangeLemmas.{line_once}
 use Rattle.osn_service.proofs.kept_session.KeptSessionLineTaker.take.Goals as goal
 
 pub returns-in_err-make_room-clause-stop : goal.returns-in_err-make_room-clause-stop
@@ -40,7 +39,7 @@ returns-in-Ok-clause-taken g c =
     _ _ room.ok whole (answer.ok whole is) (answer.after whole is) (answer.sound ∙ room.sound)
     (c.in-Ok.ensures.ok _
     (sym (ap length c.batches-editions.ensures.value), sym (ap length c.pending-pending.ensures))
-    (line_once newest_rules _ _ _ whole (answer.after whole is)))
+    (line_once _ _ _ whole (answer.after whole is)))
 
 pub returns-in-Err-clause-stop : goal.returns-in-Err-clause-stop
 returns-in-Err-clause-stop g c =
@@ -49,8 +48,8 @@ returns-in-Err-clause-stop g c =
     λ whole is begun before h.
     Unkept-from _ _ _ _ begun _ _ before h
     (record { session = record { readers = refl; object = refl; sink = refl }; keeper = refl })
-    _ _ room.ok whole _ (answer.ok whole is) (answer.after whole is) c.clear.ensures.text
-    (answer.sound ∙ room.sound)
+    _ _ room.ok g.W.Sink.holds_back whole _ (answer.ok whole is) (answer.after whole is)
+    answer.passed c.clear.ensures.text (answer.sound ∙ room.sound)
     (c.in-Err.ensures.err _
     (sym (ap length c.batches-editions.ensures.value), sym (ap length c.pending-pending.ensures))
-    (line_once newest_rules _ _ _ whole (answer.after whole is)))
+    (line_once _ _ _ whole (answer.after whole is)))

@@ -1,0 +1,2 @@
+mod SearchLemmas
+mod TableLemmas

@@ -1,0 +1,25 @@
+//! Tests of the calendars, the computus and the territories over their public calls. What a
+//! contract says is not tested again. Here stand values from outside, and the slow programs that
+//! the definitions describe, beside the quick ones.
+#![tactic(auto)]
+
+#[cfg(test)]
+mod compare;
+#[cfg(test)]
+mod computus;
+#[cfg(test)]
+mod days;
+#[cfg(test)]
+mod easter_years;
+#[cfg(test)]
+mod labels;
+#[cfg(test)]
+mod lands;
+#[cfg(test)]
+mod named;
+#[cfg(test)]
+mod search;
+#[cfg(test)]
+mod tables;
+#[cfg(test)]
+mod walk;

@@ -1,0 +1,330 @@
+//! The commands of the program over memory: the status, what is written, and what standard error is
+//! told.
+use crate::compare::same;
+use crate::printed::{Left, Wanted, is_left, left_by, sink};
+use osn_commands::{ServeResult, Status, run, serve_command, tell_no_words};
+use osn_folder::{Disk, Folder};
+use osn_lines::Plain;
+use osn_register::Limits;
+use osn_test_texts::joined;
+use std::alloc::Global;
+use std::io::{ErrorKind, Read, Write};
+use std::process::Abort;
+use std::rt::Files;
+use std::sync::Wait;
+use std::test::Fail;
+use std::thread::Threads;
+use std::{fs, io};
+
+const RM: &str = r#"{"journal":1}
+{"op":"add_land","code":"RM","name":"Rome","calendar":"julian","style":"january","rule":"julian"}
+{"op":"publish"}
+"#;
+
+const RM_PENDING: &str = r#"{"journal":1}
+{"op":"add_land","code":"RM","name":"Rome","calendar":"julian","style":"january","rule":"julian"}"#;
+
+/// A journal or none, request lines, what is left of them, and the journal that is left.
+type Row = (
+    Option<&'static str>,
+    &'static str,
+    Wanted,
+    Option<&'static str>,
+);
+
+const EMPTY_JOURNAL: &str = "{\"journal\":2}\n";
+
+const RM_SAVED: &str = r#"{"journal":2}
+{"calendar":"julian","code":"RM","name":"Rome","op":"add_land","rule":"julian","style":"january"}
+"#;
+
+const LANDS: &str = "{\"op\":\"lands\",\"reader\":1}\n";
+
+const ROME: &str = "{\"answer\":{\"lands\":[{\"code\":\"RM\",\"name\":\"Rome\"}]},\"edition\":1,
+  \"reader\":1}\n";
+
+const SERVED: [Row; 6] = [
+    (None, "", (0, "", ""), Some(EMPTY_JOURNAL)),
+    (
+        Some(RM),
+        LANDS,
+        (0, ROME, ""),
+        Some(
+            "{\"journal\":2}
+{\"calendar\":\"julian\",\"code\":\"RM\",\"name\":\"Rome\",\"op\":\"add_land\",\"rule\":\"julian\",
+  \"style\":\"january\"}
+{\"op\":\"publish\"}
+",
+        ),
+    ),
+    (Some(RM_PENDING), "", (0, "", ""), Some(RM_SAVED)),
+    (
+        Some(RM_PENDING),
+        "{\"op\":\"publish\"}\n",
+        (0, "{\"edition\":1,\"ok\":\"published\"}\n", ""),
+        Some(
+            "{\"journal\":2}
+{\"calendar\":\"julian\",\"code\":\"RM\",\"name\":\"Rome\",\"op\":\"add_land\",\"rule\":\"julian\",
+  \"style\":\"january\"}
+{\"op\":\"publish\"}
+",
+        ),
+    ),
+    (
+        Some("{\"journal\":3}\n"),
+        LANDS,
+        (1, "", "oldstyle: journal line 1: 37 BadHead\n"),
+        None,
+    ),
+    (
+        Some("{\"journal\":1}\n[]\n"),
+        LANDS,
+        (1, "", "oldstyle: journal line 2: 33 NotObject\n"),
+        None,
+    ),
+];
+
+/// What the service leaves of request lines behind a journal, and the journal.
+fn served(alloc: Global, journal: Option<&str>, requests: &str) -> (Left, Option<String>) {
+    let (mut output, mut errors) = (sink(alloc), sink(alloc));
+    let mut input = Plain::new(requests.as_bytes());
+    let mut source = journal.map(|text| Plain::new(text.as_bytes()));
+    let ServeResult { status, journal } = serve_command(
+        alloc,
+        Limits::standard(),
+        &mut source,
+        8,
+        true,
+        &mut input,
+        &mut output,
+        &mut errors,
+    );
+    (left_by(status, output, errors), journal)
+}
+
+/// That the journal that is left is this one.
+fn is_journal(rt: &impl Abort, alloc: Global, text: &str, wanted: &str) -> Result<(), Fail> {
+    same(rt, text, joined(alloc, wanted)?.as_str());
+    Ok(())
+}
+
+/// That this journal is left, or none.
+fn is_saved(
+    rt: &impl Abort,
+    alloc: Global,
+    journal: Option<String>,
+    wanted: Option<&str>,
+) -> Result<(), Fail> {
+    match (journal, wanted) {
+        (Some(text), Some(wanted)) => is_journal(rt, alloc, text.as_str(), wanted),
+        (journal, wanted) => {
+            same(rt, journal.is_some(), wanted.is_some());
+            Ok(())
+        }
+    }
+}
+
+fn are_served(rt: &impl Abort, alloc: Global, rows: &[Row]) -> Result<(), Fail> {
+    for (journal, requests, wanted, saved) in rows {
+        let (left, journal) = served(alloc, *journal, requests);
+        is_left(rt, alloc, left, wanted)?;
+        is_saved(rt, alloc, journal, *saved)?;
+    }
+    Ok(())
+}
+
+#[test]
+fn journals_are_loaded_and_left(rt: HostRuntime) -> Result<(), Fail> {
+    are_served(&rt, rt.alloc(), &SERVED)
+}
+
+/// What fails at each call.
+#[derive(Drop)]
+struct Failing;
+
+impl Read for Failing {
+    fn read(&mut self, _buffer: &mut [u8]) -> io::Result<usize> {
+        Err(io::Error::from(ErrorKind::TimedOut))
+    }
+}
+
+impl Write for Failing {
+    fn write(&mut self, _bytes: &[u8]) -> io::Result<usize> {
+        Err(io::Error::from(ErrorKind::BrokenPipe))
+    }
+
+    fn flush(&mut self) -> io::Result<()> {
+        Err(io::Error::from(ErrorKind::BrokenPipe))
+    }
+}
+
+#[test]
+fn streams_that_fail(rt: HostRuntime) -> Result<(), Fail> {
+    let alloc = rt.alloc();
+    let mut errors = sink(alloc);
+    let mut failing = Some(Plain::new(Failing));
+    let mut input = Plain::new(LANDS.as_bytes());
+    let left = serve_command(
+        alloc,
+        Limits::standard(),
+        &mut failing,
+        8,
+        true,
+        &mut input,
+        &mut sink(alloc),
+        &mut errors,
+    );
+    same(&rt, left.status, Status::ReadFault);
+    assert!(rt; left.journal.is_none());
+    same(
+        &rt,
+        str::from_utf8(&errors.into_inner())?,
+        "oldstyle: read fault\n",
+    );
+    let mut errors = sink(alloc);
+    let mut none: Option<Plain<Failing>> = None;
+    let mut output = Plain::new(Failing);
+    let left = serve_command(
+        alloc,
+        Limits::standard(),
+        &mut none,
+        8,
+        true,
+        &mut input,
+        &mut output,
+        &mut errors,
+    );
+    same(&rt, left.status, Status::WriteFault);
+    same(
+        &rt,
+        str::from_utf8(&errors.into_inner())?,
+        "oldstyle: write fault\n",
+    );
+    Ok(())
+}
+
+/// Command lines, and the number of the status of each.
+const LINES: [(&str, u8); 4] = [
+    ("oldstyle", 0),
+    ("oldstyle serve --readers 64", 0),
+    ("oldstyle replay --readers 0 none", 2),
+    ("oldstyle replay --readers 65 none", 2),
+];
+
+/// What a command line leaves over this input and the files of a folder.
+pub fn left_in<R: Threads + Wait + AllocGlobal, D: Folder>(
+    rt: &R,
+    folder: &mut D,
+    line: &str,
+    read: &str,
+) -> Result<Left, Fail> {
+    let words: Vec<&str> = line.split_whitespace().collect(rt.alloc())?;
+    let mut output = sink(rt.alloc());
+    let mut errors = sink(rt.alloc());
+    let mut input = Plain::new(read.as_bytes());
+    let terminal = Some(sink(rt.alloc()));
+    let status = run(
+        rt,
+        folder,
+        &words,
+        &mut input,
+        &mut output,
+        &mut errors,
+        terminal,
+    );
+    Ok(left_by(status, output, errors))
+}
+
+/// The same over the files of the system.
+pub fn left_over<R: Files<File = fs::File> + Threads + Wait + AllocGlobal>(
+    rt: &R,
+    line: &str,
+    read: &str,
+) -> Result<Left, Fail> {
+    left_in(rt, &mut Disk::new(rt), line, read)
+}
+
+/// That standard error is told something where the status is not 0, and nothing else.
+fn have_status<R: Files<File = fs::File> + Threads + Wait + AllocGlobal + Abort>(
+    rt: &R,
+    rows: &[(&str, u8)],
+) -> Result<(), Fail> {
+    for (line, status) in rows {
+        let left = left_over(rt, line, "")?;
+        let (code, is_quiet) = (left.status.code(), left.told.is_empty());
+        same(rt, (line, code, is_quiet), (line, *status, *status == 0));
+    }
+    Ok(())
+}
+
+#[test]
+fn words_and_statuses(rt: HostRuntime) -> Result<(), Fail> {
+    have_status(&rt, &LINES)
+}
+
+/// A command line, what is read, and what is left.
+pub type RunRow = (&'static str, &'static str, Wanted);
+
+const FAULTS: [RunRow; 6] = [
+    (
+        "oldstyle almanac /nowhere/none GB 1752",
+        "",
+        (3, "", "oldstyle: read fault\n"),
+    ),
+    (
+        "oldstyle replay --readers 1 /nowhere/none",
+        "",
+        (3, "", "oldstyle: read fault\n"),
+    ),
+    (
+        "oldstyle desk /nowhere/none /nowhere/none",
+        "",
+        (3, "", "oldstyle: read fault\n"),
+    ),
+    (
+        "oldstyle audit /nowhere/none /nowhere/none",
+        "",
+        (3, "", "oldstyle: read fault\n"),
+    ),
+    (
+        "oldstyle serve --journal /nowhere/none",
+        "{}\n",
+        (3, "", "oldstyle: read fault\n"),
+    ),
+    (
+        "oldstyle serve --save /nowhere/none",
+        "{\"op\":\"publish\"}\n",
+        (
+            3,
+            "{\"fault\":15,\"name\":\"NothingPending\"}\n",
+            "oldstyle: write fault\n",
+        ),
+    ),
+];
+
+/// That runs leave this, one behind the other.
+pub fn are_run<R: Files<File = fs::File> + Threads + Wait + AllocGlobal + Abort>(
+    rt: &R,
+    rows: &[RunRow],
+) -> Result<(), Fail> {
+    for (line, read, wanted) in rows {
+        let left = left_over(rt, line, read)?;
+        is_left(rt, rt.alloc(), left, wanted)?;
+    }
+    Ok(())
+}
+
+#[test]
+fn faults_of_files(rt: HostRuntime) -> Result<(), Fail> {
+    are_run(&rt, &FAULTS)
+}
+
+#[test]
+fn a_word_that_is_no_text(rt: HostRuntime) {
+    let mut errors = sink(rt.alloc());
+    let status = tell_no_words(&io::Error::from(ErrorKind::InvalidData), &mut errors);
+    let told = errors.into_inner();
+    same(&rt, status.code(), 2);
+    let line = "error: a word of the command line is not UTF-8\n";
+    same(&rt, told.as_slice(), line.as_bytes());
+}

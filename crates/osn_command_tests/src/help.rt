@@ -1,0 +1,292 @@
+//! The very texts of help, and of the version.
+use crate::commands::left_over;
+use crate::compare::same;
+use std::process::Abort;
+use std::rt::Files;
+use std::sync::Wait;
+use std::test::Fail;
+use std::thread::Threads;
+use std::{fs, str};
+
+/// A command line, and what is printed.
+type Printed = (&'static str, &'static str);
+
+const HELP: &str = "Says which day a dated document means, by the calendar, the beginning of the \
+year and the rule of Easter that were in force where it was written
+
+Usage: oldstyle [COMMAND]
+
+Commands:
+  read       Says which day a written date means in a territory, or why it never was
+  convert    Says which day a date of a calendar is, by every calendar and by its numbers
+  day        Says how a territory dated a day, and in which of its periods the day is
+  month      Prints a month as a territory lived it
+  territory  Lists the territories, or the periods of one
+  letters    Says of each letter of a table on standard input which day its date means
+  serve      Answers request lines on standard input (so does the program without words)
+  replay     Takes the steps of one editor and of readers, and prints what each gives
+  desk       Lets readers ask while an editor works, each in a thread of its own
+  almanac    Prints the almanac of a territory and year, as a journal published the territory
+  audit      Says whether each reply of a transcript is the one that a journal gives
+  help       Print this message or the help of the given subcommand(s)
+
+Options:
+  -h, --help     Print help
+  -V, --version  Print version
+
+Statuses:
+  0  done
+  1  the input was refused: a line of a file, a territory or a year, or no question
+  2  the words of the command line are wrong
+  3  a read or a write failed, or a file could not be opened
+  4  memory ran out
+Of a status but 0, one line on standard error says what was refused or failed.
+";
+
+const READ: &str = "Says which day a written date means in a territory, or why it never was
+
+Usage: oldstyle read [OPTIONS] <JOURNAL> <CODE> <DATE>
+
+Arguments:
+  <JOURNAL>  The file of the journal
+  <CODE>     The code of the territory
+  <DATE>     The date as the document has it
+
+Options:
+      --weekday <DAY>    The weekday that the document names, as Friday, to compare
+      --limits <LIMITS>  The most that the register holds, as lands=5000,changes=200
+  -h, --help             Print help
+
+Examples:
+  ./oldstyle read examples/samples.journal GB \"11 February 1731/2\" --weekday Friday
+  ./oldstyle read examples/samples.journal GB 1752-09-05
+
+A date is 1731-02-11, \"11 February 1731\" or \"11 February 1731/2\". Its year is that of the
+document; the last form has both years, and finds a day only where the territory had them.
+";
+
+const CONVERT: &str = "Says which day a date of a calendar is, by every calendar and by its numbers
+
+Usage: oldstyle convert <CALENDAR> <DATE>
+
+Arguments:
+  <CALENDAR>  The date's calendar: gregorian, julian or swedish; or the word day
+  <DATE>      The date, its year counted from 1 January; behind day, a day number
+
+Options:
+  -h, --help  Print help
+
+Examples:
+  ./oldstyle convert julian \"2 September 1752\"
+  ./oldstyle convert gregorian 1752-09-14
+  ./oldstyle convert day 639797
+
+The day number is what an editor writes into a change.
+";
+
+const DAY: &str = "Says how a territory dated a day, and in which of its periods the day is
+
+Usage: oldstyle day [OPTIONS] <JOURNAL> <CODE> <DATE>
+
+Arguments:
+  <JOURNAL>  The file of the journal
+  <CODE>     The code of the territory
+  <DATE>     A Gregorian date, or a day number
+
+Options:
+      --limits <LIMITS>  The most that the register holds, as lands=5000,changes=200
+  -h, --help             Print help
+
+Examples:
+  ./oldstyle day examples/samples.journal GB 1732-02-22
+  ./oldstyle day examples/samples.journal GB 639797
+";
+
+const MONTH: &str = "Prints a month as a territory lived it
+
+Usage: oldstyle month [OPTIONS] <JOURNAL> <CODE> <YEAR> <MONTH>
+
+Arguments:
+  <JOURNAL>  The file of the journal
+  <CODE>     The code of the territory
+  <YEAR>     The year as the territory counted it
+  <MONTH>    The month, 1 to 12
+
+Options:
+      --limits <LIMITS>  The most that the register holds, as lands=5000,changes=200
+  -h, --help             Print help
+
+Example:
+  ./oldstyle month examples/samples.journal GB 1752 9
+
+A month that the year has twice, since the year began within it, is printed twice.
+";
+
+const TERRITORY: &str = "Lists the territories, or the periods of one
+
+Usage: oldstyle territory [OPTIONS] <JOURNAL> [CODE]
+
+Arguments:
+  <JOURNAL>  The file of the journal
+  [CODE]     The code of the territory whose periods are listed
+
+Options:
+      --limits <LIMITS>  The most that the register holds, as lands=5000,changes=200
+  -h, --help             Print help
+
+Examples:
+  ./oldstyle territory examples/samples.journal
+  ./oldstyle territory examples/samples.journal GB
+";
+
+const LETTERS: &str = "Says of each letter of a table on standard input which day its date means
+
+Usage: oldstyle letters [OPTIONS] <JOURNAL>
+
+Arguments:
+  <JOURNAL>  The file of the journal
+
+Options:
+      --place <NAME>     The name of the column of territories' codes [default: place]
+      --date <NAME>      That of the column of dates [default: date]
+      --weekday <NAME>   That of the column of weekdays, which may be missing [default: weekday]
+      --limits <LIMITS>  The most that the register holds, as lands=5000,changes=200
+  -h, --help             Print help
+
+Example:
+  ./oldstyle letters examples/samples.journal < examples/letters.csv
+
+The table is CSV with a header. It is written to standard output as it came, with nine columns
+behind: days, gregorian, julian, dual, weekday_found, jdn, edtf, edition and remark.
+";
+
+const SERVE: &str = "Answers request lines on standard input (so does the program without words)
+
+Usage: oldstyle serve [OPTIONS]
+
+Options:
+      --journal <FILE>   The journal to begin with; else there are no territories
+      --save <FILE>      Where the journal is saved at the end of the input, unless a fault ended it
+      --keep <FILE>      Where the journal is kept while the service runs; it begins with it
+      --readers <N>      How many readers ask, 1 to 64 [default: 8]
+      --limits <LIMITS>  The most that the register holds, as lands=5000,changes=200
+  -h, --help             Print help
+
+Example:
+  ./oldstyle serve --journal examples/samples.journal --save new.journal < examples/added.jsonl
+
+Requests and replies are JSON lines. --save saves the journal only where all lines were answered;
+--keep has each change in it before its reply is written.
+";
+
+const REPLAY: &str = "Takes the steps of one editor and of readers, and prints what each gives
+
+Usage: oldstyle replay [OPTIONS] --readers <N> <SCHEDULE>
+
+Arguments:
+  <SCHEDULE>  The file of the steps
+
+Options:
+      --readers <N>      How many readers there are, 1 to 64
+      --limits <LIMITS>  The most that the register holds, as lands=5000,changes=200
+  -h, --help             Print help
+
+Example:
+  ./oldstyle replay --readers 2 examples/two_readers.schedule
+
+A step is a JSON line. All steps are taken before anything is printed.
+";
+
+const DESK: &str = "Lets readers ask while an editor works, each in a thread of its own
+
+Usage: oldstyle desk [OPTIONS] <SCRIPT> <QUESTIONS>
+
+Arguments:
+  <SCRIPT>     The file of what the editor does, in the form of a journal
+  <QUESTIONS>  The file of what the readers ask
+
+Options:
+      --limits <LIMITS>  The most that the register holds, as lands=5000,changes=200
+  -h, --help             Print help
+
+Example:
+  ./oldstyle desk examples/rome.script examples/rome.questions
+
+A question is a JSON line. Questions and replies are printed by reader and then by place; which
+edition a reply is of may differ from run to run.
+";
+
+const ALMANAC: &str = "\
+Prints the almanac of a territory and year, as a journal published the territory
+
+Usage: oldstyle almanac [OPTIONS] <JOURNAL> <CODE> <YEAR>
+
+Arguments:
+  <JOURNAL>  The file of the journal
+  <CODE>     The code of the territory
+  <YEAR>     The year, 1 to 9999
+
+Options:
+      --limits <LIMITS>  The most that the register holds, as lands=5000,changes=200
+  -h, --help             Print help
+
+Example:
+  ./oldstyle almanac examples/samples.journal GB 1752
+";
+
+const AUDIT: &str = "Says whether each reply of a transcript is the one that a journal gives
+
+Usage: oldstyle audit [OPTIONS] <JOURNAL> <TRANSCRIPT>
+
+Arguments:
+  <JOURNAL>     The file of the journal
+  <TRANSCRIPT>  The file of what readers asked and were told
+
+Options:
+      --limits <LIMITS>  The most that the register holds, as lands=5000,changes=200
+  -h, --help             Print help
+
+Example:
+  ./oldstyle desk examples/rome.script examples/rome.questions > rome.transcript
+  ./oldstyle audit examples/rome.script rome.transcript
+";
+
+const SHOWN: [Printed; 15] = [
+    ("oldstyle --help", HELP),
+    ("oldstyle help", HELP),
+    ("oldstyle --version", "oldstyle 0.1.0\n"),
+    ("oldstyle read --help", READ),
+    ("oldstyle convert --help", CONVERT),
+    ("oldstyle day --help", DAY),
+    ("oldstyle month --help", MONTH),
+    ("oldstyle territory --help", TERRITORY),
+    ("oldstyle letters --help", LETTERS),
+    ("oldstyle help serve", SERVE),
+    ("oldstyle serve --help", SERVE),
+    ("oldstyle replay --help", REPLAY),
+    ("oldstyle desk --help", DESK),
+    ("oldstyle almanac --help", ALMANAC),
+    ("oldstyle audit --help", AUDIT),
+];
+
+/// That each is printed, and that it ends well.
+fn are_shown<R: Files<File = fs::File> + Threads + Wait + AllocGlobal + Abort>(
+    rt: &R,
+    rows: &[Printed],
+) -> Result<(), Fail> {
+    for (line, text) in rows {
+        let left = left_over(rt, line, "")?;
+        same(
+            rt,
+            (line, left.status.code(), left.told.len()),
+            (line, 0, 0),
+        );
+        same(rt, str::from_utf8(&left.written)?, text);
+    }
+    Ok(())
+}
+
+#[test]
+fn help_and_the_version_are_printed(rt: HostRuntime) -> Result<(), Fail> {
+    are_shown(&rt, &SHOWN)
+}

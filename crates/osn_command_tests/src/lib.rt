@@ -1,0 +1,34 @@
+//! Tests of the program's commands over their public calls, on streams and folders in memory and on
+//! the disk. What a contract says is not tested again.
+#![tactic(auto)]
+
+#[cfg(test)]
+mod commands;
+#[cfg(test)]
+mod compare;
+#[cfg(test)]
+mod conversions;
+#[cfg(test)]
+mod edge;
+#[cfg(test)]
+mod files;
+#[cfg(test)]
+mod help;
+#[cfg(test)]
+mod keeping;
+#[cfg(test)]
+mod kept;
+#[cfg(test)]
+mod letters;
+#[cfg(test)]
+mod limit_words;
+#[cfg(test)]
+mod memory;
+#[cfg(test)]
+mod mistakes;
+#[cfg(test)]
+mod pages;
+#[cfg(test)]
+mod printed;
+#[cfg(test)]
+mod territory_pages;

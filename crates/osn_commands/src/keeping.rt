@@ -1,0 +1,287 @@
+//! The command `serve` with a journal that is kept: the service begins with what the file holds,
+//! and each change is in it before its reply goes out.
+ghost use Rattle.std.specs.Prelude.{◌≡◌, ◌≢◌, ◌^◌, ◌<◌, ℕ, List, Bool, Option, IfOk, IfErr, OnOk};
+ghost use Rattle.std.specs.Prelude.{Some, None, false, string_bytes, ◌+◌, option_map, take};
+ghost use Rattle.osn_days.specs.Profile.{newest_rules};
+ghost use Rattle.osn_format.specs.Version.{newest_version};
+ghost use Rattle.osn_files.specs.WholePart.{IsWholePart, whole_bytes};
+ghost use Rattle.osn_folder.specs.Folder.{MayFail};
+ghost use Rattle.osn_commands.specs.Keeping.{cut_line, missing_head, missing_text, state_of};
+ghost use Rattle.osn_commands.specs.Keeping.{TellsCut, IsChangeFault, KeepsKnown, EndsKept};
+ghost use Rattle.osn_commands.specs.KeepingInside.{IsObjectOf, HasNoObjectOf, IsReadKept};
+ghost use Rattle.osn_commands.specs.KeepingInside.{IsUnreadKept, IsCut, IsCompleted};
+ghost use Rattle.osn_commands.specs.KeepingInside.{IsCompletedInPart, IsReady, IsUnready};
+ghost use Rattle.osn_commands.specs.KeepingInside.{AnswersKnown, AnswersKnownUntil};
+ghost use Rattle.osn_commands.specs.Streams.{input_of, output_of};
+ghost use Rattle.osn_commands.specs.Told.{WritesLine};
+ghost use Rattle.osn_commands.specs.declared.fault.CommandFault.{CommandFault};
+
+use crate::fault::{CommandFault, report, write_line};
+use crate::reading::journal_with_version;
+use crate::status::Status;
+use osn_core::Object;
+use osn_files::{FirstBytes, LastLine, WholePart, head_line, whole_part};
+use osn_folder::KeptFile;
+use osn_format::Version;
+use osn_lines::{Sink, Source};
+use osn_register::Limits;
+use osn_service::serve_kept;
+use std::alloc::{AllocError, Global};
+
+/// The room that a head gets at first.
+const HEAD_ROOM: usize = 32;
+
+/// The object of the lines of a journal that count, and the version that they say; or an empty one
+/// and the newest where there are none.
+fn kept_object<J: Source + Drop>(
+    alloc: Global,
+    limits: Limits,
+    part: WholePart,
+    journal: J,
+) -> Result<(Object, Version), CommandFault>
+    ensures ok { IfOk result (λ read.
+        IsObjectOf newest_rules limits part (J.remaining journal) read.0 read.1) }
+    ensures err { IfErr result (λ fault. (failed : Bool) × MayFail J.has_failed failed
+        × HasNoObjectOf newest_rules limits part (J.remaining journal) failed fault) }
+{
+    if part.bytes == 0 {
+        return Ok((Object::new(alloc, limits), Version::newest()));
+    }
+    let mut first = FirstBytes::new(journal, part.bytes);
+    journal_with_version(alloc, limits, &mut first)
+}
+
+/// Refuses a version that is not the newest: a journal of it has no line for what it lacks.
+fn newest_alone(version: Version) -> Result<(), CommandFault>
+    ensures ok { OnOk result (version ≡ newest_version) }
+    ensures err { IfErr result (λ fault. (fault ≡ CommandFault.OlderVersion version)
+        × (version ≢ newest_version)) }
+{
+    if version == Version::newest() {
+        Ok(())
+    } else {
+        Err(CommandFault::OlderVersion(version))
+    }
+}
+
+/// The object that a kept file holds, and how much of it counts. It is measured, and then loaded.
+fn read_kept<J: Source + Drop>(
+    alloc: Global,
+    limits: Limits,
+    measured: &mut J,
+    journal: J,
+) -> Result<(Object, WholePart), CommandFault>
+    ensures few { IfOk result (λ read. read.1.lines < 2 ^ 63) }
+    ensures ok { IfOk result (λ read. IsReadKept newest_rules limits (J.remaining measured.old)
+        (J.remaining journal) read.1 read.0) }
+    ensures err { IfErr result (λ fault. (failed : Bool) × MayFail J.has_failed failed
+        × IsUnreadKept newest_rules limits (J.remaining measured.old) (J.remaining journal)
+        failed fault) }
+{
+    let part = whole_part(alloc, measured)?;
+    let found = kept_object(alloc, limits, part, journal)?;
+    newest_alone(found.1)?;
+    Ok((found.0, part))
+}
+
+/// The line on a line that is cut off.
+fn cut_text(alloc: Global, line: u64) -> Result<String, AllocError>
+    ensures { IfOk result (λ text. string_bytes text ≡ cut_line line) }
+{
+    format!(in alloc; "oldstyle: journal line {line} was not finished, and is cut off\n")
+}
+
+/// Cuts off the last line of a kept file, which was not finished, and tells standard error so.
+fn cut_last<K: KeptFile, E: Sink>(
+    alloc: Global,
+    part: WholePart,
+    keeper: &mut K,
+    errors: &mut E,
+) -> Result<(), CommandFault>
+    requires { part.lines < 2 ^ 63 }
+    ensures ok { OnOk result (
+        (K.contents keeper.new ≡ option_map (take part.bytes) (K.contents keeper.old))
+        × WritesLine (output_of E.contents E.has_failed errors.old errors.new)
+        (cut_line (part.lines + 1))) }
+    ensures err { IfErr result (λ fault. IsChangeFault fault
+        × (E.contents errors.new ≡ E.contents errors.old)
+        × (K.contents keeper.new ≡ K.contents keeper.old)) }
+{
+    let told = cut_text(alloc, part.lines + 1)?;
+    keeper.cut(part.bytes)?;
+    write_line(errors, told.as_str());
+    Ok(())
+}
+
+/// Cuts off the last line of a kept file, if it was not finished, and tells standard error so.
+fn cut_unfinished<K: KeptFile, E: Sink>(
+    alloc: Global,
+    part: WholePart,
+    keeper: &mut K,
+    errors: &mut E,
+) -> Result<(), CommandFault>
+    requires { part.lines < 2 ^ 63 }
+    ensures ok { OnOk result ((cut : Option ℕ)
+        × TellsCut (output_of E.contents E.has_failed errors.old errors.new) cut
+        × IsCut part cut (K.contents keeper.old) (K.contents keeper.new)) }
+    ensures err { IfErr result (λ fault. IsChangeFault fault
+        × (E.contents errors.new ≡ E.contents errors.old)
+        × (K.contents keeper.new ≡ K.contents keeper.old)) }
+{
+    match part.last {
+        LastLine::Ended | LastLine::LacksFeed => Ok(()),
+        LastLine::Unfinished => cut_last(alloc, part, keeper, errors),
+    }
+}
+
+/// The head of a journal, where no line counts, and else nothing.
+fn missing_head(alloc: Global, part: WholePart) -> Result<Vec<u8>, AllocError>
+    ensures { IfOk result (λ head. (held : List ℕ) → IsWholePart part held
+        → head.items ≡ missing_head (whole_bytes held)) }
+{
+    if part.bytes == 0 {
+        return head_line(alloc, HEAD_ROOM);
+    }
+    Ok(Vec::new(alloc))
+}
+
+/// What is missing behind the lines of a kept file that count: the line feed of the last one, or
+/// the head where there is none.
+fn missing_text(alloc: Global, part: WholePart) -> Result<Vec<u8>, AllocError>
+    ensures { IfOk result (λ text. (held : List ℕ) → IsWholePart part held
+        → text.items ≡ missing_text held) }
+{
+    match part.last {
+        LastLine::LacksFeed => vec![in alloc; b'\n'; 1],
+        LastLine::Ended | LastLine::Unfinished => missing_head(alloc, part),
+    }
+}
+
+/// Appends to a kept file of lines that count what is missing behind them, and has all on the disk.
+fn append_missing<K: KeptFile>(
+    alloc: Global,
+    part: WholePart,
+    keeper: &mut K,
+) -> Result<(), CommandFault>
+    ensures ok { OnOk result (IsCompleted part (K.contents keeper.old) (K.contents keeper.new)
+        (K.synced keeper.new)) }
+    ensures err { IfErr result (λ fault. IsChangeFault fault
+        × IsCompletedInPart part (K.contents keeper.old) (K.contents keeper.new)) }
+{
+    let text = missing_text(alloc, part)?;
+    keeper.append(&text)?;
+    keeper.sync()?;
+    Ok(())
+}
+
+/// Makes a kept file ready for the service: it holds the lines that count, each with its line feed,
+/// and a head then, and all of it is on the disk.
+fn make_ready<K: KeptFile, E: Sink>(
+    alloc: Global,
+    part: WholePart,
+    keeper: &mut K,
+    errors: &mut E,
+) -> Result<(), CommandFault>
+    requires { part.lines < 2 ^ 63 }
+    ensures ok { OnOk result ((cut : Option ℕ)
+        × TellsCut (output_of E.contents E.has_failed errors.old errors.new) cut
+        × IsReady part cut (K.contents keeper.old) (K.contents keeper.new) (K.synced keeper.new)) }
+    ensures err { IfErr result (λ fault. IsChangeFault fault × (cut : Option ℕ)
+        × TellsCut (output_of E.contents E.has_failed errors.old errors.new) cut
+        × IsUnready part cut (K.contents keeper.old) (K.contents keeper.new)) }
+{
+    cut_unfinished(alloc, part, keeper, errors)?;
+    append_missing(alloc, part, keeper)
+}
+
+/// Answers every line from the object, and keeps the file.
+fn answer<K: KeptFile, R: Source, W: Sink>(
+    alloc: Global,
+    object: &mut Object,
+    readers: u32,
+    keeper: &mut K,
+    input: &mut R,
+    output: &mut W,
+) -> Result<(), CommandFault>
+    ensures ok { OnOk result (AnswersKnown newest_rules readers object.old
+        (state_of K.contents K.synced keeper.old) (state_of K.contents K.synced keeper.new)
+        (input_of R.remaining R.has_failed input.old input.new)
+        (output_of W.contents W.has_failed output.old output.new)) }
+    ensures err { IfErr result (AnswersKnownUntil newest_rules readers object.old
+        (state_of K.contents K.synced keeper.old) (state_of K.contents K.synced keeper.new)
+        (input_of R.remaining R.has_failed input.old input.new)
+        (output_of W.contents W.has_failed output.old output.new)) }
+{
+    serve_kept(alloc, object, readers, input, output, keeper)?;
+    Ok(())
+}
+
+/// Answers every line from the object that a kept file holds, and keeps the file.
+fn keep_lines<K: KeptFile, J: Source + Drop, R: Source, W: Sink, E: Sink>(
+    alloc: Global,
+    limits: Limits,
+    keeper: &mut K,
+    measured: &mut J,
+    journal: J,
+    readers: u32,
+    input: &mut R,
+    output: &mut W,
+    errors: &mut E,
+) -> Result<(), CommandFault>
+    ensures ok { OnOk result ((cut : Option ℕ)
+        × TellsCut (output_of E.contents E.has_failed errors.old errors.new) cut
+        × KeepsKnown newest_rules limits readers
+        (K.contents keeper.old) (state_of K.contents K.synced keeper.new)
+        (J.remaining measured.old) (J.remaining journal) false cut
+        (input_of R.remaining R.has_failed input.old input.new)
+        (output_of W.contents W.has_failed output.old output.new) None) }
+    ensures err { IfErr result (λ fault. (cut : Option ℕ)
+        × TellsCut (output_of E.contents E.has_failed errors.old errors.new) cut
+        × (failed : Bool) × MayFail J.has_failed failed
+        × KeepsKnown newest_rules limits readers
+        (K.contents keeper.old) (state_of K.contents K.synced keeper.new)
+        (J.remaining measured.old) (J.remaining journal) failed cut
+        (input_of R.remaining R.has_failed input.old input.new)
+        (output_of W.contents W.has_failed output.old output.new) (Some fault)) }
+{
+    let (mut object, part) = read_kept(alloc, limits, measured, journal)?;
+    make_ready(alloc, part, keeper, errors)?;
+    answer(alloc, &mut object, readers, keeper, input, output)
+}
+
+/// The command `serve` with a journal that is kept: answers every request line of the input, for so
+/// many readers, from the object that the kept file holds, or from an empty one under these limits
+/// where no line of it counts. Each change is in the file before its reply goes out.
+///
+/// Two sources give what the file holds: the first is measured, and the second is loaded as far as
+/// lines count. A last line that was not finished is cut off, and standard error is told so; one
+/// that counts and lacks its line feed gets it. A file with no line gets a head. All of it is on
+/// the disk before the first line is answered. A file with a bad line, or with a head of an older
+/// version, is left as it is.
+///
+/// Where the service ends early, standard error is told in a line why, and the status says it.
+pub fn keep_command<K: KeptFile, J: Source + Drop, R: Source, W: Sink, E: Sink>(
+    alloc: Global,
+    limits: Limits,
+    keeper: &mut K,
+    measured: &mut J,
+    journal: J,
+    readers: u32,
+    input: &mut R,
+    output: &mut W,
+    errors: &mut E,
+) -> Status
+    ensures { EndsKept newest_rules limits readers
+        (K.contents keeper.old) (state_of K.contents K.synced keeper.new)
+        (J.remaining measured.old) (J.remaining journal) (MayFail J.has_failed)
+        (input_of R.remaining R.has_failed input.old input.new)
+        (output_of W.contents W.has_failed output.old output.new)
+        (output_of E.contents E.has_failed errors.old errors.new) result }
+{
+    match keep_lines(
+        alloc, limits, keeper, measured, journal, readers, input, output, errors,
+    ) {
+        Ok(()) => Status::Done,
+        Err(fault) => report(alloc, errors, fault),
+    }
+}

@@ -1,0 +1,55 @@
+-- What stands behind the last line feed of bytes that were read piece by piece.
+use Rattle.std.proofs.Common.{◌≡◌, ◌+◌, ◌-◌, ◌≤◌, ◌==◌, ℕ, zero, suc, Bool, true, false, List, []}
+use Rattle.std.proofs.Common.{◌∷◌, ◌++◌, length, take, drop, refl, sym, ap, ◌∙◌, arith, cond}
+use Rattle.std.proofs.Common.{zero-le, take_all}
+use Rattle.std.proofs.lemmas.List.{drop-append-le, length-drop}
+use Rattle.std.proofs.Math.Seq.{drop-append-add}
+use Rattle.osn_files.specs.WholePart.{with_byte, ended_length, unended_bytes}
+
+-- behind what has no line feed the ended lines are as they were
+ended-before : (xs ys : List ℕ) → ended_length ys ≡ 0
+    → ended_length (xs ++ ys) ≡ ended_length xs
+ended-before [] ys none = none
+ended-before (x ∷ xs) ys none = ap (with_byte x) (ended-before xs ys none)
+
+-- behind what has one they reach into it
+ended-within : (xs ys : List ℕ) (k : ℕ) → ended_length ys ≡ suc k
+    → ended_length (xs ++ ys) ≡ suc (length xs + k)
+ended-within [] ys k some = omega (arith, some)
+ended-within (x ∷ xs) ys k some = ap (with_byte x) (ended-within xs ys k some) ∙ omega arith
+
+-- a byte more has one more at most
+with_byte-le : (b n m : ℕ) → n ≤ m → with_byte b n ≤ suc m
+with_byte-le b zero m low =
+    elim (b == 10) as (λ (t : Bool). cond t 1 0 ≤ suc m) [
+      | true ↦ omega arith
+      | false ↦ omega arith
+    ]
+with_byte-le b (suc n) m low = omega (arith, low)
+
+-- they are no longer than all bytes
+ended-le : (xs : List ℕ) → ended_length xs ≤ length xs
+ended-le [] = zero-le
+ended-le (x ∷ xs) = with_byte-le x (ended_length xs) (length xs) (ended-le xs)
+
+-- a piece with no line feed stands behind what stood behind the last one
+pub piece_behind : (before piece : List ℕ) → ended_length (before ++ piece) ≤ length before
+    → unended_bytes (before ++ piece) ≡ unended_bytes before ++ piece
+piece_behind before piece low = behind (ended_length piece) refl
+  where
+    behind : (n : ℕ) → ended_length piece ≡ n
+        → unended_bytes (before ++ piece) ≡ unended_bytes before ++ piece
+    behind zero none =
+        ap (λ k. drop k (before ++ piece)) (ended-before before piece none)
+        ∙ drop-append-le (ended_length before) before piece (ended-le before)
+    behind (suc k) some = absurd (omega (arith, low, ended-within before piece k some))
+
+-- of a piece with one the end stands behind it
+pub piece_end : (before piece : List ℕ) (n : ℕ)
+    → n ≡ ended_length (before ++ piece) - length before
+    → length before ≤ ended_length (before ++ piece)
+    → take (length piece - n) (drop n piece) ≡ unended_bytes (before ++ piece)
+piece_end before piece n size high =
+    let is : length before + n ≡ ended_length (before ++ piece) = omega (arith, high, size) in
+    take_all (length piece - n) (drop n piece) (omega (arith, length-drop n piece))
+    ∙ sym (drop-append-add before piece n) ∙ ap (λ k. drop k (before ++ piece)) is

@@ -1,0 +1,68 @@
+-- A text that is loaded as an object, and what the line of a change makes of it. This project's
+-- profile.
+use Rattle.std.specs.Prelude.{◌≡◌, ⊤, ℕ, true, List, [], ◌∷◌, ◌++◌, None, Ok}
+use Rattle.std.specs.List.{All}
+use Rattle.osn_days.specs.Profile.{newest_rules}
+use Rattle.osn_lands.specs.declared.regime.Regime.{Regime}
+use Rattle.osn_lands.specs.StyleWords.{has_style}
+use Rattle.osn_register.specs.declared.edit.Edit.{Edit}
+use Rattle.osn_register.specs.declared.edit.Edit.TheVariants.{AddLand, AddChange, AlterChange}
+use Rattle.osn_register.specs.declared.edit.Edit.TheVariants.{DropChange, AddException}
+use Rattle.osn_register.specs.declared.edit.Edit.TheVariants.{DropException}
+use Rattle.osn_register.specs.declared.limits.Limits.{Limits}
+use Rattle.osn_core.specs.Sequential.{ObjectState, joined, with_pending, with_edition}
+use Rattle.osn_core.specs.Sequential.{stage_refusal, publish_refusal}
+use Rattle.osn_lines.specs.Lines.{lines}
+use Rattle.osn_format.specs.declared.version.Version.{Version}
+use Rattle.osn_format.specs.Version.{rules_of}
+use Rattle.osn_files.specs.Journal.{load}
+use Rattle.osn_files.specs.JournalText.{edit_data, publish_data, line_text}
+use Rattle.osn_files.specs.Version.{version_of}
+
+-- ---- what a version has
+
+-- a version has the style of a regime
+abbrev pub HasStyle : Version → Regime → Type 0
+HasStyle version regime = has_style (rules_of version) regime.style ≡ true
+
+-- a version has an edit: its style, where it has one, since all else is the same in every version
+abbrev pub HasEdit : Version → Edit → Type 0
+HasEdit version (AddLand code name regime) = HasStyle version regime
+HasEdit version (AddChange code day regime) = HasStyle version regime
+HasEdit version (AlterChange code day regime) = HasStyle version regime
+HasEdit version (DropChange code day) = ⊤
+HasEdit version (AddException code year day) = ⊤
+HasEdit version (DropException code year) = ⊤
+
+-- it has each edit of an object
+abbrev pub HasEdits : Version → ObjectState → Type 0
+HasEdits version s = All (HasEdit version) (joined s.batches ++ s.pending)
+
+-- ---- what is loaded
+
+-- the first line is a head that says this version
+abbrev pub IsOfVersion : Version → List (List ℕ) → Type 0
+IsOfVersion version [] = ⊥
+IsOfVersion version (head ∷ rest) = version_of head ≡ Ok version
+
+-- the last byte is a line feed
+abbrev pub EndsWithFeed : List ℕ → Type 0
+EndsWithFeed text = (front : List ℕ) × (text ≡ front ++ 10 ∷ [])
+
+-- A text of whole lines, whose head says this version, is loaded under these limits as an object.
+-- Its bytes may be others than those that are written of the object.
+pub record IsJournalOf (version : Version) (limits : Limits) (s : ObjectState) (text : List ℕ)
+    : Type 0 where
+  pub head : IsOfVersion version (lines text)
+  pub ends : EndsWithFeed text
+  pub loads : load newest_rules limits (lines text) ≡ Ok s
+
+-- Where a text is loaded as an object, the line of an edit that is not refused, and that the text's
+-- version has, makes of it a text that is loaded with one edit more that is pending; and the line
+-- of a publish that is not refused one that is loaded with one edition more.
+pub record LoadsByLines (version : Version) (limits : Limits) (s : ObjectState) (text : List ℕ)
+    : Type 0 where
+  pub edit : (e : Edit) → HasEdit version e → stage_refusal newest_rules s e ≡ None
+      → IsJournalOf version limits (with_pending s e) (text ++ line_text (edit_data e))
+  pub publish : publish_refusal s ≡ None
+      → IsJournalOf version limits (with_edition s) (text ++ line_text publish_data)

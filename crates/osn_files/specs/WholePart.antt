@@ -1,0 +1,59 @@
+-- How much of a file counts: the lines that a line feed ends, and a last one that lacks it, unless
+-- that was not finished.
+use Rattle.std.specs.Prelude.{◌≡◌, ◌==◌, ◌+◌, ℕ, zero, suc, List, [], ◌∷◌, length, take, drop}
+use Rattle.std.specs.Prelude.{count_by, if◌then◌else◌}
+use Rattle.osn_files.specs.LastLine.{last_line}
+use Rattle.osn_files.specs.declared.last_line.LastLine.{LastLine}
+use Rattle.osn_files.specs.declared.last_line.LastLine.TheVariants.{Ended, LacksFeed, Unfinished}
+use Rattle.osn_files.specs.declared.whole_lines.WholePart.{WholePart}
+
+-- ---- the lines that a line feed ends
+
+-- a byte in front of so many bytes of such lines: it is one of them, but where there are none it
+-- has to be a line feed
+abbrev pub with_byte : ℕ → ℕ → ℕ
+with_byte b zero = if b == 10 then 1 else 0
+with_byte b (suc n) = suc (suc n)
+
+-- how many bytes they have
+abbrev pub ended_length : List ℕ → ℕ
+ended_length [] = 0
+ended_length (b ∷ bs) = with_byte b (ended_length bs)
+
+-- how many there are: each line feed ends one
+abbrev pub ended_count : List ℕ → ℕ
+ended_count = count_by (λ b. b == 10)
+
+-- what stands behind the last line feed
+abbrev pub unended_bytes : List ℕ → List ℕ
+unended_bytes input = drop (ended_length input) input
+
+-- ---- the lines that count
+
+-- how the last line stands
+abbrev pub last_line_of : List ℕ → LastLine
+last_line_of input = last_line (ended_count input) (unended_bytes input)
+
+-- a number for the lines that a line feed ends, and one for those with a last line that lacks it
+abbrev pub by_last : LastLine → ℕ → ℕ → ℕ
+by_last Ended ended all = ended
+by_last LacksFeed ended all = all
+by_last Unfinished ended all = ended
+
+-- how many bytes the lines have that count
+abbrev pub whole_length : List ℕ → ℕ
+whole_length input = by_last (last_line_of input) (ended_length input) (length input)
+
+-- the bytes of the lines that count
+abbrev pub whole_bytes : List ℕ → List ℕ
+whole_bytes input = take (whole_length input) input
+
+-- how many lines count
+abbrev pub whole_count : List ℕ → ℕ
+whole_count input = by_last (last_line_of input) (ended_count input) (ended_count input + 1)
+
+-- so much of this input counts, and its last line stands so
+pub record IsWholePart (part : WholePart) (input : List ℕ) : Type 0 where
+  pub bytes : part.bytes ≡ whole_length input
+  pub lines : part.lines ≡ whole_count input
+  pub last : part.last ≡ last_line_of input

@@ -1,0 +1,14 @@
+//! What a test found, beside what it wants: one function, since each `assert_eq!` is proved with
+//! the texts that it prints.
+ghost use Rattle.std.specs.Prelude.{◌≡◌, true};
+
+use std::fmt::Debug;
+use std::process::Abort;
+
+/// That what was found is what is wanted. Where the two alone don't say which row of a table they
+/// are of, the row stands beside them.
+pub fn same<T: PartialEq + Debug + Drop>(rt: &impl Abort, found: T, wanted: T)
+    ensures { T.eq found wanted ≡ true }
+{
+    assert_eq!(rt; found, wanted);
+}

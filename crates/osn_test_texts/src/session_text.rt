@@ -1,0 +1,61 @@
+//! Texts whose lines are broken, and sessions of requests and replies.
+use std::alloc::{AllocError, Global};
+
+/// The words by which texts name the ends of the line of days, of years and of the years of dates.
+/// The year that is past the last one is the last year of dates.
+const ENDS: [(&str, &str); 5] = [
+    ("LAST_DAY", "3652059"),
+    ("DAY_PAST", "3652060"),
+    ("LAST_YEAR", "9999"),
+    ("YEAR_PAST", "10000"),
+    ("LABEL_PAST", "10001"),
+];
+
+/// A text with its broken lines whole again, what begins with two spaces being the rest of the line
+/// before, and with the ends of the line as numbers. A line that has spaces of its own in front
+/// begins with `MARGIN`.
+pub fn joined(alloc: Global, text: &str) -> Result<String, AllocError> {
+    let mut whole = text.replace(alloc, "\n  ", "")?;
+    whole = whole.replace(alloc, "MARGIN", "")?;
+    for (word, number) in ENDS {
+        whole = whole.replace(alloc, word, number)?;
+    }
+    Ok(whole)
+}
+
+/// Adds a line and its line feed.
+fn add_line(text: &mut String, line: &str) -> Result<(), AllocError> {
+    text.push_str(line)?;
+    text.push('\n')
+}
+
+/// Adds the lines of a session to its requests and its replies in turn.
+fn take_apart(
+    session: &str,
+    requests: &mut String,
+    replies: &mut String,
+) -> Result<(), AllocError> {
+    let mut is_reply = false;
+    for line in session.lines() {
+        if line.is_empty() || line.starts_with('#') {
+            continue;
+        }
+        if is_reply {
+            add_line(replies, line)?;
+        } else {
+            add_line(requests, line)?;
+        }
+        is_reply = !is_reply;
+    }
+    Ok(())
+}
+
+/// A session's requests and replies apart, a line feed behind each. Every second line of a session
+/// is a reply. Empty lines, and remarks behind a number sign, are passed over.
+pub fn apart(alloc: Global, session: &str) -> Result<(String, String), AllocError> {
+    let text = joined(alloc, session)?;
+    let mut requests = String::new(alloc);
+    let mut replies = String::new(alloc);
+    take_apart(text.as_str(), &mut requests, &mut replies)?;
+    Ok((requests, replies))
+}

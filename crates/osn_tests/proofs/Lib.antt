@@ -1,4 +1,0 @@
-pub mod LiveLemmas
-mod MemoryLemmas
-mod SearchLemmas
-mod TableLemmas

@@ -1,0 +1,397 @@
+#!/usr/bin/env python3
+"""Stops the service at random moments while it keeps its journal, and looks at what the file holds.
+
+    verify/kept_journals.py [STOPS] [SEED] [PROGRAM]   200 stops, seed 1, and ../oldstyle by default
+
+A run of `serve --keep` is sent edits and publishes, some of them refused, one after the reply to
+the other or many at once, and is killed (SIGKILL) at a random moment. The next run keeps the same
+file and goes on. After each stop the file has every edition and every pending edit that a reply
+told, in order, and nothing that was not sent; its whole lines are loaded by `--journal`, with the
+last edition and the number of pending edits. Half of the files are then cut off behind their last
+edition, in the middle of a line or not: the next run has to say so where a line was not finished,
+and nowhere else.
+
+While a journal is kept another run that would keep it is refused, and others read it again and
+again: each reads an edition that was told before it began, or a later one; or it is refused for a
+last line that is still being written, which is counted.
+
+Then: a full disk and a disk that is read alone (which only root can mount), and a limit on the
+length of files. One line tells each, the file has what was told, and the next run goes on from it.
+The status is 1 where something went otherwise.
+"""
+import json
+import os
+import random
+import re
+import resource
+import signal
+import subprocess
+import sys
+import tempfile
+import threading
+import time
+from contextlib import contextmanager
+
+from common import JULIAN, argument, compact, program
+
+STOPS, SEED = argument(1, 200), argument(2, 1)
+PROGRAM = program(3)
+HEAD, PUBLISH = compact({"journal": 2}), compact({"op": "publish"})
+faults = []
+
+
+def hold(what, holds):
+    """Tells what does not hold."""
+    if not holds:
+        faults.append(what)
+        print(f"not so: {what}", flush=True)
+
+
+def land(number):
+    return {"op": "add_land", "code": f"T{number}", "name": f"Town {number}", **JULIAN}
+
+
+class Editor:
+    """What an editor sends in turn, and which of it the register takes."""
+
+    def __init__(self, seed):
+        self.random, self.towns, self.pending, self.year = random.Random(seed), 0, 0, 0
+
+    def next(self):
+        """The next request, and whether it will be accepted."""
+        kind = self.random.random()
+        if kind < 0.3:
+            accepted, self.pending = self.pending > 0, 0
+            return {"op": "publish"}, accepted
+        if kind < 0.4 and self.towns:
+            return land(self.random.randrange(self.towns)), False
+        self.pending += 1
+        if self.towns < 400:
+            self.towns += 1
+            return land(self.towns - 1), True
+        self.year += 1
+        return {"op": "add_exception", "code": f"T{self.year % 400}",
+                "year": 1 + self.year // 400, "day": 500_000}, True
+
+
+def lines_of(text):
+    return [json.loads(line) for line in text.splitlines()]
+
+
+def journal_lines(path):
+    """The lines of a file, and what stands behind them that is no line: its last line may lack the
+    line feed alone."""
+    with open(path, encoding="utf-8") as file:
+        held = file.read()
+    lines, rest = held.split("\n")[:-1], held.split("\n")[-1]
+    return (lines + [rest], "") if rest.endswith("}") else (lines, rest)
+
+
+def run(words, text=""):
+    return subprocess.run([PROGRAM, *words], input=text, capture_output=True, text=True,
+                          timeout=60, check=False)
+
+
+class Run:
+    """A run that keeps a file, and what it told."""
+
+    def __init__(self, path):
+        self.process = subprocess.Popen([PROGRAM, "serve", "--keep", path], stdin=subprocess.PIPE,
+                                        stdout=subprocess.PIPE, stderr=subprocess.PIPE)
+        self.replies = []
+        self.reader = threading.Thread(target=self.read)
+        self.reader.start()
+
+    def read(self):
+        for line in self.process.stdout:
+            if line.endswith(b"\n"):
+                self.replies.append(json.loads(line))
+
+    def send(self, requests):
+        """Sends requests, or as many as the run takes before it ends."""
+        try:
+            for request in requests:
+                self.process.stdin.write((compact(request) + "\n").encode())
+            self.process.stdin.flush()
+        except BrokenPipeError:
+            pass
+
+    def wait_for(self, count):
+        while len(self.replies) < count and self.process.poll() is None:
+            time.sleep(0.0002)
+
+    def stopped(self):
+        """What was told in all, and on standard error, once it has ended."""
+        self.process.wait()
+        self.reader.join()
+        errors = self.process.stderr.read().decode()
+        for stream in (self.process.stdin, self.process.stdout, self.process.stderr):
+            try:
+                stream.close()
+            except BrokenPipeError:
+                pass
+        return self.replies, errors
+
+
+def sent_until_stopped(running, editor, one_by_one):
+    """Sends until the run is stopped; answers what was sent, each with whether it is accepted."""
+    sent = []
+    while running.process.poll() is None and len(sent) < 2_000:
+        batch = [editor.next() for _ in range(1 if one_by_one else 50)]
+        sent += batch
+        running.send([request for request, _ in batch])
+        if one_by_one:
+            running.wait_for(len(sent))
+    return sent
+
+
+def try_stop(path, number, known, rest):
+    """One run that is stopped. `known` has the journal's lines before it, and `rest` what stands
+    behind them. Answers the same behind the run, and how many replies were told."""
+    chance = random.Random(SEED * 1_000_003 + number)
+    editor = editor_of(known, chance.random())
+    running = Run(path)
+    timer = threading.Timer(chance.uniform(0.003, 0.12), running.process.kill)
+    timer.start()
+    sent = sent_until_stopped(running, editor, number % 2 == 0)
+    timer.cancel()
+    running.process.kill()
+    replies, errors = running.stopped()
+    accepted = [compact(request) for request, is_taken in sent if is_taken]
+    told = sum(is_taken for (_, is_taken) in sent[:len(replies)])
+    for (request, is_taken), reply in zip(sent, replies):
+        hold(f"stop {number}: {compact(request)} is told {reply}", is_taken == ("ok" in reply))
+    hold(f"stop {number}: {errors!r} is told", errors == "" or rest and errors == cut_line(known))
+    hold(f"stop {number}: {rest!r} is not told", errors != "" or not rest or not replies)
+    lines = held_after(path, number, known, accepted, told)
+    return (*cut_anywhere(path, chance, lines), len(replies))
+
+
+def editor_of(known, seed):
+    """An editor who goes on behind these lines."""
+    editor = Editor(seed)
+    for line in known[1:]:
+        kind = json.loads(line)["op"]
+        editor.towns += kind == "add_land"
+        editor.year += kind == "add_exception"
+        editor.pending = 0 if kind == "publish" else editor.pending + 1
+    return editor
+
+
+def held_after(path, number, known, accepted, told):
+    """The lines that the file holds after a stop, held against what was told."""
+    if not os.path.exists(path):
+        hold(f"stop {number}: {told} were told, and there is no file", told == 0)
+        return known
+    lines, rest = journal_lines(path)
+    more = len(lines) - max(len(known), min(len(lines), 1))
+    hold(f"stop {number}: {told} told, {more} held", told <= more <= len(accepted) or not lines)
+    wanted = (known or [HEAD]) + accepted
+    hold(f"stop {number}: other lines", lines == wanted[:len(lines)])
+    hold(f"stop {number}: {rest!r} is no front of the next line", is_front(rest, wanted, lines))
+    hold(f"stop {number}: its lines are not loaded", not lines or is_loaded(path, lines))
+    return lines
+
+
+def cut_anywhere(path, chance, lines):
+    """Every other file is cut off somewhere behind its last edition, as a machine may leave it that
+    stopped before the rest was on the disk. Answers the lines that count then, and what is to be
+    cut off behind them."""
+    if len(lines) > 1 and chance.random() < 0.5:
+        last = max((n for n, line in enumerate(lines) if line == PUBLISH), default=0)
+        synced = sum(len(line) + 1 for line in lines[:last + 1])
+        os.truncate(path, chance.randint(synced, os.path.getsize(path)))
+    return journal_lines(path) if os.path.exists(path) else (lines, "")
+
+
+def is_front(rest, wanted, lines):
+    return not rest or wanted[len(lines)].startswith(rest)
+
+
+def cut_line(known):
+    return f"oldstyle: journal line {len(known) + 1} was not finished, and is cut off\n"
+
+
+def is_loaded(path, lines):
+    """That the lines are loaded, with their last edition and as many pending edits."""
+    copy = path + ".copy"
+    with open(copy, "w", encoding="utf-8") as file:
+        file.write("".join(line + "\n" for line in lines))
+    asked = ['{"op":"lands","reader":1}', compact(land(999_999))]
+    done = run(["serve", "--journal", copy], "".join(line + "\n" for line in asked))
+    answer, staged = lines_of(done.stdout)
+    towns = [json.loads(line) for line in published(lines)]
+    wanted = [{"code": town["code"], "name": town["name"]} for town in towns
+              if town["op"] == "add_land"]
+    pending = next((n for n, line in enumerate(reversed(lines)) if line in (PUBLISH, HEAD)), 0)
+    return (answer["edition"] == lines.count(PUBLISH) and answer["answer"]["lands"] == wanted
+            and staged == {"ok": "staged", "pending": pending + 1})
+
+
+def published(lines):
+    """The edits of the lines up to the last publish."""
+    last = max((n for n, line in enumerate(lines) if line == PUBLISH), default=0)
+    return [line for line in lines[1:last] if line != PUBLISH]
+
+
+def try_stops(path):
+    """Stops, one after the other, over one file; a new one where it holds many editions."""
+    known, rest, told, cut, files = [], "", 0, 0, 1
+    for number in range(STOPS):
+        if known.count(PUBLISH) > 4_000 or len(known) > 16_000:
+            os.remove(path)
+            known, rest, files = [], "", files + 1
+        known, rest, replies = try_stop(path, number, known, rest)
+        told, cut = told + replies, cut + (rest != "")
+    print(f"{STOPS} stops over {files} files: {told} replies told, none lost; {cut} times a line "
+          "was not finished", flush=True)
+
+
+# ---- others at the same time
+
+
+def read_beside(path, running, counts):
+    """Reads the file while it is kept, until the run has ended."""
+    while running.process.poll() is None:
+        before = sum(reply.get("ok") == "published" for reply in running.replies)
+        done = run(["territory", path])
+        found = re.match(r"Territories, edition (\d+)\n", done.stdout)
+        if found:
+            counts["read"] += 1
+            hold(f"edition {found[1]} is read where {before} was told", int(found[1]) >= before)
+        else:
+            counts["refused"] += 1
+            hold(f"a reader is told {done.stderr!r}", re.fullmatch(
+                r"oldstyle: journal line \d+: 32 NotJson\n", done.stderr))
+
+
+def try_others(path):
+    """A second editor, and readers, while a journal is kept."""
+    running, editor, counts = Run(path), Editor(SEED), {"read": 0, "refused": 0}
+    running.send([land(0), {"op": "publish"}])
+    running.wait_for(2)
+    second = run(["serve", "--keep", path], "{}\n")
+    wanted = (3, "", "oldstyle: another run of the program keeps that journal\n")
+    hold(f"a second editor is told {second}",
+         (second.returncode, second.stdout, second.stderr) == wanted)
+    editor.towns = 1
+    readers = [threading.Thread(target=read_beside, args=(path, running, counts)) for _ in range(3)]
+    for reader in readers:
+        reader.start()
+    for _ in range(2_000):
+        running.send([editor.next()[0]])
+    running.wait_for(2_002)
+    running.process.stdin.close()
+    for reader in readers:
+        reader.join()
+    running.process.wait()
+    running.reader.join()
+    print(f"beside 2,000 changes: {counts['read']} readers read whole lines, {counts['refused']} "
+          "were refused for one that was being written; a second editor was refused", flush=True)
+
+
+# ---- what takes no more
+
+
+@contextmanager
+def mounted(folder, options):
+    """A disk in memory at a folder, or None where it may not be mounted."""
+    os.mkdir(folder)
+    mount = ["mount", "-t", "tmpfs", "-o", options, "tmpfs", folder]
+    if os.getuid() != 0 or subprocess.run(mount, stderr=subprocess.DEVNULL, check=False).returncode:
+        yield None
+        return
+    try:
+        yield folder
+    finally:
+        subprocess.run(["umount", folder], check=True)
+
+
+def edits_of(count):
+    requests = []
+    for number in range(count):
+        requests += [land(number), {"op": "publish"}]
+    return requests
+
+
+def is_stopped_by(what, path, limit=None):
+    """That a run which the file takes no further ends by a write fault, and holds what it told."""
+    text = "".join(compact(request) + "\n" for request in edits_of(400))
+    done = subprocess.run([PROGRAM, "serve", "--keep", path], input=text, capture_output=True,
+                          text=True, timeout=60, check=False, preexec_fn=limit)
+    replies = lines_of(done.stdout)
+    lines, rest = journal_lines(path)
+    wanted = [HEAD] + [compact(request) for request in edits_of(400)]
+    hold(f"{what}: {done.returncode} {done.stderr!r}",
+         (done.returncode, done.stderr) == (3, "oldstyle: write fault\n"))
+    hold(f"{what}: {len(replies)} told, {len(lines) - 1} held",
+         len(replies) <= len(lines) - 1 <= len(replies) + 1)
+    hold(f"{what}: other lines", lines == wanted[:len(lines)] and is_front(rest, wanted, lines))
+    return lines
+
+
+def goes_on(what, path, lines):
+    """That the next run goes on from these lines."""
+    editions = lines.count(PUBLISH)
+    done = run(["serve", "--keep", path], '{"op":"lands","reader":1}\n')
+    hold(f"{what}: the next run is told {done.stderr!r}",
+         done.returncode == 0 and json.loads(done.stdout)["edition"] == editions)
+    with open(path, encoding="utf-8") as file:
+        held = file.read()
+    hold(f"{what}: the next run holds other lines", held == "".join(line + "\n" for line in lines))
+
+
+def try_full_disk(folder):
+    with mounted(os.path.join(folder, "disk"), "size=32k") as disk:
+        if disk is None:
+            print("not tried: a full disk, which only root may mount")
+            return
+        path = os.path.join(disk, "a.journal")
+        lines = is_stopped_by("a full disk", path)
+        subprocess.run(["mount", "-o", "remount,size=1m", disk], check=True)
+        goes_on("a full disk", path, lines)
+    print(f"a full disk: {len(lines) - 1} changes kept, and the next run goes on", flush=True)
+
+
+def try_long_file(folder):
+    def limited():
+        signal.signal(signal.SIGXFSZ, signal.SIG_IGN)
+        resource.setrlimit(resource.RLIMIT_FSIZE, (10_000, 10_000))
+
+    path = os.path.join(folder, "long.journal")
+    lines = is_stopped_by("a limit on the length of files", path, limited)
+    goes_on("a limit on the length of files", path, lines)
+    print(f"a limit on the length of files: {len(lines) - 1} changes kept, and the next run goes "
+          "on", flush=True)
+
+
+def try_no_folder(folder):
+    """A disk that may be read alone, with a journal on it and without."""
+    with mounted(os.path.join(folder, "read"), "size=64k") as disk:
+        if disk is None:
+            print("not tried: a disk that is read alone, which only root may mount")
+            return
+        held = HEAD + "\n" + compact(land(0)) + "\n"
+        with open(os.path.join(disk, "a.journal"), "w", encoding="utf-8") as file:
+            file.write(held)
+        subprocess.run(["mount", "-o", "remount,ro", disk], check=True)
+        for name in ("a.journal", "b.journal"):
+            done = run(["serve", "--keep", os.path.join(disk, name)], '{"op":"publish"}\n')
+            hold(f"read alone: {done}", (done.returncode, done.stdout, done.stderr)
+                 == (3, "", "oldstyle: read fault\n"))
+        hold("read alone: other files", os.listdir(disk) == ["a.journal"])
+    print("a disk that is read alone: refused, and nothing changed", flush=True)
+
+
+def main():
+    with tempfile.TemporaryDirectory() as folder:
+        try_stops(os.path.join(folder, "a.journal"))
+        try_others(os.path.join(folder, "others.journal"))
+        try_full_disk(folder)
+        try_long_file(folder)
+        try_no_folder(folder)
+    sys.exit(1 if faults else 0)
+
+
+if __name__ == "__main__":
+    main()
