@@ -3,6 +3,7 @@ import json
 import os
 import subprocess
 import sys
+from contextlib import contextmanager
 
 HERE = os.path.dirname(os.path.abspath(__file__))
 JULIAN = {"calendar": "julian", "style": "january", "rule": "julian"}
@@ -29,3 +30,16 @@ def run(program, words=(), lines=()):
     text = "".join(line + "\n" for line in lines)
     return subprocess.run([program, *words], input=text, capture_output=True, text=True,
                           check=False)
+
+
+@contextmanager
+def mounted(folder, options):
+    """A disk in memory at a folder, or None where it may not be mounted, which only root may."""
+    mount = ["mount", "-t", "tmpfs", "-o", options, "tmpfs", folder]
+    if os.getuid() != 0 or subprocess.run(mount, stderr=subprocess.DEVNULL, check=False).returncode:
+        yield None
+        return
+    try:
+        yield folder
+    finally:
+        subprocess.run(["umount", folder], check=True)

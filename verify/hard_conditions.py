@@ -20,10 +20,10 @@ import signal
 import subprocess
 import sys
 import time
-from contextlib import contextmanager
 
 from asked import ADD_ROME, BEGUN, COMMANDS, GREGORIAN, PROGRAM, PUBLISH, REGIME, SESSION
 from asked import filled, held, is_refused, is_transcript, text_of
+from common import mounted
 
 ADDRESSES = 6_000_000
 READ_FAULT = (3, "", "oldstyle: read fault\n")
@@ -237,19 +237,6 @@ def try_shortened(words, name, size_of):
 # ---- the disk
 
 
-@contextmanager
-def mounted(folder):
-    """A disk of 64 KiB at a folder, or None where it may not be mounted."""
-    mount = ["mount", "-t", "tmpfs", "-o", "size=64k", "tmpfs", folder]
-    if os.getuid() != 0 or subprocess.run(mount, stderr=subprocess.DEVNULL).returncode != 0:
-        yield None
-        return
-    try:
-        yield folder
-    finally:
-        subprocess.run(["umount", folder], check=True)
-
-
 def fill(path):
     """Writes a file until the disk is full."""
     try:
@@ -262,7 +249,7 @@ def fill(path):
 
 def try_full_disk():
     """A journal that a full disk doesn't take, and takes once there is room again."""
-    with filled() as folder, mounted(os.path.join(folder, "a.folder")) as disk:
+    with filled() as folder, mounted(os.path.join(folder, "a.folder"), "size=64k") as disk:
         if disk is None:
             untried.append("a full disk: only root may mount one")
             return

@@ -32,7 +32,7 @@ import threading
 import time
 from contextlib import contextmanager
 
-from common import JULIAN, argument, compact, program
+from common import JULIAN, argument, compact, mounted, program
 
 STOPS, SEED = argument(1, 200), argument(2, 1)
 PROGRAM = program(3)
@@ -294,17 +294,12 @@ def try_others(path):
 
 
 @contextmanager
-def mounted(folder, options):
-    """A disk in memory at a folder, or None where it may not be mounted."""
-    os.mkdir(folder)
-    mount = ["mount", "-t", "tmpfs", "-o", options, "tmpfs", folder]
-    if os.getuid() != 0 or subprocess.run(mount, stderr=subprocess.DEVNULL, check=False).returncode:
-        yield None
-        return
-    try:
-        yield folder
-    finally:
-        subprocess.run(["umount", folder], check=True)
+def disk_in(folder, name, options):
+    """A disk in memory in a folder of that name, or None where it may not be mounted."""
+    path = os.path.join(folder, name)
+    os.mkdir(path)
+    with mounted(path, options) as disk:
+        yield disk
 
 
 def edits_of(count):
@@ -342,7 +337,7 @@ def goes_on(what, path, lines):
 
 
 def try_full_disk(folder):
-    with mounted(os.path.join(folder, "disk"), "size=32k") as disk:
+    with disk_in(folder, "disk", "size=32k") as disk:
         if disk is None:
             print("not tried: a full disk, which only root may mount")
             return
@@ -367,7 +362,7 @@ def try_long_file(folder):
 
 def try_no_folder(folder):
     """A disk that may be read alone, with a journal on it and without."""
-    with mounted(os.path.join(folder, "read"), "size=64k") as disk:
+    with disk_in(folder, "read", "size=64k") as disk:
         if disk is None:
             print("not tried: a disk that is read alone, which only root may mount")
             return
