@@ -1,19 +1,56 @@
 -- Edits and batches that are applied in turn, and a register that goes on to a later edition.
 use Rattle.std.proofs.Common.{◌≡◌, ℕ, ◌+◌, ◌-◌, ◌<◌, ◌≤◌, List, [], ◌∷◌, ◌++◌, length, get_or}
-use Rattle.std.proofs.Common.{take, drop, refl, sym, ap, ◌∙◌, arith, append_assoc}
+use Rattle.std.proofs.Common.{take, drop, refl, sym, ap, subst, ◌∙◌, arith, append_assoc, None}
 use Rattle.std.specs.List.{slice_range}
 use Rattle.std.proofs.lemmas.List.{drop_more, drop-take, take-take, take-append-drop}
 use Rattle.osn_days.specs.Profile.{newest_rules}
 use Rattle.osn_register.specs.declared.edit.Edit.{Edit}
 use Rattle.osn_register.specs.declared.limits.Limits.{Limits}
-use Rattle.osn_register.specs.Plain.{LandModel, applied_all}
-use Rattle.osn_core.specs.Sequential.{joined}
-use Rattle.osn_core.proofs.Lawful.{applied_all-append}
+use Rattle.osn_register.specs.Plain.{LandModel, refusal, effect, applied_all}
+use Rattle.osn_core.specs.Sequential.{joined, AreLawful}
+use Rattle.osn_core.proofs.Lawful.{applied_all-append, applied-lawful, AreLawful-front}
+use Rattle.osn_core.proofs.Lawful.{AreLawful-behind}
 
 -- what is left of a list from an element on
 pub left_from : {A : Type 0} (xs : List A) (i : ℕ) (x : A) → i < length xs → x ≡ get_or xs i x
     → drop i xs ≡ x ∷ drop (i + 1) xs
 left_from xs i x within is = drop_more xs i x within ∙ ap (λ y. y ∷ drop (i + 1) xs) (sym is)
+
+-- of lawful edits the next one is lawful, and those behind it are so behind its effect
+pub next_lawful : (limits : Limits) (old : List LandModel) (es : List Edit) (i : ℕ) (e : Edit)
+    → i < length es → e ≡ get_or es i e → AreLawful newest_rules limits old (drop i es)
+    → (refusal newest_rules limits old e ≡ None)
+    × AreLawful newest_rules limits (effect old e) (drop (i + 1) es)
+next_lawful limits old es i e within is lawful =
+    subst (AreLawful newest_rules limits old) (left_from es i e within is) lawful
+
+-- one lawful edit more is applied
+pub edit_more : (limits : Limits) (old new all : List LandModel) (es : List Edit) (i : ℕ)
+    (e : Edit) → i < length es → e ≡ get_or es i e → new ≡ effect old e
+    → AreLawful newest_rules limits old (drop i es)
+    → applied_all newest_rules limits old (drop i es) ≡ all
+    → applied_all newest_rules limits new (drop (i + 1) es) ≡ all
+edit_more limits old new all es i e within is one lawful so_far =
+    ap (λ ls. applied_all newest_rules limits ls (drop (i + 1) es))
+    (one ∙ sym (applied-lawful newest_rules limits old e
+    (next_lawful limits old es i e within is lawful).0))
+    ∙ (sym (ap (applied_all newest_rules limits old) (left_from es i e within is)) ∙ so_far)
+
+-- of lawful batches the next one is lawful, and those behind it are so behind its edits
+pub next_batch_lawful : (limits : Limits) (old : List LandModel) (bs : List (List Edit)) (i : ℕ)
+    (b : List Edit) → i < length bs → b ≡ get_or bs i b
+    → AreLawful newest_rules limits old (joined (drop i bs))
+    → AreLawful newest_rules limits old b
+    × AreLawful newest_rules limits (applied_all newest_rules limits old b)
+    (joined (drop (i + 1) bs))
+next_batch_lawful limits old bs i b within is lawful =
+    let rest = joined (drop (i + 1) bs) in
+    let all : AreLawful newest_rules limits old (b ++ rest) =
+    subst (λ cs. AreLawful newest_rules limits old (joined cs)) (left_from bs i b within is) lawful
+    in (
+      AreLawful-front newest_rules limits old b rest all,
+      AreLawful-behind newest_rules limits old b rest all,
+    )
 
 -- one batch more is applied
 pub batch_more : (limits now : Limits) (old new all : List LandModel) (bs : List (List Edit))
@@ -57,3 +94,23 @@ lands_on limits bs from to old new order was one =
     ∙ ap (applied_all newest_rules limits [])
     (sym (joined-append (take from bs) (slice_range bs from to))
     ∙ ap joined (parts bs from to order))))
+
+-- of lawful batches those between two are lawful behind the first ones
+pub lawful_between : (limits : Limits) (bs : List (List Edit)) (from to : ℕ)
+    (old : List LandModel) → from ≤ to
+    → old ≡ applied_all newest_rules limits [] (joined (take from bs))
+    → AreLawful newest_rules limits [] (joined bs)
+    → AreLawful newest_rules limits old (joined (slice_range bs from to))
+lawful_between limits bs from to old order was lawful =
+    let first = joined (take from bs) in
+    let between = joined (slice_range bs from to) in
+    let last = joined (drop to bs) in
+    let whole : joined bs ≡ (first ++ between) ++ last =
+    ap joined (sym (take-append-drop to bs))
+    ∙ joined-append (take to bs) (drop to bs)
+    ∙ ap (λ es. es ++ last) (ap joined (sym (parts bs from to order))
+    ∙ joined-append (take from bs) (slice_range bs from to)) in
+    subst (λ ls. AreLawful newest_rules limits ls between) (sym was)
+    (AreLawful-behind newest_rules limits [] first between
+    (AreLawful-front newest_rules limits [] (first ++ between) last
+    (subst (AreLawful newest_rules limits []) whole lawful)))

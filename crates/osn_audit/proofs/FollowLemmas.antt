@@ -8,7 +8,8 @@ use Rattle.osn_days.specs.Profile.{newest_rules}
 use Rattle.osn_register.specs.declared.edit.Edit.{Edit}
 use Rattle.osn_register.specs.declared.limits.Limits.{Limits}
 use Rattle.osn_register.specs.Plain.{folded}
-use Rattle.osn_core.specs.Sequential.{lands_of}
+use Rattle.osn_core.specs.Sequential.{ObjectState, lands_of, joined, AreLawful, IsSound}
+use Rattle.osn_core.proofs.Lawful.{AreLawful-front}
 use Rattle.osn_audit.specs.declared.follower.Follower.{Follower}
 use Rattle.osn_audit.specs.InsideFollower.{IsAt}
 
@@ -25,12 +26,19 @@ IsAt-first limits given batches f same edition register = record {
 }
 
 -- a register goes on under the batches that it was given
-pub goes_on : (limits : Limits) (given batches : List (List Edit)) (f g : Follower)
-    → given ≡ batches → ((l : Limits) → IsAt l given f → IsAt l given g)
-    → IsAt limits batches f → IsAt limits batches g
-goes_on limits given batches f g same on was =
-    subst (λ bs. IsAt limits bs g) same
-    (on limits (subst (λ bs. IsAt limits bs f) (sym same) was))
+pub goes_on : (limits own : Limits) (given batches : List (List Edit)) (f : Follower)
+    → own ≡ limits → given ≡ batches → IsAt own given f → IsAt limits batches f
+goes_on limits own given batches f same are is =
+    subst (λ bs. IsAt limits bs f) are (subst (λ l. IsAt l given f) same is)
+
+-- the batches of a sound object are lawful
+pub batches_lawful : (s : ObjectState) (own : Limits) (given : List (List Edit))
+    → IsSound newest_rules s → own ≡ s.limits → given ≡ s.batches
+    → AreLawful newest_rules own [] (joined given)
+batches_lawful s own given sound same are =
+    subst (λ bs. AreLawful newest_rules own [] (joined bs)) (sym are)
+    (subst (λ l. AreLawful newest_rules l [] (joined s.batches)) (sym same)
+    (AreLawful-front newest_rules s.limits [] (joined s.batches) s.pending sound.lawful))
 
 -- an edition is the last one of its place
 pub last_set : (fs : List Follower) (i : ℕ) (x y : Follower)

@@ -1,7 +1,7 @@
 -- A line of a transcript by its tokens: those of an ask, and those of the reply that is due.
 use Rattle.std.proofs.Common.{◌≡◌, ℕ, ◌-◌, ◌<◌, ◌≤◌, ◌^◌, Bool, true, false, List, [], ◌∷◌, ◌++◌}
 use Rattle.std.proofs.Common.{length, take, set, Some, Ok, Err, option_map, refl, ap, ◌∙◌, arith}
-use Rattle.std.proofs.Common.{length-append}
+use Rattle.std.proofs.Common.{length-append, subst}
 use Rattle.std.specs.Bool.{MatchBool}
 use Rattle.std.specs.Prelude.{nat_lt, not, ◌&&◌, if◌then◌else◌}
 use Rattle.std.specs.Str.{bytes_eq}
@@ -38,8 +38,8 @@ use Rattle.osn_files.specs.Turns.{on_read}
 use Rattle.osn_reply.specs.ReplyText.{line_of, reply_line}
 use Rattle.osn_audit.specs.Audit.{TranscriptLine, object_at, edition_of, entry_in, known_edition}
 use Rattle.osn_audit.specs.Audit.{agreed, line_due, last_of, after_entry, after_object}
-use Rattle.osn_audit.specs.Tokens.{Asks, BeginsWithAsk, EndsWithReply, replied}
-use Rattle.osn_audit.proofs.PlainLemmas.{Plain}
+use Rattle.osn_audit.specs.Tokens.{AreShort, Asks, BeginsWithAsk, EndsWithReply, replied}
+use Rattle.osn_audit.proofs.PlainLemmas.{Plain, text_tokens}
 use Rattle.osn_audit.proofs.ReplyLemmas.{plain_replied, object_replied, edition_replied}
 
 -- the object of a line: what is asked, and the reply
@@ -147,8 +147,10 @@ line_agrees s last asked edition text left small known a e =
     let named : edition_of d ≡ Ok edition =
     edition_replied asked.0 reply.edition reply.answer (omega (arith, counted, small))
     ∙ ap Ok counted in
-    let read_is = line_read text a.ask d left a.begins e.tokens (omega (arith, plain.shallow))
-    (plain.back e.short) in
+    let printed = text_tokens plain e.short in
+    let read_is = line_read text a.ask d left a.begins
+    (e.ends ∙ ap (λ ts. ts ++ json.end_object ∷ []) printed) (omega (arith, plain.shallow))
+    (plain.back (subst AreShort printed e.short)) in
     ap (λ o. on_read (object_in o) (after_object newest_rules s newest_version last)) read_is
     ∙ (ap (λ r. on_read (r >>= after_entry newest_rules s last) Ok)
     (entry_read a.ask d asked edition a.question

@@ -4,6 +4,7 @@ pub mod FollowLemmas
 mod GuessLemmas
 pub mod LawLemmas
 mod PlainLemmas
+mod PrintLemmas
 mod ReadLemmas
 mod ReplyLemmas
 mod ShortLemmas

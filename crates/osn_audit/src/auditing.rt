@@ -1,11 +1,10 @@
 //! The entries of a transcript, held against the journal.
 ghost use Rattle.std.specs.Prelude.{◌≡◌, ◌<◌, ◌≤◌, ◌-◌, Ok, IfOk, IfErr, OnOk};
 ghost use Rattle.std.specs.Prelude.{length, slice_set, string_bytes, take};
-ghost use Rattle.json.specs.Lex.{tokens};
 ghost use Rattle.serde_json.specs.View.{view};
+ghost use Rattle.serde_json.specs.Written.{compact_text};
 ghost use Rattle.osn_days.specs.Profile.{newest_rules};
 ghost use Rattle.osn_core.specs.Sequential.{reply_at};
-ghost use Rattle.osn_format.specs.Json.{value_tokens};
 ghost use Rattle.osn_reply.specs.declared.outcome.Outcome.TheVariants.{Replied};
 ghost use Rattle.osn_request.specs.Request.{Fails};
 ghost use Rattle.osn_audit.specs.Audit as spec;
@@ -69,8 +68,8 @@ pub(crate) fn text_due(
     requires known { reader ≤ MOST_READERS }
     requires edition { spec.known_edition (length followers.old.object.batches)
         (spec.last_of followers.old.last reader) edition ≡ Ok edition }
-    ensures tokens { IfOk result (λ s. tokens (string_bytes s)
-        ≡ value_tokens (replied newest_rules followers.old.object (reader, query.now) edition)) }
+    ensures text { IfOk result (λ s. string_bytes s
+        ≡ compact_text (replied newest_rules followers.old.object (reader, query.now) edition)) }
     ensures last { OnOk result (followers.new.last
         ≡ slice_set followers.old.last (reader - 1) edition) }
     ensures object { followers.new.object ≡ followers.old.object }

@@ -1,23 +1,36 @@
 //! A register that goes on from edition to edition.
 ghost use Rattle.std.specs.Prelude.{◌≡◌, ◌≤◌, [], IfOk, OnOk, length};
 ghost use Rattle.osn_days.specs.Profile.{newest_rules};
-ghost use Rattle.osn_register.specs.declared.limits.Limits.{Limits};
 ghost use Rattle.osn_register.specs.Plain.{applied_all, folded};
-ghost use Rattle.osn_core.specs.Sequential.{joined};
+ghost use Rattle.osn_core.specs.Sequential.{AreLawful, joined};
 ghost use Rattle.osn_audit.specs.InsideFollower.{IsAt};
 
 use osn_core::Batch;
-use osn_register::{Limits, Register};
+use osn_register::{Edit, Limits, Register};
 use std::alloc::{AllocError, Global};
 
-/// Applies the edits of batches in turn.
-fn apply_batches(register: &mut Register, batches: &[Batch]) -> Result<(), AllocError>
+/// Applies edits that are lawful, each in its turn, with no further check.
+fn admit_edits(register: &mut Register, edits: &[Edit]) -> Result<(), AllocError>
+    requires { AreLawful newest_rules register.old.limits register.old.lands edits.now }
+    ensures { OnOk result (register.new ≡ record register.old {
+      lands = applied_all newest_rules register.old.limits register.old.lands edits.now;
+    }) }
+{
+    for edit in edits {
+        register.admit(edit)?;
+    }
+    Ok(())
+}
+
+/// Applies the edits of batches, which are lawful, each in its turn.
+fn admit_batches(register: &mut Register, batches: &[Batch]) -> Result<(), AllocError>
+    requires { AreLawful newest_rules register.old.limits register.old.lands (joined batches.now) }
     ensures { OnOk result (register.new ≡ record register.old {
       lands = applied_all newest_rules register.old.limits register.old.lands (joined batches.now);
     }) }
 {
     for batch in batches {
-        register.apply_all(batch.edits())?;
+        admit_edits(register, batch.edits())?;
     }
     Ok(())
 }
@@ -43,14 +56,15 @@ impl Follower {
 
     /// The same at an edition that is not before its own.
     pub(crate) fn at(self, batches: &[Batch], edition: u32) -> Result<Follower, AllocError>
+        requires at { IsAt self.register.limits batches.now self }
+        requires lawful { AreLawful newest_rules self.register.limits [] (joined batches.now) }
         requires from { self.edition ≤ edition }
         requires there { edition ≤ length batches.now }
         ensures edition { IfOk result (λ f. f.edition ≡ edition) }
-        ensures register { IfOk result (λ f. (limits : Limits) → IsAt limits batches.now self
-            → IsAt limits batches.now f) }
+        ensures register { IfOk result (λ f. IsAt self.register.limits batches.now f) }
     {
         let mut register = self.register;
-        apply_batches(
+        admit_batches(
             &mut register,
             &batches[self.edition as usize..edition as usize],
         )?;

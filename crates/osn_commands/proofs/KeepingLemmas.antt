@@ -1,11 +1,8 @@
 -- The parts of a service that keeps a file did what their contracts say.
-use Rattle.std.proofs.Common.{◌≡◌, ◌≢◌, ◌⊎◌, ◌+◌, ◌≤◌, ◌<◌, ℕ, zero, suc, Bool, true, false, List}
-use Rattle.std.proofs.Common.{[]}
-use Rattle.std.proofs.Common.{◌∷◌, ◌++◌, length, take, Option, Some, None, Result, Ok, Err, IfSome}
-use Rattle.std.proofs.Common.{option_map, refl, sym, ap, subst, ◌∙◌, inl, inr, arith, append-nil}
-use Rattle.std.proofs.Common.{length-take, take_all, if◌then◌else◌}
-use Rattle.std.proofs.lemmas.List.{take-append-drop}
-use Rattle.std.specs.Io.KnownBytes.{Appends}
+use Rattle.std.proofs.Common.{◌≡◌, ◌≢◌, ◌+◌, ◌≤◌, ◌<◌, ℕ, zero, suc, Bool, false, List}
+use Rattle.std.proofs.Common.{◌∷◌, length, take, Option, Some, Result, Ok, Err, IfSome}
+use Rattle.std.proofs.Common.{option_map, refl, sym, ap, subst, ◌∙◌, inl, inr, arith}
+use Rattle.std.proofs.Common.{length-take, []}
 use Rattle.osn_days.specs.Profile.{Profile}
 use Rattle.osn_register.specs.declared.limits.Limits.{Limits}
 use Rattle.osn_core.specs.Sequential.{ObjectState, opened}
@@ -18,23 +15,18 @@ use Rattle.osn_format.specs.Version.{newest_version}
 use Rattle.osn_format.specs.declared.version.Version.{Version}
 use Rattle.osn_files.specs.Journal.{load}
 use Rattle.osn_files.specs.Loaded.{IsOfVersion}
-use Rattle.osn_files.specs.LastLine.{last_line, is_unfinished}
-use Rattle.osn_files.specs.WholePart.{IsWholePart, by_last, last_line_of, ended_count}
-use Rattle.osn_files.specs.WholePart.{ended_length, unended_bytes, whole_bytes, whole_length}
-use Rattle.osn_files.specs.WholePart.{whole_count}
+use Rattle.osn_files.specs.WholePart.{IsWholePart}
+use Rattle.osn_files.specs.WholePart.{whole_bytes, whole_length}
 use Rattle.osn_files.specs.declared.fault.FileFault.{FileFault}
 use Rattle.osn_files.specs.declared.fault.FileFault.TheVariants as file_faults
 use Rattle.osn_files.specs.declared.fault.LineFault.{LineFault}
 use Rattle.osn_files.specs.declared.fault.Role.TheVariants.{Journal}
-use Rattle.osn_files.specs.declared.last_line.LastLine.{LastLine}
-use Rattle.osn_files.specs.declared.last_line.LastLine.TheVariants.{Ended, LacksFeed, Unfinished}
 use Rattle.osn_files.specs.declared.whole_lines.WholePart.{WholePart}
 use Rattle.osn_commands.proofs.ReportLemmas.{read_is_no_refusal, write_is_no_refusal}
 use Rattle.osn_commands.proofs.ReportLemmas.{memory_is_no_refusal}
 use Rattle.osn_commands.specs.Fault.{by_file, by_kept_service}
 use Rattle.osn_commands.specs.Files.{IsFileFault}
-use Rattle.osn_commands.specs.Keeping.{object_of, kept_object, kept_text, missing_head}
-use Rattle.osn_commands.specs.Keeping.{missing_end, missing_text, if_unfinished, unfinished_line}
+use Rattle.osn_commands.specs.Keeping.{object_of, kept_object}
 use Rattle.osn_commands.specs.Keeping.{SaysVersion, HoldsNoObject}
 use Rattle.osn_commands.specs.Keeping.{KeepsService, AnswersKeptUntil, KeptState, KeepsKnown}
 use Rattle.osn_commands.specs.Keeping.{KeepsFrom, AnswersKept, AnswersFirstKept}
@@ -177,128 +169,6 @@ pub older_kept : (p : Profile) (limits : Limits) (held : List ℕ) (failed : Boo
     → HoldsNoObject p limits held failed fault
 older_kept p limits held failed s version fault is older read =
     subst (HoldsNoObject p limits held failed) (sym is) (read.1, older, s, read.0)
-
--- ---- the file
-
--- a last line that is ended has nothing behind it
-none_behind : (n : ℕ) (bytes : List ℕ) → last_line n bytes ≡ Ended → bytes ≡ []
-none_behind n [] ended = refl
-none_behind n (b ∷ bs) ended = absurd (elim (is_unfinished n (b ∷ bs)) as
-    (λ t. (if t then Unfinished else LacksFeed) ≡ Ended → ⊥) [
-      | true ↦ λ h. cc
-      | false ↦ λ h. cc
-    ] ended)
-
--- of a file whose last line is ended all lines count, and so of one whose last line lacks its feed
-ended_counts : (held : List ℕ) → last_line_of held ≡ Ended → held ≡ whole_bytes held
-ended_counts held is =
-    sym (take-append-drop (ended_length held) held)
-    ∙ ap (λ l. take (ended_length held) held ++ l)
-    (none_behind (ended_count held) (unended_bytes held) is)
-    ∙ append-nil (take (ended_length held) held)
-    ∙ ap (λ s. take (by_last s (ended_length held) (length held)) held) (sym is)
-
-lacking_counts : (held : List ℕ) → last_line_of held ≡ LacksFeed → held ≡ whole_bytes held
-lacking_counts held is =
-    sym (take_all (length held) held (omega arith))
-    ∙ ap (λ s. take (by_last s (ended_length held) (length held)) held) (sym is)
-
--- a file whose last line is ended, or counts and lacks its line feed, is left
-pub all_left : (part : WholePart) (held : List ℕ)
-    → (part.last ≡ Ended) ⊎ (part.last ≡ LacksFeed) → IsWholePart part held
-    → (None ≡ unfinished_line held) × (Some held ≡ Some (whole_bytes held))
-all_left part held (inl is) whole =
-    let last = sym whole.last ∙ is in (
-      ap (λ s. if_unfinished s (whole_count held + 1)) (sym last),
-      ap Some (ended_counts held last),
-    )
-all_left part held (inr is) whole =
-    let last = sym whole.last ∙ is in (
-      ap (λ s. if_unfinished s (whole_count held + 1)) (sym last),
-      ap Some (lacking_counts held last),
-    )
-
--- a file whose last line was not finished
-pub unfinished_cut : (part : WholePart) (held : List ℕ) (new old : Option (List ℕ))
-    → part.last ≡ Unfinished → new ≡ option_map (take part.bytes) old → old ≡ Some held
-    → IsWholePart part held
-    → (Some (part.lines + 1) ≡ unfinished_line held) × (new ≡ Some (whole_bytes held))
-unfinished_cut part held new old is cut known whole = (
-  ap (λ n. Some (n + 1)) whole.lines
-      ∙ ap (λ s. if_unfinished s (whole_count held + 1)) (sym is ∙ whole.last),
-  cut ∙ ap (option_map (take part.bytes)) known
-      ∙ ap (λ (n : ℕ). Some (take n held)) whole.bytes,
-)
-
--- the head that is missing, of no byte that counts
-pub head_missing : (part : WholePart) (held text : List ℕ) → part.bytes ≡ 0
-    → text ≡ missing_head [] → IsWholePart part held → text ≡ missing_head (whole_bytes held)
-head_missing part held text none is whole =
-    is ∙ ap (λ (n : ℕ). missing_head (take n held)) (sym none ∙ whole.bytes)
-
--- of some it is there
-head_there : (held : List ℕ) (n : ℕ) → n ≡ whole_length held → (n ≡ 0 → ⊥)
-    → [] ≡ missing_head (whole_bytes held)
-head_there [] n is some = absurd (some is)
-head_there (b ∷ bs) zero is some = absurd (some refl)
-head_there (b ∷ bs) (suc n) is some = ap (λ (k : ℕ). missing_head (take k (b ∷ bs))) is
-
-pub head_not_missing : (part : WholePart) (held text : List ℕ) → (part.bytes ≡ 0 → ⊥)
-    → text ≡ [] → IsWholePart part held → text ≡ missing_head (whole_bytes held)
-head_not_missing part held text some is whole = is ∙ head_there held part.bytes whole.bytes some
-
--- what is missing behind a last line that stands so
-pub missing_by : (part : WholePart) (held text : List ℕ) (last : LastLine) → part.last ≡ last
-    → (IsWholePart part held → text ≡ missing_end last (whole_bytes held))
-    → IsWholePart part held → text ≡ missing_text held
-missing_by part held text last is text_is whole =
-    text_is whole ∙ ap (λ s. missing_end s (whole_bytes held)) (sym is ∙ whole.last)
-
--- what a file holds to which more was appended
-appended : (xs ys : List ℕ) (new : Option (List ℕ)) → Appends (Some xs) new ys
-    → new ≡ Some (xs ++ ys)
-appended xs ys None h = absurd h
-appended xs ys (Some zs) h = ap Some h
-
-pub appended_to : (xs ys : List ℕ) (old new : Option (List ℕ)) → old ≡ Some xs
-    → Appends old new ys → new ≡ Some (xs ++ ys)
-appended_to xs ys old new known h = appended xs ys new (subst (λ o. Appends o new ys) known h)
-
--- what is missing was appended
-pub completed : (held text : List ℕ) (old new : Option (List ℕ))
-    → text ≡ missing_text held → old ≡ Some (whole_bytes held)
-    → Appends old new text → new ≡ Some (kept_text held)
-completed held text old new is known h =
-    appended_to (whole_bytes held) text old new known h
-    ∙ ap (λ text. Some (whole_bytes held ++ text)) is
-
--- a front of it was
-pub completed_in_part : (held text : List ℕ) (old new : Option (List ℕ)) (n : ℕ)
-    → text ≡ missing_text held → old ≡ Some (whole_bytes held)
-    → Appends old new (take n text)
-    → (n : ℕ) × (new ≡ Some (whole_bytes held ++ take n (missing_text held)))
-completed_in_part held text old new n is known h = (
-  n,
-  appended_to (whole_bytes held) (take n text) old new known h
-      ∙ ap (λ text. Some (whole_bytes held ++ take n text)) is,
-)
-
--- none was
-pub completed_by_none : (held : List ℕ) (old new : Option (List ℕ)) → old ≡ Some (whole_bytes held)
-    → new ≡ old
-    → (n : ℕ) × (new ≡ Some (whole_bytes held ++ take n (missing_text held)))
-completed_by_none held old new known same =
-    (0, same ∙ known ∙ ap Some (sym (append-nil (whole_bytes held))))
-
--- all was
-pub completed_by_all : (held : List ℕ) (new : Option (List ℕ)) → new ≡ Some (kept_text held)
-    → (n : ℕ) × (new ≡ Some (whole_bytes held ++ take n (missing_text held)))
-completed_by_all held new is =
-    let text = missing_text held in (
-      length text,
-      is ∙ ap (λ text. Some (whole_bytes held ++ text))
-          (sym (take_all (length text) text (omega arith))),
-    )
 
 -- ---- how it was told
 

@@ -6,4 +6,5 @@ pub mod AuditLemmas
 pub mod LettersLemmas
 pub mod RunLemmas
 pub mod LimitsLemmas
+pub mod KeptFileLemmas
 pub mod KeepingLemmas

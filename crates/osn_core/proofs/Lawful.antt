@@ -31,8 +31,15 @@ AreLawful-push p limits lands (d ∷ es) e lawful none = (
       (applied-lawful p limits lands d lawful.0) none),
 )
 
--- edits that are lawful in turn are so behind those before them
-AreLawful-behind : (p : Profile) (limits : Limits) (lands : List LandModel) (es fs : List Edit) →
+-- of edits that are lawful in turn the first ones are
+pub AreLawful-front : (p : Profile) (limits : Limits) (lands : List LandModel) (es fs : List Edit) →
+    AreLawful p limits lands (es ++ fs) → AreLawful p limits lands es
+AreLawful-front p limits lands [] fs lawful = tt
+AreLawful-front p limits lands (e ∷ es) fs lawful =
+    (lawful.0, AreLawful-front p limits (effect lands e) es fs lawful.1)
+
+-- and so are those behind them
+pub AreLawful-behind : (p : Profile) (limits : Limits) (lands : List LandModel) (es fs : List Edit) →
     AreLawful p limits lands (es ++ fs) → AreLawful p limits (applied_all p limits lands es) fs
 AreLawful-behind p limits lands [] fs lawful = lawful
 AreLawful-behind p limits lands (e ∷ es) fs lawful =

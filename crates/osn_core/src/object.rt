@@ -1,6 +1,7 @@
 ghost use Rattle.std.specs.Prelude.{◌≡◌, ◌+◌, true, length, None, IfOk, IfErr, OnOk, OnErr};
 ghost use Rattle.osn_days.specs.Profile.{newest_rules};
 ghost use Rattle.osn_register.specs.Refusal.{IsTestOf, IsRefusalOrNoMemory};
+ghost use Rattle.osn_register.specs.BorrowedQuery.{as_query};
 ghost use Rattle.osn_register.specs.Answer.{refusal_in, query_refusal, takes_memory};
 ghost use Rattle.osn_core.specs.Sequential.{opened, with_pending, with_edition, stage_refusal};
 ghost use Rattle.osn_core.specs.Sequential.{publish_refusal, reply_at, lands_of, IsSound};
@@ -8,7 +9,7 @@ ghost use Rattle.osn_core.specs.Sequential.{publish_refusal, reply_at, lands_of,
 use crate::batch::Batch;
 use crate::live_and_standby::LiveAndStandby;
 use crate::step::Reply;
-use osn_register::{Edit, Limits, Query, Refusal, Register};
+use osn_register::{BorrowedQuery, Edit, Limits, Query, Refusal, Register};
 use std::alloc::{AllocError, Global};
 use std::marker::Model;
 
@@ -78,9 +79,27 @@ impl Object {
         ensures memory { OnErr result (takes_memory
             (reply_at newest_rules self.now.limits self.now.batches query.now).answer ≡ true) }
     {
+        self.ask_borrowed(query.borrowed())
+    }
+
+    /// What `ask` says to the query that this one stands for.
+    ///
+    /// # Errors
+    ///
+    /// As for `ask`.
+    pub fn ask_borrowed(&self, query: BorrowedQuery<'_>) -> Result<Reply, AllocError>
+        ensures value { IfOk result (λ r. r
+            ≡ reply_at newest_rules self.now.limits self.now.batches (as_query query.entry)) }
+        ensures refused { IfOk result (λ r. refusal_in r.answer
+            ≡ query_refusal newest_rules
+            (lands_of newest_rules self.now.limits self.now.batches) (as_query query.entry)) }
+        ensures memory { OnErr result (takes_memory
+            (reply_at newest_rules self.now.limits self.now.batches (as_query query.entry)).answer
+            ≡ true) }
+    {
         Ok(Reply {
             edition: self.copies.edition(),
-            answer: self.copies.live().answer(query)?,
+            answer: self.copies.live().answer_borrowed(query)?,
         })
     }
 }

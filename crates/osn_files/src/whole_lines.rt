@@ -9,11 +9,8 @@ ghost use Rattle.osn_files.specs.WholePartInside.{IsCountOf, IsMeasureOf};
 
 use crate::fault::FileFault;
 use crate::last_line::{LastLine, LineFront};
-use osn_lines::Source;
+use osn_lines::{Source, read_buffer};
 use std::alloc::{AllocError, Global};
-
-/// How many bytes one read takes at most.
-const READ_SIZE: usize = 65_536;
 
 /// How much of a file counts: the lines that a line feed ends, and a last one that lacks it, unless
 /// that was not finished.
@@ -137,13 +134,6 @@ fn part_of(alloc: Global, measure: &Measure) -> Result<WholePart, AllocError>
     })
 }
 
-/// So many zero bytes, to read into.
-fn zeros(alloc: Global, size: usize) -> Result<Vec<u8>, AllocError>
-    ensures { IfOk result (λ zeros. length zeros.items ≡ size) }
-{
-    vec![in alloc; 0u8; size]
-}
-
 /// Reads a source to its end, and says how much of it counts. Besides one read of at most 65,536
 /// bytes there are the first 65,537 bytes at most behind the last line feed, and the value of that
 /// line.
@@ -162,7 +152,7 @@ pub fn whole_part<R: Source>(alloc: Global, source: &mut R) -> Result<WholePart,
         (IsReadFault (R.has_failed source.new) (R.remaining source.old))
         (λ _ _ _. ⊥)) }
 {
-    let Ok(mut buffer) = zeros(alloc, READ_SIZE) else {
+    let Ok(mut buffer) = read_buffer(alloc) else {
         return Err(FileFault::NoMemory);
     };
     let mut measure = Measure {

@@ -12,4 +12,4 @@ mod write_json;
 pub use member::Member;
 pub use version::Version;
 pub use wire_fault::WireFault;
-pub use write_json::{write_flag, write_number, write_signed, write_text};
+pub use write_json::{write_number, write_signed, write_text};

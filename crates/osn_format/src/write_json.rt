@@ -1,6 +1,6 @@
 //! How the members of an object are written as JSON: by their tokens, one behind another.
 ghost use Rattle.std.specs.Prelude.{◌≡◌, ◌++◌, OnOk};
-ghost use Rattle.serde_json.specs.Data.{boolean, string};
+ghost use Rattle.serde_json.specs.Data.{string};
 ghost use Rattle.osn_format.specs.Json.{whole, signed, member_tokens};
 
 use json::Writer;
@@ -46,18 +46,4 @@ pub fn write_text(out: &mut Writer, name: &str, text: &str) -> Result<(), AllocE
 {
     out.key(name)?;
     out.string(text)
-}
-
-/// Writes a member that is true or false.
-///
-/// # Errors
-///
-/// Want of memory, and nothing else.
-pub fn write_flag(out: &mut Writer, name: &str, flag: bool) -> Result<(), AllocError>
-    ensures tokens { OnOk result (out.new.tokens
-        ≡ out.old.tokens ++ member_tokens name.now (boolean flag)) }
-    ensures before { out.new.before ≡ out.old.before }
-{
-    out.key(name)?;
-    out.boolean(flag)
 }

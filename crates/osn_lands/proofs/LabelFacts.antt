@@ -1,15 +1,14 @@
 -- The days with a label are those of three years in a row, and those of a year are the days of one
 -- date.
 use Rattle.std.specs.List.{range_with_len}
-use Rattle.std.proofs.Common.{◌≡◌, ℕ, filter, ◌-◌, ◌<◌, ◌≤◌, ◌⊎◌, inl, inr, List, [], ◌++◌, Bool}
-use Rattle.std.proofs.Common.{true, false, ◌&&◌, ◌||◌, if◌then◌else◌, length, refl, sym, ap, ◌∙◌}
-use Rattle.std.proofs.Common.{arith, ℤ, pos, ◌+ℤ◌, ◌-ℤ◌, ◌<ℤ◌, ◌≤ℤ◌, ◌+◌, unsigned_abs, subst, ◌∷◌}
-use Rattle.std.proofs.Common.{Option, Some}
+use Rattle.std.proofs.Common.{◌≡◌, ℕ, filter, ◌-◌, ◌<◌, ◌≤◌, ◌⊎◌, inl, inr, List, ◌++◌, Bool}
+use Rattle.std.proofs.Common.{true, false, ◌&&◌, ◌||◌, if◌then◌else◌, refl, sym, ap, ◌∙◌}
+use Rattle.std.proofs.Common.{arith, ℤ, pos, ◌+ℤ◌, ◌-ℤ◌, ◌<ℤ◌, ◌≤ℤ◌, ◌+◌, unsigned_abs}
+use Rattle.std.proofs.Common.{Option, Some, []}
 use Rattle.std.proofs.Common.{None, IfSome}
 use Rattle.std.proofs.lemmas.Bool.{and_parts, and_from, or_cases, cases_order}
 use Rattle.std.proofs.lemmas.Bool.Decides.{Decides-and, Decides-eqb, Decides-int_eq}
 use Rattle.std.proofs.lemmas.Bool.Decides.{same_from_decides}
-use Rattle.std.proofs.lemmas.List.{length-append}
 use Rattle.std.proofs.lemmas.Int.{ints}
 use Rattle.std.specs.Bool.{Decides}
 use Rattle.std.specs.Ordering.{int_eq}
@@ -21,7 +20,7 @@ use Rattle.osn_days.specs.Profile.{Profile, newest_rules}
 use Rattle.osn_days.specs.Line.{line, IsYearNumber}
 use Rattle.osn_days.specs.Chain.{date_of, same_date, days_with_date}
 use Rattle.osn_days.proofs.ChainFacts.{date_is, not_true, same_date_is, same_date_self, chain_rises}
-use Rattle.osn_days.proofs.ChainFacts.{chain_small, chain_apart}
+use Rattle.osn_days.proofs.ChainFacts.{chain_small}
 use Rattle.osn_days.proofs.FilterFacts.{filter_none}
 use Rattle.osn_days.proofs.LineFacts.{date_of_line}
 use Rattle.osn_lands.specs.declared.style.Style.{Style}
@@ -32,12 +31,10 @@ use Rattle.osn_lands.specs.declared.label.Label.{Label}
 use Rattle.osn_lands.specs.Style.{is_before_25_march, is_from_25_december, is_from_september}
 use Rattle.osn_lands.specs.Style.{is_before, is_before_easter, year_by, style_year, is_from_easter}
 use Rattle.osn_lands.specs.Label.{local_label, same_label, days_with_label}
-use Rattle.osn_lands.specs.Territory.{is_empty}
 use Rattle.osn_lands.specs.Inside.{has_label, days_in_year, date_in, is_dated_before, year_in}
 use Rattle.osn_lands.proofs.EarlierFacts.{earlier_day}
 use Rattle.osn_lands.proofs.EasterFacts.{easter_on_line}
-use Rattle.osn_lands.proofs.MemberFacts.{any_in, some_days_any}
-use Rattle.osn_lands.proofs.OrderFacts.{filter_or, filter_single, filter_same}
+use Rattle.osn_lands.proofs.OrderFacts.{filter_or, filter_same}
 
 -- the parts of two labels
 abbrev pub AreParts : Label → Label → Type 0
@@ -204,7 +201,7 @@ in_three_years p r l d has =
 abbrev pub in_year : Profile → Regime → Label → ℤ → ℕ → Bool
 in_year p r l y d = int_eq (date_of r.calendar d).year y && has_label p l r d
 
-in_year_year : (p : Profile) (r : Regime) (l : Label) (y : ℤ) (d : ℕ) → in_year p r l y d ≡ true →
+pub in_year_year : (p : Profile) (r : Regime) (l : Label) (y : ℤ) (d : ℕ) → in_year p r l y d ≡ true →
     (date_of r.calendar d).year ≡ y
 in_year_year p r l y d is = (Decides-int_eq (date_of r.calendar d).year y).0
     (and_parts (int_eq (date_of r.calendar d).year y) (has_label p l r d) is).0
@@ -328,85 +325,3 @@ pub days_of_year : (p : Profile) (r : Regime) (l : Label) (y z : ℤ) → z ≡ 
     days_with_date p r.calendar (date_in z l) ≡ days_in_year p r l y
 days_of_year p r l y z same counted = days_of_that_year p r l z counted
     ∙ ap (days_in_year p r l) same
-
--- no style both adds one to the year of a date and takes one off that of another
-
-never_more : (b : Bool) (y : ℤ) → (if b then y -ℤ pos 1 else y) ≡ y +ℤ pos 1 → ⊥
-never_more true y e = omega (arith, ints, e)
-never_more false y e = omega (arith, ints, e)
-
-never_less : (b : Bool) (y : ℤ) → (if b then y +ℤ pos 1 else y) ≡ y -ℤ pos 1 → ⊥
-never_less true y e = omega (arith, ints, e)
-never_less false y e = omega (arith, ints, e)
-
-never_less_unless : (b : Bool) (y : ℤ) → (if b then y else y +ℤ pos 1) ≡ y -ℤ pos 1 → ⊥
-never_less_unless true y e = omega (arith, ints, e)
-never_less_unless false y e = omega (arith, ints, e)
-
-never_both : (s : Style) (d e : Date) (b c : Bool) → year_by s d b ≡ d.year +ℤ pos 1 →
-    year_by s e c ≡ e.year -ℤ pos 1 → ⊥
-never_both January d e b c more less = omega (arith, ints, more)
-never_both Annunciation d e b c more less =
-    never_more (is_before_25_march d.month d.day) d.year more
-never_both Nativity d e b c more less =
-    never_less (is_from_25_december e.month e.day) e.year less
-never_both September d e b c more less = never_less (is_from_september e.month) e.year less
-never_both Pisan d e b c more less =
-    never_less_unless (is_before_25_march e.month e.day) e.year less
-never_both Easter d e b c more less = never_more b d.year more
-
--- so a label has no day in one of the years beside its own
-
-counted_in : (p : Profile) (r : Regime) (l : Label) (y : ℤ) (d : ℕ) → in_year p r l y d ≡ true →
-    ((date_of r.calendar d).year ≡ y) × (style_year p r d ≡ l.year)
-counted_in p r l y d is =
-    let both = and_parts (int_eq (date_of r.calendar d).year y) (has_label p l r d) is in
-    (in_year_year p r l y d is, ((same_label_decides (local_label p r d) l).0 both.1).0)
-
-not_on_both_sides : (p : Profile) (r : Regime) (l : Label) (d e : ℕ) →
-    in_year p r l (l.year -ℤ pos 1) d ≡ true → in_year p r l (l.year +ℤ pos 1) e ≡ true → ⊥
-not_on_both_sides p r l d e before after =
-    let of_d = counted_in p r l (l.year -ℤ pos 1) d before in
-    let of_e = counted_in p r l (l.year +ℤ pos 1) e after in
-    let date_d = date_of r.calendar d in
-    let date_e = date_of r.calendar e in
-    never_both r.style date_d date_e (is_before_easter p date_d.year d)
-    (is_before_easter p date_e.year e)
-    (of_d.1 ∙ omega (arith, ints, of_d.0)) (of_e.1 ∙ omega (arith, ints, of_e.0))
-
-one_day_in_year : (p : Profile) (r : Regime) (l : Label) (y : ℤ) →
-    length (days_in_year p r l y) ≤ 1
-unfolding days_in_year line
-one_day_in_year p r l y = filter_single (in_year p r l y) 1 p.high (λ d e low less high here there.
-    chain_apart r.calendar (d - 1) (e - 1) (inl (omega arith))
-    ((in_year_date p r l y d low here).0
-    ∙ sym (in_year_date p r l y e (omega (arith, low, less)) there).0))
-
--- of three lists of one day at most, the first and the last of which are not both there
-at_most_two : (a b c : List ℕ) → length a ≤ 1 → length b ≤ 1 → length c ≤ 1 →
-    (is_empty a ≡ false → is_empty c ≡ false → ⊥) → length (a ++ (b ++ c)) ≤ 2
-at_most_two [] b c one_a one_b one_c apart = omega (arith, length-append b c, one_b, one_c)
-at_most_two (x ∷ a) b [] one_a one_b one_c apart =
-    omega (arith, length-append (x ∷ a) (b ++ []), length-append b [], one_a, one_b)
-at_most_two (x ∷ a) b (z ∷ c) one_a one_b one_c apart = absurd (apart refl refl)
-
-some_in_year : (p : Profile) (r : Regime) (l : Label) (y : ℤ) →
-    is_empty (days_in_year p r l y) ≡ false → (d : ℕ) × (in_year p r l y d ≡ true)
-unfolding days_in_year line
-some_in_year p r l y some =
-    let d = any_in (λ e. true) (in_year p r l y) 1 p.high
-    (some_days_any (days_in_year p r l y) some) in
-    (d.0, d.1.passes)
-
--- so a label has two days at most under one regime
-pub two_days_of_label : (p : Profile) (r : Regime) (l : Label) → length (days_with_label p r l) ≤ 2
-two_days_of_label p r l =
-    let before = days_in_year p r l (l.year -ℤ pos 1) in
-    let same = days_in_year p r l l.year in
-    let after = days_in_year p r l (l.year +ℤ pos 1) in
-    subst (λ days. length days ≤ 2) (three_years p r l)
-    (at_most_two before same after (one_day_in_year p r l (l.year -ℤ pos 1))
-    (one_day_in_year p r l l.year) (one_day_in_year p r l (l.year +ℤ pos 1)) (λ first last.
-    let d = some_in_year p r l (l.year -ℤ pos 1) first in
-    let e = some_in_year p r l (l.year +ℤ pos 1) last in
-    not_on_both_sides p r l d.0 e.0 d.1 e.1))

@@ -1,6 +1,7 @@
 pub mod OrderFacts
 pub mod EarlierFacts
 pub mod LabelFacts
+pub mod TwoDaysFacts
 pub mod YearDigits
 pub mod PeriodFacts
 pub mod RegimeFacts

@@ -1,12 +1,16 @@
-ghost use Rattle.std.specs.Prelude.{◌≡◌, ◌<◌, ◌≤◌, IfOk, string_bytes};
+ghost use Rattle.std.specs.Prelude.{◌≡◌, ◌<◌, ◌≤◌, ◌++◌, IfOk, OnOk, pos, codes, string_bytes};
 ghost use Rattle.std.specs.Fmt.{decimal};
 ghost use Rattle.osn_days.specs.Profile.{first_rules, newest_rules};
 ghost use Rattle.osn_lands.specs.Dual as dual;
 
 use crate::regime::Regime;
 use crate::style_year::date_and_year;
+use itoa::Buffer;
 use osn_days::{Day, month_name};
 use std::alloc::{AllocError, Global};
+
+/// The room that a text is given at first: `30 September 1999/2000` needs 22 bytes.
+const ROOM: usize = 24;
 
 /// The later of two years from its first digit that differs from the earlier one's, or in full
 /// where their lengths differ: 2 for 1731 and 1732, 700 for 1699 and 1700, 10 for 9 and 10.
@@ -24,6 +28,28 @@ fn later_part(earlier: u32, later: u32) -> u32
     }
 }
 
+/// Writes a number behind what stands before it.
+fn push_number(text: &mut String, front: &str, number: u32) -> Result<(), AllocError>
+    ensures { OnOk result (string_bytes text.new
+        ≡ string_bytes text.old ++ (front.now ++ decimal number)) }
+{
+    text.push_str(front)?;
+    let mut digits = Buffer::new();
+    text.push_str(digits.format(number))
+}
+
+/// Writes a year of a style, with the year counted from 1 January where that is later.
+fn push_year(text: &mut String, style_year: u32, year: u32) -> Result<(), AllocError>
+    ensures { OnOk result (string_bytes text.new
+        ≡ string_bytes text.old ++ (codes " " ++ dual.year_text (pos style_year) (pos year))) }
+{
+    push_number(text, " ", style_year)?;
+    if style_year < year {
+        push_number(text, "/", later_part(style_year, year))?;
+    }
+    Ok(())
+}
+
 /// The day as the regime dates it, in English, with both years where the style's is the lesser:
 /// `3 January 1700`, `11 February 1731/2`.
 ///
@@ -37,11 +63,10 @@ pub fn dual_text(alloc: Global, regime: Regime, day: Day) -> Result<String, Allo
         string_bytes s ≡ dual.dual_text first_rules regime day) }
 {
     let (date, year) = date_and_year(regime, day);
-    let name = month_name(date.month);
-    if year < date.year {
-        let part = later_part(year as u32, date.year as u32);
-        format!(in alloc; "{} {} {}/{}", date.day, name, year, part)
-    } else {
-        format!(in alloc; "{} {} {}", date.day, name, year)
-    }
+    let mut text = String::with_capacity(alloc, ROOM)?;
+    push_number(&mut text, "", u32::from(date.day))?;
+    text.push_str(" ")?;
+    text.push_str(month_name(date.month))?;
+    push_year(&mut text, year.unsigned_abs(), date.year.unsigned_abs())?;
+    Ok(text)
 }

@@ -17,7 +17,7 @@ use Rattle.osn_letters.specs.WriterInside.{IsBetweenRows, waiting}
 
 -- no part of a field stands in the record at hand, and what waits ends between two rows
 pub record IsReady (s : Letters) : Type 0 where
-  pub partial : partial_of s.parser.record ≡ []
+  pub partial : partial_of s.parser.fields ≡ []
   pub between : IsBetweenRows s.table.out
 
 -- what is written of further bytes behind the beginning, up to the end of the text

@@ -34,7 +34,7 @@ action_of effect.EndRecord = act.EndRecord
 abbrev pub reading_of : RecordParser → Reading
 reading_of p = record {
   state = state_of p.place;
-  fields = fields_of p.record;
+  fields = fields_of p.fields;
   field = p.field.items;
   size = p.size;
   line = p.line;
@@ -47,7 +47,7 @@ cleared r = record r { fields = [] }
 
 -- the record that stands in a parser, with the line on which it begins
 abbrev pub record_in : RecordParser → ℕ → PlacedRecord
-record_in p line = record { line = line; fields = Some (fields_of p.record) }
+record_in p line = record { line = line; fields = Some (fields_of p.fields) }
 
 -- the same, if a record ended
 abbrev pub records_given : RecordParser → Option ℕ → List PlacedRecord

@@ -71,7 +71,7 @@ impl Letters<'_> {
         let Some(line) = self.parser.take(byte)? else {
             return Ok(());
         };
-        self.table.take(&mut self.parser.record, line)?;
+        self.table.take(&mut self.parser.fields, line)?;
         self.parser.clear();
         Ok(())
     }
@@ -142,7 +142,7 @@ impl Letters<'_> {
             (waiting self.new.table.out) (inside.text_behind self.old [])) }
     {
         if let Some(line) = self.parser.finish()? {
-            self.table.take(&mut self.parser.record, line)?;
+            self.table.take(&mut self.parser.fields, line)?;
         }
         Ok(())
     }

@@ -20,7 +20,7 @@ const LONGEST_RECORD: usize = 65_536;
 #[derive(Drop)]
 pub(crate) struct RecordParser {
     pub(crate) place: Place,
-    pub(crate) record: ByteRecord,
+    pub(crate) fields: ByteRecord,
     pub(crate) field: Vec<u8>,
     pub(crate) size: usize,
     pub(crate) line: u64,
@@ -31,11 +31,11 @@ impl RecordParser {
     /// At the beginning of a text.
     pub(crate) fn new(alloc: Global) -> RecordParser
         ensures reading { reading_of result ≡ spec.at_start }
-        ensures partial { partial_of result.record ≡ [] }
+        ensures partial { partial_of result.fields ≡ [] }
     {
         RecordParser {
             place: Place::StartRecord,
-            record: ByteRecord::new(alloc),
+            fields: ByteRecord::new(alloc),
             field: Vec::new(alloc),
             size: 0,
             line: 1,
@@ -45,27 +45,27 @@ impl RecordParser {
 
     /// Ends the field at hand.
     fn end_field(&mut self) -> Result<(), AllocError>
-        requires { partial_of self.old.record ≡ [] }
+        requires { partial_of self.old.fields ≡ [] }
         ensures fields { OnOk result
-            (fields_of self.new.record ≡ fields_of self.old.record ++ self.old.field.items ∷ []) }
-        ensures partial { OnOk result (partial_of self.new.record ≡ []) }
+            (fields_of self.new.fields ≡ fields_of self.old.fields ++ self.old.field.items ∷ []) }
+        ensures partial { OnOk result (partial_of self.new.fields ≡ []) }
         ensures field { OnOk result (self.new.field.items ≡ []) }
         ensures place { self.new.place ≡ self.old.place }
         ensures size { self.new.size ≡ self.old.size }
         ensures line { self.new.line ≡ self.old.line }
         ensures begun { self.new.begun ≡ self.old.begun }
     {
-        self.record.push_field(&self.field)?;
+        self.fields.push_field(&self.field)?;
         self.field.clear();
         Ok(())
     }
 
     /// Does to the record at hand what a byte does.
     fn apply(&mut self, effect: Effect, byte: u8) -> Result<(), AllocError>
-        requires { partial_of self.old.record ≡ [] }
-        ensures fields { OnOk result (fields_of self.new.record ≡ fields_after
-            (action_of effect) (fields_of self.old.record) self.old.field.items) }
-        ensures partial { OnOk result (partial_of self.new.record ≡ []) }
+        requires { partial_of self.old.fields ≡ [] }
+        ensures fields { OnOk result (fields_of self.new.fields ≡ fields_after
+            (action_of effect) (fields_of self.old.fields) self.old.field.items) }
+        ensures partial { OnOk result (partial_of self.new.fields ≡ []) }
         ensures field { OnOk result (self.new.field.items
             ≡ field_after (action_of effect) byte self.old.field.items) }
         ensures place { self.new.place ≡ self.old.place }
@@ -98,7 +98,7 @@ impl RecordParser {
             ≡ (if spec.is_between (state_of place) then 0 else self.old.size + 1) }
         ensures begun { self.new.begun ≡ (if spec.is_between (state_of place) then
             spec.next_line self.old.line byte else self.old.begun) }
-        ensures record { self.new.record ≡ self.old.record }
+        ensures fields { self.new.fields ≡ self.old.fields }
         ensures field { self.new.field ≡ self.old.field }
     {
         if byte == b'\n' {
@@ -120,9 +120,9 @@ impl RecordParser {
     ///
     /// `TooLong` where the record at hand has no room for the byte, and `NoMemory`.
     pub(crate) fn take(&mut self, byte: u8) -> Result<Option<u64>, LettersFault>
-        requires partial { partial_of self.old.record ≡ [] }
+        requires partial { partial_of self.old.fields ≡ [] }
         requires line { self.old.line + 1 < 2 ^ 64 }
-        ensures partial { OnOk result (partial_of self.new.record ≡ []) }
+        ensures partial { OnOk result (partial_of self.new.fields ≡ []) }
         ensures line { OnOk result (self.new.line ≡ spec.next_line self.old.line byte) }
         ensures takes { IfOk result (inside.Takes self.old self.new byte) }
         ensures fault { IfErr result (inside.RefusesByte self.old byte) }
@@ -145,9 +145,9 @@ impl RecordParser {
     /// Forgets the record that ended.
     pub(crate) fn clear(&mut self)
         ensures reading { reading_of self.new ≡ inside.cleared (reading_of self.old) }
-        ensures partial { partial_of self.new.record ≡ [] }
+        ensures partial { partial_of self.new.fields ≡ [] }
     {
-        self.record.clear();
+        self.fields.clear();
     }
 
     /// Ends the text. Answers the line on which the record begins that the end of the text ended,
@@ -157,10 +157,10 @@ impl RecordParser {
     ///
     /// `NoMemory`, and nothing else.
     pub(crate) fn finish(&mut self) -> Result<Option<u64>, LettersFault>
-        requires partial { partial_of self.old.record ≡ [] }
+        requires partial { partial_of self.old.fields ≡ [] }
         ensures ends { IfOk result (λ ended. spec.last_record (reading_of self.old)
             ≡ inside.records_given self.new ended) }
-        ensures partial { OnOk result (partial_of self.new.record ≡ []) }
+        ensures partial { OnOk result (partial_of self.new.fields ≡ []) }
         ensures fault { IfErr result (λ fault. fault ≡ NoMemory) }
     {
         if self.place.is_between() {

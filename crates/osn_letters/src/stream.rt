@@ -15,19 +15,9 @@ use crate::fault::LettersFault;
 use crate::letters::Letters;
 use crate::progress::Progress;
 use csv::Writer;
-use osn_lines::{Sink, Source, write_all};
+use osn_lines::{Sink, Source, read_buffer, write_all};
 use osn_register::Register;
-use std::alloc::{AllocError, Global};
-
-/// How many bytes one read takes at most.
-const READ_SIZE: usize = 65_536;
-
-/// So many zero bytes, to read into.
-fn zeros(alloc: Global, size: usize) -> Result<Vec<u8>, AllocError>
-    ensures { IfOk result (λ zeros. length zeros.items ≡ size) }
-{
-    vec![in alloc; 0u8; size]
-}
+use std::alloc::Global;
 
 /// Whether it is known what waits of what was taken: not where memory ran out.
 fn is_known(taken: Result<(), LettersFault>) -> bool
@@ -176,7 +166,7 @@ pub fn write_letters<R: Source, W: Sink, P: Progress>(
     // table may be cut between its records and written in parts, each behind the header.
     ensures laws { AreTableLaws }
 {
-    let Ok(mut buffer) = zeros(alloc, READ_SIZE) else {
+    let Ok(mut buffer) = read_buffer(alloc) else {
         return Err(LettersFault::NoMemory);
     };
     let mut letters = Letters::new(alloc, register, edition, names);

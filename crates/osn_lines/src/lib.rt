@@ -18,6 +18,6 @@ pub use fault::{Interrupted, TakeFault};
 pub use line::{LONGEST_LINE, Line};
 pub use plain::Plain;
 pub use sink::{Sink, WriteFailed, write_all};
-pub use source::{ReadFailed, Source};
+pub use source::{ReadFailed, Source, read_buffer};
 pub use stream::take_lines;
 pub use taker::LineTaker;

@@ -1,7 +1,10 @@
 //! Where bytes come from.
 ghost use Rattle.std.specs.Prelude.{◌≡◌, ℕ, List, Option, Bool, true, is_ok, if◌then◌else◌};
+ghost use Rattle.std.specs.Prelude.{IfOk, length};
 ghost use Rattle.std.specs.Io.{ReadsAtMost};
 ghost use Rattle.std.specs.Io.KnownBytes.{ReadConsumes};
+
+use std::alloc::{AllocError, Global};
 
 /// A read that failed. Its source is failed from then on.
 #[derive(Clone, Copy, Debug, PartialEq, Eq)]
@@ -27,4 +30,15 @@ pub trait Source {
     /// Whether a read has ever failed.
     fn failed(&self) -> bool
         ensures { result ≡ has_failed self.now };
+}
+
+/// A buffer to read a source into, of 65,536 bytes.
+///
+/// # Errors
+///
+/// Want of memory, and nothing else.
+pub fn read_buffer(alloc: Global) -> Result<Vec<u8>, AllocError>
+    ensures { IfOk result (λ buffer. length buffer.items ≡ 65536) }
+{
+    vec![in alloc; 0u8; 65_536]
 }

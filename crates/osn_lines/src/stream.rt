@@ -11,20 +11,9 @@ ghost use Rattle.osn_lines.specs.Taking.{StopsAfter};
 use crate::cut::{take_line, take_piece};
 use crate::fault::{Interrupted, TakeFault};
 use crate::kept::Kept;
-use crate::line::LONGEST_LINE;
-use crate::source::Source;
+use crate::source::{Source, read_buffer};
 use crate::taker::LineTaker;
-use std::alloc::{AllocError, Global};
-
-/// How many bytes one read takes at most.
-const READ_SIZE: usize = LONGEST_LINE;
-
-/// So many zero bytes, to read into.
-fn zeros(alloc: Global, size: usize) -> Result<Vec<u8>, AllocError>
-    ensures { IfOk result (λ zeros. length zeros.items ≡ size) }
-{
-    vec![in alloc; 0u8; size]
-}
+use std::alloc::Global;
 
 /// Has the bytes behind the last line feed taken as a line, if there are any, behind so many lines.
 fn take_rest<T: LineTaker>(
@@ -92,7 +81,7 @@ pub fn take_lines<T: LineTaker, R: Source>(
         (IsReadFault (R.has_failed source.new) (R.remaining source.old))
         (λ _. R.has_failed source.new ≡ R.has_failed source.old)) }
 {
-    let Ok(mut buffer) = zeros(alloc, READ_SIZE) else {
+    let Ok(mut buffer) = read_buffer(alloc) else {
         return Err(Interrupted {
             lines: 0,
             cause: TakeFault::NoMemory,

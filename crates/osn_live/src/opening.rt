@@ -71,8 +71,8 @@ pub fn open<R: Wait>(
     readers: u32,
 ) -> Result<(Editor, Vec<Reader>), OpenFault>
     ensures lawful { OnOk result ((1 ≤ readers) × (readers ≤ 64)) }
-    ensures editor { IfOk result (λ t. t.0.object ≡ opened limits) }
-    ensures limits { IfOk result (λ t. t.0.origin.limits ≡ limits) }
+    ensures editor { IfOk result (λ t.
+        (t.0.object ≡ opened limits) × (t.0.origin.limits ≡ limits)) }
     ensures count { IfOk result (λ t. vec_len t.1 ≡ readers) }
     ensures readers { IfOk result (λ t. All (λ r. IsNew t.0 r) t.1.items) }
     ensures bad_count { IsBadCount readers → result ≡ Err OpenFault.BadCount }

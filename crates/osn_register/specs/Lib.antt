@@ -2,6 +2,7 @@ pub mod Limits
 pub mod Refusal
 pub mod Code
 pub mod Query
+pub mod BorrowedQuery
 pub mod Plain
 pub mod Answer
 pub mod Inside

@@ -5,6 +5,7 @@
 #![tactic(auto)]
 
 mod answer;
+mod borrowed_query;
 mod change;
 mod code;
 mod edit;
@@ -21,6 +22,7 @@ mod text;
 mod unanswered;
 
 pub use answer::{Answer, Found, FoundList, Land, LandList, PeriodList};
+pub use borrowed_query::BorrowedQuery;
 pub use edit::Edit;
 pub use limits::Limits;
 pub use listing::{DayList, Listing};

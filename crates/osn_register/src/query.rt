@@ -1,6 +1,8 @@
 ghost use Rattle.std.specs.Prelude.{◌≡◌, true, IfOk, OnErr};
 ghost use Rattle.osn_register.specs.Query.{names_land};
+ghost use Rattle.osn_register.specs.BorrowedQuery.{as_query};
 
+use crate::borrowed_query::BorrowedQuery;
 use crate::text::Text;
 use std::alloc::AllocError;
 
@@ -48,28 +50,31 @@ impl Query {
         ensures memory { OnErr result (names_land self.now ≡ true) }
     {
         match self {
+            Query::YearFigures { year } => Ok(Query::YearFigures { year: *year }),
+            Query::Lands => Ok(Query::Lands),
+            Query::Read { code, .. }
+            | Query::DayIn { code, .. }
+            | Query::Easter { code, .. }
+            | Query::Periods { code } => self.borrowed().to_query(code.allocator()),
+        }
+    }
+
+    /// This query, with its code borrowed.
+    pub fn borrowed(&self) -> BorrowedQuery<'_>
+        ensures { as_query result ≡ self.now }
+    {
+        match self {
             Query::Read {
                 code,
                 year,
                 month,
                 day,
-            } => Ok(Query::Read {
-                code: code.copy()?,
-                year: *year,
-                month: *month,
-                day: *day,
-            }),
-            Query::DayIn { code, day } => Ok(Query::DayIn {
-                code: code.copy()?,
-                day: *day,
-            }),
-            Query::Easter { code, year } => Ok(Query::Easter {
-                code: code.copy()?,
-                year: *year,
-            }),
-            Query::YearFigures { year } => Ok(Query::YearFigures { year: *year }),
-            Query::Lands => Ok(Query::Lands),
-            Query::Periods { code } => Ok(Query::Periods { code: code.copy()? }),
+            } => BorrowedQuery::Read(code.as_str(), *year, *month, *day),
+            Query::DayIn { code, day } => BorrowedQuery::DayIn(code.as_str(), *day),
+            Query::Easter { code, year } => BorrowedQuery::Easter(code.as_str(), *year),
+            Query::YearFigures { year } => BorrowedQuery::YearFigures(*year),
+            Query::Lands => BorrowedQuery::Lands,
+            Query::Periods { code } => BorrowedQuery::Periods(code.as_str()),
         }
     }
 }

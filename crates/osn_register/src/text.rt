@@ -40,6 +40,11 @@ impl Text {
         })
     }
 
+    /// Where its memory comes from.
+    pub(crate) fn allocator(&self) -> Global {
+        *self.text.allocator()
+    }
+
     /// The text, to read.
     pub fn as_str(&self) -> &str
         ensures value { result.now ≡ self.now }

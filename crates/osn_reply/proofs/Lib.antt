@@ -1,1 +1,1 @@
-pub mod ToldLemmas
+pub mod LineLemmas

@@ -1,3 +1,4 @@
 pub mod ReplyText
 pub mod OutText
 pub mod Transcript
+pub mod LineWriterInside

@@ -3,6 +3,7 @@
 //! line feed; of a reply that text is given alone as well.
 #![tactic(auto)]
 
+mod line_writer;
 mod outcome;
 mod reply;
 

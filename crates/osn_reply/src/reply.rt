@@ -1,11 +1,11 @@
 //! A reply line: the compact text of a JSON value, and a line feed.
-ghost use Rattle.std.specs.Prelude.{◌≡◌, ◌++◌, IfOk, OnOk, OnErr, string_bytes, IsUtf8};
+ghost use Rattle.std.specs.Prelude.{◌≡◌, ◌++◌, IfOk, OnOk, OnErr, string_bytes};
 ghost use Rattle.osn_reply.specs.declared.outcome.Outcome.TheVariants.{Staged, Published};
 ghost use Rattle.osn_reply.specs.ReplyText.{refused_data, fault_data, outcome_data, line_of};
 ghost use Rattle.osn_reply.specs.ReplyText.{reply_line};
 ghost use Rattle.osn_reply.specs.OutText.{out_line};
 ghost use Rattle.osn_reply.specs.Transcript.{transcript_line};
-ghost use Rattle.osn_format.specs.Json.{value_tokens};
+ghost use Rattle.serde_json.specs.Written.{compact_text};
 
 mod answer;
 mod compact;
@@ -17,14 +17,15 @@ mod step_out;
 mod transcript_record;
 mod write_json;
 
+use crate::line_writer::LineWriter;
 use crate::outcome::Outcome;
 use answer::write_reply;
 pub use compact::compact_reply;
-use json::Writer;
 use osn_core::{Out, Reply};
-use osn_format::{WireFault, write_number, write_text};
+use osn_format::WireFault;
 use osn_register::Query;
 use std::alloc::{AllocError, Global};
+use std::mem;
 use transcript_record::TranscriptRecord;
 use write_json::WriteJson;
 
@@ -32,89 +33,81 @@ use write_json::WriteJson;
 const ROOM: usize = 512;
 
 /// Writes a refusal or a fault by its number and name.
-pub(crate) fn write_refused(out: &mut Writer, number: u8, name: &str) -> Result<(), AllocError>
-    ensures tokens { OnOk result (out.new.tokens
-        ≡ out.old.tokens ++ value_tokens (refused_data number name.now)) }
+pub(crate) fn write_refused(out: &mut LineWriter, number: u8, name: &str) -> Result<(), AllocError>
+    ensures text { OnOk result (out.new.text
+        ≡ out.old.text ++ compact_text (refused_data number name.now)) }
     ensures before { out.new.before ≡ out.old.before }
 {
-    out.begin_object()?;
-    write_number(out, "fault", u32::from(number))?;
-    write_text(out, "name", name)?;
-    out.end_object()
+    out.push_number(r#"{"fault":"#, u32::from(number))?;
+    out.push_text(r#","name":"#, name)?;
+    out.push("}")
 }
 
 /// Writes a fault, with the member that it names.
-fn write_fault(out: &mut Writer, fault: WireFault) -> Result<(), AllocError>
-    ensures tokens { OnOk result (out.new.tokens
-        ≡ out.old.tokens ++ value_tokens (fault_data fault)) }
+fn write_fault(out: &mut LineWriter, fault: WireFault) -> Result<(), AllocError>
+    ensures text { OnOk result (out.new.text
+        ≡ out.old.text ++ compact_text (fault_data fault)) }
     ensures before { out.new.before ≡ out.old.before }
 {
     match fault {
         WireFault::BadField(member) => {
-            out.begin_object()?;
-            write_number(out, "fault", u32::from(fault.number()))?;
-            write_text(out, "field", member.name())?;
-            write_text(out, "name", fault.name())?;
-            out.end_object()
+            out.push_number(r#"{"fault":"#, u32::from(fault.number()))?;
+            out.push_text(r#","field":"#, member.name())?;
+            out.push_text(r#","name":"#, fault.name())?;
+            out.push("}")
         }
         _ => write_refused(out, fault.number(), fault.name()),
     }
 }
 
-pub(crate) fn write_staged(out: &mut Writer, pending: u32) -> Result<(), AllocError>
-    ensures tokens { OnOk result (out.new.tokens
-        ≡ out.old.tokens ++ value_tokens (outcome_data (Staged pending))) }
+pub(crate) fn write_staged(out: &mut LineWriter, pending: u32) -> Result<(), AllocError>
+    ensures text { OnOk result (out.new.text
+        ≡ out.old.text ++ compact_text (outcome_data (Staged pending))) }
     ensures before { out.new.before ≡ out.old.before }
 {
-    out.begin_object()?;
-    write_text(out, "ok", "staged")?;
-    write_number(out, "pending", pending)?;
-    out.end_object()
+    out.push_number(r#"{"ok":"staged","pending":"#, pending)?;
+    out.push("}")
 }
 
-pub(crate) fn write_published(out: &mut Writer, edition: u32) -> Result<(), AllocError>
-    ensures tokens { OnOk result (out.new.tokens
-        ≡ out.old.tokens ++ value_tokens (outcome_data (Published edition))) }
+pub(crate) fn write_published(out: &mut LineWriter, edition: u32) -> Result<(), AllocError>
+    ensures text { OnOk result (out.new.text
+        ≡ out.old.text ++ compact_text (outcome_data (Published edition))) }
     ensures before { out.new.before ≡ out.old.before }
 {
-    out.begin_object()?;
-    write_number(out, "edition", edition)?;
-    write_text(out, "ok", "published")?;
-    out.end_object()
+    out.push_number(r#"{"edition":"#, edition)?;
+    out.push(r#","ok":"published"}"#)
 }
 
 impl WriteJson for Outcome {
     ghost shown = { outcome_data };
 
-    fn write_json(&self, alloc: Global, out: &mut Writer) -> Result<(), AllocError> {
+    fn write_json(&self, out: &mut LineWriter) -> Result<(), AllocError> {
         match self {
             Outcome::Staged(pending) => write_staged(out, *pending),
             Outcome::Published(edition) => write_published(out, *edition),
             Outcome::Refused(refusal) => write_refused(out, refusal.number(), refusal.name()),
             Outcome::Fault(fault) => write_fault(out, *fault),
-            Outcome::Replied { reader, reply } => write_reply(alloc, out, *reader, reply),
+            Outcome::Replied { reader, reply } => write_reply(out, *reader, reply),
         }
     }
 }
 
-/// The bytes of a value's line: its compact text, and a line feed.
-fn line_bytes<J: WriteJson>(alloc: Global, value: &J) -> Result<Vec<u8>, AllocError>
-    ensures text { IfOk result (λ bytes. bytes.items ≡ line_of (J.shown value.now)) }
-    ensures utf8 { IfOk result (λ bytes. IsUtf8 bytes.items) }
+/// Writes a value's line: its compact text, and a line feed.
+fn write_line<J: WriteJson>(out: &mut LineWriter, value: &J) -> Result<(), AllocError>
+    ensures text { OnOk result (out.new.text ≡ out.old.text ++ line_of (J.shown value.now)) }
+    ensures before { out.new.before ≡ out.old.before }
 {
-    let mut out = Writer::new(Vec::with_capacity(alloc, ROOM)?);
-    value.write_json(alloc, &mut out)?;
-    let mut line = out.into_inner();
-    line.push(b'\n')?;
-    Ok(line)
+    value.write_json(out)?;
+    out.push("\n")
 }
 
 /// A value's line as a text.
 fn line_text<J: WriteJson>(alloc: Global, value: &J) -> Result<String, AllocError>
     ensures { IfOk result (λ s. string_bytes s ≡ line_of (J.shown value.now)) }
 {
-    let line = line_bytes(alloc, value)?;
-    Ok(unsafe { String::from_utf8_unchecked(line) })
+    let mut out = LineWriter::new(alloc, Vec::with_capacity(alloc, ROOM)?);
+    write_line(&mut out, value)?;
+    Ok(unsafe { String::from_utf8_unchecked(out.into_bytes()) })
 }
 
 /// The reply line of an outcome, with its line feed.
@@ -170,6 +163,11 @@ pub fn push_reply(alloc: Global, outcome: &Outcome, out: &mut Vec<u8>) -> Result
     ensures ok { OnOk result (out.new.items ≡ out.old.items ++ reply_line outcome.now) }
     ensures err { OnErr result (out.new.items ≡ out.old.items) }
 {
-    let line = line_bytes(alloc, outcome)?;
-    out.extend_from_slice(&line)
+    let mut line = LineWriter::new(alloc, mem::replace(out, Vec::new(alloc)));
+    let written = write_line(&mut line, outcome);
+    *out = match written {
+        Ok(()) => line.into_bytes(),
+        Err(_) => line.into_before(),
+    };
+    written
 }

@@ -1,3 +1,4 @@
 mod FlatLemmas
+mod QueryLemmas
 mod TextLemmas
 pub mod TreeLemmas

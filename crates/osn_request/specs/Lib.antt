@@ -5,3 +5,4 @@ pub mod Op
 pub mod EditRequest
 pub mod QueryRequest
 pub mod Request
+pub mod LineRequest

@@ -1,8 +1,10 @@
 -- The query of a line's object, its members in the order of the formats: this project's profile.
 -- The reader's number is the first member, and that it is the number of a reader is tested last.
-use Rattle.std.specs.Prelude.{ℕ, ℤ, pos, int_le, unsigned_abs, ◌&&◌, if◌then◌else◌, Bool, true}
-use Rattle.std.specs.Prelude.{false, Result, Ok, Err}
+use Rattle.std.specs.Prelude.{◌≡◌, MatchResult, ℕ, ℤ, pos, int_le, unsigned_abs, ◌&&◌}
+use Rattle.std.specs.Prelude.{if◌then◌else◌, Bool, true, false, Result, Ok, Err}
 use Rattle.serde_json.specs.Data.{Data}
+use Rattle.osn_register.specs.declared.borrowed_query.BorrowedQuery.{BorrowedQuery}
+use Rattle.osn_register.specs.BorrowedQuery.{as_query}
 use Rattle.osn_register.specs.declared.query.Query.{Query}
 use Rattle.osn_register.specs.declared.query.Query.TheVariants as queries
 use Rattle.osn_format.specs.declared.member.Member.TheVariants as members
@@ -72,3 +74,7 @@ query_of readers op d = do
   query ← query_by op d
   number ← reader_in readers reader
   Ok (number, query)
+
+-- what is read stands for the query that is said, or is the fault
+abbrev pub Reads : Result BorrowedQuery WireFault → Result Query WireFault → Type 0
+Reads result said = MatchResult result (λ q. said ≡ Ok (as_query q)) (λ f. said ≡ Err f)

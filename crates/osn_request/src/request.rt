@@ -9,13 +9,13 @@ ghost use Rattle.osn_lines.specs.Lines.{IsLine};
 ghost use Rattle.osn_request.specs.LineObject.{line_data};
 ghost use Rattle.osn_request.specs.Request as spec;
 ghost use Rattle.osn_request.specs.declared.request.RequestError.TheVariants.{NoMemory};
-ghost use Rattle.osn_format.specs.Version.{rules_of};
 
 mod edit;
 mod field;
 mod flat;
 mod json_object;
 mod line_object;
+mod line_request;
 mod op;
 mod query;
 
@@ -26,8 +26,9 @@ pub use flat::{FlatObject, flat_object_in};
 use json::Scratch;
 pub use json_object::JsonObject;
 pub use line_object::LineObject;
+pub use line_request::{LineRequest, line_request_of};
 pub use op::{EditOp, Op, QueryOp, op_of};
-use osn_format::{Version, WireFault};
+use osn_format::WireFault;
 use osn_lines::{LONGEST_LINE, Line};
 use osn_register::{Edit, Query};
 pub use query::{query_of, reader_in};
@@ -47,7 +48,7 @@ pub enum Request {
 }
 
 /// Why no request was read.
-#[derive(Debug, Drop)]
+#[derive(Clone, Copy, Debug, Drop)]
 pub enum RequestError {
     /// A growth of memory was refused.
     NoMemory,
@@ -183,25 +184,6 @@ pub fn object_of<'a>(
     object_in(alloc, scratch, text)
 }
 
-/// The request of a line's object, by the rules of a version.
-fn request_of<O: JsonObject>(
-    alloc: Global,
-    version: Version,
-    readers: u32,
-    object: &O,
-) -> Result<Request, RequestError>
-    ensures { spec.Gives result (spec.request_of (rules_of version) readers (O.value object.now)) }
-{
-    match op_of(object)? {
-        Op::Edit(op) => Ok(Request::Stage(edit_of(alloc, version, op, object)?)),
-        Op::Publish => Ok(Request::Publish),
-        Op::Query(op) => {
-            let (reader, query) = query_of(alloc, readers, op, object)?;
-            Ok(Request::Ask { reader, query })
-        }
-    }
-}
-
 /// The request of a line, where there are so many readers, or its first fault. The scratch serves
 /// one line after another, as for `object_of`.
 ///
@@ -220,7 +202,7 @@ pub fn request_of_line(
         IfErr result (λ e. e ≡ NoMemory → spec.IsReadable whole) }
 {
     let object = object_of(alloc, scratch, line)?;
-    request_of(alloc, Version::newest(), readers, &object)
+    Ok(line_request_of(alloc, readers, &object)?.to_request(alloc)?)
 }
 
 /// The request of a line of these bytes, as `request_of_line`, with a scratch of its own.

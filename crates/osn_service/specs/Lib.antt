@@ -6,6 +6,7 @@ pub mod Replies
 pub mod Law
 pub mod Stop
 pub mod ServiceInside
+pub mod RequestInside
 pub mod SessionInside
 pub mod TakingInside
 pub mod Kept

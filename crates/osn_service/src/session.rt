@@ -2,13 +2,18 @@
 //!
 //! What waits is written before a line that changes the object, so that of the lines whose replies
 //! wait only the first has changed it.
-ghost use Rattle.std.specs.Prelude.{◌≡◌, ◌<◌, ◌⊎◌, ℕ, List, [], ◌∷◌, false, length, IfErr, OnOk};
+ghost use Rattle.std.specs.Prelude.{◌≡◌, ◌<◌, ◌⊎◌, ℕ, List, [], ◌∷◌, false, length, Ok, IfErr};
+ghost use Rattle.std.specs.Prelude.{MatchResult, OnOk};
 ghost use Rattle.std.specs.Prelude.{OnErr};
 ghost use Rattle.std.specs.Io.KnownBytes.{Appends};
 ghost use Rattle.osn_days.specs.Profile.{newest_rules};
 ghost use Rattle.osn_lines.specs.Faults.{WriteFails};
 ghost use Rattle.osn_lines.specs.Lines.{IsLine};
+ghost use Rattle.osn_register.specs.BorrowedQuery.{as_query};
 ghost use Rattle.osn_reply.specs.ReplyText.{reply_line};
+ghost use Rattle.osn_request.specs.LineRequest.{as_request};
+ghost use Rattle.osn_request.specs.Request.{request, Fails};
+ghost use Rattle.osn_service.specs.RequestInside.{IsReadOf};
 ghost use Rattle.osn_service.specs.ServiceInside.{full, Pushes, Adds, Settles, WritesSome};
 ghost use Rattle.osn_service.specs.Served.{line_text};
 ghost use Rattle.osn_service.specs.Session as spec;
@@ -19,9 +24,9 @@ use crate::stop::{Stop, UnwrittenReplies};
 use json::Scratch;
 use osn_core::Object;
 use osn_lines::{Line, LineTaker, Sink};
-use osn_register::{Edit, Query};
+use osn_register::{BorrowedQuery, Edit};
 use osn_reply::Outcome;
-use osn_request::{Request, RequestError, request_of_line};
+use osn_request::{LineObject, LineRequest, RequestError, line_request_of, object_of};
 use std::alloc::{AllocError, Global};
 
 /// Writes what waits, and then adds the reply to a change, which is made behind it.
@@ -121,20 +126,70 @@ fn ask(
     alloc: Global,
     object: &Object,
     reader: u32,
-    query: &Query,
+    query: BorrowedQuery<'_>,
     waiting: &mut ReplyBuffer,
 ) -> Result<(), AllocError>
     ensures ok { OnOk result (Pushes waiting.old waiting.new
-        (reply_line (spec.ask_outcome newest_rules object.now reader query.now))) }
+        (reply_line (spec.ask_outcome newest_rules object.now reader (as_query query.entry)))) }
     ensures err { OnErr result (waiting.new.text.items ≡ waiting.old.text.items) }
     ensures err_ends { OnErr result (waiting.new.ends.items ≡ waiting.old.ends.items) }
 {
-    let reply = object.ask(query)?;
+    let reply = object.ask_borrowed(query)?;
     waiting.push(alloc, Outcome::Replied { reader, reply })
 }
 
-/// Answers a line: adds the reply to its request, or to its first fault, which leaves the object. A
-/// stop leaves the object too.
+/// The request of a line of which this was read, or the fault as which it was read.
+fn request_in<'a>(
+    alloc: Global,
+    readers: u32,
+    read: &'a Result<LineObject<'_>, RequestError>,
+) -> Result<LineRequest<'a>, RequestError>
+    ensures { (whole : List ℕ) → IsReadOf whole read.now → MatchResult result
+        (λ r. request newest_rules readers whole ≡ Ok (as_request r))
+        (λ e. Fails e (request newest_rules readers whole)) }
+{
+    match read {
+        Ok(object) => line_request_of(alloc, readers, object),
+        Err(error) => Err(*error),
+    }
+}
+
+/// Answers what was read of a line: adds the reply to its request, or to its first fault, which
+/// leaves the object. A stop leaves the object too.
+fn answer_read<W: Sink>(
+    alloc: Global,
+    readers: u32,
+    object: &mut Object,
+    sink: &mut W,
+    waiting: &mut ReplyBuffer,
+    read: &Result<LineObject<'_>, RequestError>,
+) -> Result<(), Stop>
+    ensures ok { OnOk result ((whole : List ℕ) → IsReadOf whole read.now →
+        Adds object.old object.new (line_text newest_rules readers object.old whole)
+        (W.contents sink.old) (W.contents sink.new) waiting.old waiting.new) }
+    ensures after { OnOk result ((whole : List ℕ) → IsReadOf whole read.now →
+        object.new ≡ spec.line_after newest_rules readers object.old whole) }
+    ensures passed { OnOk result ((object.new ≡ object.old) ⊎ (W.holds_back sink.new ≡ false)) }
+    ensures sound { OnOk result (W.has_failed sink.new ≡ W.has_failed sink.old) }
+    ensures err { IfErr result (λ stop. MatchStop stop
+        (Settles (W.contents sink.old) (W.contents sink.new) waiting.old waiting.new)
+        (WritesSome (W.contents sink.old) (W.contents sink.new) waiting.old)) }
+    ensures kept { OnErr result (object.new ≡ object.old) }
+    ensures reason { IfErr result (λ stop. MatchStop stop
+        (W.has_failed sink.new ≡ W.has_failed sink.old)
+        (λ _. WriteFails (W.has_failed sink.old) (W.has_failed sink.new) waiting.old.text.items)) }
+{
+    match request_in(alloc, readers, read) {
+        Ok(LineRequest::Stage(edit)) => stage(alloc, object, sink, waiting, edit),
+        Ok(LineRequest::Publish) => publish(alloc, object, sink, waiting),
+        Ok(LineRequest::Ask { reader, query }) => Ok(ask(alloc, object, reader, query, waiting)?),
+        Err(RequestError::Fault(fault)) => Ok(waiting.push(alloc, Outcome::Fault(fault))?),
+        Err(RequestError::NoMemory) => Err(Stop::NoMemory),
+    }
+}
+
+/// Answers a line, as `answer_read`. What was read of it lives until the reply is made, so that a
+/// query borrows from it.
 pub(crate) fn answer<W: Sink>(
     alloc: Global,
     scratch: &mut Scratch,
@@ -159,13 +214,8 @@ pub(crate) fn answer<W: Sink>(
         (W.has_failed sink.new ≡ W.has_failed sink.old)
         (λ _. WriteFails (W.has_failed sink.old) (W.has_failed sink.new) waiting.old.text.items)) }
 {
-    match request_of_line(alloc, scratch, readers, line) {
-        Ok(Request::Stage(edit)) => stage(alloc, object, sink, waiting, edit),
-        Ok(Request::Publish) => publish(alloc, object, sink, waiting),
-        Ok(Request::Ask { reader, query }) => Ok(ask(alloc, object, reader, &query, waiting)?),
-        Err(RequestError::Fault(fault)) => Ok(waiting.push(alloc, Outcome::Fault(fault))?),
-        Err(RequestError::NoMemory) => Err(Stop::NoMemory),
-    }
+    let read = object_of(alloc, scratch, line);
+    answer_read(alloc, readers, object, sink, waiting, &read)
 }
 
 /// Writes what waits where it is so much that it is to be written, so that less waits then.

@@ -2,7 +2,7 @@
 use crate::compare::same;
 use crate::register::{edit_of, told};
 use osn_core::{Batch, Object};
-use osn_register::{Edit, Limits, Query, Refusal};
+use osn_register::{BorrowedQuery, Edit, Limits, Query, Refusal};
 use osn_test_texts::joined;
 use osn_wire::{Request, read_request};
 use std::alloc::Global;
@@ -86,9 +86,21 @@ const LANDS: &str =
     r#"{"answer":{"lands":[{"code":"RM","name":"Rome"},{"code":"GB","name":"Great Britain"},
   {"code":"FR","name":"France"}]},"edition":2,"reader":1}"#;
 
-/// The line that the first reader is told of the territories.
-fn lands_of(alloc: Global, object: &Object) -> Result<String, Fail> {
-    Ok(told(alloc, object.ask(&Query::Lands)?)?)
+/// The line that the first reader is told of the territories, by `ask`, or by `ask_borrowed`.
+fn lands_of(alloc: Global, object: &Object, borrows: bool) -> Result<String, Fail> {
+    let reply = if borrows {
+        object.ask_borrowed(BorrowedQuery::Lands)
+    } else {
+        object.ask(&Query::Lands)
+    };
+    Ok(told(alloc, reply?)?)
+}
+
+/// That the first reader is told of the territories so.
+fn tells_lands(rt: &impl Abort, alloc: Global, object: &Object, borrows: bool) -> Result<(), Fail> {
+    let told = lands_of(alloc, object, borrows)?;
+    same(rt, told.as_str().trim_end(), joined(alloc, LANDS)?.as_str());
+    Ok(())
 }
 
 /// That two editions stand, of two edits and of one, and one edit is pending.
@@ -99,9 +111,8 @@ fn has_two_editions(rt: &impl Abort, alloc: Global, object: &Object) -> Result<(
     same(rt, (first.edits().len(), second.edits().len()), (2, 1));
     same(rt, object.pending().len(), 1);
     same(rt, object.register().limits(), Limits::standard());
-    let told = lands_of(alloc, object)?;
-    same(rt, told.as_str().trim_end(), joined(alloc, LANDS)?.as_str());
-    Ok(())
+    tells_lands(rt, alloc, object, false)?;
+    tells_lands(rt, alloc, object, true)
 }
 
 /// That an object answers some lines so, by the calls that can refuse, or by the tests and the

@@ -60,9 +60,34 @@ fn answer_to_copy(register: &Register, query: Query) -> Result<Answer, AllocErro
     register.answer(&query.copy()?)
 }
 
+/// What a register answers to a query that borrows its code from a copy of another one.
+fn answer_to_borrowed(
+    alloc: Global,
+    register: &Register,
+    query: Query,
+) -> Result<Answer, AllocError> {
+    let copied = query.borrowed().to_query(alloc)?;
+    register.answer_borrowed(copied.borrowed())
+}
+
+/// Either, to the query of a line.
+fn answer_of(
+    alloc: Global,
+    register: &Register,
+    line: &str,
+    borrows: bool,
+) -> Result<Answer, Fail> {
+    let query = query_of(alloc, line)?;
+    if borrows {
+        Ok(answer_to_borrowed(alloc, register, query)?)
+    } else {
+        Ok(answer_to_copy(register, query)?)
+    }
+}
+
 /// What a register, as edition 0, answers to the query of a line.
-fn answered(alloc: Global, register: &Register, line: &str) -> Result<String, Fail> {
-    let answer = answer_to_copy(register, query_of(alloc, line)?)?;
+fn answered(alloc: Global, register: &Register, line: &str, borrows: bool) -> Result<String, Fail> {
+    let answer = answer_of(alloc, register, line, borrows)?;
     Ok(told(alloc, Reply { edition: 0, answer })?)
 }
 
@@ -73,19 +98,32 @@ fn answers_line(
     register: &Register,
     line: &str,
     wanted: &str,
+    borrows: bool,
 ) -> Result<(), Fail> {
-    let got = answered(alloc, register, line)?;
+    let got = answered(alloc, register, line, borrows)?;
     same(rt, (line, got.as_str().trim_end()), (line, wanted));
     Ok(())
 }
 
-/// That a register answers the queries of a session so, each line with the line of its answer.
-fn answers(rt: &impl Abort, alloc: Global, register: &Register, session: &str) -> Result<(), Fail> {
+/// That a register answers the queries of a session so, each line with the line of its answer, by
+/// `answer`, or by `answer_borrowed`.
+fn answers_by(
+    rt: &impl Abort,
+    alloc: Global,
+    register: &Register,
+    session: &str,
+    borrows: bool,
+) -> Result<(), Fail> {
     let (queries, wanted) = apart(alloc, session)?;
     for (line, wanted) in queries.lines().zip(wanted.lines()) {
-        answers_line(rt, alloc, register, line, wanted)?;
+        answers_line(rt, alloc, register, line, wanted, borrows)?;
     }
     Ok(())
+}
+
+/// The same by `answer`.
+fn answers(rt: &impl Abort, alloc: Global, register: &Register, session: &str) -> Result<(), Fail> {
+    answers_by(rt, alloc, register, session, false)
 }
 
 /// The edits of Great Britain, with a second addition of it among them.
@@ -162,6 +200,12 @@ fn has_copy_apart(rt: &impl Abort, alloc: Global, register: &Register) -> Result
 fn a_copy_answers_as_its_source(rt: HostRuntime) -> Result<(), Fail> {
     let copied = folded(rt.alloc(), EDITS)?.copy()?;
     answers(&rt, rt.alloc(), &copied, BRITAIN)
+}
+
+#[test]
+fn borrowed_queries_are_answered_alike(rt: HostRuntime) -> Result<(), Fail> {
+    let register = folded(rt.alloc(), EDITS)?;
+    answers_by(&rt, rt.alloc(), &register, BRITAIN, true)
 }
 
 #[test]

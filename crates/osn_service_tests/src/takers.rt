@@ -2,8 +2,10 @@
 ghost use Rattle.std.specs.Prelude.{⊤};
 
 use crate::compare::same;
-use osn_lines::{Interrupted, Line, LineTaker, Plain, TakeFault, take_lines};
-use std::alloc::Global;
+use osn_lines::{
+    Interrupted, LONGEST_LINE, Line, LineTaker, Plain, TakeFault, read_buffer, take_lines,
+};
+use std::alloc::{AllocError, Global};
 use std::process::Abort;
 
 /// Why it stops.
@@ -97,4 +99,10 @@ fn take_up_to(rt: &impl Abort, alloc: Global, rows: &[(&[u8], u32, End, u64)]) {
 #[test]
 fn a_taker_stops(rt: HostRuntime) {
     take_up_to(&rt, rt.alloc(), &ENDS);
+}
+
+#[test]
+fn a_read_takes_as_many_bytes_as_a_line_may_have(rt: HostRuntime) -> Result<(), AllocError> {
+    same(&rt, read_buffer(rt.alloc())?.len(), LONGEST_LINE);
+    Ok(())
 }

@@ -2,12 +2,14 @@
 ghost use Rattle.std.specs.Prelude.{◌≡◌, true, None, IfOk, OnErr, ◌<◌, length, map};
 ghost use Rattle.osn_days.specs.Profile.{first_rules, newest_rules};
 ghost use Rattle.osn_register.specs.Answer as spec;
+ghost use Rattle.osn_register.specs.BorrowedQuery.{as_query};
 ghost use Rattle.osn_register.specs.Kept.{KeepsAnswer};
 ghost use Rattle.osn_register.specs.Refusal.{IsTestOf};
 ghost use Rattle.osn_register.specs.Plain.{code_refusal};
 ghost use Rattle.osn_register.specs.InsideQuery.{IsAnswered};
 
 use crate::answer::{Answer, Land};
+use crate::borrowed_query::BorrowedQuery;
 use crate::figures::figures;
 use crate::listing::Listing;
 use crate::query::Query;
@@ -46,6 +48,24 @@ impl Register {
         // as a law: where the first rules have the year or the day, it keeps what they answer
         ensures kept { IfOk result (KeepsAnswer first_rules self.now.lands query.now) }
     {
+        self.answer_borrowed(query.borrowed())
+    }
+
+    /// What `answer` says to the query that this one stands for.
+    ///
+    /// # Errors
+    ///
+    /// As for `answer`.
+    pub fn answer_borrowed(&self, query: BorrowedQuery<'_>) -> Result<Answer, AllocError>
+        ensures value { IfOk result
+            (λ a. a ≡ spec.answer newest_rules self.now.lands (as_query query.entry)) }
+        ensures refused { IfOk result (λ a. spec.refusal_in a
+            ≡ spec.query_refusal newest_rules self.now.lands (as_query query.entry)) }
+        ensures memory { OnErr result (spec.takes_memory
+            (spec.answer newest_rules self.now.lands (as_query query.entry)) ≡ true) }
+        ensures kept { IfOk result
+            (KeepsAnswer first_rules self.now.lands (as_query query.entry)) }
+    {
         match self.lawful_answer(query) {
             Ok(answer) => Ok(answer),
             Err(Unanswered::Refused(refusal)) => Ok(Answer::Refused(refusal)),
@@ -80,23 +100,18 @@ impl Register {
         Ok(())
     }
 
-    fn lawful_answer(&self, query: &Query) -> Result<Answer, Unanswered>
+    fn lawful_answer(&self, query: BorrowedQuery<'_>) -> Result<Answer, Unanswered>
         ensures { IsAnswered
-            (spec.query_refusal newest_rules self.now.lands query.now)
-            (spec.answer newest_rules self.now.lands query.now) result }
+            (spec.query_refusal newest_rules self.now.lands (as_query query.entry))
+            (spec.answer newest_rules self.now.lands (as_query query.entry)) result }
     {
         match query {
-            Query::Read {
-                code,
-                year,
-                month,
-                day,
-            } => self.read(code.as_str(), *year, *month, *day),
-            Query::DayIn { code, day } => self.day_in(code.as_str(), *day),
-            Query::Easter { code, year } => self.easter(code.as_str(), *year),
-            Query::YearFigures { year } => Ok(figures(year_in_range(*year)?)),
-            Query::Lands => Ok(Answer::Lands(Listing::new(self.listed()?))),
-            Query::Periods { code } => self.periods(code.as_str()),
+            BorrowedQuery::Read(code, year, month, day) => self.read(code, year, month, day),
+            BorrowedQuery::DayIn(code, day) => self.day_in(code, day),
+            BorrowedQuery::Easter(code, year) => self.easter(code, year),
+            BorrowedQuery::YearFigures(year) => Ok(figures(year_in_range(year)?)),
+            BorrowedQuery::Lands => Ok(Answer::Lands(Listing::new(self.listed()?))),
+            BorrowedQuery::Periods(code) => self.periods(code),
         }
     }
 

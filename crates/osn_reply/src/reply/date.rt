@@ -1,65 +1,55 @@
 //! A date in a reply.
 ghost use Rattle.std.specs.Prelude.{◌≡◌, ◌++◌, OnOk};
-ghost use Rattle.serde_json.specs.Data.{string};
+ghost use Rattle.json.specs.Print.{quoted};
 ghost use Rattle.osn_days.specs.Chain as chain;
 ghost use Rattle.osn_days.specs.DateText as spec;
-ghost use Rattle.osn_format.specs.Json.{member_tokens};
 
-use json::Writer;
+use crate::line_writer::LineWriter;
 use osn_days::{Calendar, Day, date_digits, date_of, date_text};
-use osn_format::write_text;
 use osn_lands::Label;
-use std::alloc::{AllocError, Global};
-use std::str;
+use std::alloc::AllocError;
 
-/// Writes a member that is a date.
+/// Writes what stands before a date, and the date.
 fn write_date(
-    alloc: Global,
-    out: &mut Writer,
-    name: &str,
+    out: &mut LineWriter,
+    front: &str,
     year: i32,
     month: u8,
     day: u8,
 ) -> Result<(), AllocError>
-    ensures tokens { OnOk result (out.new.tokens
-        ≡ out.old.tokens ++ member_tokens name.now (string (spec.date_text year month day))) }
+    ensures text { OnOk result (out.new.text
+        ≡ out.old.text ++ (front.now ++ quoted (spec.date_text year month day))) }
     ensures before { out.new.before ≡ out.old.before }
 {
     let years = year.unsigned_abs();
     if years < 10_000 && month < 100 && day < 100 {
-        let digits = date_digits(years, u32::from(month), u32::from(day));
-        return write_text(out, name, unsafe { str::from_utf8_unchecked(&digits) });
+        out.push(front)?;
+        return out.push_plain(&date_digits(years, u32::from(month), u32::from(day)));
     }
-    let date = date_text(alloc, year, month, day)?;
-    write_text(out, name, date.as_str())
+    let date = date_text(out.alloc(), year, month, day)?;
+    out.push_text(front, date.as_str())
 }
 
-/// Writes a member that is the date of a day in a calendar.
+/// Writes what stands before the date of a day in a calendar, and the date.
 pub(crate) fn write_date_of(
-    alloc: Global,
-    out: &mut Writer,
-    name: &str,
+    out: &mut LineWriter,
+    front: &str,
     calendar: Calendar,
     day: Day,
 ) -> Result<(), AllocError>
-    ensures tokens { OnOk result (out.new.tokens ≡ out.old.tokens
-        ++ member_tokens name.now (string (spec.text_of_date (chain.date_of calendar day)))) }
+    ensures text { OnOk result (out.new.text ≡ out.old.text
+        ++ (front.now ++ quoted (spec.text_of_date (chain.date_of calendar day)))) }
     ensures before { out.new.before ≡ out.old.before }
 {
     let date = date_of(calendar, day);
-    write_date(alloc, out, name, date.year, date.month, date.day)
+    write_date(out, front, date.year, date.month, date.day)
 }
 
-/// Writes a member that is a label, as a date.
-pub(crate) fn write_label(
-    alloc: Global,
-    out: &mut Writer,
-    name: &str,
-    label: Label,
-) -> Result<(), AllocError>
-    ensures tokens { OnOk result (out.new.tokens ≡ out.old.tokens
-        ++ member_tokens name.now (string (spec.date_text label.year label.month label.day))) }
+/// Writes what stands before a label, and the label as a date.
+pub(crate) fn write_label(out: &mut LineWriter, front: &str, label: Label) -> Result<(), AllocError>
+    ensures text { OnOk result (out.new.text ≡ out.old.text
+        ++ (front.now ++ quoted (spec.date_text label.year label.month label.day))) }
     ensures before { out.new.before ≡ out.old.before }
 {
-    write_date(alloc, out, name, label.year, label.month, label.day)
+    write_date(out, front, label.year, label.month, label.day)
 }

@@ -1,23 +1,20 @@
 //! The figures of a year in a reply.
-ghost use Rattle.std.specs.Prelude.{◌≡◌, [], ◌∷◌, ◌++◌, codes, OnOk};
-ghost use Rattle.json.specs.Token.{end_object};
 ghost use Rattle.serde_json.specs.Data.{string};
-ghost use Rattle.osn_computus.specs.FigureTexts.{epact_text, letters_text};
+ghost use Rattle.osn_computus.specs.FigureTexts.{epact_text};
 ghost use Rattle.osn_reply.specs.ReplyText as spec;
-ghost use Rattle.osn_format.specs.Json.{whole, member_tokens};
+ghost use Rattle.osn_format.specs.Json.{whole};
 
+use crate::line_writer::LineWriter;
 use crate::reply::write_json::{WriteJson, write_member};
-use json::Writer;
 use osn_computus::{Epact, Letters, epact_text, letters_text};
 use osn_days::Day;
-use osn_format::{write_number, write_text};
-use std::alloc::{AllocError, Global};
+use std::alloc::AllocError;
 
 impl WriteJson for u8 {
     ghost shown = { whole };
 
-    fn write_json(&self, _alloc: Global, out: &mut Writer) -> Result<(), AllocError> {
-        out.u64(u64::from(*self))
+    fn write_json(&self, out: &mut LineWriter) -> Result<(), AllocError> {
+        out.push_number("", u32::from(*self))
     }
 }
 
@@ -25,21 +22,10 @@ impl WriteJson for u8 {
 impl WriteJson for Epact {
     ghost shown = { λ e. string (epact_text e) };
 
-    fn write_json(&self, alloc: Global, out: &mut Writer) -> Result<(), AllocError> {
-        let text = epact_text(alloc, *self)?;
-        out.string(text.as_str())
+    fn write_json(&self, out: &mut LineWriter) -> Result<(), AllocError> {
+        let text = epact_text(out.alloc(), *self)?;
+        out.push_text("", text.as_str())
     }
-}
-
-/// Ends an object with the letters of a year.
-fn end_with_letters(alloc: Global, out: &mut Writer, letters: Letters) -> Result<(), AllocError>
-    ensures tokens { OnOk result (out.new.tokens ≡ out.old.tokens
-        ++ (member_tokens (codes "letters") (string (letters_text letters)) ++ end_object ∷ [])) }
-    ensures before { out.new.before ≡ out.old.before }
-{
-    let text = letters_text(alloc, letters)?;
-    write_text(out, "letters", text.as_str())?;
-    out.end_object()
 }
 
 /// The figures of a year by one rule, with the epact of its reckoning.
@@ -53,10 +39,11 @@ pub(crate) struct Reckoning<E> {
 impl<E: WriteJson> WriteJson for Reckoning<E> {
     ghost shown = { λ r. spec.reckoning_data r.easter (E.shown r.epact) r.letters };
 
-    fn write_json(&self, alloc: Global, out: &mut Writer) -> Result<(), AllocError> {
-        out.begin_object()?;
-        write_number(out, "easter", self.easter.number())?;
-        write_member(alloc, out, "epact", &self.epact)?;
-        end_with_letters(alloc, out, self.letters)
+    fn write_json(&self, out: &mut LineWriter) -> Result<(), AllocError> {
+        out.push_number(r#"{"easter":"#, self.easter.number())?;
+        write_member(out, r#","epact":"#, &self.epact)?;
+        let letters = letters_text(out.alloc(), self.letters)?;
+        out.push_text(r#","letters":"#, letters.as_str())?;
+        out.push("}")
     }
 }

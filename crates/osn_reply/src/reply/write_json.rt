@@ -1,62 +1,82 @@
-//! How the values of a reply are written as JSON: each by its tokens, one behind another.
+//! How the values of a reply are written as JSON: the text of each behind what is written.
 ghost use Rattle.std.specs.Prelude.{◌≡◌, ◌++◌, OnOk, map};
-ghost use Rattle.serde_json.specs.Data.{Data};
-ghost use Rattle.osn_format.specs.Json.{whole, list_data, value_tokens, member_tokens};
+ghost use Rattle.serde_json.specs.Data.{Data, boolean};
+ghost use Rattle.serde_json.specs.Written.{compact_text, comma_if};
+ghost use Rattle.osn_format.specs.Json.{whole, list_data};
 
-use json::Writer;
+use crate::line_writer::LineWriter;
 use osn_days::Day;
-use std::alloc::{AllocError, Global};
+use std::alloc::AllocError;
 
 /// A value that a reply shows.
 pub(crate) trait WriteJson {
     // The value as JSON.
     ghost shown: { Self → Data };
 
-    /// Writes the value behind what is written.
-    fn write_json(&self, alloc: Global, out: &mut Writer) -> Result<(), AllocError>
-        ensures tokens { OnOk result (out.new.tokens
-            ≡ out.old.tokens ++ value_tokens (shown self.now)) }
+    /// Writes the value's text behind what is written.
+    fn write_json(&self, out: &mut LineWriter) -> Result<(), AllocError>
+        ensures text { OnOk result (out.new.text
+            ≡ out.old.text ++ compact_text (shown self.now)) }
         ensures before { out.new.before ≡ out.old.before };
 }
 
 impl WriteJson for Day {
     ghost shown = { whole };
 
-    fn write_json(&self, _alloc: Global, out: &mut Writer) -> Result<(), AllocError> {
-        out.u64(u64::from(self.number()))
+    fn write_json(&self, out: &mut LineWriter) -> Result<(), AllocError> {
+        out.push_number("", self.number())
     }
 }
 
-/// Writes a member that is such a value.
+/// Writes what stands before such a value, and the value.
 pub(crate) fn write_member<J: WriteJson>(
-    alloc: Global,
-    out: &mut Writer,
-    name: &str,
+    out: &mut LineWriter,
+    front: &str,
     value: &J,
 ) -> Result<(), AllocError>
-    ensures tokens { OnOk result (out.new.tokens
-        ≡ out.old.tokens ++ member_tokens name.now (J.shown value.now)) }
+    ensures text { OnOk result (out.new.text
+        ≡ out.old.text ++ (front.now ++ compact_text (J.shown value.now))) }
     ensures before { out.new.before ≡ out.old.before }
 {
-    out.key(name)?;
-    value.write_json(alloc, out)
+    out.push(front)?;
+    value.write_json(out)
 }
 
-/// Writes a member that is a list of such values.
-pub(crate) fn write_list<J: WriteJson>(
-    alloc: Global,
-    out: &mut Writer,
-    name: &str,
-    values: &[J],
-) -> Result<(), AllocError>
-    ensures tokens { OnOk result (out.new.tokens
-        ≡ out.old.tokens ++ member_tokens name.now (list_data (map J.shown values.now))) }
+/// Writes what stands before true or false, and which it is.
+pub(crate) fn write_flag(out: &mut LineWriter, front: &str, flag: bool) -> Result<(), AllocError>
+    ensures text { OnOk result (out.new.text
+        ≡ out.old.text ++ (front.now ++ compact_text (boolean flag))) }
     ensures before { out.new.before ≡ out.old.before }
 {
-    out.key(name)?;
-    out.begin_array()?;
+    out.push(front)?;
+    out.push(if flag { "true" } else { "false" })
+}
+
+/// Writes the comma that stands before a later item of a list.
+fn write_comma(out: &mut LineWriter, later: bool) -> Result<(), AllocError>
+    ensures text { OnOk result (out.new.text ≡ out.old.text ++ comma_if later) }
+    ensures before { out.new.before ≡ out.old.before }
+{
+    if later { out.push(",") } else { Ok(()) }
+}
+
+/// Writes what stands before a list of such values, and the list.
+pub(crate) fn write_list<J: WriteJson>(
+    out: &mut LineWriter,
+    front: &str,
+    values: &[J],
+) -> Result<(), AllocError>
+    ensures text { OnOk result (out.new.text
+        ≡ out.old.text ++ (front.now ++ compact_text (list_data (map J.shown values.now)))) }
+    ensures before { out.new.before ≡ out.old.before }
+{
+    out.push(front)?;
+    out.push("[")?;
+    let mut later = false;
     for item in values {
-        item.write_json(alloc, out)?;
+        write_comma(out, later)?;
+        item.write_json(out)?;
+        later = true;
     }
-    out.end_array()
+    out.push("]")
 }

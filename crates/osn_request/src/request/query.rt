@@ -1,16 +1,17 @@
 //! The query of a line's object. The questions of a desk, a schedule and a transcript read theirs
 //! by the same call.
-ghost use Rattle.std.specs.Prelude.{◌≡◌, ◌≤◌, true, IfOk, IfErr};
+ghost use Rattle.std.specs.Prelude.{◌≡◌, ◌≤◌, true, Ok, Err, MatchResult, IfOk, IfErr};
+ghost use Rattle.osn_register.specs.BorrowedQuery.{as_query};
 ghost use Rattle.osn_request.specs.declared.request.RequestError.TheVariants.{NoMemory};
 ghost use Rattle.osn_request.specs.QueryRequest as spec;
-ghost use Rattle.osn_request.specs.Request.{Gives, GivesLast};
+ghost use Rattle.osn_request.specs.Request.{Gives};
 
 use crate::request::RequestError;
 use crate::request::field::{text_at, whole_at};
 use crate::request::json_object::JsonObject;
 use crate::request::op::QueryOp;
 use osn_format::{Member, WireFault};
-use osn_register::{Query, Text};
+use osn_register::{BorrowedQuery, Query};
 use std::alloc::Global;
 
 /// The reader of a number, where there are so many readers, who are counted from 1.
@@ -28,72 +29,82 @@ pub fn reader_in(readers: u32, reader: i64) -> Result<u32, WireFault>
 }
 
 #[tactic(auto, unfolding(crate::specs::QueryRequest::read_of))]
-fn read_of<O: JsonObject>(alloc: Global, object: &O) -> Result<Query, RequestError>
-    ensures { GivesLast result (spec.read_of (O.value object.now)) }
+fn read_of<O: JsonObject>(object: &O) -> Result<BorrowedQuery<'_>, WireFault>
+    ensures { spec.Reads result (spec.read_of (O.value object.now)) }
 {
     let code = text_at(object, Member::Code)?;
     let year = whole_at(object, Member::Year)?;
     let month = whole_at(object, Member::Month)?;
     let day = whole_at(object, Member::Day)?;
-    let code = Text::from_str(alloc, code)?;
-    Ok(Query::Read {
-        code,
-        year,
-        month,
-        day,
-    })
+    Ok(BorrowedQuery::Read(code, year, month, day))
 }
 
 #[tactic(auto, unfolding(crate::specs::QueryRequest::day_in_of))]
-fn day_in_of<O: JsonObject>(alloc: Global, object: &O) -> Result<Query, RequestError>
-    ensures { GivesLast result (spec.day_in_of (O.value object.now)) }
+fn day_in_of<O: JsonObject>(object: &O) -> Result<BorrowedQuery<'_>, WireFault>
+    ensures { spec.Reads result (spec.day_in_of (O.value object.now)) }
 {
     let code = text_at(object, Member::Code)?;
     let day = whole_at(object, Member::Day)?;
-    let code = Text::from_str(alloc, code)?;
-    Ok(Query::DayIn { code, day })
+    Ok(BorrowedQuery::DayIn(code, day))
 }
 
 #[tactic(auto, unfolding(crate::specs::QueryRequest::easter_of))]
-fn easter_of<O: JsonObject>(alloc: Global, object: &O) -> Result<Query, RequestError>
-    ensures { GivesLast result (spec.easter_of (O.value object.now)) }
+fn easter_of<O: JsonObject>(object: &O) -> Result<BorrowedQuery<'_>, WireFault>
+    ensures { spec.Reads result (spec.easter_of (O.value object.now)) }
 {
     let code = text_at(object, Member::Code)?;
     let year = whole_at(object, Member::Year)?;
-    let code = Text::from_str(alloc, code)?;
-    Ok(Query::Easter { code, year })
+    Ok(BorrowedQuery::Easter(code, year))
 }
 
 #[tactic(auto, unfolding(crate::specs::QueryRequest::periods_of))]
-fn periods_of<O: JsonObject>(alloc: Global, object: &O) -> Result<Query, RequestError>
-    ensures { GivesLast result (spec.periods_of (O.value object.now)) }
+fn periods_of<O: JsonObject>(object: &O) -> Result<BorrowedQuery<'_>, WireFault>
+    ensures { spec.Reads result (spec.periods_of (O.value object.now)) }
 {
     let code = text_at(object, Member::Code)?;
-    let code = Text::from_str(alloc, code)?;
-    Ok(Query::Periods { code })
+    Ok(BorrowedQuery::Periods(code))
 }
 
 #[tactic(auto, unfolding(crate::specs::QueryRequest::year_figures_of))]
-fn year_figures_of<O: JsonObject>(object: &O) -> Result<Query, WireFault>
-    ensures { result ≡ spec.year_figures_of (O.value object.now) }
+fn year_figures_of<O: JsonObject>(object: &O) -> Result<BorrowedQuery<'_>, WireFault>
+    ensures { spec.Reads result (spec.year_figures_of (O.value object.now)) }
 {
     let year = whole_at(object, Member::Year)?;
-    Ok(Query::YearFigures { year })
+    Ok(BorrowedQuery::YearFigures(year))
 }
 
 /// The query of a line's object by itself, without the reader who asks it.
-fn query_by<O: JsonObject>(alloc: Global, op: QueryOp, object: &O) -> Result<Query, RequestError>
-    ensures query { GivesLast result (spec.query_by op (O.value object.now)) }
-    ensures memory { IfErr result (λ e. e ≡ NoMemory → spec.has_code op ≡ true) }
+fn query_by<O: JsonObject>(op: QueryOp, object: &O) -> Result<BorrowedQuery<'_>, WireFault>
+    ensures { spec.Reads result (spec.query_by op (O.value object.now)) }
 {
     match op {
-        QueryOp::Read => read_of(alloc, object),
-        QueryOp::DayIn => day_in_of(alloc, object),
-        QueryOp::Easter => easter_of(alloc, object),
-        QueryOp::YearFigures => Ok(year_figures_of(object)?),
-        QueryOp::Lands => Ok(Query::Lands),
-        QueryOp::Periods => periods_of(alloc, object),
+        QueryOp::Read => read_of(object),
+        QueryOp::DayIn => day_in_of(object),
+        QueryOp::Easter => easter_of(object),
+        QueryOp::YearFigures => year_figures_of(object),
+        QueryOp::Lands => Ok(BorrowedQuery::Lands),
+        QueryOp::Periods => periods_of(object),
     }
+}
+
+/// The number of the reader who asks, and the query of a line's object, whose code stays where it
+/// is in the object.
+#[tactic(auto, unfolding(crate::specs::QueryRequest::query_of))]
+pub(crate) fn borrowed_query_of<O: JsonObject>(
+    readers: u32,
+    op: QueryOp,
+    object: &O,
+) -> Result<(u32, BorrowedQuery<'_>), WireFault>
+    ensures query { MatchResult result
+        (λ asked. spec.query_of readers op (O.value object.now)
+        ≡ Ok (asked.0, as_query asked.1))
+        (λ f. spec.query_of readers op (O.value object.now) ≡ Err f) }
+    ensures among { IfOk result (λ asked. (1 ≤ asked.0) × (asked.0 ≤ readers)) }
+{
+    let reader = whole_at(object, Member::Reader)?;
+    let query = query_by(op, object)?;
+    let reader = reader_in(readers, reader)?;
+    Ok((reader, query))
 }
 
 /// The number of the reader who asks, and the query of a line's object, where there are so many
@@ -101,7 +112,6 @@ fn query_by<O: JsonObject>(alloc: Global, op: QueryOp, object: &O) -> Result<Que
 ///
 /// # Errors
 /// Memory is taken for the code of a query that has one.
-#[tactic(auto, unfolding(crate::specs::QueryRequest::query_of))]
 pub fn query_of<O: JsonObject>(
     alloc: Global,
     readers: u32,
@@ -112,8 +122,6 @@ pub fn query_of<O: JsonObject>(
     ensures among { IfOk result (λ asked. (1 ≤ asked.0) × (asked.0 ≤ readers)) }
     ensures memory { IfErr result (λ e. e ≡ NoMemory → spec.has_code op ≡ true) }
 {
-    let reader = whole_at(object, Member::Reader)?;
-    let query = query_by(alloc, op, object)?;
-    let reader = reader_in(readers, reader)?;
-    Ok((reader, query))
+    let (reader, query) = borrowed_query_of(readers, op, object)?;
+    Ok((reader, query.to_query(alloc)?))
 }

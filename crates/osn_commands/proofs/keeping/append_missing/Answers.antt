@@ -1,7 +1,7 @@
 use Rattle.std.proofs.Common.{◌∙◌, inl, inr, refl}
 use Rattle.osn_commands.proofs.FileLemmas.{if_err_made}
-use Rattle.osn_commands.proofs.KeepingLemmas.{completed, completed_in_part, completed_by_none}
-use Rattle.osn_commands.proofs.KeepingLemmas.{completed_by_all}
+use Rattle.osn_commands.proofs.KeptFileLemmas.{completed, completed_in_part, completed_by_none}
+use Rattle.osn_commands.proofs.KeptFileLemmas.{completed_by_all}
 use Rattle.osn_commands.proofs.keeping.append_missing.Goals as goal
 
 pub returns-in_err-text-clause-err : goal.returns-in_err-text-clause-err

@@ -1,6 +1,6 @@
 use Rattle.std.proofs.Common.{◌+◌, ◌∙◌, Some, None, refl}
 use Rattle.std.proofs.lemmas.Result.{on_ok_weaker}
-use Rattle.osn_commands.proofs.KeepingLemmas.{all_left, unfinished_cut}
+use Rattle.osn_commands.proofs.KeptFileLemmas.{all_left, unfinished_cut}
 use Rattle.osn_commands.proofs.keeping.cut_unfinished.Goals as goal
 
 pub returns-in-Ended-clause-ok : goal.returns-in-Ended-clause-ok

@@ -1,6 +1,6 @@
 use Rattle.std.proofs.Common.{rules}
 use Rattle.std.proofs.lemmas.Result.{IfOk-weaker}
-use Rattle.osn_commands.proofs.KeepingLemmas.{head_missing, head_not_missing}
+use Rattle.osn_commands.proofs.KeptFileLemmas.{head_missing, head_not_missing}
 use Rattle.osn_commands.proofs.keeping.missing_head.Goals as goal
 
 pub returns-then-part-eq0 : goal.returns-then-part-eq0

@@ -1,19 +1,36 @@
-use Rattle.std.proofs.Common.{◌≡◌, IfOk, string_bytes, subst, sym, rules}
+use Rattle.std.proofs.Common.{◌≡◌, ◌++◌, ◌∙◌, refl, string_bytes, subst, sym, rules, codes, pos}
+use Rattle.std.proofs.Common.{append_assoc}
+use Rattle.std.specs.Fmt.{decimal}
+use Rattle.osn_days.specs.Profile.{newest_rules}
+use Rattle.osn_lands.specs.Dual as dual
 use Rattle.osn_lands.proofs.KeptFacts.{kept_text}
 use Rattle.osn_lands.proofs.dual.dual_text.Goals as goal
 
-pub returns-then-year-date-clause-value : goal.returns-then-year-date-clause-value
-returns-then-year-date-clause-value c = search rules
+pub returns-clause-value : goal.returns-clause-value
+returns-clause-value c =
+    let date = c.date_and_year-year.result.0 in
+    let year = c.date_and_year-year.result.1 in
+    let style_year : pos c.unsigned_abs.result ≡ year = search rules in
+    let counted : pos c.unsigned_abs-2.result ≡ date.year = search rules in
+    let day = decimal date.day in
+    let name = c.month_name.result.now in
+    let years = codes " " ++ dual.year_text year date.year in
+    let written : string_bytes c.push_year.new.text ≡ ((day ++ codes " ") ++ name) ++ years =
+    search rules
+    in
+    let text : dual.date_text year date ≡ dual.dual_text newest_rules c.args.regime c.args.day =
+    rw (c.date_and_year-year.ensures.year, c.date_and_year-year.ensures.date) refl
+    in
+    let whole : day ++ (codes " " ++ (name ++ years)) ≡ dual.date_text year date =
+    rw c.month_name.ensures refl
+    in
+    written
+    ∙ append_assoc (day ++ codes " ") name years
+    ∙ append_assoc day (codes " ") (name ++ years)
+    ∙ whole
+    ∙ text
 
-pub returns-else-year-date-clause-value : goal.returns-else-year-date-clause-value
-returns-else-year-date-clause-value c = search rules
-
-pub returns-then-year-date-clause-kept : goal.returns-then-year-date-clause-kept
-returns-then-year-date-clause-kept c until =
-    subst (λ text. IfOk c.format.result (λ s. string_bytes s ≡ text))
-    (sym (kept_text c.args.regime c.args.day until)) (returns-then-year-date-clause-value c)
-
-pub returns-else-year-date-clause-kept : goal.returns-else-year-date-clause-kept
-returns-else-year-date-clause-kept c until =
-    subst (λ text. IfOk c.format-else-year-date.result (λ s. string_bytes s ≡ text))
-    (sym (kept_text c.args.regime c.args.day until)) (returns-else-year-date-clause-value c)
+pub returns-clause-kept : goal.returns-clause-kept
+returns-clause-kept c until =
+    subst (λ text. string_bytes c.push_year.new.text ≡ text)
+    (sym (kept_text c.args.regime c.args.day until)) (returns-clause-value c)

@@ -1,6 +1,6 @@
 use Rattle.std.proofs.Common.{◌≤◌, length, sym, subst}
 use Rattle.osn_days.specs.Profile.{newest_rules}
-use Rattle.osn_lands.proofs.LabelFacts.{two_days_of_label}
+use Rattle.osn_lands.proofs.TwoDaysFacts.{two_days_of_label}
 use Rattle.osn_lands.proofs.label.day_of_label.Goals as goal
 
 pub pair-requires : goal.pair-requires

@@ -1,13 +1,18 @@
-use Rattle.std.proofs.Common.{append_assoc}
+use Rattle.std.proofs.Common.{[], ◌∷◌, codes, decimal}
+use Rattle.json.specs.Print.{escape_byte}
 use Rattle.osn_format.proofs.WriteLemmas.{at_last}
+use Rattle.osn_reply.proofs.LineLemmas.{chain}
 use Rattle.osn_reply.proofs.reply.write_published.Goals as goal
 
-pub returns-clause-tokens : goal.returns-clause-tokens
-returns-clause-tokens c =
-    at_last c.end_object.result c.end_object.ensures.ok
+pub returns-clause-text : goal.returns-clause-text
+unfolding escape_byte
+returns-clause-text c =
+    at_last c.push.result c.push.ensures.text
     (λ e. rw (
       e,
-      c.in_ok-write_text.ensures.tokens,
-      c.in_ok-write_number.ensures.tokens,
-      c.in_ok-begin_object.ensures.ok,
-    ) (simp append_assoc))
+      c.in_ok-push_number.ensures.text,
+    )
+    (chain c.args.out.now.text
+    ((codes "{\"edition\":", decimal c.args.edition)
+    ∷ [])
+    (codes ",\"ok\":\"published\"}")))

@@ -3,7 +3,7 @@ use Rattle.std.proofs.lemmas.List.{length-set}
 use Rattle.std.proofs.lemmas.List.Elements.{All-set, All-get_or}
 use Rattle.osn_audit.specs.declared.follower.Follower.{Follower}
 use Rattle.osn_audit.specs.InsideFollower.{IsAt}
-use Rattle.osn_audit.proofs.FollowLemmas.{IsAt-first, goes_on, last_set}
+use Rattle.osn_audit.proofs.FollowLemmas.{IsAt-first, goes_on, batches_lawful, last_set}
 use Rattle.osn_audit.proofs.followers.Followers.ask.Goals as goal
 
 pub invariant_of-self-in_err-answer : goal.invariant_of-self-in_err-answer
@@ -18,6 +18,18 @@ invariant_of-self-in_err-answer c =
           c.new-none.ensures.register))
           c.self.invariant.each;
     }
+
+pub at-requires-clause-lawful : goal.at-requires-clause-lawful
+at-requires-clause-lawful c =
+    let s = c.self.inside in
+    let is_at = IsAt s.object.limits s.object.batches in
+    let was : is_at c.replace-before.result =
+    subst is_at (sym (c.replace-before.ensures.value ∙ c.index_mut.ensures.value))
+    (All-get_or is_at s.places.items _ _
+    (omega (arith, c.self.invariant.count, c.requires.counted, c.requires.known))
+    c.self.invariant.each) in
+    batches_lawful s.object c.replace-before.result.register.limits c.batches.result.now
+    c.batches.ensures.sound was.same c.batches.ensures.value
 
 pub invariant_of-self-2 : goal.invariant_of-self-2
 invariant_of-self-2 c =
@@ -37,8 +49,9 @@ invariant_of-self-2 c =
       count = length-set (set s.places.items _ _) _ _
           ∙ (length-set s.places.items _ _ ∙ c.self.invariant.count);
       each = All-set is_at (set s.places.items _ _) _ _
-          (goes_on s.object.limits c.batches.result.now s.object.batches c.replace-before.result
-          c.in_ok-follower.follower c.batches.ensures.value c.in_ok-follower.ensures.register was)
+          (goes_on s.object.limits c.replace-before.result.register.limits c.batches.result.now
+          s.object.batches c.in_ok-follower.follower was.same c.batches.ensures.value
+          c.in_ok-follower.ensures.register)
           (All-set is_at s.places.items _ _ first c.self.invariant.each);
     }
 

@@ -4,7 +4,7 @@ use Rattle.osn_computus.specs.FigureTexts.{epact_text}
 use Rattle.osn_format.specs.Json.{whole}
 use Rattle.osn_reply.specs.ReplyText as spec
 use Rattle.osn_format.proofs.WriteLemmas.{at_last}
-use Rattle.osn_reply.proofs.ToldLemmas.{told}
+use Rattle.osn_reply.proofs.LineLemmas.{told}
 use Rattle.osn_reply.proofs.reply.answer.write_reply.Goals as goal
 
 -- what holds of a result that is good
@@ -13,28 +13,28 @@ given : {T E P : Type 0} (begun : Result T E) (x : T) (r : Result T E)
 given begun x (Ok y) was is h = h
 given begun x (Err e) was is h = let none : Err e ≡ Ok x = sym is ∙ was in cc
 
-pub returns-clause-tokens : goal.returns-clause-tokens
-returns-clause-tokens c =
+pub returns-clause-text : goal.returns-clause-text
+returns-clause-text c =
     let reply =
-    told c.args.out.now.tokens c.match-reply.out.tokens c.end_reply.new.out.tokens c.args.reader
+    told c.args.out.now.text c.match-reply.out.text c.end_reply.new.out.text c.args.reader
     c.args.reply.now.edition in
-    at_last c.end_reply.result c.end_reply.ensures.tokens
+    at_last c.end_reply.result c.end_reply.ensures.text
     (λ e. elim c.match-reply.branch [
       | goal.in-Reading w ↦
           rw w.in-Reading.is (reply _ _
           (ap (λ l. spec.reading_data l w.as_slice-in-Reading.result.now) w.as_slice.ensures
           ∙ ap (λ l. spec.reading_data w.in-Reading.found l) w.as_slice-in-Reading.ensures)
-          (ap (λ v. v.tokens) w.out-is
-          ∙ given _ _ _ c.in_ok-begun.was w.begun-is w.write_reading-begun.ensures.tokens) e)
+          (ap (λ v. v.text) w.out-is
+          ∙ given _ _ _ c.in_ok-begun.was w.begun-is w.write_reading-begun.ensures.text) e)
       | goal.in-OnDay w ↦
           rw w.in-OnDay.is (reply _ (spec.on_day_data w.in-OnDay.found w.in-OnDay.period) refl
-          (ap (λ v. v.tokens) w.out-is
-          ∙ given _ _ _ c.in_ok-begun.was w.begun-is w.write_on_day-begun.ensures.tokens) e)
+          (ap (λ v. v.text) w.out-is
+          ∙ given _ _ _ c.in_ok-begun.was w.begun-is w.write_on_day-begun.ensures.text) e)
       | goal.in-Easters w ↦
           rw w.in-Easters.is (reply _ _
           (ap (λ l. spec.easters_data l w.in-Easters.listed) w.as_slice-in-Easters.ensures)
-          (ap (λ v. v.tokens) w.out-is
-          ∙ given _ _ _ c.in_ok-begun.was w.begun-is w.write_easters-begun.ensures.tokens) e)
+          (ap (λ v. v.text) w.out-is
+          ∙ given _ _ _ c.in_ok-begun.was w.begun-is w.write_easters-begun.ensures.text) e)
       | goal.in-Figures w ↦
           let f = w.in-Figures in
           let gregorian =
@@ -43,15 +43,15 @@ returns-clause-tokens c =
           let julian =
           spec.reckoning_data f.julian_easter (whole f.julian_epact) f.julian_letters in
           rw f.is (reply _ (spec.figures_data f.year f.golden f.indiction gregorian julian) refl
-          (ap (λ v. v.tokens) w.out-is
-          ∙ given _ _ _ c.in_ok-begun.was w.begun-is w.write_figures-begun.ensures.tokens) e)
+          (ap (λ v. v.text) w.out-is
+          ∙ given _ _ _ c.in_ok-begun.was w.begun-is w.write_figures-begun.ensures.text) e)
       | goal.in-Lands w ↦
           rw w.in-Lands.is (reply _ _ (ap (λ l. spec.lands_data l) w.as_slice-in-Lands.ensures)
-          (ap (λ v. v.tokens) w.out-is
-          ∙ given _ _ _ c.in_ok-begun.was w.begun-is w.write_lands-begun.ensures.tokens) e)
+          (ap (λ v. v.text) w.out-is
+          ∙ given _ _ _ c.in_ok-begun.was w.begun-is w.write_lands-begun.ensures.text) e)
       | goal.in-Periods w ↦
           rw w.in-Periods.is (reply _ _
           (ap (λ l. spec.periods_data l) w.as_slice-in-Periods.ensures)
-          (ap (λ v. v.tokens) w.out-is
-          ∙ given _ _ _ c.in_ok-begun.was w.begun-is w.write_periods-begun.ensures.tokens) e)
+          (ap (λ v. v.text) w.out-is
+          ∙ given _ _ _ c.in_ok-begun.was w.begun-is w.write_periods-begun.ensures.text) e)
     ])

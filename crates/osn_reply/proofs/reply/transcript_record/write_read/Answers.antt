@@ -1,19 +1,37 @@
-use Rattle.std.proofs.Common.{◌≡◌, append_assoc, rules, to_z, of_z, w64}
+use Rattle.std.proofs.Common.{[], ◌∷◌, ◌≡◌, codes, decimal, to_z, of_z, w64, rules}
+use Rattle.json.specs.Print.{escape_byte, quoted}
+use Rattle.serde_json.specs.Written.{compact_text}
+use Rattle.osn_format.specs.Json.{signed}
 use Rattle.osn_format.proofs.WriteLemmas.{at_last}
+use Rattle.osn_reply.proofs.LineLemmas.{chain}
 use Rattle.osn_reply.proofs.reply.transcript_record.write_read.Goals as goal
 
-pub returns-clause-tokens : goal.returns-clause-tokens
-returns-clause-tokens c =
+pub returns-clause-text : goal.returns-clause-text
+unfolding escape_byte
+returns-clause-text c =
     let year : to_z w64 (of_z w64 c.args.year) ≡ c.args.year = search rules in
     let month : to_z w64 (of_z w64 c.args.month) ≡ c.args.month = search rules in
     let day : to_z w64 (of_z w64 c.args.day) ≡ c.args.day = search rules in
-    at_last c.end_with_year.result c.end_with_year.ensures.tokens
+    at_last c.push.result c.push.ensures.text
     (λ e. rw (
       e,
-      c.in_ok-write_signed-2.ensures.tokens,
-      c.in_ok-write_signed.ensures.tokens,
-      c.in_ok-begin_with_code.ensures.tokens,
+      c.in_ok-push_signed-3.ensures.text,
+      c.in_ok-push_number.ensures.text,
+      c.in_ok-push_text-2.ensures.text,
+      c.in_ok-push_signed-2.ensures.text,
+      c.in_ok-push_signed.ensures.text,
+      c.in_ok-push_text.ensures.text,
+      c.as_str.ensures.value,
       year,
       month,
       day,
-    ) (simp append_assoc))
+    )
+    (chain c.args.out.now.text
+    ((codes "{\"code\":", quoted c.args.code.now)
+    ∷ (codes ",\"day\":", compact_text (signed c.args.day))
+    ∷ (codes ",\"month\":", compact_text (signed c.args.month))
+    ∷ (codes ",\"op\":", quoted (codes "read"))
+    ∷ (codes ",\"reader\":", decimal c.args.reader)
+    ∷ (codes ",\"year\":", compact_text (signed c.args.year))
+    ∷ [])
+    (codes "}")))

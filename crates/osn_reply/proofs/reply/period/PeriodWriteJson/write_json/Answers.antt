@@ -1,15 +1,35 @@
-use Rattle.std.proofs.Common.{append_assoc}
+use Rattle.std.proofs.Common.{[], ◌∷◌, codes, decimal}
+use Rattle.json.specs.Print.{escape_byte, quoted}
+use Rattle.osn_days.specs.CalendarWords.{calendar_word}
+use Rattle.osn_computus.specs.RuleWords.{rule_word}
+use Rattle.osn_lands.specs.StyleWords.{style_word}
 use Rattle.osn_format.proofs.WriteLemmas.{at_last}
+use Rattle.osn_reply.proofs.LineLemmas.{chain}
 use Rattle.osn_reply.proofs.reply.period.PeriodWriteJson.write_json.Goals as goal
 
-pub returns-clause-tokens : goal.returns-clause-tokens
-returns-clause-tokens c =
-    at_last c.end_with_style.result c.end_with_style.ensures.tokens
+pub returns-clause-text : goal.returns-clause-text
+unfolding escape_byte
+returns-clause-text c =
+    let period = c.args.self.now in
+    at_last c.push.result c.push.ensures.text
     (λ e. rw (
       e,
-      c.in_ok-write_number-2.ensures.tokens,
-      c.in_ok-write_number.ensures.tokens,
-      c.in_ok-begin_with_calendar.ensures.tokens,
+      c.in_ok-push_text-3.ensures.text,
+      c.in_ok-push_text-2.ensures.text,
+      c.in_ok-push_number-2.ensures.text,
+      c.in_ok-push_number.ensures.text,
+      c.in_ok-push_text.ensures.text,
+      c.word.ensures,
+      c.word-2.ensures,
+      c.word-3.ensures,
       c.number.ensures.value,
       c.number-2.ensures.value,
-    ) (simp append_assoc))
+    )
+    (chain c.args.out.now.text
+    ((codes "{\"calendar\":", quoted (calendar_word period.regime.calendar))
+    ∷ (codes ",\"first\":", decimal period.first)
+    ∷ (codes ",\"last\":", decimal period.last)
+    ∷ (codes ",\"rule\":", quoted (rule_word period.regime.rule))
+    ∷ (codes ",\"style\":", quoted (style_word period.regime.style))
+    ∷ [])
+    (codes "}")))

@@ -1,0 +1,19 @@
+use Rattle.std.proofs.Common.{◌≡◌, drop}
+use Rattle.osn_days.specs.Profile.{newest_rules}
+use Rattle.osn_register.specs.Plain.{applied_all}
+use Rattle.osn_core.specs.Sequential.{joined, AreLawful}
+use Rattle.osn_audit.proofs.follower.admit_batches.Given as goal
+
+-- the batches that are left are lawful, and lead to the same territories
+abbrev pub invariant-loop-batch : goal.invariant-loop-batch
+invariant-loop-batch l = record {
+  limits : l.register.limits ≡ l.initial.register.limits;
+  lawful :
+      AreLawful newest_rules l.initial.register.limits l.register.lands
+      (joined (drop l.batch-index l.batches));
+  lands :
+      applied_all newest_rules l.initial.register.limits l.register.lands
+      (joined (drop l.batch-index l.batches))
+      ≡ applied_all newest_rules l.initial.register.limits l.initial.register.lands
+      (joined l.batches);
+}

@@ -1,0 +1,53 @@
+ghost use Rattle.std.specs.Prelude.{◌≡◌, true, IfOk, OnErr};
+ghost use Rattle.osn_register.specs.Query.{names_land};
+ghost use Rattle.osn_register.specs.BorrowedQuery.{as_query};
+
+use crate::query::Query;
+use crate::text::Text;
+use std::alloc::{AllocError, Global};
+
+/// A `Query` whose code is borrowed, so that it takes no memory. Its variants are those of `Query`,
+/// with their members in the same order.
+#[derive(Clone, Copy, Debug, Drop)]
+pub enum BorrowedQuery<'a> {
+    Read(&'a str, i64, i64, i64),
+    DayIn(&'a str, i64),
+    Easter(&'a str, i64),
+    YearFigures(i64),
+    Lands,
+    Periods(&'a str),
+}
+
+impl<'a> BorrowedQuery<'a> {
+    /// The query that it stands for, with a code of its own.
+    ///
+    /// # Errors
+    ///
+    /// Only where no memory is found, of which a query that names no territory takes none.
+    pub fn to_query(self, alloc: Global) -> Result<Query, AllocError>
+        ensures value { IfOk result (λ q. q ≡ as_query self.entry) }
+        ensures memory { OnErr result (names_land (as_query self.entry) ≡ true) }
+    {
+        Ok(match self {
+            BorrowedQuery::Read(code, year, month, day) => Query::Read {
+                code: Text::from_str(alloc, code)?,
+                year,
+                month,
+                day,
+            },
+            BorrowedQuery::DayIn(code, day) => Query::DayIn {
+                code: Text::from_str(alloc, code)?,
+                day,
+            },
+            BorrowedQuery::Easter(code, year) => Query::Easter {
+                code: Text::from_str(alloc, code)?,
+                year,
+            },
+            BorrowedQuery::YearFigures(year) => Query::YearFigures { year },
+            BorrowedQuery::Lands => Query::Lands,
+            BorrowedQuery::Periods(code) => Query::Periods {
+                code: Text::from_str(alloc, code)?,
+            },
+        })
+    }
+}

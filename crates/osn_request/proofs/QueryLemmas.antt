@@ -1,0 +1,55 @@
+-- A query that names a territory is asked for by an operation that has a code.
+use Rattle.std.proofs.Common.{◌≡◌, ℕ, ℤ, true, false, Result, Ok, Err, refl, sym, subst, ◌∙◌}
+use Rattle.serde_json.specs.Data.{Data}
+use Rattle.osn_register.specs.declared.query.Query.{Query}
+use Rattle.osn_register.specs.declared.query.Query.TheVariants as queries
+use Rattle.osn_register.specs.Query.{names_land}
+use Rattle.osn_format.specs.declared.member.Member.TheVariants as members
+use Rattle.osn_format.specs.declared.wire_fault.WireFault.{WireFault}
+use Rattle.osn_request.specs.declared.request.op.QueryOp.{QueryOp}
+use Rattle.osn_request.specs.declared.request.op.QueryOp.TheVariants as ops
+use Rattle.osn_request.specs.Field.{◌>>=◌, whole_at}
+use Rattle.osn_request.specs.QueryRequest.{query_of, year_figures_of, reader_in, has_code}
+
+-- what is asked, if anything, names no territory
+abbrev NamesNone : Result (ℕ × Query) WireFault → Type 0
+NamesNone (Ok asked) = names_land asked.1 ≡ false
+NamesNone (Err f) = Unit {0}
+
+abbrev by_number : Query → Result ℕ WireFault → Result (ℕ × Query) WireFault
+by_number q number = number >>= λ n. Ok (n, q)
+
+figures : (y : Result ℤ WireFault) (number : Result ℕ WireFault)
+    → NamesNone ((y >>= λ year. Ok (queries.YearFigures year)) >>= λ q. by_number q number)
+figures (Err f) number = tt
+figures (Ok y) (Err f) = tt
+figures (Ok y) (Ok n) = refl
+
+lands : (number : Result ℕ WireFault) → NamesNone (by_number queries.Lands number)
+lands (Err f) = tt
+lands (Ok n) = refl
+
+behind : (reader : Result ℤ WireFault) (next : ℤ → Result (ℕ × Query) WireFault)
+    → ((r : ℤ) → NamesNone (next r)) → NamesNone (reader >>= next)
+behind (Err f) next each = tt
+behind (Ok r) next each = each r
+
+figures_asked : (readers : ℕ) (d : Data) → NamesNone (query_of readers ops.YearFigures d)
+unfolding query_of year_figures_of
+figures_asked readers d = behind (whole_at members.Reader d) _
+    (λ r. figures (whole_at members.Year d) (reader_in readers r))
+
+lands_asked : (readers : ℕ) (d : Data) → NamesNone (query_of readers ops.Lands d)
+unfolding query_of
+lands_asked readers d = behind (whole_at members.Reader d) _ (λ r. lands (reader_in readers r))
+
+pub asked_by_code : (readers : ℕ) (op : QueryOp) (d : Data) (asked : ℕ × Query)
+    → query_of readers op d ≡ Ok asked → names_land asked.1 ≡ true → has_code op ≡ true
+asked_by_code readers ops.Read d asked is names = refl
+asked_by_code readers ops.DayIn d asked is names = refl
+asked_by_code readers ops.Easter d asked is names = refl
+asked_by_code readers ops.Periods d asked is names = refl
+asked_by_code readers ops.YearFigures d asked is names =
+    sym (subst NamesNone is (figures_asked readers d)) ∙ names
+asked_by_code readers ops.Lands d asked is names =
+    sym (subst NamesNone is (lands_asked readers d)) ∙ names

@@ -1,0 +1,11 @@
+-- What was read of a line.
+use Rattle.std.specs.Prelude.{◌≡◌, ℕ, List, Result, Ok, MatchResult}
+use Rattle.osn_request.specs.declared.request.line_object.LineObject.{LineObject}
+use Rattle.osn_request.specs.declared.request.RequestError.{RequestError}
+use Rattle.osn_request.specs.LineObject.{line_data}
+use Rattle.osn_request.specs.Request.{object_of, Fails}
+
+-- the line's object, or its fault
+abbrev pub IsReadOf : List ℕ → Result LineObject RequestError → Type 0
+IsReadOf whole read = MatchResult read
+    (λ o. object_of whole ≡ Ok (line_data o)) (λ e. Fails e (object_of whole))
