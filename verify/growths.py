@@ -57,7 +57,7 @@ LIBRARY = os.path.join(ROOM.name, "growths.so")
 
 MARK = "called\nanswered\n"
 WANTS = {"NoMemory\n", "NoPlace\n", "Err(NoMemory)\n", "Err(NoPlace)\n", "Err(AllocError)\n"}
-WANTS_BEHIND = re.compile(r"Err\(NoMemory \{ lines: (\d+) \}\)\n")
+WANTS_BEHIND = re.compile(r"Err\(Interrupted \{ lines: (\d+), cause: NoMemory \}\)\n")
 
 Run = namedtuple("Run", "status told errors growths")
 Row = namedtuple("Row", "growths same again wrong")
