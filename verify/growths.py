@@ -18,7 +18,8 @@ to come, and every staged edit once. Then come the commands of the program, from
 its last: of a refused one nothing is saved, and of a service the replies to whole lines stand.
 
 What is committed is cloned, and the programs are proved and built there, which takes some ten
-minutes where the libraries were built before; the runs take some two minutes, two at a time.
+minutes where `rt check` has built the libraries in this checkout, and else proves them anew; the
+runs take some two minutes, two at a time.
 growths/growths.c refuses the growths, and wants a C compiler: `cc`, or what CC names.
 """
 import json
