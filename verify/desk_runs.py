@@ -6,7 +6,7 @@
 An editor works through a script while 64 readers ask, each in a thread of its own. Which edition a
 question meets is the schedule's affair, but the reply has to be that of `serve` at the edition that
 it names, the replies come by reader and then by place, and no reader's editions fall. So first all
-questions are asked of `serve` behind each publish of the script; then each line of each transcript
+questions are asked of `serve` after each publish of the script; then each line of each transcript
 is looked up there. Run it on a busy machine too: that moves the threads about.
 """
 import json

@@ -3,7 +3,7 @@
 
 A session is the lines of one document that begin with '> ', its requests, and with '< ', its
 replies. A run is a line that begins with '$ ./oldstyle ', from the top of the repository, and what
-it prints are the lines behind it, up to the next run or the end of the block. Prints each reply and
+it prints are the lines after it, up to the next run or the end of the block. Prints each reply and
 each run that differs, and ends with status 1 where one does.
 """
 import itertools

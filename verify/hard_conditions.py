@@ -5,7 +5,7 @@
 
 The conditions are: standard output that is full, closed or a pipe that nobody reads, and standard
 error full as well; standard input that is closed or a folder; a folder in the place of each file
-that is read or saved; a file that grows shorter while it is read; a full disk behind `--save`, and
+that is read or saved; a file that grows shorter while it is read; a full disk under `--save`, and
 a limit on the length of files; and 6 MB of addresses. Under each one every command that it concerns
 is run. Held against what docs/FORMATS.md says are the status, what is written, and that the files
 of the folder are as they were, their permissions too, with none beside them; and once the condition
@@ -27,11 +27,19 @@ from common import mounted
 
 ADDRESSES = 6_000_000
 READ_FAULT = (3, "", "oldstyle: read fault\n")
+FOR_PEOPLE = ("read", "day", "month", "territory", "letters")
 WRITE_FAULT = (3, "oldstyle: write fault\n")
 SAVING = "serve --journal a.journal --save saved.journal"
 GIVEN = text_of(SESSION[:-1])
 
 counts, untried = {}, []
+
+
+def not_read(words):
+    """What a command tells of a file that is not there, or that is a folder."""
+    if "a.gone" in words and words.startswith(FOR_PEOPLE):
+        return 3, "", "oldstyle: a.gone: no such file\n"
+    return READ_FAULT
 
 
 def hold(condition, words, got, wanted):
@@ -115,6 +123,8 @@ def try_input():
 READING = [
     "serve --journal a.journal --save saved.journal",
     "almanac a.journal GB 1752",
+    "read a.journal GB 1752-09-05",
+    "letters a.journal",
     "replay --readers 1 a.schedule",
     "desk a.script a.questions",
     "audit a.journal a.transcript",
@@ -131,7 +141,7 @@ def try_folders():
                     before = held(folder)
                     changed = words.replace(name, place)
                     told = run(folder, changed, GIVEN)
-                    hold(condition, changed, (told, held(folder)), (READ_FAULT, before))
+                    hold(condition, changed, (told, held(folder)), (not_read(changed), before))
     for condition, place in [("a folder to save in", "a.folder"), ("no folder", "none/saved")]:
         with filled() as folder:
             before, words = held(folder), f"serve --save {place}"
@@ -267,7 +277,7 @@ def try_full_disk():
 
 
 def limited(length):
-    """Limits the length of the files that a process writes; a write behind it fails."""
+    """Limits the length of the files that a process writes; a write past it fails."""
     signal.signal(signal.SIGXFSZ, signal.SIG_IGN)
     resource.setrlimit(resource.RLIMIT_FSIZE, (length, length))
 

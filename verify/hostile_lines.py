@@ -130,7 +130,7 @@ def lines():
 
 
 def replies(command, asked):
-    """The replies to lines, one behind the other."""
+    """The replies to lines, one after the other."""
     done = subprocess.run(command, input=b"\n".join(asked) + b"\n", capture_output=True, check=True)
     return done.stdout.splitlines()
 

@@ -7,7 +7,7 @@ A run of `serve --keep` is sent edits and publishes, some of them refused, one a
 the other or many at once, and is killed (SIGKILL) at a random moment. The next run keeps the same
 file and goes on. After each stop the file has every edition and every pending edit that a reply
 told, in order, and nothing that was not sent; its whole lines are loaded by `--journal`, with the
-last edition and the number of pending edits. Half of the files are then cut off behind their last
+last edition and the number of pending edits. Half of the files are then cut off after their last
 edition, in the middle of a line or not: the next run has to say so where a line was not finished,
 and nowhere else.
 
@@ -79,7 +79,7 @@ def lines_of(text):
 
 
 def journal_lines(path):
-    """The lines of a file, and what stands behind them that is no line: its last line may lack the
+    """The lines of a file, and what stands after them that is no line: its last line may lack the
     line feed alone."""
     with open(path, encoding="utf-8") as file:
         held = file.read()
@@ -147,7 +147,7 @@ def sent_until_stopped(running, editor, one_by_one):
 
 def try_stop(path, number, known, rest):
     """One run that is stopped. `known` has the journal's lines before it, and `rest` what stands
-    behind them. Answers the same behind the run, and how many replies were told."""
+    after them. Answers the same after the run, and how many replies were told."""
     chance = random.Random(SEED * 1_000_003 + number)
     editor = editor_of(known, chance.random())
     running = Run(path)
@@ -168,7 +168,7 @@ def try_stop(path, number, known, rest):
 
 
 def editor_of(known, seed):
-    """An editor who goes on behind these lines."""
+    """An editor who goes on after these lines."""
     editor = Editor(seed)
     for line in known[1:]:
         kind = json.loads(line)["op"]
@@ -194,9 +194,9 @@ def held_after(path, number, known, accepted, told):
 
 
 def cut_anywhere(path, chance, lines):
-    """Every other file is cut off somewhere behind its last edition, as a machine may leave it that
+    """Every other file is cut off somewhere after its last edition, as a machine may leave it that
     stopped before the rest was on the disk. Answers the lines that count then, and what is to be
-    cut off behind them."""
+    cut off after them."""
     if len(lines) > 1 and chance.random() < 0.5:
         last = max((n for n, line in enumerate(lines) if line == PUBLISH), default=0)
         synced = sum(len(line) + 1 for line in lines[:last + 1])

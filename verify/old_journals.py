@@ -13,7 +13,7 @@ they save, but for the head: the newer one writes {"journal":2}, and the older o
 
 By the older program's rules the line ends on 31 December 2999, and by the newer one's on that of
 9999; the journals and queries are of days and years that both have, or neither. In a reply of the
-newer one the end of its line counts as that of the shorter one, days found behind that are left
+newer one the end of its line counts as that of the shorter one, days found after that are left
 out, and of labels about the year 2999 the skipped dates are not compared.
 """
 import json

@@ -33,7 +33,7 @@ static int is_line(const void *bytes, size_t size, const char *line) {
     return size >= strlen(line) && memcmp(bytes, line, strlen(line)) == 0;
 }
 
-/* What is written before the call, and behind it. */
+/* What is written before the call, and after it. */
 ssize_t write(int file, const void *bytes, size_t size) {
     static atomic_int called = 0;
     if (is_line(bytes, size, "answered\n")) {

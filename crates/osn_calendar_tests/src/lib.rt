@@ -12,11 +12,15 @@ mod days;
 #[cfg(test)]
 mod easter_years;
 #[cfg(test)]
+mod gaps;
+#[cfg(test)]
 mod labels;
 #[cfg(test)]
 mod lands;
 #[cfg(test)]
 mod named;
+#[cfg(test)]
+mod runs;
 #[cfg(test)]
 mod search;
 #[cfg(test)]

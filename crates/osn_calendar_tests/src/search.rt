@@ -1,10 +1,5 @@
 //! The slow program of readings, a search through every day of the line, and the quick calls beside
 //! it.
-ghost use Rattle.std.specs.Prelude.{◌≡◌, IfOk};
-ghost use Rattle.osn_days.specs.Profile.{newest_rules};
-ghost use Rattle.osn_lands.specs.Label.{days_with_label};
-ghost use Rattle.osn_lands.specs.Territory.{reading};
-
 use crate::compare::same;
 use crate::lands::of_forty_changes;
 use crate::named::{label, regime_of};
@@ -16,9 +11,7 @@ use std::process::Abort;
 use std::test::Fail;
 
 /// The days of the line that have the label under the regime.
-fn days_under(alloc: Global, regime: Regime, label: Label) -> Result<Vec<Day>, AllocError>
-    ensures { IfOk result (λ days. days.items ≡ days_with_label newest_rules regime label) }
-{
+fn days_under(alloc: Global, regime: Regime, label: Label) -> Result<Vec<Day>, AllocError> {
     let mut days = Vec::new(alloc);
     for number in 1..HIGH + 1 {
         let day = day_at(number);
@@ -30,9 +23,7 @@ fn days_under(alloc: Global, regime: Regime, label: Label) -> Result<Vec<Day>, A
 }
 
 /// The days that the territory dates with the label.
-fn read(alloc: Global, territory: &Territory, label: Label) -> Result<Vec<Day>, AllocError>
-    ensures { IfOk result (λ days. days.items ≡ reading newest_rules territory.now label) }
-{
+fn read(alloc: Global, territory: &Territory, label: Label) -> Result<Vec<Day>, AllocError> {
     let mut days = Vec::new(alloc);
     for number in 1..HIGH + 1 {
         let day = day_at(number);

@@ -1,14 +1,5 @@
 //! The slow programs of the figures: the tables as they stand, searches through the line of days,
 //! and a walk that keeps the letter of the day. Beside them the quick calls.
-ghost use Rattle.std.specs.Prelude.{◌≡◌, ℕ, Bool, slice_get};
-ghost use Rattle.std.specs.List.{find};
-ghost use Rattle.std.specs.Option.{option_map};
-ghost use Rattle.osn_days.specs.Profile.{newest_rules};
-ghost use Rattle.osn_days.specs.Line.{IsYear};
-ghost use Rattle.osn_computus.specs.Moon as table;
-ghost use Rattle.osn_computus.specs.Easter as feast;
-ghost use Rattle.osn_computus.specs.Letters as letters;
-
 use crate::compare::same;
 use crate::walk::day_at;
 use osn_computus::{Epact, Letter, Letters, Rule, golden_number, gregorian_epact};
@@ -75,31 +66,20 @@ const PASCHAL_ROWS: [(u8, u8, u8, bool); 31] = [
     (4, 5, 24, false),
 ];
 
-fn row_at(rows: &[(u8, u8)], place: usize) -> Option<(u8, u8)>
-    ensures { result ≡ slice_get rows.now place }
-{
+fn row_at(rows: &[(u8, u8)], place: usize) -> Option<(u8, u8)> {
     rows.get(place).copied()
 }
 
 /// The full moon of a golden number.
-fn julian_full_moon(golden: u8) -> Option<(u8, u8)>
-    ensures { result ≡ option_map (λ (m : table.MonthDay). (m.month, m.day))
-        (table.julian_full_moon golden) }
-{
+fn julian_full_moon(golden: u8) -> Option<(u8, u8)> {
     row_at(&JULIAN_FULL_MOONS, golden.saturating_sub(1) as usize)
 }
 
-fn is_epact(epact: Epact, number: u8, prime: bool) -> bool
-    ensures { result ≡ table.same_epact epact (record { number = number; prime = prime }) }
-{
+fn is_epact(epact: Epact, number: u8, prime: bool) -> bool {
     epact.number == number && epact.prime == prime
 }
 
-fn row_of(rows: &[(u8, u8, u8, bool)], epact: Epact) -> Option<(u8, u8)>
-    ensures { result ≡ option_map (λ (row : ℕ × ℕ × ℕ × Bool). (row.0, row.1))
-        (find (λ (row : ℕ × ℕ × ℕ × Bool).
-        table.same_epact epact (record { number = row.2; prime = row.3 })) rows.now) }
-{
+fn row_of(rows: &[(u8, u8, u8, bool)], epact: Epact) -> Option<(u8, u8)> {
     for &(month, day, number, prime) in rows {
         if is_epact(epact, number, prime) {
             return Some((month, day));
@@ -109,17 +89,12 @@ fn row_of(rows: &[(u8, u8, u8, bool)], epact: Epact) -> Option<(u8, u8)>
 }
 
 /// The day that stands beside the epact.
-fn gregorian_new_moon(epact: Epact) -> Option<(u8, u8)>
-    ensures { result ≡ option_map (λ (m : table.MonthDay). (m.month, m.day))
-        (table.gregorian_new_moon epact) }
-{
+fn gregorian_new_moon(epact: Epact) -> Option<(u8, u8)> {
     row_of(&PASCHAL_ROWS, epact)
 }
 
 /// The day of the line with a date.
-fn day_with(calendar: Calendar, date: Date) -> Option<Day>
-    ensures { result ≡ feast.day_with newest_rules calendar date }
-{
+fn day_with(calendar: Calendar, date: Date) -> Option<Day> {
     for number in 1..HIGH + 1 {
         let day = day_at(number);
         if date_of(calendar, day) == date {
@@ -129,10 +104,7 @@ fn day_with(calendar: Calendar, date: Date) -> Option<Day>
     None
 }
 
-fn date_in(year: Year, month: u8, day: u8) -> Date
-    ensures value { result ≡ feast.date_in year (record { month = month; day = day }) }
-    ensures in_range { IsYear newest_rules year }
-{
+fn date_in(year: Year, month: u8, day: u8) -> Date {
     Date {
         year: year.number() as i32,
         month,
@@ -141,9 +113,7 @@ fn date_in(year: Year, month: u8, day: u8) -> Date
 }
 
 /// The full moon of the table, or 13 days after the new moon.
-fn paschal_moon(rule: Rule, year: Year) -> Option<Day>
-    ensures { result ≡ feast.paschal_moon newest_rules rule year }
-{
+fn paschal_moon(rule: Rule, year: Year) -> Option<Day> {
     match rule {
         Rule::Julian => {
             let (month, day) = julian_full_moon(golden_number(year))?;
@@ -157,9 +127,7 @@ fn paschal_moon(rule: Rule, year: Year) -> Option<Day>
 }
 
 /// The first Sunday strictly after a day.
-fn first_sunday_after(moon: Day) -> Option<Day>
-    ensures { result ≡ feast.first_sunday_after newest_rules moon }
-{
+fn first_sunday_after(moon: Day) -> Option<Day> {
     for number in 1..HIGH + 1 {
         if moon.number() < number && number % 7 == 0 {
             return Some(day_at(number));
@@ -169,33 +137,25 @@ fn first_sunday_after(moon: Day) -> Option<Day>
 }
 
 /// The first Sunday after the paschal moon.
-fn easter(rule: Rule, year: Year) -> Option<Day>
-    ensures { result ≡ feast.easter_of newest_rules rule year }
-{
+fn easter(rule: Rule, year: Year) -> Option<Day> {
     first_sunday_after(paschal_moon(rule, year)?)
 }
 
-fn has_letters(calendar: Calendar) -> bool
-    ensures { result ≡ letters.has_letters calendar }
-{
+fn has_letters(calendar: Calendar) -> bool {
     match calendar {
         Calendar::Julian | Calendar::Gregorian => true,
         Calendar::Swedish => false,
     }
 }
 
-fn first_letter(calendar: Calendar) -> Letter
-    ensures { result ≡ letters.first_letter calendar }
-{
+fn first_letter(calendar: Calendar) -> Letter {
     match calendar {
         Calendar::Julian | Calendar::Swedish => Letter::C,
         Calendar::Gregorian => Letter::A,
     }
 }
 
-fn next_letter(letter: Letter) -> Letter
-    ensures { result ≡ letters.next_letter letter }
-{
+fn next_letter(letter: Letter) -> Letter {
     match letter {
         Letter::A => Letter::B,
         Letter::B => Letter::C,
@@ -208,9 +168,7 @@ fn next_letter(letter: Letter) -> Letter
 }
 
 /// The letter of a date, from the letter of the day before.
-fn letter_after(date: Date, letter: Letter) -> Letter
-    ensures { result ≡ letters.letter_after date letter }
-{
+fn letter_after(date: Date, letter: Letter) -> Letter {
     if date.month == 1 && date.day == 1 {
         Letter::A
     } else if date.month == 2 && date.day == 29 {
@@ -221,18 +179,14 @@ fn letter_after(date: Date, letter: Letter) -> Letter
 }
 
 /// Whether the day is a Sunday of the year, in the months from one to another.
-fn is_sunday_of(calendar: Calendar, year: Year, low: u8, high: u8, day: Day) -> bool
-    ensures { result ≡ letters.is_sunday_of calendar year low high day }
-{
+fn is_sunday_of(calendar: Calendar, year: Year, low: u8, high: u8, day: Day) -> bool {
     let date = date_of(calendar, day);
     day.number() % 7 == 0
         && (date.year == year.number() as i32 && (low <= date.month && date.month <= high))
 }
 
 /// The letter of the first of those Sundays.
-fn letter_of_sundays(calendar: Calendar, year: Year, low: u8, high: u8) -> Option<Letter>
-    ensures { result ≡ letters.letter_of_sundays newest_rules calendar year low high }
-{
+fn letter_of_sundays(calendar: Calendar, year: Year, low: u8, high: u8) -> Option<Letter> {
     let mut letter = first_letter(calendar);
     for number in 1..HIGH + 1 {
         let day = day_at(number);
@@ -248,9 +202,7 @@ fn letter_of_sundays(calendar: Calendar, year: Year, low: u8, high: u8) -> Optio
 
 /// The letters of the first Sundays of January and from March on, or `None` for the Swedish
 /// calendar.
-fn sunday_letters(calendar: Calendar, year: Year) -> Option<Letters>
-    ensures { result ≡ letters.letters_of newest_rules calendar year }
-{
+fn sunday_letters(calendar: Calendar, year: Year) -> Option<Letters> {
     if !has_letters(calendar) {
         return None;
     }

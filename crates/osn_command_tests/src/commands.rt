@@ -84,7 +84,7 @@ const SERVED: [Row; 6] = [
     ),
 ];
 
-/// What the service leaves of request lines behind a journal, and the journal.
+/// What the service leaves of request lines after a journal, and the journal.
 fn served(alloc: Global, journal: Option<&str>, requests: &str) -> (Left, Option<String>) {
     let (mut output, mut errors) = (sink(alloc), sink(alloc));
     let mut input = Plain::new(requests.as_bytes());
@@ -219,6 +219,16 @@ pub fn left_in<R: Threads + Wait + AllocGlobal, D: Folder>(
     read: &str,
 ) -> Result<Left, Fail> {
     let words: Vec<&str> = line.split_whitespace().collect(rt.alloc())?;
+    left_of(rt, folder, &words, read)
+}
+
+/// What the words of a command line leave.
+pub fn left_of<R: Threads + Wait + AllocGlobal, D: Folder>(
+    rt: &R,
+    folder: &mut D,
+    words: &[&str],
+    read: &str,
+) -> Result<Left, Fail> {
     let mut output = sink(rt.alloc());
     let mut errors = sink(rt.alloc());
     let mut input = Plain::new(read.as_bytes());
@@ -226,7 +236,7 @@ pub fn left_in<R: Threads + Wait + AllocGlobal, D: Folder>(
     let status = run(
         rt,
         folder,
-        &words,
+        words,
         &mut input,
         &mut output,
         &mut errors,
@@ -265,7 +275,17 @@ fn words_and_statuses(rt: HostRuntime) -> Result<(), Fail> {
 /// A command line, what is read, and what is left.
 pub type RunRow = (&'static str, &'static str, Wanted);
 
-const FAULTS: [RunRow; 6] = [
+const FAULTS: [RunRow; 8] = [
+    (
+        "oldstyle read /nowhere/none GB 1752-09-14",
+        "",
+        (3, "", "oldstyle: /nowhere/none: no such file\n"),
+    ),
+    (
+        "oldstyle letters /nowhere/none",
+        "",
+        (3, "", "oldstyle: /nowhere/none: no such file\n"),
+    ),
     (
         "oldstyle almanac /nowhere/none GB 1752",
         "",
@@ -302,7 +322,7 @@ const FAULTS: [RunRow; 6] = [
     ),
 ];
 
-/// That runs leave this, one behind the other.
+/// That runs leave this, one after another.
 pub fn are_run<R: Files<File = fs::File> + Threads + Wait + AllocGlobal + Abort>(
     rt: &R,
     rows: &[RunRow],

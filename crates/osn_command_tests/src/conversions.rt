@@ -1,110 +1,92 @@
-//! The command that converts a date: its lines were written apart, by counts of days.
+//! The page of a conversion. Its lines were written apart, by counts of days.
 use crate::compare::same;
-use crate::printed::{Wanted, is_left, left_by, sink};
-use osn_commands::convert_command;
-use osn_days::{Calendar, Day};
-use osn_pages::{WrittenDate, conversion_page, day_of_written};
+use osn_days::{Calendar, Day, Weekday};
+use osn_pages::{conversion_page, day_of_written};
+use osn_test_texts::joined;
+use osn_written::WrittenDate;
 use std::alloc::Global;
 use std::process::Abort;
 use std::test::Fail;
 
-/// A calendar, a date, and what is left.
-type Conversion = (&'static str, &'static str, Wanted);
-
-const NO_CALENDAR: &str = "oldstyle: CALENDAR is none: write gregorian, julian or swedish, or day \
-and a day number\n";
-
-const NO_NUMBER: &str =
-    "oldstyle: DATE is no day number: behind day, write a number from 1 to 3652059\n";
-
-const NO_SUCH_DATE: &str = "oldstyle: DATE is no date of that calendar in the years 1 to 9999\n";
-
-const NO_DATE: &str = "oldstyle: DATE is no date: write 1731-02-11, \"11 February 1731\" or \
-\"11 February 1731/2\"\n";
-
-const CONVERSIONS: [Conversion; 13] = [
-    (
-        "julian",
-        "1752-09-02",
-        (
-            0,
-            "Wednesday    13 September 1752 Gregorian    2 September 1752 Julian
-      2 September 1752 Swedish    day 639796    JDN 2361221
-",
-            "",
-        ),
-    ),
-    (
-        "swedish",
-        "30 February 1712",
-        (
-            0,
-            "Friday    11 March 1712 Gregorian    29 February 1712 Julian
-      30 February 1712 Swedish    day 625000    JDN 2346425
-",
-            "",
-        ),
-    ),
-    (
-        "gregorian",
-        "31 December 9999",
-        (
-            0,
-            "Friday    31 December 9999 Gregorian    19 October 9999 Julian
-      19 October 9999 Swedish    day 3652059    JDN 5373484
-",
-            "",
-        ),
-    ),
-    (
-        "day",
-        "0000001",
-        (
-            0,
-            "Monday    1 January 1 Gregorian    3 January 1 Julian    3 January 1 Swedish    day 1
-      JDN 1721426
-",
-            "",
-        ),
-    ),
-    ("gregorian", "30 February 1712", (2, "", NO_SUCH_DATE)),
-    ("julian", "1752-09-31", (2, "", NO_SUCH_DATE)),
-    ("julian", "10000-01-01", (2, "", NO_SUCH_DATE)),
-    ("julian", "11 February 1731/2", (2, "", NO_SUCH_DATE)),
-    ("julian", "11.2.1731", (2, "", NO_DATE)),
-    ("Julian", "11.2.1731", (2, "", NO_CALENDAR)),
-    ("day", "0", (2, "", NO_NUMBER)),
-    ("day", "3652060", (2, "", NO_NUMBER)),
-    ("day", "1752-09-02", (2, "", NO_NUMBER)),
+/// A calendar, a date in it, and the number of its day, or 0 where the calendar has no such date.
+const DATES: [(Calendar, &str, u32); 8] = [
+    (Calendar::Julian, "1752-09-02", 639_796),
+    (Calendar::Gregorian, "1752-09-14", 639_797),
+    (Calendar::Swedish, "30 February 1712", 625_000),
+    (Calendar::Gregorian, "Friday 31 December 9999", 3_652_059),
+    (Calendar::Gregorian, "30 February 1712", 0),
+    (Calendar::Julian, "1752-09-31", 0),
+    (Calendar::Julian, "10000-01-01", 0),
+    (Calendar::Julian, "11 February 1731/2", 0),
 ];
 
-fn conversions(rt: &impl Abort, alloc: Global, rows: &[Conversion]) -> Result<(), Fail> {
-    for (calendar, date, wanted) in rows {
-        let (mut output, mut errors) = (sink(alloc), sink(alloc));
-        let status = convert_command(alloc, calendar, date, &mut output, &mut errors);
-        is_left(rt, alloc, left_by(status, output, errors), wanted)?;
+/// That the date of a row is its day.
+fn is_day(rt: &impl Abort, calendar: Calendar, text: &str, number: u32) {
+    let day = match WrittenDate::parse(text) {
+        Ok(date) => day_of_written(calendar, date),
+        Err(_) => None,
+    };
+    let found = match day {
+        Some(day) => day.number(),
+        None => 0,
+    };
+    same(rt, (text, found), (text, number));
+}
+
+#[test]
+fn dates_of_a_calendar_are_days(rt: HostRuntime) {
+    for (calendar, text, number) in &DATES {
+        is_day(&rt, *calendar, *text, *number);
     }
+}
+
+/// The number of a day, a weekday that is given, and the page.
+type Row = (i64, Option<Weekday>, &'static str);
+
+const PAGES: [Row; 4] = [
+    (
+        639_796,
+        None,
+        "Wednesday    13 September 1752 Gregorian    2 September 1752 Julian
+      2 September 1752 Swedish    day 639796    JDN 2361221
+",
+    ),
+    (
+        625_000,
+        Some(Weekday::Friday),
+        "Friday    11 March 1712 Gregorian    29 February 1712 Julian
+      30 February 1712 Swedish    day 625000    JDN 2346425 ok
+",
+    ),
+    (
+        1,
+        Some(Weekday::Sunday),
+        "Monday    1 January 1 Gregorian    3 January 1 Julian    3 January 1 Swedish    day 1
+      JDN 1721426 not Sunday
+",
+    ),
+    (
+        3_652_059,
+        None,
+        "Friday    31 December 9999 Gregorian    19 October 9999 Julian
+      19 October 9999 Swedish    day 3652059    JDN 5373484
+",
+    ),
+];
+
+/// That the day of a row has its page.
+fn is_page(rt: &impl Abort, alloc: Global, row: &Row) -> Result<(), Fail> {
+    let (number, weekday, wanted) = row;
+    let day = Day::new(*number).unwrap_or(Day::FIRST);
+    let found = conversion_page(alloc, day, *weekday)?;
+    same(rt, found.as_str(), joined(alloc, wanted)?.as_str());
     Ok(())
 }
 
 #[test]
-fn dates_are_converted(rt: HostRuntime) -> Result<(), Fail> {
-    conversions(&rt, rt.alloc(), &CONVERSIONS)
-}
-
-#[test]
-fn a_day_and_its_page(rt: HostRuntime) -> Result<(), Fail> {
-    let date = WrittenDate {
-        year: 1752,
-        month: 9,
-        day: 14,
-        later: None,
-    };
-    let day = day_of_written(Calendar::Gregorian, date);
-    same(&rt, day, Day::new(639_797));
-    let page = conversion_page(rt.alloc(), Day::FIRST)?;
-    let wanted = "Monday    1 January 1 Gregorian    3 January 1 Julian    3 January 1 Swedish    \
-day 1    JDN 1721426\n";
-    same(&rt, page.as_str(), wanted);
+fn days_are_converted(rt: HostRuntime) -> Result<(), Fail> {
+    for row in &PAGES {
+        is_page(&rt, rt.alloc(), row)?;
+    }
     Ok(())
 }

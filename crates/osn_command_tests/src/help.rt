@@ -17,13 +17,13 @@ year and the rule of Easter that were in force where it was written
 Usage: oldstyle [COMMAND]
 
 Commands:
-  read       Says which day a written date means in a territory, or why it never was
-  convert    Says which day a date of a calendar is, by every calendar and by its numbers
+  read       Says which day a written date means in a territory, or why it means none
+  convert    Prints the day of a calendar's date by every calendar and by its numbers
   day        Says how a territory dated a day, and in which of its periods the day is
-  month      Prints a month as a territory lived it
+  month      Prints a month as a territory dated its days
   territory  Lists the territories, or the periods of one
   letters    Says of each letter of a table on standard input which day its date means
-  serve      Answers request lines on standard input (so does the program without words)
+  serve      Answers request lines on standard input, as the program does without a command
   replay     Takes the steps of one editor and of readers, and prints what each gives
   desk       Lets readers ask while an editor works, each in a thread of its own
   almanac    Prints the almanac of a territory and year, as a journal published the territory
@@ -36,14 +36,14 @@ Options:
 
 Statuses:
   0  done
-  1  the input was refused: a line of a file, a territory or a year, or no question
-  2  the words of the command line are wrong
-  3  a read or a write failed, or a file could not be opened
+  1  the input was refused: a line of a file, a territory, a year, or a file without questions
+  2  a word of the command line is wrong
+  3  a file could not be opened, or a read or a write failed
   4  memory ran out
-Of a status but 0, one line on standard error says what was refused or failed.
+If the status is not 0, standard error says what was refused or failed.
 ";
 
-const READ: &str = "Says which day a written date means in a territory, or why it never was
+const READ: &str = "Says which day a written date means in a territory, or why it means none
 
 Usage: oldstyle read [OPTIONS] <JOURNAL> <CODE> <DATE>
 
@@ -53,7 +53,7 @@ Arguments:
   <DATE>     The date as the document has it
 
 Options:
-      --weekday <DAY>    The weekday that the document names, as Friday, to compare
+      --weekday <DAY>    The weekday that the document names, as Friday
       --limits <LIMITS>  The most that the register holds, as lands=5000,changes=200
   -h, --help             Print help
 
@@ -61,17 +61,18 @@ Examples:
   ./oldstyle read examples/samples.journal GB \"11 February 1731/2\" --weekday Friday
   ./oldstyle read examples/samples.journal GB 1752-09-05
 
-A date is 1731-02-11, \"11 February 1731\" or \"11 February 1731/2\". Its year is that of the
-document; the last form has both years, and finds a day only where the territory had them.
+A date is written 1731-02-11, \"11 February 1731\" or \"11 February 1731/2\", with a weekday before
+it or without. Its year is the one that the document has, or both years are given. Where a date
+means several days, those of the weekday come first.
 ";
 
-const CONVERT: &str = "Says which day a date of a calendar is, by every calendar and by its numbers
+const CONVERT: &str = "Prints the day of a calendar's date by every calendar and by its numbers
 
 Usage: oldstyle convert <CALENDAR> <DATE>
 
 Arguments:
-  <CALENDAR>  The date's calendar: gregorian, julian or swedish; or the word day
-  <DATE>      The date, its year counted from 1 January; behind day, a day number
+  <CALENDAR>  The date's calendar, which is gregorian, julian or swedish, or the word day
+  <DATE>      The date, its year counted from 1 January; after the word day, a day number
 
 Options:
   -h, --help  Print help
@@ -102,24 +103,24 @@ Examples:
   ./oldstyle day examples/samples.journal GB 639797
 ";
 
-const MONTH: &str = "Prints a month as a territory lived it
+const MONTH: &str = "Prints a month as a territory dated its days
 
 Usage: oldstyle month [OPTIONS] <JOURNAL> <CODE> <YEAR> <MONTH>
 
 Arguments:
   <JOURNAL>  The file of the journal
   <CODE>     The code of the territory
-  <YEAR>     The year as the territory counted it
-  <MONTH>    The month, 1 to 12
+  <YEAR>     The year as the territory counted it, 0 to 10000
+  <MONTH>    The month, 1 to 12 or its English name
 
 Options:
       --limits <LIMITS>  The most that the register holds, as lands=5000,changes=200
   -h, --help             Print help
 
 Example:
-  ./oldstyle month examples/samples.journal GB 1752 9
+  ./oldstyle month examples/samples.journal GB 1752 September
 
-A month that the year has twice, since the year began within it, is printed twice.
+A month that the year has at its beginning and at its end is printed twice.
 ";
 
 const TERRITORY: &str = "Lists the territories, or the periods of one
@@ -147,27 +148,33 @@ Arguments:
   <JOURNAL>  The file of the journal
 
 Options:
-      --place <NAME>     The name of the column of territories' codes [default: place]
-      --date <NAME>      That of the column of dates [default: date]
-      --weekday <NAME>   That of the column of weekdays, which may be missing [default: weekday]
-      --limits <LIMITS>  The most that the register holds, as lands=5000,changes=200
-  -h, --help             Print help
+      --place <NAME>      The name of the column of territories' codes [default: place]
+      --date <NAME>       The name of the column of dates [default: date]
+      --weekday <NAME>    The name of the column of weekdays [default: weekday, which the table may \
+lack]
+      --separator <NAME>  What stands between two fields: comma, semicolon or tab [default: by the \
+header]
+      --limits <LIMITS>   The most that the register holds, as lands=5000,changes=200
+  -h, --help              Print help
 
 Example:
   ./oldstyle letters examples/samples.journal < examples/letters.csv
 
-The table is CSV with a header. It is written to standard output as it came, with nine columns
-behind: days, gregorian, julian, dual, weekday_found, jdn, edtf, edition and remark.
+The table is CSV with a header. It is written to standard output as it came, and nine columns
+follow its own: days, gregorian, julian, dual, weekday_found, jdn, edtf, edition and remark.
 ";
 
-const SERVE: &str = "Answers request lines on standard input (so does the program without words)
+const SERVE: &str = "\
+Answers request lines on standard input, as the program does without a command
 
 Usage: oldstyle serve [OPTIONS]
 
 Options:
-      --journal <FILE>   The journal to begin with; else there are no territories
-      --save <FILE>      Where the journal is saved at the end of the input, unless a fault ended it
-      --keep <FILE>      Where the journal is kept while the service runs; it begins with it
+      --journal <FILE>   The journal to begin with; without it there are no territories
+      --save <FILE>      Where the journal is saved at the end of the input, unless a fault ended \
+the run
+      --keep <FILE>      The journal to begin with, to which each change is appended while the \
+service runs
       --readers <N>      How many readers ask, 1 to 64 [default: 8]
       --limits <LIMITS>  The most that the register holds, as lands=5000,changes=200
   -h, --help             Print help
@@ -175,8 +182,8 @@ Options:
 Example:
   ./oldstyle serve --journal examples/samples.journal --save new.journal < examples/added.jsonl
 
-Requests and replies are JSON lines. --save saves the journal only where all lines were answered;
---keep has each change in it before its reply is written.
+Requests and replies are JSON lines. With --save, the journal is saved only if all lines were
+answered. With --keep, each change is in the journal before its reply is written.
 ";
 
 const REPLAY: &str = "Takes the steps of one editor and of readers, and prints what each gives
@@ -212,8 +219,8 @@ Options:
 Example:
   ./oldstyle desk examples/rome.script examples/rome.questions
 
-A question is a JSON line. Questions and replies are printed by reader and then by place; which
-edition a reply is of may differ from run to run.
+A question is a JSON line. Questions and replies are printed by reader and then by place. The
+editions of the replies may differ from run to run.
 ";
 
 const ALMANAC: &str = "\

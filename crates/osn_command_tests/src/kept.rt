@@ -96,7 +96,7 @@ const ROWS: [Row; 3] = [
     (0, Err((0, KeptFault::KeepFault)), 0, 1, 1),
 ];
 
-/// That bytes are these texts, one behind the other.
+/// That bytes are these texts, one after another.
 fn are_texts(rt: &impl Abort, alloc: Global, bytes: &[u8], texts: &[&str]) -> Result<(), Fail> {
     let mut wanted = String::new(alloc);
     for text in texts {

@@ -1,173 +1,214 @@
-//! Tables of letters, as CSV that is read and written. What stands behind each row was written
+//! Tables of letters, as CSV that is read and written. What stands after each row was written
 //! apart, by counts of days.
 use crate::compare::same;
-use crate::printed::{Left, Wanted, is_left, left_by, sink};
+use crate::journals::europe;
 use csv::ByteRecord;
-use osn_commands::letters_command;
-use osn_letters::{ColumnNames, Columns, Progress, find_columns, letter_fields, write_letters};
+use osn_letters::{
+    AddedColumn, Column, ColumnNames, Columns, LettersFault, Progress, Separator, TableSettings,
+    WeekdayName, find_columns, write_letters,
+};
 use osn_lines::Plain;
-use osn_register::Limits;
+use osn_register::Register;
 use osn_test_texts::joined;
-use osn_wire::load_journal;
 use std::alloc::Global;
 use std::process::Abort;
 use std::str;
 use std::test::Fail;
 
-const JOURNAL: &str = r#"{"journal":2}
-{"op":"add_land","code":"GB","name":"Great Britain","calendar":"julian","style":"annunciation",
-  "rule":"julian"}
-{"op":"add_change","code":"GB","day":639551,"calendar":"julian","style":"january",
-  "rule":"julian"}
-{"op":"add_change","code":"GB","day":639797,"calendar":"gregorian","style":"january",
-  "rule":"gregorian"}
-{"op":"add_land","code":"FR","name":"France","calendar":"julian","style":"easter","rule":"julian"}
-{"op":"publish"}
-{"op":"add_exception","code":"FR","year":1543,"day":563297}
-{"op":"publish"}
-"#;
-
 const NAMES: ColumnNames<'static> = ColumnNames {
     place: "place",
     date: "date",
-    weekday: "weekday",
+    weekday: WeekdayName::Optional("weekday"),
 };
 
-const OTHER_NAMES: ColumnNames<'static> = ColumnNames {
-    place: "Ort",
-    date: "Datum, wie geschrieben",
-    weekday: "Tag",
+const BY_HEADER: TableSettings<'static> = TableSettings {
+    names: NAMES,
+    separator: None,
 };
 
-/// The names of columns, a table, and what is left.
-type Row = (ColumnNames<'static>, &'static str, Wanted);
+const OTHER_NAMES: TableSettings<'static> = TableSettings {
+    names: ColumnNames {
+        place: "Ort",
+        date: "Datum, wie geschrieben",
+        weekday: WeekdayName::Required("Tag"),
+    },
+    separator: None,
+};
 
-const TABLES: [Row; 11] = [
+const BY_SEMICOLON: TableSettings<'static> = TableSettings {
+    names: NAMES,
+    separator: Some(Separator::Semicolon),
+};
+
+/// How a table ends: by what fault, if any, on which line, and what else is told.
+type End = (&'static str, u64, &'static str);
+
+const WHOLE: End = ("whole", 0, "");
+
+/// How a table is read, the table, what is written, and how it ends.
+type Row = (TableSettings<'static>, &'static str, &'static str, End);
+
+const TABLES: [Row; 7] = [
     (
-        NAMES,
+        BY_HEADER,
         "id,place,date,weekday,text
-1,GB,11 February 1731,Friday,\"Dear Sir, I\"
+1, GB,11 February 1731,friday ,\"Dear Sir, I\"
 2,GB,1752-09-05,,\"said \"\"no\"\"\"
 3,FR,1 April 1543,,two
-4,GB,11 February 1731/3,,
-5,GB,11.2.1731,,
-6,XX,1731-02-11,,\"a line
+4,XX,1731-02-11,,\"a line
 and another\"
-7,GB,1731-02-11,Monday,
-8,GB,32 January 1731,,
-9,FR,1543-04-01,Tuesday,
-10,FR,1 April 1543/4,friday,
 ",
-        (
-            0,
-            "id,place,date,weekday,text,days,gregorian,julian,dual,weekday_found,jdn,edtf,edition,
+        "id,place,date,weekday,text,days,gregorian,julian,dual,weekday_found,jdn,edtf,edition,
   remark
-1,GB,11 February 1731,Friday,\"Dear Sir, I\",632287,1732-02-22,1732-02-11,11 February 1731/2,
+1, GB,11 February 1731,friday ,\"Dear Sir, I\",632287,1732-02-22,1732-02-11,11 February 1731/2,
   Friday,2353712,1732-02-22,2,
 2,GB,1752-09-05,,\"said \"\"no\"\"\",,,,,,,,2,skipped
 3,FR,1 April 1543,,two,563304; 563670,1543-04-11; 1544-04-11,1543-04-01; 1544-04-01,
   1 April 1543; 1 April 1543/4,Sunday; Tuesday,2284729; 2285095,\"[1543-04-11,1544-04-11]\",2,
-  two days
-4,GB,11 February 1731/3,,,,,,,,,,2,no such date
-5,GB,11.2.1731,,,,,,,,,,2,malformed date
-6,XX,1731-02-11,,\"a line
+  several days
+4,XX,1731-02-11,,\"a line
 and another\",,,,,,,,2,unknown place
-7,GB,1731-02-11,Monday,,632287,1732-02-22,1732-02-11,11 February 1731/2,Friday,2353712,
-  1732-02-22,2,weekday differs
-8,GB,32 January 1731,,,,,,,,,,2,no such date
-9,FR,1543-04-01,Tuesday,,563304; 563670,1543-04-11; 1544-04-11,1543-04-01; 1544-04-01,
-  1 April 1543; 1 April 1543/4,Sunday; Tuesday,2284729; 2285095,\"[1543-04-11,1544-04-11]\",2,
-  two days
-10,FR,1 April 1543/4,friday,,563670,1544-04-11,1544-04-01,1 April 1543/4,Tuesday,2285095,
-  1544-04-11,2,weekday differs
 ",
-            "",
-        ),
+        WHOLE,
     ),
     (
         OTHER_NAMES,
         "Tag,\"Datum, wie geschrieben\",Ort
-,1731-02-11,GB
-Friday,1731-02-11,GB
+Tuesday,1543-04-01,FR
 ",
-        (
-            0,
-            "Tag,\"Datum, wie geschrieben\",Ort,days,gregorian,julian,dual,weekday_found,jdn,edtf,
+        "Tag,\"Datum, wie geschrieben\",Ort,days,gregorian,julian,dual,weekday_found,jdn,edtf,
   edition,remark
-,1731-02-11,GB,632287,1732-02-22,1732-02-11,11 February 1731/2,Friday,2353712,1732-02-22,2,
-Friday,1731-02-11,GB,632287,1732-02-22,1732-02-11,11 February 1731/2,Friday,2353712,1732-02-22,
-  2,
+Tuesday,1543-04-01,FR,563670; 563304,1544-04-11; 1543-04-11,1544-04-01; 1543-04-01,
+  1 April 1543/4; 1 April 1543,Tuesday; Sunday,2285095; 2284729,\"[1544-04-11,1543-04-11]\",2,
+  by its weekday
 ",
-            "",
-        ),
+        WHOLE,
     ),
     (
-        NAMES,
-        "\u{feff}place,date\r\nGB,1752-09-14\r\n\r\nGB,1752-09-15",
-        (
-            0,
-            "place,date,days,gregorian,julian,dual,weekday_found,jdn,edtf,edition,remark
+        BY_HEADER,
+        "\u{feff}place,date\r\nGB,1752-09-14\r\rGB,1752-09-15",
+        "place,date,days,gregorian,julian,dual,weekday_found,jdn,edtf,edition,remark
 GB,1752-09-14,639797,1752-09-14,1752-09-03,14 September 1752,Thursday,2361222,1752-09-14,2,
 GB,1752-09-15,639798,1752-09-15,1752-09-04,15 September 1752,Friday,2361223,1752-09-15,2,
 ",
-            "",
-        ),
+        WHOLE,
     ),
     (
-        NAMES,
-        "place,date\n",
-        (
-            0,
-            "place,date,days,gregorian,julian,dual,weekday_found,jdn,edtf,edition,remark\n",
-            "",
-        ),
-    ),
-    (NAMES, "", (1, "", NO_PLACES)),
-    (NAMES, "code,date\nGB,1752-09-14\n", (1, "", NO_PLACES)),
-    (NAMES, "place,Date\nGB,1752-09-14\n", (1, "", NO_DATES)),
-    (
-        OTHER_NAMES,
-        "place,date\nGB,1752-09-14\n",
-        (1, "", NO_PLACES),
-    ),
-    (
-        NAMES,
-        "place,date\nGB,\"1752-09-
-14\"\nGB\nGB,1752-09-14\n",
-        (
-            1,
-            "place,date,days,gregorian,julian,dual,weekday_found,jdn,edtf,edition,remark
-GB,\"1752-09-
-14\",,,,,,,,2,malformed date
+        BY_HEADER,
+        "place;date;\"a;b\"\nFR;1543-04-01;one, two\n",
+        "place;date;\"a;b\";days;gregorian;julian;dual;weekday_found;jdn;edtf;edition;remark
+FR;1543-04-01;one, two;\"563304; 563670\";\"1543-04-11; 1544-04-11\";\"1543-04-01; 1544-04-01\";
+  \"1 April 1543; 1 April 1543/4\";\"Sunday; Tuesday\";\"2284729; 2285095\";
+  [1543-04-11,1544-04-11];2;several days
 ",
-            "oldstyle: letters line 4: another number of fields than the header\n",
-        ),
+        WHOLE,
     ),
     (
-        NAMES,
-        "place,date\nGB,1752-09-14,more\n",
-        (
-            1,
-            "place,date,days,gregorian,julian,dual,weekday_found,jdn,edtf,edition,remark\n",
-            "oldstyle: letters line 2: another number of fields than the header\n",
-        ),
+        BY_HEADER,
+        "\"place\"\tdate\nXX\t1731-02-11\n",
+        "place\tdate\tdays\tgregorian\tjulian\tdual\tweekday_found\tjdn\tedtf\tedition\tremark
+XX\t1731-02-11\t\t\t\t\t\t\t\t2\tunknown place
+",
+        WHOLE,
     ),
     (
-        NAMES,
+        BY_SEMICOLON,
+        "a,b;place;date\n;XX;1731-02-11\n",
+        "a,b;place;date;days;gregorian;julian;dual;weekday_found;jdn;edtf;edition;remark
+;XX;1731-02-11;;;;;;;;2;unknown place
+",
+        WHOLE,
+    ),
+    (
+        BY_HEADER,
         "place,date,place\nGB,1752-09-02,XX\n",
-        (
-            0,
-            "place,date,place,days,gregorian,julian,dual,weekday_found,jdn,edtf,edition,remark
+        "place,date,place,days,gregorian,julian,dual,weekday_found,jdn,edtf,edition,remark
 GB,1752-09-02,XX,639796,1752-09-13,1752-09-02,2 September 1752,Wednesday,2361221,1752-09-13,2,
 ",
-            "",
-        ),
+        WHOLE,
     ),
 ];
 
-const NO_PLACES: &str = "oldstyle: letters line 1: no column of places: name it by --place\n";
+/// A header with the nine columns after it.
+const HEADER: &str =
+    "place,date,days,gregorian,julian,dual,weekday_found,jdn,edtf,edition,remark\n";
 
-const NO_DATES: &str = "oldstyle: letters line 1: no column of dates: name it by --date\n";
+/// The header, and the row of 14 September 1752.
+const HEADER_AND_ROW: &str =
+    "place,date,days,gregorian,julian,dual,weekday_found,jdn,edtf,edition,remark
+GB,1752-09-14,639797,1752-09-14,1752-09-03,14 September 1752,Thursday,2361222,1752-09-14,2,
+";
+
+const FAULTS: [Row; 13] = [
+    (BY_HEADER, "", "", ("no header", 0, "")),
+    (BY_HEADER, "\r\n\n", "", ("no header", 0, "")),
+    (
+        BY_HEADER,
+        "\r\n\n\rcode,date\nGB,1752-09-14\n",
+        "",
+        ("no column of places", 4, "code, date"),
+    ),
+    (
+        BY_HEADER,
+        "place,Date,a\nGB,1752-09-14,\n",
+        "",
+        ("no column of dates", 1, "place, Date, a"),
+    ),
+    (
+        OTHER_NAMES,
+        "\"Datum, wie geschrieben\",Ort\n1752-09-14,GB\n",
+        "",
+        ("no column of weekdays", 1, "Datum, wie geschrieben, Ort"),
+    ),
+    (
+        BY_SEMICOLON,
+        "place,date\nGB,1752-09-14\n",
+        "",
+        ("no column of places", 1, "place,date"),
+    ),
+    (
+        BY_HEADER,
+        "remark,place,date,jdn\n,GB,1752-09-14,\n",
+        "",
+        ("a column of ours", 1, "jdn"),
+    ),
+    (
+        BY_HEADER,
+        "place,date\rGB,1752-09-14\r\nGB\nGB,1752-09-15\n",
+        HEADER_AND_ROW,
+        ("another number of fields", 3, ""),
+    ),
+    (
+        BY_HEADER,
+        "place,date\nGB,1752-09-14\nGB,\"1752-09-15\nGB,1752-09-16\n",
+        HEADER_AND_ROW,
+        ("an open quote", 3, ""),
+    ),
+    (
+        BY_HEADER,
+        "place,date\nGB,1752-09-14\nGB,\"1752-09-\n15\"x\nGB,1752-09-16\n",
+        HEADER_AND_ROW,
+        ("text after a quote", 3, ""),
+    ),
+    (
+        BY_HEADER,
+        "place,date\nGB,\"1752-09-15\" \n",
+        HEADER,
+        ("text after a quote", 2, ""),
+    ),
+    (
+        BY_HEADER,
+        "place,\"date\nGB,1752-09-16\n",
+        "",
+        ("an open quote", 1, ""),
+    ),
+    (
+        BY_HEADER,
+        "place,date\nGB,1752-09-14\nGB,\"",
+        HEADER_AND_ROW,
+        ("an open quote", 3, ""),
+    ),
+];
 
 /// How many bytes were read.
 #[derive(Drop)]
@@ -179,30 +220,70 @@ impl Progress for BytesRead {
     }
 }
 
-/// What a table leaves behind a journal.
-fn written(alloc: Global, journal: &str, names: ColumnNames<'_>, table: &str) -> Left {
-    let (mut output, mut errors) = (sink(alloc), sink(alloc));
-    let mut source = Plain::new(journal.as_bytes());
+/// The column that a header lacks.
+fn lack(column: Column) -> &'static str {
+    match column {
+        Column::Place => "no column of places",
+        Column::Date => "no column of dates",
+        Column::Weekday => "no column of weekdays",
+    }
+}
+
+/// How a table ended.
+fn end(fault: &LettersFault) -> (&str, u64, &str) {
+    match fault {
+        LettersFault::NoHeader => ("no header", 0, ""),
+        LettersFault::LacksColumn {
+            column,
+            line,
+            found,
+        } => (lack(*column), *line, found.as_str()),
+        LettersFault::HasColumn { line, column } => ("a column of ours", *line, column.name()),
+        LettersFault::BadRecord { line } => ("another number of fields", *line, ""),
+        LettersFault::TooLong { line } => ("a long record", *line, ""),
+        LettersFault::OpenQuote { line } => ("an open quote", *line, ""),
+        LettersFault::TextAfterQuote { line } => ("text after a quote", *line, ""),
+        LettersFault::ReadFault => ("a read fault", 0, ""),
+        LettersFault::WriteFault => ("a write fault", 0, ""),
+        LettersFault::NoMemory => ("no memory", 0, ""),
+    }
+}
+
+/// That a table ends so.
+fn is_end(rt: &impl Abort, written: &Result<(), LettersFault>, wanted: End) {
+    match written {
+        Ok(()) => same(rt, WHOLE, wanted),
+        Err(fault) => same(rt, end(fault), wanted),
+    }
+}
+
+/// That the table of a row is written so.
+fn is_written(rt: &impl Abort, alloc: Global, register: &Register, row: &Row) -> Result<(), Fail> {
+    let (settings, table, wanted, end) = row;
     let mut input = Plain::new(table.as_bytes());
-    let status = letters_command(
+    let mut output = Plain::new(Vec::new(alloc));
+    let mut read = BytesRead(0);
+    let written = write_letters(
         alloc,
-        Limits::standard(),
-        &mut source,
-        names,
+        register,
+        2,
+        *settings,
         &mut input,
         &mut output,
-        &mut errors,
-        &mut BytesRead(0),
+        &mut read,
     );
-    left_by(status, output, errors)
+    is_end(rt, &written, *end);
+    let wanted = joined(alloc, wanted)?;
+    same(rt, str::from_utf8(&output.into_inner())?, wanted.as_str());
+    same(rt, read.0, table.len());
+    Ok(())
 }
 
 /// That each table is written so.
 fn are_written(rt: &impl Abort, alloc: Global, rows: &[Row]) -> Result<(), Fail> {
-    let journal = joined(alloc, JOURNAL)?;
-    for (names, table, wanted) in rows {
-        let left = written(alloc, journal.as_str(), *names, table);
-        is_left(rt, alloc, left, wanted)?;
+    let object = europe(alloc)?;
+    for row in rows {
+        is_written(rt, alloc, object.register(), row)?;
     }
     Ok(())
 }
@@ -212,36 +293,46 @@ fn tables_of_letters_are_written(rt: HostRuntime) -> Result<(), Fail> {
     are_written(&rt, rt.alloc(), &TABLES)
 }
 
+#[test]
+fn faults_end_a_table(rt: HostRuntime) -> Result<(), Fail> {
+    are_written(&rt, rt.alloc(), &FAULTS)
+}
+
+/// How a table ends whose second record has so many letters after the date.
+fn end_of_long(alloc: Global, letters: usize) -> Result<(&'static str, u64), Fail> {
+    let mut table = String::from_str(alloc, "place,date,text\nGB,1752-09-14,")?;
+    for _letter in 0..letters {
+        table.push('x')?;
+    }
+    let object = europe(alloc)?;
+    let written = write_letters(
+        alloc,
+        object.register(),
+        2,
+        BY_HEADER,
+        &mut Plain::new(table.as_bytes()),
+        &mut Plain::new(Vec::new(alloc)),
+        &mut BytesRead(0),
+    );
+    match written {
+        Ok(()) => Ok(("whole", 0)),
+        Err(LettersFault::TooLong { line }) => Ok(("too long", line)),
+        Err(_) => Ok(("another fault", 0)),
+    }
+}
+
 /// A record longer than 65,536 bytes ends the table, and one that is as long does not.
 #[test]
 fn long_records(rt: HostRuntime) -> Result<(), Fail> {
-    let alloc = rt.alloc();
-    let journal = joined(alloc, JOURNAL)?;
-    let head = "place,date,text\nGB,1752-09-14,";
-    for (size, told) in &[
-        (65_522, 0),
-        (
-            65_523,
-            "oldstyle: letters line 2: a record of more than 65536 bytes\n".len(),
-        ),
-    ] {
-        let mut table = String::from_str(alloc, head)?;
-        for _letter in 0..*size {
-            table.push('x')?;
-        }
-        let left = written(alloc, journal.as_str(), NAMES, table.as_str());
-        same(&rt, (size, left.told.len()), (size, *told));
+    for (letters, wanted) in &[(65_522, ("whole", 0)), (65_523, ("too long", 2))] {
+        same(&rt, end_of_long(rt.alloc(), *letters)?, *wanted);
     }
     Ok(())
 }
 
 #[test]
-fn a_letter_and_its_table(rt: HostRuntime) -> Result<(), Fail> {
-    let alloc = rt.alloc();
-    let journal = joined(alloc, JOURNAL)?;
-    let mut source = Plain::new(journal.as_bytes());
-    let object = load_journal(alloc, Limits::standard(), &mut source)?;
-    let mut header = ByteRecord::new(alloc);
+fn columns_are_found(rt: HostRuntime) -> Result<(), Fail> {
+    let mut header = ByteRecord::new(rt.alloc());
     header.push_field(b"date")?;
     header.push_field(b"place")?;
     let columns = Columns {
@@ -249,20 +340,8 @@ fn a_letter_and_its_table(rt: HostRuntime) -> Result<(), Fail> {
         date: 0,
         weekday: None,
     };
-    same(&rt, find_columns(&header, NAMES), Ok(columns));
-    let fields = letter_fields(alloc, object.register(), 7, b"GB", b"1752-09-03", None)?;
-    same(
-        &rt,
-        (fields.len(), fields.get(8)),
-        (9, Some(b"skipped".as_slice())),
-    );
-    let mut output = sink(alloc);
-    let mut input = Plain::new(b"place,date\n".as_slice());
-    let mut read = BytesRead(0);
-    let (register, out) = (object.register(), &mut output);
-    let written = write_letters(alloc, register, 7, NAMES, &mut input, out, &mut read);
-    same(&rt, (written, read.0), (Ok(()), 11));
-    let text = "place,date,days,gregorian,julian,dual,weekday_found,jdn,edtf,edition,remark\n";
-    same(&rt, str::from_utf8(&output.into_inner())?, text);
+    let found = find_columns(rt.alloc(), &header, NAMES, 1);
+    same(&rt, found.ok(), Some(columns));
+    same(&rt, AddedColumn::WeekdayFound.name(), "weekday_found");
     Ok(())
 }

@@ -15,20 +15,30 @@ mod files;
 #[cfg(test)]
 mod help;
 #[cfg(test)]
+mod journals;
+#[cfg(test)]
 mod keeping;
 #[cfg(test)]
 mod kept;
+#[cfg(test)]
+mod letter_remarks;
 #[cfg(test)]
 mod letters;
 #[cfg(test)]
 mod limit_words;
 #[cfg(test)]
+mod meanings;
+#[cfg(test)]
 mod memory;
 #[cfg(test)]
 mod mistakes;
 #[cfg(test)]
-mod pages;
+mod misuses;
 #[cfg(test)]
 mod printed;
 #[cfg(test)]
+mod readings;
+#[cfg(test)]
 mod territory_pages;
+#[cfg(test)]
+mod written_dates;

@@ -1,11 +1,15 @@
 //! Limits that the command line names.
 use crate::commands::{RunRow, are_run, left_over};
+use crate::compare::same;
 use crate::files::{File, entered};
-use crate::printed::{Wanted, is_left};
 use std::fs;
+use std::process::Abort;
+use std::rt::Files;
+use std::sync::Wait;
 use std::test::Fail;
+use std::thread::Threads;
 
-const WORDS: [RunRow; 8] = [
+const WORDS: [RunRow; 7] = [
     (
         "oldstyle serve --limits lands=2,lands=1,edits=4294967295",
         "{\"op\":\"add_land\",\"code\":\"RM\",\"name\":\"Rome\",\"calendar\":\"julian\",\
@@ -69,14 +73,19 @@ const WORDS: [RunRow; 8] = [
         "",
         (0, "Territories, edition 1\nRome (RM)\n", ""),
     ),
-    ("oldstyle territory a.journal --limits towns=1", "", NONE),
 ];
 
-const NONE: Wanted = (
-    2,
-    "",
-    "oldstyle: LIMITS are none: write some of lands=N,changes=N,exceptions=N,edits=N,editions=N\n",
-);
+/// Words that are no limits.
+const NO_LIMITS: [&str; 8] = [
+    "towns=1",
+    "lands",
+    "lands=",
+    "lands=4294967296",
+    "lands=1,",
+    "=1",
+    "lands=1;edits=2",
+    "lands=-1",
+];
 
 const JOURNAL: &str = r#"{"journal":2}
 {"op":"add_land","code":"RM","name":"Rome","calendar":"julian","style":"january","rule":"julian"}
@@ -88,21 +97,28 @@ const JOURNAL: &str = r#"{"journal":2}
 
 const FILES: [File; 1] = [("a.journal", JOURNAL)];
 
+/// That the words are told to be no limits.
+fn is_misuse<R: Files<File = fs::File> + Threads + Wait + AllocGlobal + Abort>(
+    rt: &R,
+    words: &str,
+) -> Result<(), Fail> {
+    let line = format!(in rt.alloc(); "oldstyle serve --limits {words}")?;
+    let told = format!(in rt.alloc();
+        "oldstyle: {words}: limits are some of lands=N,changes=N,exceptions=N,edits=N,\
+editions=N, with a comma between\n"
+    )?;
+    let left = left_over(rt, line.as_str(), "")?;
+    same(rt, left.status.code(), 2);
+    same(rt, left.told.as_slice(), told.as_bytes());
+    Ok(())
+}
+
 #[test]
 fn limits_by_their_names(rt: HostRuntime) -> Result<(), Fail> {
     let folder = entered(&rt, "limits", &FILES)?;
     are_run(&rt, &WORDS)?;
-    for words in &[
-        "lands",
-        "lands=",
-        "lands=4294967296",
-        "lands=1,",
-        "=1",
-        "lands=1;edits=2",
-        "lands=-1",
-    ] {
-        let line = format!(in rt.alloc(); "oldstyle serve --limits {words}")?;
-        is_left(&rt, rt.alloc(), left_over(&rt, line.as_str(), "")?, &NONE)?;
+    for words in &NO_LIMITS {
+        is_misuse(&rt, words)?;
     }
     fs::remove_dir_all(&rt, folder.as_path())?;
     Ok(())

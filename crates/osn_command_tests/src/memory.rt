@@ -95,7 +95,7 @@ impl<R: Abort + AllocGlobal> Folder for MemoryFolder<'_, R> {
         self.note(path);
         match text {
             Some(text) => Ok(Plain::new(Cursor::new(text))),
-            None => Err(OpenFailed),
+            None => Err(OpenFailed::NotFound),
         }
     }
 
@@ -164,7 +164,7 @@ fn left_with<'a>(changes: &'a [Change], path: &str) -> Option<&'a str>
 }
 
 /// A folder with these files.
-fn holding<'a, R: Abort + AllocGlobal>(
+pub fn holding<'a, R: Abort + AllocGlobal>(
     rt: &'a R,
     files: &[File],
 ) -> Result<MemoryFolder<'a, R>, AllocError> {
@@ -197,7 +197,7 @@ fn are_opened(
     are_paths(rt, alloc, &paths, wanted)
 }
 
-/// That these paths were changed, in this order, behind the first so many.
+/// That these paths were changed, in this order, after the first so many.
 fn are_changed(
     rt: &impl Abort,
     alloc: Global,
@@ -265,13 +265,17 @@ fn files_are_opened_in_the_order_of_the_words(rt: HostRuntime) -> Result<(), Fai
     open(&rt, &RUNS, &OPENED)
 }
 
-/// Command lines of which the first file isn't there.
-const GONE: [&str; 10] = [
+/// Command lines of which the first file isn't there, and of which the cause is told.
+const NOT_FOUND: [&str; 5] = [
     "oldstyle letters a.gone",
     "oldstyle read a.gone RM 1500-01-01",
     "oldstyle day a.gone RM 1500-01-01",
     "oldstyle month a.gone RM 1500 1",
     "oldstyle territory a.gone",
+];
+
+/// The same of which a read fault is told.
+const GONE: [&str; 5] = [
     "oldstyle almanac a.gone RM 1500",
     "oldstyle replay --readers 1 a.gone",
     "oldstyle desk a.gone a.questions",
@@ -282,17 +286,19 @@ const GONE: [&str; 10] = [
 fn are_gone<R: Threads + Wait + AllocGlobal + Abort>(
     rt: &R,
     lines: &[&'static str],
+    told: &'static str,
 ) -> Result<(), Fail> {
     for line in lines {
-        let run = (*line, ADDED, (3, "", "oldstyle: read fault\n"));
+        let run = (*line, ADDED, (3, "", told));
         is_run(rt, &(run, "a.gone", ""))?;
     }
     Ok(())
 }
 
 #[test]
-fn nothing_is_opened_behind_a_file_that_is_gone(rt: HostRuntime) -> Result<(), Fail> {
-    are_gone(&rt, &GONE)
+fn nothing_is_opened_after_a_file_that_is_gone(rt: HostRuntime) -> Result<(), Fail> {
+    are_gone(&rt, &NOT_FOUND, "oldstyle: a.gone: no such file\n")?;
+    are_gone(&rt, &GONE, "oldstyle: read fault\n")
 }
 
 /// Runs, and what a file holds then, if it is there. A text is written beside its place first, and

@@ -2,7 +2,7 @@
 use crate::commands::{RunRow, are_run};
 use std::test::Fail;
 
-const MISTAKES: [RunRow; 23] = [
+const MISTAKES: [RunRow; 22] = [
     (
         "oldstyle read none GB",
         "",
@@ -43,18 +43,6 @@ For more information, try '--help'.
   <DATE>
 
 Usage: oldstyle day <JOURNAL> <CODE> <DATE>
-
-For more information, try '--help'.
-",
-        ),
-    ),
-    (
-        "oldstyle month none GB 1752 13",
-        "",
-        (
-            2,
-            "",
-            "error: invalid value '13' for '<MONTH>': 13 is not in 1..=12
 
 For more information, try '--help'.
 ",

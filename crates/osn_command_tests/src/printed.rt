@@ -90,7 +90,15 @@ fn almanacs(rt: &impl Abort, alloc: Global, rows: &[Almanac]) -> Result<(), Fail
         let (mut output, mut errors) = (sink(alloc), sink(alloc));
         let mut source = Plain::new(journal.as_bytes());
         let words = PageWords::Almanac { code, year: *year };
-        let status = page_command(alloc, limits, &mut source, words, &mut output, &mut errors);
+        let status = page_command(
+            alloc,
+            limits,
+            "a.journal",
+            &mut source,
+            words,
+            &mut output,
+            &mut errors,
+        );
         is_left(rt, alloc, left_by(status, output, errors), wanted)?;
     }
     Ok(())
@@ -113,6 +121,7 @@ fn an_almanac_is_printed(rt: HostRuntime) -> Result<(), Fail> {
     let status = page_command(
         rt.alloc(),
         limits,
+        "a.journal",
         &mut source,
         words,
         &mut output,

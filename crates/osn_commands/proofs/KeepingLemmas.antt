@@ -44,7 +44,8 @@ use Rattle.osn_commands.specs.Told.{IsToldAs}
 use Rattle.osn_commands.specs.declared.fault.CommandFault.{CommandFault}
 use Rattle.osn_commands.specs.declared.fault.CommandFault.TheVariants.{BadLine, Refused, Desk}
 use Rattle.osn_commands.specs.declared.fault.CommandFault.TheVariants.{ReadFault, WriteFault}
-use Rattle.osn_commands.specs.declared.fault.CommandFault.TheVariants.{NoMemory, Misused, BadTable}
+use Rattle.osn_commands.specs.declared.fault.CommandFault.TheVariants.{NoMemory}
+use Rattle.osn_commands.specs.declared.fault.CommandFault.TheVariants.{KeptWithOther}
 use Rattle.osn_commands.specs.declared.fault.CommandFault.TheVariants.{KeptElsewhere, OlderVersion}
 
 -- ---- the object
@@ -132,9 +133,7 @@ not_loaded remaining source journal left p limits part held failed (Refused refu
     some known whole h = absurd h
 not_loaded remaining source journal left p limits part held failed (Desk fault) same count some
     known whole h = absurd h
-not_loaded remaining source journal left p limits part held failed (Misused misuse) same count
-    some known whole h = absurd h
-not_loaded remaining source journal left p limits part held failed (BadTable fault) same count
+not_loaded remaining source journal left p limits part held failed KeptWithOther same count
     some known whole h = absurd h
 not_loaded remaining source journal left p limits part held failed KeptElsewhere same count some
     known whole h = absurd h
@@ -193,9 +192,7 @@ service_told p l r held failed cut file o input unread (Refused refusal) told (i
     (inr (s, is, off, h)) = absurd h
 service_told p l r held failed cut file o input unread (Desk fault) told (inr k)
     (inr (s, is, off, h)) = absurd h
-service_told p l r held failed cut file o input unread (Misused misuse) told (inr k)
-    (inr (s, is, off, h)) = absurd h
-service_told p l r held failed cut file o input unread (BadTable fault) told (inr k)
+service_told p l r held failed cut file o input unread KeptWithOther told (inr k)
     (inr (s, is, off, h)) = absurd h
 service_told p l r held failed cut file o input unread KeptElsewhere told (inr k)
     (inr (s, is, off, h)) = absurd h

@@ -8,3 +8,4 @@ pub mod RunLemmas
 pub mod LimitsLemmas
 pub mod KeptFileLemmas
 pub mod KeepingLemmas
+pub mod PageLemmas

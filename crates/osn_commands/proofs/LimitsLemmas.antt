@@ -10,8 +10,8 @@ use Rattle.clap.specs.Words.{Text}
 use Rattle.osn_invocation.specs.Invocation.{is_number, number_or}
 use Rattle.osn_invocation.proofs.NumberLemmas.{number_read}
 use Rattle.osn_register.specs.declared.limits.Limits.{Limits}
-use Rattle.osn_pages.specs.WrittenDate.{parts_at, behind, ◌>>=◌}
-use Rattle.osn_commands.specs.Limits.{number_of, onto_first, settings, with_setting}
+use Rattle.osn_written.specs.WrittenDate.{parts_at, with_first}
+use Rattle.osn_commands.specs.Limits.{◌>>=◌, number_of, onto_first, settings, with_setting}
 use Rattle.osn_commands.specs.Limits.{with_settings}
 
 -- what is read as this number, and else as any other one, is the number
@@ -41,7 +41,7 @@ number_parsed {E = E} text (Err f) h =
     number_by {E = E} text (Err f) (is_number (without_leading_plus text)) refl
     (λ other. number_read {E = E} (ParsesUnsigned 32 10) (λ t x p. p) other text None (f, h))
 
--- the settings of a text by what stands before and behind its first comma
+-- the settings of a text by what stands before and after its first comma
 abbrev settings_by : List ℕ → Option (List ℕ × List ℕ) → List (List ℕ)
 settings_by text None = text ∷ []
 settings_by text (Some parts) = parts.0 ∷ settings parts.1
@@ -49,7 +49,7 @@ settings_by text (Some parts) = parts.0 ∷ settings parts.1
 one_more : (b : ℕ) (rest : List ℕ) (t : Bool) (parts : Option (List ℕ × List ℕ))
     → settings rest ≡ settings_by rest parts
     → (if t then [] ∷ settings rest else onto_first b (settings rest))
-    ≡ settings_by (b ∷ rest) (if t then Some ([], rest) else option_map (behind b) parts)
+    ≡ settings_by (b ∷ rest) (if t then Some ([], rest) else option_map (with_first b) parts)
 one_more b rest true parts h = refl
 one_more b rest false None h = ap (onto_first b) h
 one_more b rest false (Some parts) h = ap (onto_first b) h
@@ -58,11 +58,11 @@ pub settings_cut : (text : List ℕ) → settings text ≡ settings_by text (par
 settings_cut [] = refl
 settings_cut (b ∷ rest) = one_more b rest (b == 44) (parts_at 44 rest) (settings_cut rest)
 
--- what stands behind a comma is shorter
+-- what stands after a comma is shorter
 shorter_by : (b : ℕ) (rest : List ℕ) (t : Bool) (parts : Option (List ℕ × List ℕ))
     (first further : List ℕ)
     → ((first further : List ℕ) → parts ≡ Some (first, further) → length further < length rest)
-    → (if t then Some ([], rest) else option_map (behind b) parts) ≡ Some (first, further)
+    → (if t then Some ([], rest) else option_map (with_first b) parts) ≡ Some (first, further)
     → length further < length (b ∷ rest)
 shorter_by b rest true parts first further h e =
     let is : rest ≡ further = ap (λ x. x.1) (same_Some _ _ e) in

@@ -14,7 +14,8 @@ use Rattle.osn_commands.specs.Told.{IsToldAs, WritesLine, EndsBy, Tells}
 use Rattle.osn_commands.specs.declared.fault.CommandFault.{CommandFault}
 use Rattle.osn_commands.specs.declared.fault.CommandFault.TheVariants.{BadLine, Refused, Desk}
 use Rattle.osn_commands.specs.declared.fault.CommandFault.TheVariants.{ReadFault, WriteFault}
-use Rattle.osn_commands.specs.declared.fault.CommandFault.TheVariants.{NoMemory, Misused, BadTable}
+use Rattle.osn_commands.specs.declared.fault.CommandFault.TheVariants.{NoMemory}
+use Rattle.osn_commands.specs.declared.fault.CommandFault.TheVariants.{KeptWithOther}
 use Rattle.osn_commands.specs.declared.fault.CommandFault.TheVariants.{KeptElsewhere, OlderVersion}
 use Rattle.osn_commands.specs.declared.status.Status.{Status}
 use Rattle.osn_commands.specs.declared.status.Status.TheVariants as statuses
@@ -85,8 +86,7 @@ serves_told p l n b u v o input r j (BadLine role line why) told (inr k) (none, 
     absurd h.2
 serves_told p l n b u v o input r j (Refused refusal) told (inr k) (none, inr h) = absurd h.2
 serves_told p l n b u v o input r j (Desk desk) told (inr k) (none, inr h) = absurd h.2
-serves_told p l n b u v o input r j (Misused misuse) told (inr k) (none, inr h) = absurd h.2
-serves_told p l n b u v o input r j (BadTable table) told (inr k) (none, inr h) = absurd h.2
+serves_told p l n b u v o input r j KeptWithOther told (inr k) (none, inr h) = absurd h.2
 serves_told p l n b u v o input r j KeptElsewhere told (inr k) (none, inr h) = absurd h.2
 serves_told p l n b u v o input r j (OlderVersion version) told (inr k) (none, inr h) = absurd h.2
 serves_told p l n b u v o input r j ReadFault told (inr k) (none, inr h) =

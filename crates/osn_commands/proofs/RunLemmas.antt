@@ -26,8 +26,7 @@ use Rattle.osn_commands.specs.Serving.{Serves}
 use Rattle.osn_commands.specs.Streams.{Input, Output}
 use Rattle.osn_commands.specs.Told.{EndsBy, Tells}
 use Rattle.osn_commands.specs.declared.fault.CommandFault.{CommandFault}
-use Rattle.osn_commands.specs.declared.fault.CommandFault.TheVariants.{Misused}
-use Rattle.osn_commands.specs.declared.fault.Misuse.TheVariants.{Keep}
+use Rattle.osn_commands.specs.declared.fault.CommandFault.TheVariants.{KeptWithOther}
 use Rattle.osn_commands.specs.declared.status.Status.{Status}
 use Rattle.osn_commands.specs.declared.status.Status.TheVariants as statuses
 
@@ -182,7 +181,7 @@ module _ {P : Type 0} (now : P → List ℕ) (limits : Limits) where
   pub misused_with : (journal save : Option P) (path : List ℕ) (readers : ℕ)
       (CanFail : Bool → Type 0) (d : Folders) (i : Input) (o e : Output) (status : Status)
       → (is_some journal || is_some save) ≡ true
-      → (d.after ≡ d.before) × EndsFirst (Misused Keep) o e status
+      → (d.after ≡ d.before) × EndsFirst KeptWithOther o e status
       → RunsServing limits (option_map now journal) (option_map now save) (Some path) readers
       CanFail d i o e status
   misused_with None None path readers CanFail d i o e status given h = absurd (cc)

@@ -15,9 +15,6 @@ use Rattle.osn_files.specs.declared.fault.Role.TheVariants.{Journal, Script, Que
 use Rattle.osn_files.specs.declared.fault.Role.TheVariants.{Transcript}
 use Rattle.osn_format.specs.Version.{version_number}
 use Rattle.osn_format.specs.declared.version.Version.{Version}
-use Rattle.osn_letters.specs.declared.fault.Column.TheVariants as columns
-use Rattle.osn_letters.specs.declared.fault.LettersFault.{LettersFault}
-use Rattle.osn_letters.specs.declared.fault.LettersFault.TheVariants as letters_faults
 use Rattle.osn_live.specs.Faults.{desk_fault_number, desk_fault_name}
 use Rattle.osn_live.specs.declared.faults.DeskFault.{DeskFault}
 use Rattle.osn_live.specs.declared.faults.DeskFault.TheVariants as desk_faults
@@ -28,14 +25,8 @@ use Rattle.osn_service.specs.declared.fault.ServeFault.TheVariants as serve_faul
 use Rattle.osn_commands.specs.declared.fault.CommandFault.{CommandFault}
 use Rattle.osn_commands.specs.declared.fault.CommandFault.TheVariants.{BadLine, Refused, Desk}
 use Rattle.osn_commands.specs.declared.fault.CommandFault.TheVariants.{ReadFault, WriteFault}
-use Rattle.osn_commands.specs.declared.fault.CommandFault.TheVariants.{NoMemory, Misused, BadTable}
+use Rattle.osn_commands.specs.declared.fault.CommandFault.TheVariants.{NoMemory, KeptWithOther}
 use Rattle.osn_commands.specs.declared.fault.CommandFault.TheVariants.{KeptElsewhere, OlderVersion}
-use Rattle.osn_commands.specs.declared.fault.Misuse.{Misuse}
-use Rattle.osn_commands.specs.declared.fault.Misuse.TheVariants.{Date, Weekday, Calendar}
-use Rattle.osn_commands.specs.declared.fault.Misuse.TheVariants.{DayNumber, NoSuchDate, Limits}
-use Rattle.osn_commands.specs.declared.fault.Misuse.TheVariants.{Keep}
-use Rattle.osn_commands.specs.declared.fault.TableFault.{TableFault}
-use Rattle.osn_commands.specs.declared.fault.TableFault.TheVariants as tables
 use Rattle.osn_commands.specs.Limits.{limit_hint}
 use Rattle.osn_commands.specs.declared.status.Status.{Status}
 use Rattle.osn_commands.specs.declared.status.Status.TheVariants as statuses
@@ -45,8 +36,7 @@ abbrev pub fault_status : CommandFault → Status
 fault_status (BadLine role line why) = statuses.Refused
 fault_status (Refused refusal) = statuses.Refused
 fault_status (Desk fault) = statuses.Refused
-fault_status (Misused misuse) = statuses.Misused
-fault_status (BadTable fault) = statuses.Refused
+fault_status KeptWithOther = statuses.Misused
 fault_status KeptElsewhere = statuses.ReadFault
 fault_status (OlderVersion version) = statuses.Refused
 fault_status ReadFault = statuses.ReadFault
@@ -64,33 +54,6 @@ role_name Transcript = codes "transcript"
 abbrev pub refusal_end : ℕ → List ℕ → List ℕ
 refusal_end number name = decimal number ++ (codes " " ++ (name ++ codes "\n"))
 
--- what an argument is not, and what to write
-abbrev pub misuse_line : Misuse → List ℕ
-misuse_line Date = codes
-    "oldstyle: DATE is no date: write 1731-02-11, \"11 February 1731\" or \"11 February 1731/2\"\n"
-misuse_line Weekday = codes
-    "oldstyle: DAY is no weekday: write its English name, as Friday\n"
-misuse_line Calendar = codes
-    "oldstyle: CALENDAR is none: write gregorian, julian or swedish, or day and a day number\n"
-misuse_line DayNumber = codes
-    "oldstyle: DATE is no day number: behind day, write a number from 1 to 3652059\n"
-misuse_line NoSuchDate = codes
-    "oldstyle: DATE is no date of that calendar in the years 1 to 9999\n"
-misuse_line Limits = codes
-    "oldstyle: LIMITS are none: write some of lands=N,changes=N,exceptions=N,edits=N,editions=N\n"
-misuse_line Keep = codes "oldstyle: --keep goes with neither --journal nor --save\n"
-
--- where a table of letters is none, and what to write
-abbrev pub table_line : TableFault → List ℕ
-table_line tables.LacksPlace =
-    codes "oldstyle: letters line 1: no column of places: name it by --place\n"
-table_line tables.LacksDate =
-    codes "oldstyle: letters line 1: no column of dates: name it by --date\n"
-table_line (tables.BadRecord line) = codes "oldstyle: letters line "
-    ++ (decimal line ++ codes ": another number of fields than the header\n")
-table_line (tables.TooLong line) = codes "oldstyle: letters line "
-    ++ (decimal line ++ codes ": a record of more than 65536 bytes\n")
-
 -- the line on a journal of a version that is not kept
 abbrev pub older_line : Version → List ℕ
 older_line version = codes "oldstyle: a journal of version "
@@ -106,8 +69,7 @@ fault_line (Refused refusal) =
     codes "oldstyle: " ++ refusal_end (refusal_number refusal) (refusal_name refusal)
 fault_line (Desk fault) =
     codes "oldstyle: " ++ refusal_end (desk_fault_number fault) (desk_fault_name fault)
-fault_line (Misused misuse) = misuse_line misuse
-fault_line (BadTable fault) = table_line fault
+fault_line KeptWithOther = codes "oldstyle: --keep goes with neither --journal nor --save\n"
 fault_line KeptElsewhere = codes "oldstyle: another run of the program keeps that journal\n"
 fault_line (OlderVersion version) = older_line version
 fault_line ReadFault = codes "oldstyle: read fault\n"
@@ -149,13 +111,3 @@ by_desk desk_faults.GateClosed = Desk desk_faults.GateClosed
 abbrev pub by_save : SaveFault → CommandFault
 by_save save_faults.WriteFault = WriteFault
 by_save save_faults.NoMemory = NoMemory
-
--- the fault of a table of letters is the same one
-abbrev pub by_letters : LettersFault → CommandFault
-by_letters (letters_faults.LacksColumn columns.Place) = BadTable tables.LacksPlace
-by_letters (letters_faults.LacksColumn columns.Date) = BadTable tables.LacksDate
-by_letters (letters_faults.BadRecord line) = BadTable (tables.BadRecord line)
-by_letters (letters_faults.TooLong line) = BadTable (tables.TooLong line)
-by_letters letters_faults.ReadFault = ReadFault
-by_letters letters_faults.WriteFault = WriteFault
-by_letters letters_faults.NoMemory = NoMemory

@@ -7,7 +7,8 @@ use Rattle.osn_files.specs.declared.fault.Role.{Role}
 use Rattle.osn_commands.specs.declared.fault.CommandFault.{CommandFault}
 use Rattle.osn_commands.specs.declared.fault.CommandFault.TheVariants.{BadLine, Refused, Desk}
 use Rattle.osn_commands.specs.declared.fault.CommandFault.TheVariants.{ReadFault, WriteFault}
-use Rattle.osn_commands.specs.declared.fault.CommandFault.TheVariants.{NoMemory, Misused, BadTable}
+use Rattle.osn_commands.specs.declared.fault.CommandFault.TheVariants.{NoMemory}
+use Rattle.osn_commands.specs.declared.fault.CommandFault.TheVariants.{KeptWithOther}
 use Rattle.osn_commands.specs.declared.fault.CommandFault.TheVariants.{KeptElsewhere, OlderVersion}
 use Rattle.osn_commands.specs.Streams.{Input}
 
@@ -23,8 +24,7 @@ IsFileFault role rule file (BadLine named line why) =
     (named ≡ role) × IfSome file.bytes (λ input. rule (lines input) ≡ Err (line, why))
 IsFileFault role rule file (Refused refusal) = ⊥
 IsFileFault role rule file (Desk fault) = ⊥
-IsFileFault role rule file (Misused misuse) = ⊥
-IsFileFault role rule file (BadTable fault) = ⊥
+IsFileFault role rule file KeptWithOther = ⊥
 IsFileFault role rule file KeptElsewhere = ⊥
 IsFileFault role rule file (OlderVersion version) = ⊥
 IsFileFault role rule file ReadFault = IsReadFault file.unread file.bytes

@@ -27,7 +27,8 @@ use Rattle.osn_commands.specs.Told.{WritesLine, EndsBy}
 use Rattle.osn_commands.specs.declared.fault.CommandFault.{CommandFault}
 use Rattle.osn_commands.specs.declared.fault.CommandFault.TheVariants.{BadLine, Refused, Desk}
 use Rattle.osn_commands.specs.declared.fault.CommandFault.TheVariants.{ReadFault, WriteFault}
-use Rattle.osn_commands.specs.declared.fault.CommandFault.TheVariants.{NoMemory, Misused, BadTable}
+use Rattle.osn_commands.specs.declared.fault.CommandFault.TheVariants.{NoMemory}
+use Rattle.osn_commands.specs.declared.fault.CommandFault.TheVariants.{KeptWithOther}
 use Rattle.osn_commands.specs.declared.fault.CommandFault.TheVariants.{KeptElsewhere, OlderVersion}
 use Rattle.osn_commands.specs.declared.status.Status.{Status}
 
@@ -120,8 +121,7 @@ HoldsNoObject p limits held failed (BadLine role line why) =
     (role ≡ Journal) × (kept_object p limits held ≡ Err (line, why))
 HoldsNoObject p limits held failed (Refused refusal) = ⊥
 HoldsNoObject p limits held failed (Desk fault) = ⊥
-HoldsNoObject p limits held failed (Misused misuse) = ⊥
-HoldsNoObject p limits held failed (BadTable fault) = ⊥
+HoldsNoObject p limits held failed KeptWithOther = ⊥
 HoldsNoObject p limits held failed KeptElsewhere = ⊥
 HoldsNoObject p limits held failed (OlderVersion version) =
     SaysVersion version (whole_bytes held) × (version ≢ newest_version)
@@ -196,8 +196,7 @@ abbrev pub AnswersKeptUntil : Profile → ℕ → ObjectState → List ℕ → K
 AnswersKeptUntil p readers s text file o input unread (BadLine role line why) = ⊥
 AnswersKeptUntil p readers s text file o input unread (Refused refusal) = ⊥
 AnswersKeptUntil p readers s text file o input unread (Desk fault) = ⊥
-AnswersKeptUntil p readers s text file o input unread (Misused misuse) = ⊥
-AnswersKeptUntil p readers s text file o input unread (BadTable fault) = ⊥
+AnswersKeptUntil p readers s text file o input unread KeptWithOther = ⊥
 AnswersKeptUntil p readers s text file o input unread KeptElsewhere = ⊥
 AnswersKeptUntil p readers s text file o input unread (OlderVersion version) = ⊥
 AnswersKeptUntil p readers s text file o input unread ReadFault =

@@ -1,8 +1,10 @@
 pub mod Status
 pub mod Limits
+pub mod Misuse
 pub mod Fault
 pub mod Streams
 pub mod Told
+pub mod Unopened
 pub mod Printing
 pub mod Files
 pub mod Refused

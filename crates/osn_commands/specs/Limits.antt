@@ -13,9 +13,15 @@ use Rattle.osn_register.specs.declared.refusal.Refusal.TheVariants.{EditionsFull
 use Rattle.osn_files.specs.declared.fault.LineFault.{LineFault}
 use Rattle.osn_files.specs.declared.fault.LineFault.TheVariants.{Wire, Register}
 use Rattle.osn_invocation.specs.Invocation.{is_number}
-use Rattle.osn_pages.specs.WrittenDate.{parts_at, ◌>>=◌}
-use Rattle.osn_commands.specs.declared.fault.Misuse.{Misuse}
-use Rattle.osn_commands.specs.declared.fault.Misuse.TheVariants as misuses
+use Rattle.osn_written.specs.WrittenDate.{parts_at}
+use Rattle.osn_commands.specs.declared.misuse.Misuse.{Misuse}
+use Rattle.osn_commands.specs.declared.misuse.Misuse.TheVariants as misuses
+
+-- one part after another, where the first one is there
+infixl 10 ◌>>=◌
+abbrev pub ◌>>=◌ : {A B : Type 0} → Option A → (A → Option B) → Option B
+(Some x) >>= f = f x
+None >>= f = None
 
 -- the text with a byte in front of its first part
 abbrev pub onto_first : ℕ → List (List ℕ) → List (List ℕ)
@@ -27,7 +33,7 @@ abbrev pub settings : List ℕ → List (List ℕ)
 settings [] = [] ∷ []
 settings (b ∷ rest) = if b == 44 then [] ∷ settings rest else onto_first b (settings rest)
 
--- the number that a text is, below 2 ^ 32, behind a plus or none
+-- the number that a text is, below 2 ^ 32, after a plus or none
 abbrev pub number_of : List ℕ → Option ℕ
 number_of text =
     if is_number (without_leading_plus text) then Some (digits_value 10 (without_leading_plus text))

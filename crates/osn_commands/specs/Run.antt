@@ -1,6 +1,6 @@
 -- What a run of the program does, with the files of a folder.
 use Rattle.std.specs.Prelude.{◌≡◌, ◌≢◌, ◌⊎◌, ℕ, Bool, List, [], ◌∷◌, Option, Some, None}
-use Rattle.std.specs.Prelude.{IfSome, MatchResult, is_some}
+use Rattle.std.specs.Prelude.{IfSome, MatchResult, is_some, unwrap_or}
 use Rattle.clap.specs.Words.{Text, fault_of, IsAmong}
 use Rattle.clap.specs.declared.error.kind.ErrorKind.{ErrorKind}
 use Rattle.clap.specs.declared.error.kind.ErrorKind.TheVariants.{OutOfMemory, DisplayHelp}
@@ -10,6 +10,7 @@ use Rattle.osn_register.specs.declared.limits.Limits.{Limits}
 use Rattle.osn_folder.specs.Folder.{Known, Changes, IsFileOf, IsFileIf, Opens, CannotOpen, Saves}
 use Rattle.osn_folder.specs.Folder.{Leaves, Keeps, IsKeptAt, path_if}
 use Rattle.osn_folder.specs.declared.fault.KeepFault.{KeepFault}
+use Rattle.osn_folder.specs.declared.fault.OpenFailed.{OpenFailed}
 use Rattle.osn_folder.specs.declared.fault.SaveFault.{SaveFault}
 use Rattle.osn_invocation.specs.Grammar.{command_line}
 use Rattle.osn_invocation.specs.Invocation.{CommandModel, InvocationModel}
@@ -20,18 +21,19 @@ use Rattle.osn_commands.specs.Audited.{PrintsAudit}
 use Rattle.osn_commands.specs.Conversion.{PrintsConversion}
 use Rattle.osn_commands.specs.Fault.{by_keep, by_save}
 use Rattle.osn_commands.specs.Keeping.{KeptState, EndsKept}
-use Rattle.osn_commands.specs.Letters.{PrintsLetters}
+use Rattle.osn_commands.specs.Letters.{PrintsLetters, names_asked, separator_asked}
 use Rattle.osn_commands.specs.Limits.{limits_asked}
 use Rattle.osn_commands.specs.Page.{PrintsPage}
 use Rattle.osn_commands.specs.Printing.{EndsPrinting}
 use Rattle.osn_commands.specs.Replay.{PrintsReplay}
 use Rattle.osn_commands.specs.Serving.{Serves}
 use Rattle.osn_commands.specs.Streams.{Input, Output}
-use Rattle.osn_commands.specs.Told.{EndsBy, WritesLine}
+use Rattle.osn_commands.specs.Told.{EndsBy, TellsLine, TellsMisuse, WritesLine}
 use Rattle.osn_commands.specs.Transcript.{PrintsTranscript}
+use Rattle.osn_commands.specs.Unopened.{named_file, unopened_line}
 use Rattle.osn_commands.specs.declared.fault.CommandFault.{CommandFault}
-use Rattle.osn_commands.specs.declared.fault.CommandFault.TheVariants.{Misused, ReadFault, NoMemory}
-use Rattle.osn_commands.specs.declared.fault.Misuse.TheVariants.{Keep}
+use Rattle.osn_commands.specs.declared.fault.CommandFault.TheVariants.{ReadFault, NoMemory}
+use Rattle.osn_commands.specs.declared.fault.CommandFault.TheVariants.{KeptWithOther}
 use Rattle.osn_commands.specs.declared.status.Status.{Status}
 use Rattle.osn_commands.specs.declared.status.Status.TheVariants as statuses
 
@@ -137,9 +139,9 @@ RunsServing limits journal save None readers CanFail d i o e status =
 RunsServing limits None None (Some path) readers CanFail d i o e status =
     EndsKeeping limits path readers CanFail d i o e status
 RunsServing limits (Some journal) save (Some path) readers CanFail d i o e status =
-    (d.after ≡ d.before) × EndsFirst (Misused Keep) o e status
+    (d.after ≡ d.before) × EndsFirst KeptWithOther o e status
 RunsServing limits None (Some save) (Some path) readers CanFail d i o e status =
-    (d.after ≡ d.before) × EndsFirst (Misused Keep) o e status
+    (d.after ≡ d.before) × EndsFirst KeptWithOther o e status
 
 -- ---- each command
 
@@ -152,7 +154,7 @@ files_of (working script questions) = script ∷ questions ∷ []
 files_of (printing journal page) = journal ∷ []
 files_of (auditing journal transcript) = journal ∷ transcript ∷ []
 files_of (converting calendar date) = []
-files_of (reading_letters journal place date weekday) = journal ∷ []
+files_of (reading_letters journal place date weekday separator) = journal ∷ []
 
 -- the command that is asked for was run under these limits, with the files that the arguments name,
 -- and ended so: what it wrote to standard output, and what standard error was told
@@ -165,15 +167,18 @@ Runs limits (replaying readers schedule) CanFail d i o e status = ReadsOne sched
 Runs limits (working script questions) CanFail d i o e status = ReadsTwo script questions CanFail d
     (λ editor readers. PrintsTranscript newest_rules limits editor readers o e status)
 Runs limits (printing journal page) CanFail d i o e status = ReadsOne journal CanFail d
-    (λ file. PrintsPage newest_rules limits file page o e status)
+    (λ file. PrintsPage newest_rules limits journal file page o e status)
 Runs limits (auditing journal transcript) CanFail d i o e status =
     ReadsTwo journal transcript CanFail d
     (λ edits told. PrintsAudit newest_rules limits edits told o e status)
 Runs limits (converting calendar date) CanFail d i o e status =
     (d.after ≡ d.before) × PrintsConversion newest_rules calendar date o e status
-Runs limits (reading_letters journal place date weekday) CanFail d i o e status =
-    ReadsOne journal CanFail d (λ file. PrintsLetters newest_rules limits file
-    (record { place = place; date = date; weekday = weekday }) i o e status)
+Runs limits (reading_letters journal place date weekday separator) CanFail d i o e status =
+    MatchResult (separator_asked separator)
+    (λ found. ReadsOne journal CanFail d (λ file. PrintsLetters newest_rules limits file
+    (names_asked place date weekday) found i o e status))
+    (λ misuse. (d.after ≡ d.before) × (o.new ≡ o.old)
+    × TellsMisuse e misuse (unwrap_or separator []) status)
 
 -- ---- a run
 
@@ -193,19 +198,28 @@ abbrev pub ShowsOrEnds : ErrorKind → Output → Output → Status → Type 0
 ShowsOrEnds kind o e status =
     EndsFirst NoMemory o e status ⊎ ((kind ≢ OutOfMemory) × Shows kind o e status)
 
+-- standard error was told that a file could not be opened: of the file of this path by the path and
+-- by some cause
+abbrev pub TellsUnopened : Option Text → Output → Status → Type 0
+TellsUnopened None e status = EndsBy e (Some ReadFault) status
+TellsUnopened (Some path) e status =
+    (cause : OpenFailed) × TellsLine e statuses.ReadFault (unopened_line path cause) status
+
 -- what is asked for was done under its limits, where the files could be opened
 abbrev pub RunsUnder : Limits → CommandModel → (Bool → Type 0) → Folders → Input → Output → Output
     → Status → Type 0
 RunsUnder limits command CanFail d i o e status =
     Runs limits command CanFail d i o e status
-    ⊎ (CannotOpen (files_of command) d.before d.after × EndsFirst ReadFault o e status)
+    ⊎ (CannotOpen (files_of command) d.before d.after
+    × (o.new ≡ o.old) × TellsUnopened (named_file command) e status)
 
 -- that, or the words of the limits are none
 abbrev pub RunsAsked : InvocationModel → (Bool → Type 0) → Folders → Input → Output → Output
     → Status → Type 0
 RunsAsked asked CanFail d i o e status = MatchResult (limits_asked asked.limits)
     (λ limits. RunsUnder limits asked.command CanFail d i o e status)
-    (λ misuse. (d.after ≡ d.before) × EndsFirst (Misused misuse) o e status)
+    (λ misuse. (d.after ≡ d.before) × (o.new ≡ o.old)
+    × TellsMisuse e misuse (unwrap_or asked.limits []) status)
 
 -- what a run does with these arguments: what they ask for, where the grammar takes them; else what
 -- is wrong, or help, is shown, by a kind that the grammar gives

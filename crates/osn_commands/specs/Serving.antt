@@ -11,7 +11,8 @@ use Rattle.osn_service.specs.Served.{outputs, after_lines, WritesFirst, WritesIn
 use Rattle.osn_commands.specs.declared.fault.CommandFault.{CommandFault}
 use Rattle.osn_commands.specs.declared.fault.CommandFault.TheVariants.{BadLine, Refused, Desk}
 use Rattle.osn_commands.specs.declared.fault.CommandFault.TheVariants.{ReadFault, WriteFault}
-use Rattle.osn_commands.specs.declared.fault.CommandFault.TheVariants.{NoMemory, Misused, BadTable}
+use Rattle.osn_commands.specs.declared.fault.CommandFault.TheVariants.{NoMemory}
+use Rattle.osn_commands.specs.declared.fault.CommandFault.TheVariants.{KeptWithOther}
 use Rattle.osn_commands.specs.declared.fault.CommandFault.TheVariants.{KeptElsewhere, OlderVersion}
 use Rattle.osn_lines.specs.Faults.{IsReadFault, IsWriteFault}
 use Rattle.osn_commands.specs.Journal.{Begins, HasNoObject}
@@ -36,8 +37,7 @@ abbrev pub AnswersUntil : Profile → ℕ → ObjectState → Output → List �
 AnswersUntil p readers s o input unread (BadLine role line why) = ⊥
 AnswersUntil p readers s o input unread (Refused refusal) = ⊥
 AnswersUntil p readers s o input unread (Desk fault) = ⊥
-AnswersUntil p readers s o input unread (Misused misuse) = ⊥
-AnswersUntil p readers s o input unread (BadTable fault) = ⊥
+AnswersUntil p readers s o input unread KeptWithOther = ⊥
 AnswersUntil p readers s o input unread KeptElsewhere = ⊥
 AnswersUntil p readers s o input unread (OlderVersion version) = ⊥
 AnswersUntil p readers s o input unread ReadFault =

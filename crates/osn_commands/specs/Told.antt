@@ -9,6 +9,8 @@ use Rattle.osn_commands.specs.declared.fault.CommandFault.TheVariants.{NoMemory}
 use Rattle.osn_commands.specs.declared.status.Status.{Status}
 use Rattle.osn_commands.specs.declared.status.Status.TheVariants.{Done, Refused, Misused}
 use Rattle.osn_commands.specs.Fault.{fault_status, fault_line}
+use Rattle.osn_commands.specs.Misuse.{misuse_line}
+use Rattle.osn_commands.specs.declared.misuse.Misuse.{Misuse}
 use Rattle.osn_commands.specs.Streams.{Output}
 
 -- a fault is told as itself; a refusal, whose line takes memory, may be told as want of it
@@ -28,6 +30,15 @@ EndsBy e (Some fault) status = (status ≡ fault_status fault) × WritesLine e (
 abbrev pub Tells : Output → CommandFault → Status → Type 0
 Tells e fault status =
     (told : CommandFault) × IsToldAs fault told × EndsBy e (Some told) status
+
+-- a line was told, with the status that goes with it; or that memory for the line ran out
+abbrev pub TellsLine : Output → Status → List ℕ → Status → Type 0
+TellsLine e given line status =
+    ((status ≡ given) × WritesLine e line) ⊎ EndsBy e (Some NoMemory) status
+
+-- it was told of a word, as it was typed, what its place asks for
+abbrev pub TellsMisuse : Output → Misuse → List ℕ → Status → Type 0
+TellsMisuse e misuse typed status = TellsLine e Misused (misuse_line misuse typed) status
 
 -- standard error was told why the words of the command line could not be had, by the kind of error
 abbrev pub TellsNoWords : Output → ErrorKind → Status → Type 0

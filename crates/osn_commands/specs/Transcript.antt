@@ -17,7 +17,8 @@ use Rattle.osn_reply.specs.Transcript.{transcript_line}
 use Rattle.osn_commands.specs.declared.fault.CommandFault.{CommandFault}
 use Rattle.osn_commands.specs.declared.fault.CommandFault.TheVariants.{BadLine, Refused, Desk}
 use Rattle.osn_commands.specs.declared.fault.CommandFault.TheVariants.{ReadFault, WriteFault}
-use Rattle.osn_commands.specs.declared.fault.CommandFault.TheVariants.{NoMemory, Misused, BadTable}
+use Rattle.osn_commands.specs.declared.fault.CommandFault.TheVariants.{NoMemory}
+use Rattle.osn_commands.specs.declared.fault.CommandFault.TheVariants.{KeptWithOther}
 use Rattle.osn_commands.specs.declared.fault.CommandFault.TheVariants.{KeptElsewhere, OlderVersion}
 use Rattle.osn_commands.specs.Files.{Makes, IsFileFault}
 use Rattle.osn_commands.specs.Printing.{EndsPrinting}
@@ -63,8 +64,7 @@ abbrev pub IsTurnedAway : ℕ → ℕ → CommandFault → Type 0
 IsTurnedAway lists published (BadLine role line why) = ⊥
 IsTurnedAway lists published (Refused refusal) = ⊥
 IsTurnedAway lists published (Desk fault) = IsDeskFault lists published fault
-IsTurnedAway lists published (Misused misuse) = ⊥
-IsTurnedAway lists published (BadTable fault) = ⊥
+IsTurnedAway lists published KeptWithOther = ⊥
 IsTurnedAway lists published KeptElsewhere = ⊥
 IsTurnedAway lists published (OlderVersion version) = ⊥
 IsTurnedAway lists published ReadFault = ⊥

@@ -1,8 +1,8 @@
 //! Why a command ended early, and how standard error is told.
 ghost use Rattle.std.specs.Prelude.{◌≡◌, ◌++◌, codes, Some, IfOk, OnErr, string_bytes};
 ghost use Rattle.osn_commands.specs.Fault.{fault_status, fault_line, refusal_end, role_name};
-ghost use Rattle.osn_commands.specs.Fault.{misuse_line, table_line, older_line};
-ghost use Rattle.osn_commands.specs.Fault.{by_service, by_file, by_desk, by_letters, by_save};
+ghost use Rattle.osn_commands.specs.Fault.{older_line};
+ghost use Rattle.osn_commands.specs.Fault.{by_service, by_file, by_desk, by_save};
 ghost use Rattle.osn_commands.specs.Fault.{by_keep, by_kept_service};
 ghost use Rattle.osn_commands.specs.Streams.{output_of};
 ghost use Rattle.osn_commands.specs.Told.{WritesLine, EndsBy, Tells};
@@ -13,7 +13,6 @@ use crate::status::Status;
 use osn_files::{FileFault, LineFault, Role};
 use osn_folder::{ChangeFailed, KeepFault, SaveFault};
 use osn_format::Version;
-use osn_letters::{Column, LettersFault};
 use osn_lines::{Interrupted, Sink, write_all};
 use osn_live::DeskFault;
 use osn_register::Refusal;
@@ -36,10 +35,8 @@ pub enum CommandFault {
     Refused(Refusal),
     /// A desk answered nothing, and not for want of memory.
     Desk(DeskFault),
-    /// An argument is not what its place asks for.
-    Misused(Misuse),
-    /// A table of letters is none, from some line on.
-    BadTable(TableFault),
+    /// A journal is to be kept, and another one to begin with or to be saved.
+    KeptWithOther,
     /// Another run of the program keeps the journal.
     KeptElsewhere,
     /// A journal of this version, which is not the newest, is not kept.
@@ -50,98 +47,6 @@ pub enum CommandFault {
     WriteFault,
     /// Memory ran out.
     NoMemory,
-}
-
-/// An argument that is not what its place asks for.
-#[derive(Clone, Copy, Debug, PartialEq, Eq)]
-pub enum Misuse {
-    /// What stands for a date is none.
-    Date,
-    /// What stands for a weekday is none.
-    Weekday,
-    /// What stands for a calendar is none.
-    Calendar,
-    /// What stands for a day number is none.
-    DayNumber,
-    /// The calendar has no such date, or has it off the line of days.
-    NoSuchDate,
-    /// What stands for limits is none.
-    Limits,
-    /// A journal is to be kept, and another one to begin with or to be saved.
-    Keep,
-}
-
-impl Misuse {
-    /// The line on standard error, which says what is asked for.
-    fn line(self) -> &'static str
-        ensures { result.now ≡ misuse_line self }
-    {
-        match self {
-            Misuse::Date => {
-                "oldstyle: DATE is no date: write 1731-02-11, \"11 February 1731\" or \
-\"11 February 1731/2\"\n"
-            }
-            Misuse::Weekday => "oldstyle: DAY is no weekday: write its English name, as Friday\n",
-            Misuse::Calendar => {
-                "oldstyle: CALENDAR is none: write gregorian, julian or swedish, or day and a day \
-number\n"
-            }
-            Misuse::DayNumber => {
-                "oldstyle: DATE is no day number: behind day, write a number from 1 to 3652059\n"
-            }
-            Misuse::NoSuchDate => {
-                "oldstyle: DATE is no date of that calendar in the years 1 to 9999\n"
-            }
-            Misuse::Limits => {
-                "oldstyle: LIMITS are none: write some of lands=N,changes=N,exceptions=N,edits=N,\
-editions=N\n"
-            }
-            Misuse::Keep => "oldstyle: --keep goes with neither --journal nor --save\n",
-        }
-    }
-}
-
-/// Why a table of letters is none. Lines are counted from 1.
-#[derive(Clone, Copy, Debug, PartialEq, Eq)]
-pub enum TableFault {
-    /// No column has the name of the places'.
-    LacksPlace,
-    /// No column has the name of the dates'.
-    LacksDate,
-    /// The record on that line has another number of fields than the header.
-    BadRecord(u64),
-    /// The record on that line is too long.
-    TooLong(u64),
-}
-
-impl TableFault {
-    /// The line on standard error, which says where the table is none.
-    fn line(self, alloc: Global) -> Result<String, AllocError>
-        ensures { IfOk result (λ text. string_bytes text ≡ table_line self) }
-    {
-        match self {
-            TableFault::LacksPlace => String::from_str(
-                alloc,
-                "oldstyle: letters line 1: no column of places: name it by --place\n",
-            ),
-            TableFault::LacksDate => String::from_str(
-                alloc,
-                "oldstyle: letters line 1: no column of dates: name it by --date\n",
-            ),
-            TableFault::BadRecord(line) => {
-                format!(in alloc;
-                    "oldstyle: letters line {line}: another number of fields than \
-the header\n"
-                )
-            }
-            TableFault::TooLong(line) => {
-                format!(in alloc;
-                    "oldstyle: letters line {line}: a record of more than 65536 \
-bytes\n"
-                )
-            }
-        }
-    }
 }
 
 fn name_of(role: Role) -> &'static str
@@ -180,7 +85,7 @@ fn older_version(alloc: Global, version: Version) -> Result<String, AllocError>
 }
 
 /// The line on what is refused by this number and name.
-fn refused(alloc: Global, number: u8, name: &'static str) -> Result<String, AllocError>
+pub(crate) fn refused(alloc: Global, number: u8, name: &'static str) -> Result<String, AllocError>
     ensures { IfOk result (λ text. string_bytes text
         ≡ codes "oldstyle: " ++ refusal_end number name.now) }
 {
@@ -234,34 +139,6 @@ impl From<ChangeFailed> for CommandFault {
 
     fn from(_error: ChangeFailed) -> CommandFault {
         CommandFault::WriteFault
-    }
-}
-
-impl From<Misuse> for CommandFault {
-    ghost from_gives = { λ misuse given. given ≡ CommandFault.Misused misuse };
-
-    fn from(misuse: Misuse) -> CommandFault {
-        CommandFault::Misused(misuse)
-    }
-}
-
-impl From<LettersFault> for CommandFault {
-    ghost from_gives = { λ fault given. given ≡ by_letters fault };
-
-    fn from(fault: LettersFault) -> CommandFault {
-        match fault {
-            LettersFault::LacksColumn(Column::Place) => {
-                CommandFault::BadTable(TableFault::LacksPlace)
-            }
-            LettersFault::LacksColumn(Column::Date) => {
-                CommandFault::BadTable(TableFault::LacksDate)
-            }
-            LettersFault::BadRecord { line } => CommandFault::BadTable(TableFault::BadRecord(line)),
-            LettersFault::TooLong { line } => CommandFault::BadTable(TableFault::TooLong(line)),
-            LettersFault::ReadFault => CommandFault::ReadFault,
-            LettersFault::WriteFault => CommandFault::WriteFault,
-            LettersFault::NoMemory => CommandFault::NoMemory,
-        }
     }
 }
 
@@ -326,9 +203,13 @@ pub(crate) fn tell_no_memory<E: Sink>(errors: &mut E) -> Status
     Status::NoMemory
 }
 
-/// Tells a refusal by its line, or that there was no memory for one.
-fn tell_refusal<E: Sink>(errors: &mut E, line: Result<String, AllocError>) -> Status
-    ensures ok { IfOk line (λ text. (result ≡ Status.Refused) × WritesLine
+/// Tells a line, and answers this status, or tells that there was no memory for the line.
+pub(crate) fn tell_line<E: Sink>(
+    errors: &mut E,
+    status: Status,
+    line: Result<String, AllocError>,
+) -> Status
+    ensures ok { IfOk line (λ text. (result ≡ status) × WritesLine
         (output_of E.contents E.has_failed errors.old errors.new) (string_bytes text)) }
     ensures err { OnErr line (EndsBy (output_of E.contents E.has_failed errors.old errors.new)
         (Some CommandFault.NoMemory) result) }
@@ -336,10 +217,20 @@ fn tell_refusal<E: Sink>(errors: &mut E, line: Result<String, AllocError>) -> St
     match line {
         Ok(line) => {
             write_line(errors, line.as_str());
-            Status::Refused
+            status
         }
         Err(_) => tell_no_memory(errors),
     }
+}
+
+/// Tells a refusal by its line, or that there was no memory for one.
+fn tell_refusal<E: Sink>(errors: &mut E, line: Result<String, AllocError>) -> Status
+    ensures ok { IfOk line (λ text. (result ≡ Status.Refused) × WritesLine
+        (output_of E.contents E.has_failed errors.old errors.new) (string_bytes text)) }
+    ensures err { OnErr line (EndsBy (output_of E.contents E.has_failed errors.old errors.new)
+        (Some CommandFault.NoMemory) result) }
+{
+    tell_line(errors, Status::Refused, line)
 }
 
 /// Tells standard error why a command ended early. Answers the status.
@@ -356,11 +247,13 @@ pub(crate) fn report<E: Sink>(alloc: Global, errors: &mut E, fault: CommandFault
         CommandFault::Desk(fault) => {
             tell_refusal(errors, refused(alloc, fault.number(), fault.name()))
         }
-        CommandFault::Misused(misuse) => {
-            write_line(errors, misuse.line());
+        CommandFault::KeptWithOther => {
+            write_line(
+                errors,
+                "oldstyle: --keep goes with neither --journal nor --save\n",
+            );
             Status::Misused
         }
-        CommandFault::BadTable(fault) => tell_refusal(errors, fault.line(alloc)),
         CommandFault::KeptElsewhere => {
             write_line(
                 errors,

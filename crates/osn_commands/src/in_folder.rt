@@ -24,7 +24,7 @@ use crate::serving::{ServeResult, serve_command};
 use crate::status::Status;
 use osn_folder::{Folder, OpenFailed, open_both, open_file, open_if, save_file};
 use osn_invocation::{PageWords, ServeOptions};
-use osn_letters::ColumnNames;
+use osn_letters::TableSettings;
 use osn_lines::{Sink, Source};
 use osn_register::Limits;
 use std::alloc::Global;
@@ -158,7 +158,7 @@ pub(crate) fn page<D: Folder, W: Sink, E: Sink>(
 ) -> Result<Status, OpenFailed>
     ensures ok { IfOk result (λ status. ReadsOne journal.now (MayFail D.File.has_failed)
         (folders_of D.known folder.old folder.new)
-        (λ file. PrintsPage newest_rules limits file (page_words words.entry)
+        (λ file. PrintsPage newest_rules limits journal.now file (page_words words.entry)
         (output_of W.contents W.has_failed output.old output.new)
         (output_of E.contents E.has_failed errors.old errors.new) status)) }
     ensures err { OnErr result (CannotOpen (journal.now ∷ [])
@@ -166,7 +166,7 @@ pub(crate) fn page<D: Folder, W: Sink, E: Sink>(
         × (output.new ≡ output.old) × (errors.new ≡ errors.old)) }
 {
     let mut file = open_file(folder, journal)?;
-    Ok(page_command(alloc, limits, &mut file, words, output, errors))
+    Ok(page_command(alloc, limits, journal, &mut file, words, output, errors))
 }
 
 /// Opens the journal, and writes the table of letters by what it published. A terminal, where there
@@ -176,7 +176,7 @@ pub(crate) fn letters<D: Folder, R: Source, W: Sink, E: Sink, T: Sink + Drop>(
     limits: Limits,
     folder: &mut D,
     journal: &str,
-    names: ColumnNames<'_>,
+    settings: TableSettings<'_>,
     input: &mut R,
     output: &mut W,
     errors: &mut E,
@@ -184,7 +184,8 @@ pub(crate) fn letters<D: Folder, R: Source, W: Sink, E: Sink, T: Sink + Drop>(
 ) -> Result<Status, OpenFailed>
     ensures ok { IfOk result (λ status. ReadsOne journal.now (MayFail D.File.has_failed)
         (folders_of D.known folder.old folder.new)
-        (λ file. PrintsLetters newest_rules limits file (names_of names.entry)
+        (λ file. PrintsLetters newest_rules limits file
+        (names_of settings.entry.names) settings.entry.separator
         (input_of R.remaining R.has_failed input.old input.new)
         (output_of W.contents W.has_failed output.old output.new)
         (output_of E.contents E.has_failed errors.old errors.new) status)) }
@@ -198,7 +199,7 @@ pub(crate) fn letters<D: Folder, R: Source, W: Sink, E: Sink, T: Sink + Drop>(
         alloc,
         limits,
         &mut file,
-        names,
+        settings,
         input,
         output,
         errors,

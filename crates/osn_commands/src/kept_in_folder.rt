@@ -6,7 +6,7 @@ ghost use Rattle.osn_invocation.specs.Invocation.{serving};
 ghost use Rattle.osn_commands.specs.Run.{EndsKeeping, RunsKept, RunsServing, files_of, folders_of};
 ghost use Rattle.osn_commands.specs.Streams.{input_of, output_of};
 
-use crate::fault::{CommandFault, Misuse, report};
+use crate::fault::{CommandFault, report};
 use crate::in_folder::serve;
 use crate::keeping::keep_command;
 use crate::status::Status;
@@ -76,7 +76,7 @@ fn keep_alone<D: Folder, R: Source, W: Sink, E: Sink>(
         (output_of E.contents E.has_failed errors.old errors.new) result }
 {
     if is_given(options.journal, options.save) {
-        return report(alloc, errors, CommandFault::Misused(Misuse::Keep));
+        return report(alloc, errors, CommandFault::KeptWithOther);
     }
     let readers = options.readers;
     keep(alloc, limits, folder, path, readers, input, output, errors)

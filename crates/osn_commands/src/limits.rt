@@ -1,12 +1,12 @@
 //! The limits of the register, as the command line names them.
-ghost use Rattle.std.specs.Prelude.{◌≡◌, ◌<◌, option_map};
-ghost use Rattle.osn_pages.specs.WrittenDate.{parts_at};
+ghost use Rattle.std.specs.Prelude.{◌≡◌, option_map};
 ghost use Rattle.osn_register.specs.Limits.{standard_limits};
 ghost use Rattle.osn_commands.specs.Limits as spec;
 
-use crate::fault::Misuse;
+use crate::misuse::Misuse;
 use osn_files::LineFault;
 use osn_register::{Limits, Refusal};
+use osn_written::parts_at;
 
 /// The number that a text is, 0 to 4,294,967,295, if it is one.
 fn number_of(text: &str) -> Option<u32>
@@ -29,14 +29,6 @@ fn with_limit(limits: Limits, name: &str, number: u32) -> Option<Limits>
         _ => return None,
     }
     Some(limits)
-}
-
-/// The parts of a text before and behind the first such character.
-fn parts_at(text: &str, separator: char) -> Option<(&str, &str)>
-    requires { separator < 128 }
-    ensures { option_map (λ x. (x.0.now, x.1.now)) result ≡ parts_at separator text.now }
-{
-    text.split_once(separator)
 }
 
 /// The limits with one set as a text says, `NAME=NUMBER`.

@@ -1,75 +1,178 @@
-//! The commands that print a page of what a journal published.
-ghost use Rattle.std.specs.Prelude.{IfOk, IfErr, string_bytes};
+//! The commands that print a page on what a journal published.
+ghost use Rattle.std.specs.Prelude.{◌≡◌, ◌≢◌, ◌⊎◌, Some, IfOk, IfErr, string_bytes};
 ghost use Rattle.osn_days.specs.Profile.{newest_rules};
 ghost use Rattle.osn_invocation.specs.Invocation.{page_words};
-ghost use Rattle.osn_pages.specs.Page.{model_of, page_refusal};
-ghost use Rattle.osn_commands.specs.Page.{published, IsPageOf, IsPage, HasNoPage, PrintsPage};
-ghost use Rattle.osn_commands.specs.Refused.{IsRefusedBy};
+ghost use Rattle.osn_register.specs.Refusal.{IsRefusalOrNoMemory};
+ghost use Rattle.osn_register.specs.declared.refusal.Refusal.{Refusal};
+ghost use Rattle.osn_commands.specs.Page as spec;
 ghost use Rattle.osn_commands.specs.Streams.{input_of, output_of};
+ghost use Rattle.osn_commands.specs.Told.{EndsBy, TellsLine};
+ghost use Rattle.osn_commands.specs.declared.fault.CommandFault.{CommandFault};
+ghost use Rattle.osn_commands.specs.declared.status.Status.{Status};
 
-use crate::asked::asked_page;
-use crate::fault::CommandFault;
+use crate::asked::{Asked, asked_page, code_of, wrong_word};
+use crate::fault::{refused, report, tell_line, tell_no_memory};
+use crate::misuse::tell_misuse;
 use crate::printing::print;
 use crate::reading::journal_object;
 use crate::status::Status;
+use osn_almanac::almanac_text;
 use osn_core::Object;
 use osn_invocation::PageWords;
 use osn_lines::{Sink, Source};
-use osn_pages::{Page, page_text};
+use osn_pages::{Published, page_text, territories_page};
 use osn_register::{Limits, Refusal};
-use std::alloc::Global;
+use std::alloc::{AllocError, Global};
 
-/// The page of what an object has published.
-fn page_of(alloc: Global, object: &Object, page: Page<'_>) -> Result<String, CommandFault>
+/// The page that was asked for, on what an object has published.
+fn text_of(alloc: Global, object: &Object, code: &str, asked: &Asked) -> Result<String, Refusal>
     ensures ok { IfOk result (λ text.
-        IsPageOf newest_rules object.now (model_of page.entry) (string_bytes text)) }
-    ensures err { IfErr result (IsRefusedBy
-        (page_refusal newest_rules (published newest_rules object.now) (model_of page.entry))) }
+        spec.IsPageOf newest_rules object.now code.now asked.now (string_bytes text)) }
+    ensures err { IfErr result (IsRefusalOrNoMemory (spec.asked_refusal newest_rules
+        (spec.published newest_rules object.now) code.now asked.now)) }
 {
-    let edition = object.batches().len();
-    match page_text(alloc, object.register(), edition, page) {
-        Ok(text) => Ok(text),
-        Err(Refusal::NoMemory) => Err(CommandFault::NoMemory),
-        Err(refusal) => Err(CommandFault::Refused(refusal)),
+    let register = object.register();
+    let published = Published {
+        edition: object.batches().len(),
+        pending: object.pending().len(),
+    };
+    match *asked {
+        Asked::Year(year) => almanac_text(alloc, register, code, i64::from(year)),
+        Asked::Land(page) => page_text(alloc, register, code, published, page),
+        Asked::Lands => Ok(territories_page(alloc, register, published)?),
     }
 }
 
-/// The page that words ask for, of what a journal published.
-fn journal_page<J: Source>(
+/// The line on a refusal of a page on a territory.
+fn land_refusal_line(
+    alloc: Global,
+    path: &str,
+    code: &str,
+    refusal: Refusal,
+) -> Result<String, AllocError>
+    ensures { IfOk result (λ line.
+        string_bytes line ≡ spec.land_refusal_line path.now code.now refusal) }
+{
+    match refusal {
+        Refusal::BadCode => format!(in alloc;
+            "oldstyle: {code}: a code is 2 to 8 capital letters or digits, the first a letter\n"
+        ),
+        Refusal::UnknownLand => format!(in alloc;
+            "oldstyle: no territory has the code {code}: see oldstyle territory {path}\n"
+        ),
+        _ => refused(alloc, refusal.number(), refusal.name()),
+    }
+}
+
+/// The line on a refusal of what was asked for.
+fn refusal_line(
+    alloc: Global,
+    path: &str,
+    code: &str,
+    asked: &Asked,
+    refusal: Refusal,
+) -> Result<String, AllocError>
+    ensures { IfOk result (λ line.
+        string_bytes line ≡ spec.refusal_line path.now code.now asked.now refusal) }
+{
+    match asked {
+        Asked::Land(_) => land_refusal_line(alloc, path, code, refusal),
+        Asked::Year(_) | Asked::Lands => refused(alloc, refusal.number(), refusal.name()),
+    }
+}
+
+/// Tells standard error of a refusal of what was asked for.
+fn tell_refusal<E: Sink>(
+    alloc: Global,
+    errors: &mut E,
+    path: &str,
+    code: &str,
+    asked: &Asked,
+    refusal: Refusal,
+) -> Status
+    ensures { ((refusal ≡ Refusal.NoMemory)
+        × EndsBy (output_of E.contents E.has_failed errors.old errors.new)
+        (Some CommandFault.NoMemory) result)
+        ⊎ ((refusal ≢ Refusal.NoMemory)
+        × TellsLine (output_of E.contents E.has_failed errors.old errors.new) Status.Refused
+        (spec.refusal_line path.now code.now asked.now refusal) result) }
+{
+    match refusal {
+        Refusal::NoMemory => tell_no_memory(errors),
+        _ => tell_line(
+            errors,
+            Status::Refused,
+            refusal_line(alloc, path, code, asked, refusal),
+        ),
+    }
+}
+
+/// Prints the page that was asked for, on what an object has published.
+fn print_page<W: Sink, E: Sink>(
+    alloc: Global,
+    object: &Object,
+    path: &str,
+    code: &str,
+    asked: &Asked,
+    output: &mut W,
+    errors: &mut E,
+) -> Status
+    ensures { spec.PrintsPageOf newest_rules object.now path.now code.now asked.now
+        (output_of W.contents W.has_failed output.old output.new)
+        (output_of E.contents E.has_failed errors.old errors.new) result }
+{
+    match text_of(alloc, object, code, asked) {
+        Ok(text) => print(alloc, Ok(text), output, errors),
+        Err(refusal) => tell_refusal(alloc, errors, path, code, asked, refusal),
+    }
+}
+
+/// Prints the page that was asked for, on what a journal published.
+fn print_asked<J: Source, W: Sink, E: Sink>(
     alloc: Global,
     limits: Limits,
+    path: &str,
     journal: &mut J,
-    words: PageWords<'_>,
-) -> Result<String, CommandFault>
-    ensures ok { IfOk result (λ text. IsPage newest_rules limits
-        (input_of J.remaining J.has_failed journal.old journal.new)
-        (page_words words.entry) (string_bytes text)) }
-    ensures err { IfErr result (HasNoPage newest_rules limits
-        (input_of J.remaining J.has_failed journal.old journal.new) (page_words words.entry)) }
+    code: &str,
+    asked: &Asked,
+    output: &mut W,
+    errors: &mut E,
+) -> Status
+    ensures { spec.PrintsAsked newest_rules limits path.now
+        (input_of J.remaining J.has_failed journal.old journal.new) code.now asked.now
+        (output_of W.contents W.has_failed output.old output.new)
+        (output_of E.contents E.has_failed errors.old errors.new) result }
 {
-    let page = asked_page(words)?;
-    let object = journal_object(alloc, limits, journal)?;
-    page_of(alloc, &object, page)
+    match journal_object(alloc, limits, journal) {
+        Ok(object) => print_page(alloc, &object, path, code, asked, output, errors),
+        Err(fault) => report(alloc, errors, fault),
+    }
 }
 
 /// The commands `almanac`, `read`, `day`, `month` and `territory`: prints the page that the words
-/// ask for, of what the journal published under these limits. The words are read first, and
-/// the journal whole before anything is printed.
+/// ask for, on what the journal of this path published under these limits. The words are read
+/// first, and the journal whole before anything is printed.
 ///
 /// Where there is no page, standard error is told in a line why, and the status says it.
 pub fn page_command<J: Source, W: Sink, E: Sink>(
     alloc: Global,
     limits: Limits,
+    path: &str,
     journal: &mut J,
     words: PageWords<'_>,
     output: &mut W,
     errors: &mut E,
 ) -> Status
-    ensures { PrintsPage newest_rules limits
+    ensures { spec.PrintsPage newest_rules limits path.now
         (input_of J.remaining J.has_failed journal.old journal.new) (page_words words.entry)
         (output_of W.contents W.has_failed output.old output.new)
         (output_of E.contents E.has_failed errors.old errors.new) result }
 {
-    let made = journal_page(alloc, limits, journal, words);
-    print(alloc, made, output, errors)
+    match asked_page(words) {
+        Ok(asked) => {
+            let code = code_of(words);
+            print_asked(alloc, limits, path, journal, code, &asked, output, errors)
+        }
+        Err(misuse) => tell_misuse(alloc, errors, misuse, wrong_word(words, misuse)),
+    }
 }

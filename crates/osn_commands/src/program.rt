@@ -6,15 +6,16 @@ ghost use Rattle.osn_commands.specs.Run.{Runs, RunsArgs, RunsAsked, files_of, fo
 ghost use Rattle.osn_commands.specs.Streams.{input_of, output_of};
 
 use crate::conversion::convert_command;
-use crate::fault::{CommandFault, report};
 use crate::in_folder::{audit, desk, letters, page, replay};
 use crate::kept_in_folder::serve_by;
+use crate::letters::asked_settings;
 use crate::limits::asked_limits;
+use crate::misuse::{as_typed, tell_misuse};
 use crate::shown::show;
 use crate::status::Status;
+use crate::unopened::{named_file, tell_unopened};
 use osn_folder::{Folder, OpenFailed};
 use osn_invocation::{CommandWords, Invocation, parse_args};
-use osn_letters::ColumnNames;
 use osn_lines::{Sink, Source};
 use osn_register::Limits;
 use std::convert::AsStr;
@@ -71,12 +72,15 @@ where
     let alloc = rt.alloc();
     let limits = match asked_limits(invocation.limits) {
         Ok(limits) => limits,
-        Err(misuse) => return report(alloc, errors, CommandFault::Misused(misuse)),
+        Err(misuse) => {
+            let typed = as_typed(invocation.limits);
+            return tell_misuse(alloc, errors, misuse, typed);
+        }
     };
     let command = invocation.command;
     match execute(rt, limits, folder, command, input, output, errors, terminal) {
         Ok(status) => status,
-        Err(_) => report(alloc, errors, CommandFault::ReadFault),
+        Err(cause) => tell_unopened(alloc, errors, named_file(command), cause),
     }
 }
 
@@ -129,16 +133,16 @@ where
             place,
             date,
             weekday,
-        } => {
-            let names = ColumnNames {
-                place,
-                date,
-                weekday,
-            };
-            letters(
-                alloc, limits, folder, journal, names, input, output, errors, terminal,
-            )
-        }
+            separator,
+        } => match asked_settings(place, date, weekday, separator) {
+            Ok(settings) => letters(
+                alloc, limits, folder, journal, settings, input, output, errors, terminal,
+            ),
+            Err(misuse) => {
+                let typed = as_typed(separator);
+                Ok(tell_misuse(alloc, errors, misuse, typed))
+            }
+        },
         CommandWords::Convert { calendar, date } => {
             Ok(convert_command(alloc, calendar, date, output, errors))
         }

@@ -34,7 +34,7 @@ impl<R: Files<File = File> + AllocGlobal> Folder for Disk<'_, R> {
     fn open(&mut self, path: &str) -> Result<Plain<File>, OpenFailed> {
         match fs::open(self.files, path) {
             Ok(file) => Ok(Plain::new(file)),
-            Err(_) => Err(OpenFailed),
+            Err(error) => Err(open_fault(&error)),
         }
     }
 
@@ -80,6 +80,15 @@ impl<R: Files<File = File> + AllocGlobal> Folder for Disk<'_, R> {
 
     fn keep(&mut self, path: &str) -> Result<File, KeepFault> {
         keep_file(self.files, path)
+    }
+}
+
+/// Why a file could not be opened.
+fn open_fault(error: &io::Error) -> OpenFailed {
+    match error.kind() {
+        ErrorKind::NotFound => OpenFailed::NotFound,
+        ErrorKind::PermissionDenied => OpenFailed::PermissionDenied,
+        _ => OpenFailed::Other,
     }
 }
 

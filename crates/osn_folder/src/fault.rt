@@ -4,9 +4,16 @@ ghost use Rattle.osn_folder.specs.declared.fault.SaveFault.{SaveFault};
 
 use std::alloc::AllocError;
 
-/// A file that could not be opened.
+/// Why a file could not be opened.
 #[derive(Clone, Copy, Debug, PartialEq, Eq)]
-pub struct OpenFailed;
+pub enum OpenFailed {
+    /// Nothing is at its path.
+    NotFound,
+    /// The system doesn't permit the program to read it.
+    PermissionDenied,
+    /// Any other cause.
+    Other,
+}
 
 /// A file that could not be written or moved.
 #[derive(Clone, Copy, Debug, PartialEq, Eq)]

@@ -21,6 +21,10 @@ pub trait Folder {
     ghost known: { Self → Option Known };
 
     /// Opens a file, to be read from its first byte on.
+    ///
+    /// # Errors
+    ///
+    /// Why it could not be opened, as the system says it.
     fn open(&mut self, path: &str) -> Result<Self::File, OpenFailed>
         ensures opened { Changes (Opens (path.now ∷ [])) (known self.old) (known self.new) }
         ensures file { IfOk result

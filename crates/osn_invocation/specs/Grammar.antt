@@ -35,10 +35,6 @@ abbrev pub year_arg : Rule
 year_arg =
     record (required_arg (codes "year")) { parser = Some (Signed (pos 0) (pos 4294967295)) }
 
--- MONTH is 1 to 12
-abbrev pub month_arg : Rule
-month_arg = record (required_arg (codes "month")) { parser = Some (Signed (pos 1) (pos 12)) }
-
 -- `serve [--journal FILE] [--save FILE] [--keep FILE] [--readers N]`
 abbrev pub serve_grammar : App
 serve_grammar = with_rule (with_rule (with_rule
@@ -85,7 +81,7 @@ day_grammar = with_rule (with_rule
 abbrev pub month_grammar : App
 month_grammar = with_rule (with_rule (with_rule
     (with_rule (new_app (codes "month")) (required_arg (codes "journal")))
-    (required_arg (codes "code"))) year_arg) month_arg
+    (required_arg (codes "code"))) (required_arg (codes "year"))) (required_arg (codes "month"))
 
 -- `territory JOURNAL [CODE]`
 abbrev pub territory_grammar : App
@@ -93,12 +89,12 @@ territory_grammar = with_rule
     (with_rule (new_app (codes "territory")) (required_arg (codes "journal")))
     (optional_arg (codes "code"))
 
--- `letters JOURNAL [--place NAME] [--date NAME] [--weekday NAME]`
+-- `letters JOURNAL [--place NAME] [--date NAME] [--weekday NAME] [--separator NAME]`
 abbrev pub letters_grammar : App
-letters_grammar = with_rule (with_rule (with_rule
+letters_grammar = with_rule (with_rule (with_rule (with_rule
     (with_rule (new_app (codes "letters")) (required_arg (codes "journal")))
     (value_option (codes "place"))) (value_option (codes "date")))
-    (value_option (codes "weekday"))
+    (value_option (codes "weekday"))) (value_option (codes "separator"))
 
 -- `audit JOURNAL TRANSCRIPT`
 abbrev pub audit_grammar : App
@@ -106,7 +102,7 @@ audit_grammar = with_rule
     (with_rule (new_app (codes "audit")) (required_arg (codes "journal")))
     (required_arg (codes "transcript"))
 
--- a command with the option `--limits LIMITS` behind what it has
+-- a command with the option `--limits LIMITS` after what it has
 abbrev pub limited : App → App
 limited grammar = with_rule grammar (value_option (codes "limits"))
 

@@ -24,14 +24,14 @@ pub data PageWordsModel : Type 0 where
   almanac_words : Text → ℕ → PageWordsModel
   reading_words : Text → Text → Option Text → PageWordsModel
   day_words : Text → Text → PageWordsModel
-  month_words : Text → ℕ → ℕ → PageWordsModel
+  month_words : Text → Text → Text → PageWordsModel
   territory_words : Option Text → PageWordsModel
 
 -- what a command is asked for: the service by a journal, where to save it, where to keep it, and
 -- readers; a replay by readers and a schedule; a desk by a script and questions; a page by a
 -- journal and which page; an audit by a journal and a transcript; a conversion by a calendar and a
--- date; letters by a journal and the names of the columns of places, dates and weekdays. Files are
--- named by their paths
+-- date; letters by a journal, the names of the columns of places and dates, and, if they are named,
+-- that of the weekdays and what separates the fields. Files are named by their paths
 pub data CommandModel : Type 0 where
   serving : Option Text → Option Text → Option Text → ℕ → CommandModel
   replaying : ℕ → Text → CommandModel
@@ -39,7 +39,7 @@ pub data CommandModel : Type 0 where
   printing : Text → PageWordsModel → CommandModel
   auditing : Text → Text → CommandModel
   converting : Text → Text → CommandModel
-  reading_letters : Text → Text → Text → Text → CommandModel
+  reading_letters : Text → Text → Text → Option Text → Option Text → CommandModel
 
 -- what a command line asks for: a command, and what its limits are said to be, if anything
 pub record InvocationModel : Type 0 where
@@ -52,7 +52,7 @@ is_number digits = nat_lt 0 (length digits)
     && list_all (λ digit. nat_lt (digit_value digit) 10) digits
     && nat_lt (digits_value 10 digits) 4294967296
 
--- the number that a text is, behind a plus or none, and `other` where it is none
+-- the number that a text is, after a plus or none, and `other` where it is none
 abbrev pub number_or : ℕ → Text → ℕ
 number_or other text =
     if is_number (without_leading_plus text) then digits_value 10 (without_leading_plus text)
@@ -93,7 +93,7 @@ column_of name given = unwrap_or (first_of name given) name
 abbrev pub letters_command : List Row → CommandModel
 letters_command given = reading_letters (text_of (codes "journal") given)
     (column_of (codes "place") given) (column_of (codes "date") given)
-    (column_of (codes "weekday") given)
+    (first_of (codes "weekday") given) (first_of (codes "separator") given)
 
 -- a command that prints a page of a journal
 abbrev pub page_command : List Row → PageWordsModel → CommandModel
@@ -112,8 +112,8 @@ abbrev pub day_page : List Row → PageWordsModel
 day_page given = day_words (text_of (codes "code") given) (text_of (codes "date") given)
 
 abbrev pub month_page : List Row → PageWordsModel
-month_page given = month_words (text_of (codes "code") given) (number_of 0 (codes "year") given)
-    (number_of 0 (codes "month") given)
+month_page given = month_words (text_of (codes "code") given) (text_of (codes "year") given)
+    (text_of (codes "month") given)
 
 abbrev pub territory_page : List Row → PageWordsModel
 territory_page given = territory_words (first_of (codes "code") given)
@@ -159,7 +159,7 @@ page_words (pages.Almanac code year) = almanac_words code.now year
 page_words (pages.Read code date weekday) =
     reading_words code.now date.now (option_map (λ name. name.now) weekday)
 page_words (pages.Day code date) = day_words code.now date.now
-page_words (pages.Month code year month) = month_words code.now year month
+page_words (pages.Month code year month) = month_words code.now year.now month.now
 page_words (pages.Territory code) = territory_words (option_map (λ code. code.now) code)
 
 abbrev pub command_model : CommandWords → CommandModel
@@ -171,8 +171,9 @@ command_model (Desk script questions) = working script.now questions.now
 command_model (Page journal page) = printing journal.now (page_words page)
 command_model (Audit journal transcript) = auditing journal.now transcript.now
 command_model (Convert calendar date) = converting calendar.now date.now
-command_model (Letters journal place date weekday) =
-    reading_letters journal.now place.now date.now weekday.now
+command_model (Letters journal place date weekday separator) =
+    reading_letters journal.now place.now date.now (option_map (λ name. name.now) weekday)
+    (option_map (λ name. name.now) separator)
 
 abbrev pub model_of : Invocation → InvocationModel
 model_of asked = record {

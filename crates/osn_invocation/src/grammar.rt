@@ -4,7 +4,7 @@ ghost use Rattle.std.specs.Prelude.{◌≡◌, IfOk};
 ghost use Rattle.clap.specs.Words.{App};
 ghost use Rattle.osn_invocation.specs.Grammar.{IsArg, IsCommand, almanac_grammar, audit_grammar};
 ghost use Rattle.osn_invocation.specs.Grammar.{command_line, convert_grammar, day_grammar};
-ghost use Rattle.osn_invocation.specs.Grammar.{desk_grammar, letters_grammar, limited, month_arg};
+ghost use Rattle.osn_invocation.specs.Grammar.{desk_grammar, letters_grammar, limited};
 ghost use Rattle.osn_invocation.specs.Grammar.{month_grammar};
 ghost use Rattle.osn_invocation.specs.Grammar.{optional_arg, read_grammar, readers_option};
 ghost use Rattle.osn_invocation.specs.Grammar.{replay_grammar, required_arg, serve_grammar};
@@ -18,11 +18,11 @@ year and the rule of Easter that were in force where it was written";
 
 const STATUSES: &str = "Statuses:
   0  done
-  1  the input was refused: a line of a file, a territory or a year, or no question
-  2  the words of the command line are wrong
-  3  a read or a write failed, or a file could not be opened
+  1  the input was refused: a line of a file, a territory, a year, or a file without questions
+  2  a word of the command line is wrong
+  3  a file could not be opened, or a read or a write failed
   4  memory ran out
-Of a status but 0, one line on standard error says what was refused or failed.";
+If the status is not 0, standard error says what was refused or failed.";
 
 /// The option `--readers`.
 fn readers_arg<'a>(alloc: Global) -> Arg<'a>
@@ -62,28 +62,21 @@ fn year_arg<'a>(alloc: Global) -> Arg<'a>
     required_arg(alloc, "year", "YEAR").value_parser(value_parser!(u32))
 }
 
-/// A month by its number.
-fn month_arg<'a>(alloc: Global) -> Arg<'a>
-    ensures { IsArg month_arg result }
-{
-    required_arg(alloc, "month", "MONTH").value_parser(value_parser!(u32).range(1..13))
-}
-
 /// The command `serve` and its options.
 fn serve_grammar<'a>(alloc: Global) -> Result<Command<'a>, AllocError>
     ensures { IfOk result (IsCommand serve_grammar) }
 {
     Command::new(alloc, "serve")
-        .about("Answers request lines on standard input (so does the program without words)")
+        .about("Answers request lines on standard input, as the program does without a command")
         .after_help(SERVE_EXAMPLE)
         .arg(option_arg(alloc, "journal", "FILE").help(
-            "The journal to begin with; else there are no territories",
+            "The journal to begin with; without it there are no territories",
         ))?
         .arg(option_arg(alloc, "save", "FILE").help(
-            "Where the journal is saved at the end of the input, unless a fault ended it",
+            "Where the journal is saved at the end of the input, unless a fault ended the run",
         ))?
         .arg(option_arg(alloc, "keep", "FILE").help(
-            "Where the journal is kept while the service runs; it begins with it",
+            "The journal to begin with, to which each change is appended while the service runs",
         ))?
         .arg(readers_arg(alloc).help("How many readers ask, 1 to 64 [default: 8]"))
 }
@@ -91,21 +84,21 @@ fn serve_grammar<'a>(alloc: Global) -> Result<Command<'a>, AllocError>
 const SERVE_EXAMPLE: &str = "Example:
   ./oldstyle serve --journal examples/samples.journal --save new.journal < examples/added.jsonl
 
-Requests and replies are JSON lines. --save saves the journal only where all lines were answered;
---keep has each change in it before its reply is written.";
+Requests and replies are JSON lines. With --save, the journal is saved only if all lines were
+answered. With --keep, each change is in the journal before its reply is written.";
 
 /// The command `read`, its arguments and its option.
 fn read_grammar<'a>(alloc: Global) -> Result<Command<'a>, AllocError>
     ensures { IfOk result (IsCommand read_grammar) }
 {
     Command::new(alloc, "read")
-        .about("Says which day a written date means in a territory, or why it never was")
+        .about("Says which day a written date means in a territory, or why it means none")
         .after_help(READ_EXAMPLE)
         .arg(required_arg(alloc, "journal", "JOURNAL").help("The file of the journal"))?
         .arg(required_arg(alloc, "code", "CODE").help("The code of the territory"))?
         .arg(required_arg(alloc, "date", "DATE").help("The date as the document has it"))?
         .arg(option_arg(alloc, "weekday", "DAY").help(
-            "The weekday that the document names, as Friday, to compare",
+            "The weekday that the document names, as Friday",
         ))
 }
 
@@ -113,21 +106,22 @@ const READ_EXAMPLE: &str = "Examples:
   ./oldstyle read examples/samples.journal GB \"11 February 1731/2\" --weekday Friday
   ./oldstyle read examples/samples.journal GB 1752-09-05
 
-A date is 1731-02-11, \"11 February 1731\" or \"11 February 1731/2\". Its year is that of the
-document; the last form has both years, and finds a day only where the territory had them.";
+A date is written 1731-02-11, \"11 February 1731\" or \"11 February 1731/2\", with a weekday before
+it or without. Its year is the one that the document has, or both years are given. Where a date
+means several days, those of the weekday come first.";
 
 /// The command `convert` and its arguments.
 fn convert_grammar<'a>(alloc: Global) -> Result<Command<'a>, AllocError>
     ensures { IfOk result (IsCommand convert_grammar) }
 {
     Command::new(alloc, "convert")
-        .about("Says which day a date of a calendar is, by every calendar and by its numbers")
+        .about("Prints the day of a calendar's date by every calendar and by its numbers")
         .after_help(CONVERT_EXAMPLE)
         .arg(required_arg(alloc, "calendar", "CALENDAR").help(
-            "The date's calendar: gregorian, julian or swedish; or the word day",
+            "The date's calendar, which is gregorian, julian or swedish, or the word day",
         ))?
         .arg(required_arg(alloc, "date", "DATE").help(
-            "The date, its year counted from 1 January; behind day, a day number",
+            "The date, its year counted from 1 January; after the word day, a day number",
         ))
 }
 
@@ -159,18 +153,20 @@ fn month_grammar<'a>(alloc: Global) -> Result<Command<'a>, AllocError>
     ensures { IfOk result (IsCommand month_grammar) }
 {
     Command::new(alloc, "month")
-        .about("Prints a month as a territory lived it")
+        .about("Prints a month as a territory dated its days")
         .after_help(MONTH_EXAMPLE)
         .arg(required_arg(alloc, "journal", "JOURNAL").help("The file of the journal"))?
         .arg(required_arg(alloc, "code", "CODE").help("The code of the territory"))?
-        .arg(year_arg(alloc).help("The year as the territory counted it"))?
-        .arg(month_arg(alloc).help("The month, 1 to 12"))
+        .arg(required_arg(alloc, "year", "YEAR").help(
+            "The year as the territory counted it, 0 to 10000",
+        ))?
+        .arg(required_arg(alloc, "month", "MONTH").help("The month, 1 to 12 or its English name"))
 }
 
 const MONTH_EXAMPLE: &str = "Example:
-  ./oldstyle month examples/samples.journal GB 1752 9
+  ./oldstyle month examples/samples.journal GB 1752 September
 
-A month that the year has twice, since the year began within it, is printed twice.";
+A month that the year has at its beginning and at its end is printed twice.";
 
 /// The command `territory` and its arguments.
 fn territory_grammar<'a>(alloc: Global) -> Result<Command<'a>, AllocError>
@@ -200,17 +196,22 @@ fn letters_grammar<'a>(alloc: Global) -> Result<Command<'a>, AllocError>
         .arg(option_arg(alloc, "place", "NAME").help(
             "The name of the column of territories' codes [default: place]",
         ))?
-        .arg(option_arg(alloc, "date", "NAME").help("That of the column of dates [default: date]"))?
+        .arg(option_arg(alloc, "date", "NAME").help(
+            "The name of the column of dates [default: date]",
+        ))?
         .arg(option_arg(alloc, "weekday", "NAME").help(
-            "That of the column of weekdays, which may be missing [default: weekday]",
+            "The name of the column of weekdays [default: weekday, which the table may lack]",
+        ))?
+        .arg(option_arg(alloc, "separator", "NAME").help(
+            "What stands between two fields: comma, semicolon or tab [default: by the header]",
         ))
 }
 
 const LETTERS_EXAMPLE: &str = "Example:
   ./oldstyle letters examples/samples.journal < examples/letters.csv
 
-The table is CSV with a header. It is written to standard output as it came, with nine columns
-behind: days, gregorian, julian, dual, weekday_found, jdn, edtf, edition and remark.";
+The table is CSV with a header. It is written to standard output as it came, and nine columns
+follow its own: days, gregorian, julian, dual, weekday_found, jdn, edtf, edition and remark.";
 
 /// The command `replay`, its option and its argument.
 fn replay_grammar<'a>(alloc: Global) -> Result<Command<'a>, AllocError>
@@ -248,8 +249,8 @@ fn desk_grammar<'a>(alloc: Global) -> Result<Command<'a>, AllocError>
 const DESK_EXAMPLE: &str = "Example:
   ./oldstyle desk examples/rome.script examples/rome.questions
 
-A question is a JSON line. Questions and replies are printed by reader and then by place; which
-edition a reply is of may differ from run to run.";
+A question is a JSON line. Questions and replies are printed by reader and then by place. The
+editions of the replies may differ from run to run.";
 
 /// The command `almanac` and its arguments.
 fn almanac_grammar<'a>(alloc: Global) -> Result<Command<'a>, AllocError>
@@ -283,7 +284,7 @@ const AUDIT_EXAMPLE: &str = "Example:
   ./oldstyle desk examples/rome.script examples/rome.questions > rome.transcript
   ./oldstyle audit examples/rome.script rome.transcript";
 
-/// A command with the option `--limits` behind what it has.
+/// A command with the option `--limits` after what it has.
 fn limited<'a>(alloc: Global, command: Command<'a>) -> Result<Command<'a>, AllocError>
     ensures { IfOk result (λ made. (grammar : App) → IsCommand grammar command.entry
         → IsCommand (limited grammar) made) }

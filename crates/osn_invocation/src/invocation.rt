@@ -65,9 +65,9 @@ pub enum PageWords<'a> {
         /// The code of the territory.
         code: &'a str,
         /// The year as the territory counted it.
-        year: u32,
-        /// The month, 1 to 12.
-        month: u32,
+        year: &'a str,
+        /// The month, by its number or its English name.
+        month: &'a str,
     },
     /// The periods of a territory, or all territories.
     Territory {
@@ -117,14 +117,16 @@ pub enum CommandWords<'a> {
         place: &'a str,
         /// The name of the column of dates.
         date: &'a str,
-        /// The name of the column of weekdays.
-        weekday: &'a str,
+        /// The name of the column of weekdays, if it is named.
+        weekday: Option<&'a str>,
+        /// The word of what separates the fields, if it is named.
+        separator: Option<&'a str>,
     },
     /// To print a day by every calendar.
     Convert {
         /// The word of the date's calendar, or `day`.
         calendar: &'a str,
-        /// The date, or behind `day` a day number.
+        /// The date, or after `day` a day number.
         date: &'a str,
     },
 }
@@ -186,7 +188,7 @@ fn with_limits<'a>(given: &ArgMatches<'a>, command: CommandWords<'a>) -> Invocat
     }
 }
 
-/// What a command asks for, by its name and the arguments behind it.
+/// What a command asks for, by its name and the arguments after it.
 fn command_of<'a>(name: &str, given: &ArgMatches<'a>) -> CommandWords<'a>
     ensures { command_model result ≡ command_by name.now (rows_of (found_of given.now)) }
 {
@@ -265,7 +267,8 @@ fn letters_of<'a>(given: &ArgMatches<'a>) -> CommandWords<'a>
         journal: text_of(given, "journal"),
         place: value_of(given, "place").unwrap_or("place"),
         date: value_of(given, "date").unwrap_or("date"),
-        weekday: value_of(given, "weekday").unwrap_or("weekday"),
+        weekday: value_of(given, "weekday"),
+        separator: value_of(given, "separator"),
     }
 }
 
@@ -317,8 +320,8 @@ fn month_of<'a>(given: &ArgMatches<'a>) -> PageWords<'a>
 {
     PageWords::Month {
         code: text_of(given, "code"),
-        year: number_of(given, "year", 0),
-        month: number_of(given, "month", 0),
+        year: text_of(given, "year"),
+        month: text_of(given, "month"),
     }
 }
 

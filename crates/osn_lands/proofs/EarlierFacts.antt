@@ -11,7 +11,7 @@ use Rattle.osn_days.specs.declared.date.Date.{Date}
 use Rattle.osn_days.specs.Chain.{date_of}
 use Rattle.osn_days.proofs.ChainFacts.{IsSmall, key, chain_small, chain_rises, lt_of, not_lt_of}
 use Rattle.osn_days.proofs.ChainFacts.{not_true}
-use Rattle.osn_lands.specs.Inside.{is_earlier}
+use Rattle.osn_lands.specs.LabelOrder.{is_earlier}
 
 earlier_key : (m n : ℕ) (a b : Date) → IsSmall m a → IsSmall n b → is_earlier a b ≡ true →
     key a <ℤ key b

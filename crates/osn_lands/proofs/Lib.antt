@@ -8,6 +8,8 @@ pub mod RegimeFacts
 pub mod CoverFacts
 pub mod ChangeFacts
 pub mod ReadingFacts
+pub mod RunFacts
+pub mod RunKeyFacts
 pub mod MemberFacts
 pub mod EasterFacts
 pub mod SkippedFacts
@@ -16,3 +18,7 @@ pub mod TableFacts
 pub mod SearchFacts
 pub mod ExceptionFacts
 pub mod KeptFacts
+pub mod DatedFacts
+pub mod GapFacts
+pub mod MonthDayFacts
+pub mod OrderOfLabels

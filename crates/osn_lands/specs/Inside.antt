@@ -1,15 +1,13 @@
 -- How a territory keeps its starts and its exceptions, and what is found period by period.
 use Rattle.std.specs.Prelude.{ℕ, ◌+◌, ◌-◌, ◌≤◌, ◌==◌, ◌&&◌, ◌||◌, nat_le, nat_lt, ℤ, Bool, true}
 use Rattle.std.specs.Prelude.{false, not, if◌then◌else◌, Option, Some, None, List, [], ◌∷◌, ◌++◌}
-use Rattle.std.specs.Prelude.{filter, map, ◌≡◌, ◌⊎◌, ◌*◌, ◌+ℤ◌, ◌-ℤ◌, pos, int_lt}
-use Rattle.std.specs.Prelude.{unsigned_abs, length}
+use Rattle.std.specs.Prelude.{filter, map, ◌≡◌, ◌⊎◌, ◌*◌, ◌+ℤ◌, ◌-ℤ◌, pos, length}
 use Rattle.std.specs.Prelude.{IsSome, IsSomeAnd, IfSome}
 use Rattle.std.specs.List.{range_with_len, list_any}
 use Rattle.std.specs.Option.{option_to_list}
 use Rattle.std.specs.Ordering.{int_eq}
 use Rattle.osn_computus.specs.declared.rule.Rule.{Rule}
 use Rattle.osn_computus.specs.declared.rule.Rule.TheVariants.{Julian, Gregorian}
-use Rattle.osn_computus.specs.Easter.{easter_of}
 use Rattle.osn_days.specs.Profile.{Profile, newest_rules}
 use Rattle.osn_days.specs.declared.calendar.Calendar.{Calendar}
 use Rattle.osn_days.specs.declared.calendar.Calendar.TheVariants as calendars
@@ -25,6 +23,7 @@ use Rattle.osn_lands.specs.declared.period.Period.{Period}
 use Rattle.osn_lands.specs.declared.territory.Territory.TheInside.{Inside}
 use Rattle.osn_lands.specs.Style.{year_by, is_from_easter}
 use Rattle.osn_lands.specs.Label.{local_label, same_label, days_with_label}
+use Rattle.osn_lands.specs.LabelOrder.{is_dated_before_easter}
 use Rattle.osn_lands.specs.Territory.{TerritoryModel, CoversLine, is_empty, regime_at, periods_of}
 use Rattle.osn_lands.specs.Easters.{is_easter}
 
@@ -57,21 +56,6 @@ IsWithinLine p = (1 ≤ p.first) × (p.first ≤ p.last) × (p.last ≤ newest_r
 -- the day is one of the period's
 abbrev pub is_held : Period → ℕ → Bool
 is_held p d = nat_le p.first d && nat_le d p.last
-
--- the date is before the other one
-abbrev pub is_earlier : Date → Date → Bool
-is_earlier a b =
-    int_lt a.year b.year || (int_eq a.year b.year
-    && (nat_lt a.month b.month || ((a.month == b.month) && nat_lt a.day b.day)))
-
-abbrev pub is_dated_before : Calendar → Date → Option ℕ → Bool
-is_dated_before c date None = false
-is_dated_before c date (Some easter) = is_earlier date (date_of c easter)
-
--- the date is before that which the Easter day of its year by the Julian rule has in the calendar
-abbrev pub is_dated_before_easter : Profile → Calendar → Date → Bool
-is_dated_before_easter p c date =
-    is_dated_before c date (easter_of p Julian (unsigned_abs date.year))
 
 -- the style's year of a date under a regime, whether a day has the date or not
 abbrev pub year_in : Profile → Regime → Date → ℤ

@@ -3,6 +3,11 @@ pub mod StyleWords
 pub mod Label
 pub mod Dual
 pub mod Territory
+pub mod Dated
+pub mod LabelOrder
+pub mod MonthDay
+pub mod Runs
+pub mod RunKeys
 pub mod Changes
 pub mod Exceptions
 pub mod Faults

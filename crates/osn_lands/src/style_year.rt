@@ -5,6 +5,7 @@ ghost use Rattle.osn_days.specs.Line.{IsYearNumber};
 ghost use Rattle.osn_days.specs.Chain.{date_of};
 ghost use Rattle.osn_lands.specs.Style as plain;
 ghost use Rattle.osn_lands.specs.Inside as inside;
+ghost use Rattle.osn_lands.specs.LabelOrder as order;
 
 use crate::regime::Regime;
 use crate::style::Style;
@@ -12,21 +13,21 @@ use osn_computus::{Rule, easter};
 use osn_days::{Calendar, Date, Day, Year, date_of};
 
 /// Whether a day of a year is before the 25 March that begins the year of the Annunciation.
-fn is_before_25_march(month: u8, day: u8) -> bool
+pub(crate) fn is_before_25_march(month: u8, day: u8) -> bool
     ensures { result ≡ plain.is_before_25_march month day }
 {
     month < 3 || month == 3 && day < 25
 }
 
 /// Whether a day of a year is in the year of the Nativity that its 25 December begins.
-fn is_from_25_december(month: u8, day: u8) -> bool
+pub(crate) fn is_from_25_december(month: u8, day: u8) -> bool
     ensures { result ≡ plain.is_from_25_december month day }
 {
     month == 12 && day >= 25
 }
 
 /// Whether a month is in the year of the style that its 1 September begins.
-fn is_from_september(month: u8) -> bool
+pub(crate) fn is_from_september(month: u8) -> bool
     ensures { result ≡ plain.is_from_september month }
 {
     month >= 9
@@ -34,7 +35,7 @@ fn is_from_september(month: u8) -> bool
 
 /// Whether a date is before another one.
 fn is_earlier(one: Date, other: Date) -> bool
-    ensures { result ≡ inside.is_earlier one other }
+    ensures { result ≡ order.is_earlier one other }
 {
     one.year < other.year
         || one.year == other.year
@@ -42,9 +43,9 @@ fn is_earlier(one: Date, other: Date) -> bool
 }
 
 /// Whether a date of a calendar is before the Easter day of its year by the Julian rule.
-fn is_before_easter(calendar: Calendar, date: Date) -> bool
+pub(crate) fn is_before_easter(calendar: Calendar, date: Date) -> bool
     requires { IsYearNumber newest_rules date.year }
-    ensures { result ≡ inside.is_dated_before_easter newest_rules calendar date }
+    ensures { result ≡ order.is_dated_before_easter newest_rules calendar date }
 {
     let day = easter(Rule::Julian, Year::in_range(i64::from(date.year)));
     is_earlier(date, date_of(calendar, day))

@@ -10,7 +10,10 @@ ghost use Rattle.osn_lands.specs.Exceptions as exceptions;
 ghost use Rattle.osn_lands.specs.Kept.{KeepsEasters};
 ghost use Rattle.osn_lands.specs.Faults.{IsTestOf, IsFaultOrNoMemory};
 
+mod dates;
+mod gaps;
 mod readings;
+mod years;
 
 use crate::cover::{alter, find_period, is_start, join, split};
 use crate::easters::push_in_order;

@@ -10,13 +10,13 @@ use Rattle.std.proofs.lemmas.Result.{err_from_is_err_and}
 use Rattle.std.proofs.Math.Seq.{drop-cons, take-suc}
 use Rattle.std.proofs.lemmas.List.{take-append-drop}
 use Rattle.osn_letters.specs.declared.fault.LettersFault.{LettersFault}
-use Rattle.osn_letters.specs.declared.fault.LettersFault.TheVariants.{NoMemory, TooLong, WriteFault}
-use Rattle.osn_letters.specs.declared.fault.LettersFault.TheVariants.{LacksColumn, BadRecord}
-use Rattle.osn_letters.specs.declared.fault.LettersFault.TheVariants.{ReadFault}
+use Rattle.osn_letters.specs.declared.fault.LettersFault.TheVariants.{NoMemory}
 use Rattle.osn_letters.specs.declared.letters.Letters.{Letters}
 use Rattle.osn_letters.specs.declared.parser.RecordParser.{RecordParser}
-use Rattle.osn_letters.specs.declared.table.Rows.{Rows}
+use Rattle.osn_letters.specs.declared.separator.Separator.{Separator}
 use Rattle.osn_letters.specs.declared.table.Table.{Table}
+use Rattle.csv.specs.Records.{fields_of}
+use Rattle.osn_letters.specs.Separators.{or_comma}
 use Rattle.osn_letters.specs.LettersInside.{text_from, Wrote, Stops, TakesBytes, StopsAt}
 use Rattle.osn_letters.specs.LettersInside.{Waits, is_known}
 use Rattle.osn_letters.specs.LettersInside.{text_behind, TakesBehind, StopsBehind}
@@ -25,13 +25,14 @@ use Rattle.osn_letters.specs.declared.start.Start.TheVariants.{Past, TwoBytes}
 use Rattle.osn_letters.specs.Start.{held, unmarked, next_start}
 use Rattle.osn_letters.proofs.StartFacts.{marked, unmarked_held, unmarked_end}
 use Rattle.osn_letters.specs.LettersInside.{Passes}
-use Rattle.osn_letters.specs.Records.{Reading, too_long}
+use Rattle.osn_letters.specs.Records.{Reading, faulty}
 use Rattle.osn_letters.specs.Records.{records_from, after}
 use Rattle.osn_letters.specs.RecordsInside.{reading_of, record_in, Takes, RefusesByte}
+use Rattle.osn_letters.specs.RecordsInside.{RefusesEnd}
 use Rattle.osn_letters.specs.Table.{EndsEarly, IsLong, IsWhole, whole}
-use Rattle.osn_letters.specs.Table.{TableBasis, Written, behind, ended_by, written_from}
+use Rattle.osn_letters.specs.Table.{TableBasis, Heading, Written, behind, ended_by, written_from}
 use Rattle.osn_letters.specs.Faults.{is_of_table, is_of_stream}
-use Rattle.osn_letters.specs.TableInside.{written_of, RefusesRecord}
+use Rattle.osn_letters.specs.TableInside.{heading_of, written_of, RefusesRecord}
 use Rattle.osn_letters.specs.WriterInside.{waiting}
 
 -- the fault that a `?` passes on
@@ -73,10 +74,10 @@ stops_here out new w fault inner ended = record {
       record { text = []; out = why.0 ∙ sym (append-nil out); begins = why.1 });
 }
 
-too_long_ends : (s : TableBasis) (rows : Option Rows) (r : Reading)
-    → written_from s rows (too_long r ∷ []) ≡ ended_by (TooLong r.begun)
-too_long_ends s None r = refl
-too_long_ends s (Some rows) r = refl
+fault_ends : (s : TableBasis) (heading : Option Heading) (r : Reading) (fault : LettersFault)
+    → written_from s heading (faulty r fault ∷ []) ≡ ended_by fault
+fault_ends s None r fault = refl
+fault_ends s (Some heading) r fault = refl
 
 -- a byte was not taken
 pub byte_refused : (s : Letters) (p : RecordParser) (b : ℕ) (fault : LettersFault)
@@ -85,21 +86,37 @@ pub byte_refused : (s : Letters) (p : RecordParser) (b : ℕ) (fault : LettersFa
 byte_refused s p b fault refuses more =
     let out = waiting s.table.out in
     stops_here out out (text_behind s (b ∷ more)) fault refuses.0
-    (λ other.
-    let why = refuses.1 other in (
+    (λ other. (
       refl,
-      ap (written_of s.table) (why.1 (records_from (after (reading_of s.parser) b) more))
-          ∙ too_long_ends _ s.table.rows (reading_of s.parser)
-          ∙ ap ended_by (sym why.0),
+      ap (written_of s.table)
+          (refuses.1 other (records_from (after (reading_of s.parser) b) more))
+          ∙ fault_ends _ (heading_of s.table) (reading_of s.parser) fault,
+    ))
+
+-- the end of the text was not taken
+pub end_refused : (s : Letters) (fault : LettersFault) → RefusesEnd s.parser fault
+    → Stops (waiting s.table.out) (waiting s.table.out) (text_behind s []) fault
+end_refused s fault refuses =
+    let out = waiting s.table.out in
+    stops_here out out (text_behind s []) fault refuses.0
+    (λ other. (
+      refl,
+      ap (written_of s.table) (refuses.1 other)
+          ∙ fault_ends _ (heading_of s.table) (reading_of s.parser) fault,
     ))
 
 -- the record that a byte ended was not taken
 pub record_refused : (s : Letters) (table : Table) (q : RecordParser) (b line : ℕ)
-    (fault : LettersFault) → Takes s.parser q b (Some line)
-    → RefusesRecord s.table table (record_in q line) fault
+    (separator : Separator) (fault : LettersFault) → separator ≡ or_comma q.separator
+    → Takes s.parser q b (Some line)
+    → RefusesRecord s.table table
+    (record { line = line; separator = separator; fields = Ok (fields_of q.fields) }) fault
     → (more : List ℕ)
     → Stops (waiting s.table.out) (waiting table.out) (text_behind s (b ∷ more)) fault
-record_refused s table q b line fault takes refuses more =
+record_refused s table q b line separator fault same takes refused more =
+    let refuses : RefusesRecord s.table table (record_in q line) fault =
+    subst (λ x. RefusesRecord s.table table
+    (record { line = line; separator = x; fields = Ok (fields_of q.fields) }) fault) same refused in
     stops_here (waiting s.table.out) (waiting table.out) (text_behind s (b ∷ more)) fault refuses.0
     (λ other.
     let rest = records_from (after (reading_of s.parser) b) more in
@@ -369,19 +386,3 @@ pub held_stops_first : (s u : Letters) (start : Start) (fault : LettersFault) �
 held_stops_first s u start fault is x =
     subst (λ b. StopsBehind s u (held b) fault) (sym is)
     (stops_first s u (0xEF ∷ []) (0xBB ∷ []) fault x)
-
-table_inner : (fault : LettersFault) → is_of_table fault ≡ true → is_of_stream fault ≡ false
-table_inner (LacksColumn column) h = refl
-table_inner (BadRecord line) h = refl
-table_inner (TooLong line) h = refl
-table_inner ReadFault h = absurd (cc h)
-table_inner WriteFault h = absurd (cc h)
-table_inner NoMemory h = absurd (cc h)
-
--- all that is written was, and a fault of the table ends it
-pub last_stops : {a b : List ℕ} {w v : Written} (fault : LettersFault) → Wrote a b w v
-    → v ≡ ended_by fault → is_of_table fault ≡ true → Stops a b w fault
-last_stops {a} {b} {w} {v} fault wrote ended of_table = record {
-  inner = table_inner fault of_table;
-  wrote = λ told. subst (Wrote a b w) ended wrote;
-}

@@ -1,4 +1,4 @@
--- Behind what was read there may stand bytes by which nothing more is written: a record that is too
+-- After what was read there may stand bytes by which nothing more is written: a record that is too
 -- long. So what was written of what was read is all that is written of some text.
 use Rattle.std.proofs.Common.{◌≡◌, ◌<◌, ◌∙◌, ℕ, zero, suc, ◌+◌, ◌-◌, ◌==◌, Bool, true, false}
 use Rattle.std.proofs.Common.{List, [], ◌∷◌, ◌++◌, length, Option, Some, None, refl, sym, ap, subst}
@@ -11,63 +11,78 @@ use Rattle.csv.specs.Machine.{is_end}
 use Rattle.osn_letters.specs.declared.letters.Letters.{Letters}
 use Rattle.osn_letters.specs.declared.start.Start.{Start}
 use Rattle.osn_letters.specs.declared.start.Start.TheVariants.{Nothing, OneByte, TwoBytes, Past}
-use Rattle.osn_letters.specs.declared.table.Rows.{Rows}
+use Rattle.osn_letters.specs.declared.separator.Separator.{Separator}
 use Rattle.osn_letters.specs.LettersInside.{text_from, text_behind}
 use Rattle.osn_letters.specs.Records.{Reading, PlacedRecord, after, is_between, moved}
-use Rattle.osn_letters.specs.Records.{longest_record, read_byte, records_by, records_from, too_long}
+use Rattle.osn_letters.specs.Records.{faulty, is_stray, longest_record, read_byte, records_by}
+use Rattle.osn_letters.specs.Records.{records_from}
+use Rattle.osn_letters.specs.declared.fault.LettersFault.{LettersFault}
+use Rattle.osn_letters.specs.declared.fault.LettersFault.TheVariants.{TooLong, TextAfterQuote}
 use Rattle.osn_letters.specs.RecordsInside.{reading_of}
 use Rattle.osn_letters.specs.Start.{held, next_start}
-use Rattle.osn_letters.specs.Table.{TableBasis, Written, EndsRead, written_from}
-use Rattle.osn_letters.specs.TableInside.{source_of}
+use Rattle.osn_letters.specs.Separators.{separator_at, separator_of}
+use Rattle.osn_letters.specs.Table.{TableBasis, Heading, Written, EndsRead, written_from}
+use Rattle.osn_letters.specs.TableInside.{heading_of, source_of}
 use Rattle.std.proofs.lemmas.Bool.{ltb-true}
+use Rattle.osn_letters.proofs.SeparatorFacts.{no_separator}
 use Rattle.osn_letters.proofs.StartFacts.{unmarked_held}
 use Rattle.osn_letters.proofs.StreamFacts.{PassesRead}
 
--- a byte that joins any field: no comma, no quote, no line end
+-- a byte that joins any field: no separator, no quote, no line end
 abbrev IsPlain : ℕ → Type 0
 IsPlain b =
-    ((b == 44) ≡ false) × ((b == 34) ≡ false) × ((b == 13) ≡ false) × ((b == 10) ≡ false)
+    (separator_of b ≡ None) × ((b == 34) ≡ false) × ((b == 13) ≡ false) × ((b == 10) ≡ false)
 
 abbrev ArePlain : List ℕ → Type 0
 ArePlain [] = Unit {0}
 ArePlain (b ∷ bytes) = IsPlain b × ArePlain bytes
 
-plain_step : (s : State) (b : ℕ) → IsPlain b
-    → (is_between (read_byte s b).0 ≡ false) × (is_end (read_byte s b).1 ≡ false)
+plain_step : (found : Option Separator) (s : State) (b : ℕ) → IsPlain b
+    → (is_between (read_byte found s b).0 ≡ false) × (is_end (read_byte found s b).1 ≡ false)
 unfolding read_byte
-plain_step st.StartRecord b (h0, h1, h2, h3) = rw (h0, h1, h2, h3) (refl, refl)
-plain_step st.StartField b (h0, h1, h2, h3) = rw (h0, h1, h2, h3) (refl, refl)
-plain_step st.InField b (h0, h1, h2, h3) = rw (h0, h2, h3) (refl, refl)
-plain_step st.InQuoted b (h0, h1, h2, h3) = rw h1 (refl, refl)
-plain_step st.AfterQuote b (h0, h1, h2, h3) = rw (h0, h1, h2, h3) (refl, refl)
-plain_step st.InEscape b h = (refl, refl)
-plain_step st.InComment b (h0, h1, h2, h3) = rw h3 (refl, refl)
-plain_step st.AfterCr b (h0, h1, h2, h3) = rw (h0, h1, h2, h3) (refl, refl)
+plain_step found st.StartRecord b (none, h1, h2, h3) =
+    rw (no_separator b none (separator_at found b), h1, h2, h3) (refl, refl)
+plain_step found st.StartField b (none, h1, h2, h3) =
+    rw (no_separator b none (separator_at found b), h1, h2, h3) (refl, refl)
+plain_step found st.InField b (none, h1, h2, h3) =
+    rw (no_separator b none (separator_at found b), h2, h3) (refl, refl)
+plain_step found st.InQuoted b (none, h1, h2, h3) =
+    rw (h1) (refl, refl)
+plain_step found st.AfterQuote b (none, h1, h2, h3) =
+    rw (no_separator b none (separator_at found b), h1, h2, h3) (refl, refl)
+plain_step found st.InEscape b h = (refl, refl)
+plain_step found st.InComment b (none, h1, h2, h3) = rw h3 (refl, refl)
+plain_step found st.AfterCr b (none, h1, h2, h3) =
+    rw (no_separator b none (separator_at found b), h1, h2, h3) (refl, refl)
 
-too_long_quiet : (b : TableBasis) (rows : Option Rows) (r : Reading)
-    → (written_from b rows (too_long r ∷ [])).text ≡ []
-too_long_quiet b None r = refl
-too_long_quiet b (Some rows) r = refl
+fault_quiet : (b : TableBasis) (heading : Option Heading) (r : Reading) (fault : LettersFault)
+    → (written_from b heading (faulty r fault ∷ [])).text ≡ []
+fault_quiet b None r fault = refl
+fault_quiet b (Some heading) r fault = refl
 
--- one plain byte: the record is too long, or it grows
-quiet_step : (t : TableBasis) (rows : Option Rows) (r : Reading) (b : ℕ) (s : State × Action)
-    → is_between s.0 ≡ false → is_end s.1 ≡ false → (low : Bool)
-    → nat_lt r.size longest_record ≡ low → (more : List PlacedRecord)
-    → (low ≡ true → (moved r b s).size ≡ r.size + 1 → (written_from t rows more).text ≡ [])
-    → (written_from t rows (records_by r s more)).text ≡ []
-quiet_step t rows r b s inside going true is more quiet =
-    rw (inside, is, going) (quiet refl (rw inside refl))
-quiet_step t rows r b s inside going false is more quiet =
-    rw (inside, is) (too_long_quiet t rows r)
+-- one plain byte: the record has a fault, or it grows
+quiet_step : (t : TableBasis) (heading : Option Heading) (r : Reading) (b : ℕ) (s : State × Action)
+    → is_between s.0 ≡ false → is_end s.1 ≡ false → (low stray : Bool)
+    → nat_lt r.size longest_record ≡ low → is_stray r.state s.0 ≡ stray → (more : List PlacedRecord)
+    → (low ≡ true → (moved r b s).size ≡ r.size + 1 → (written_from t heading more).text ≡ [])
+    → (written_from t heading (records_by r s more)).text ≡ []
+quiet_step t heading r b s inside going true false is clear more quiet =
+    rw (inside, is, clear, going) (quiet refl (rw inside refl))
+quiet_step t heading r b s inside going true true is clear more quiet =
+    rw (inside, is, clear) (fault_quiet t heading r (TextAfterQuote r.begun))
+quiet_step t heading r b s inside going false stray is clear more quiet =
+    rw (inside, is) (fault_quiet t heading r (TooLong r.begun))
 
-quiet : (t : TableBasis) (rows : Option Rows) (r : Reading) (bytes : List ℕ) → ArePlain bytes
-    → 65536 - r.size < length bytes → (written_from t rows (records_from r bytes)).text ≡ []
-quiet t rows r [] plain long = absurd (omega (arith, long))
-quiet t rows r (b ∷ bytes) (first, plain) long =
-    let step = plain_step r.state b first in
-    quiet_step t rows r b (read_byte r.state b) step.0 step.1 (nat_lt r.size longest_record) refl
+quiet : (t : TableBasis) (heading : Option Heading) (r : Reading) (bytes : List ℕ) → ArePlain bytes
+    → 65536 - r.size < length bytes → (written_from t heading (records_from r bytes)).text ≡ []
+quiet t heading r [] plain long = absurd (omega (arith, long))
+quiet t heading r (b ∷ bytes) (first, plain) long =
+    let s = read_byte r.separator r.state b in
+    let step = plain_step r.separator r.state b first in
+    quiet_step t heading r b s step.0 step.1 (nat_lt r.size longest_record)
+    (is_stray r.state s.0) refl refl
     (records_from (after r b) bytes)
-    (λ low grows. quiet t rows (after r b) bytes plain
+    (λ low grows. quiet t heading (after r b) bytes plain
     (omega (arith, long, grows, ltb-true r.size longest_record low)))
 
 -- a run of plain bytes
@@ -89,15 +104,18 @@ run_long (suc n) = rw (run_long n) refl
 held_quiet : (s : Letters) (bytes : List ℕ) → ArePlain bytes → 65536 < length bytes
     → (start : Start) → (text_behind s (held start ++ bytes)).text ≡ []
 held_quiet s bytes plain long Nothing =
-    quiet (source_of s.table) s.table.rows (reading_of s.parser) bytes plain (omega (arith, long))
+    quiet (source_of s.table) (heading_of s.table) (reading_of s.parser) bytes plain
+    (omega (arith, long))
 held_quiet s bytes plain long Past =
-    quiet (source_of s.table) s.table.rows (reading_of s.parser) bytes plain (omega (arith, long))
+    quiet (source_of s.table) (heading_of s.table) (reading_of s.parser) bytes plain
+    (omega (arith, long))
 held_quiet s bytes plain long OneByte =
-    quiet (source_of s.table) s.table.rows (reading_of s.parser) (0xEF ∷ bytes)
+    quiet (source_of s.table) (heading_of s.table) (reading_of s.parser) (0xEF ∷ bytes)
     ((refl, refl, refl, refl), plain) (omega (arith, long))
 held_quiet s bytes plain long TwoBytes =
-    quiet (source_of s.table) s.table.rows (reading_of s.parser) (0xEF ∷ 0xBB ∷ bytes)
-    ((refl, refl, refl, refl), ((refl, refl, refl, refl), plain)) (omega (arith, long))
+    quiet (source_of s.table) (heading_of s.table) (reading_of s.parser)
+    (0xEF ∷ 0xBB ∷ bytes) ((refl, refl, refl, refl), ((refl, refl, refl, refl), plain))
+    (omega (arith, long))
 
 goes_on : (start : Start) → next_start start 97 ≡ None
 goes_on Nothing = refl

@@ -1,17 +1,30 @@
 -- What is written of one record, in the words of the calls that make it.
 use Rattle.std.proofs.Common.{◌≡◌, ◌∙◌, ℕ, List, ◌++◌, Result, OnOk, Option, ap}
 use Rattle.std.proofs.lemmas.Result.{on_ok_weaker}
-use Rattle.csv.specs.Writing.{default_writer, row_text}
+use Rattle.csv.specs.Writing.{row_text}
+use Rattle.csv.specs.declared.writer.WriterBuilder.{WriterBuilder}
 use Rattle.osn_days.specs.Profile.{Profile}
 use Rattle.osn_register.specs.Plain.{LandModel}
+use Rattle.osn_letters.specs.declared.separator.Separator.{Separator}
 use Rattle.osn_letters.specs.Fields.{letter_fields}
+use Rattle.osn_letters.specs.Separators.{writer_by}
 
 -- a record that is written as what it is
-pub written_as : {T E : Type 0} (r : Result T E) (new old : List ℕ) (a b : List (List ℕ)) → a ≡ b
-    → OnOk r (new ≡ old ++ row_text default_writer a)
-    → OnOk r (new ≡ old ++ row_text default_writer b)
-written_as r new old a b e h =
-    on_ok_weaker r (λ is. is ∙ ap (λ fs. old ++ row_text default_writer fs) e) h
+pub written_as : {T E : Type 0} (w : WriterBuilder) (r : Result T E) (new old : List ℕ)
+    (a b : List (List ℕ)) → a ≡ b → OnOk r (new ≡ old ++ row_text w a)
+    → OnOk r (new ≡ old ++ row_text w b)
+written_as w r new old a b e h =
+    on_ok_weaker r (λ is. is ∙ ap (λ fs. old ++ row_text w fs) e) h
+
+-- the same after the writer got another separator
+pub written_by : {T E : Type 0} (r : Result T E) (x y : Separator) (new middle old : List ℕ)
+    (a b : List (List ℕ)) → x ≡ y → middle ≡ old → a ≡ b
+    → OnOk r (new ≡ middle ++ row_text (writer_by x) a)
+    → OnOk r (new ≡ old ++ row_text (writer_by y) b)
+written_by r x y new middle old a b same kept e h =
+    on_ok_weaker r (λ is. is ∙ ap (λ l. l ++ row_text (writer_by x) a) kept
+    ∙ ap (λ z. old ++ row_text (writer_by z) a) same
+    ∙ ap (λ fs. old ++ row_text (writer_by y) fs) e) h
 
 -- the fields by the fields that are read
 pub same_fields : (p : Profile) (lands : List LandModel) (edition : ℕ) (a b c d : List ℕ)

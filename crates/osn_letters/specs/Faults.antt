@@ -1,15 +1,21 @@
 -- Whose faults end a table of letters: the table's own, those of a stream, or want of memory.
-use Rattle.std.specs.Prelude.{◌≡◌, ◌⊎◌, Bool, true, false, ◌||◌}
+use Rattle.std.specs.Prelude.{◌≡◌, ◌⊎◌, ℕ, ◌+◌, Bool, true, false, ◌||◌}
 use Rattle.osn_letters.specs.declared.fault.LettersFault.{LettersFault}
-use Rattle.osn_letters.specs.declared.fault.LettersFault.TheVariants.{LacksColumn, BadRecord}
-use Rattle.osn_letters.specs.declared.fault.LettersFault.TheVariants.{TooLong, ReadFault}
+use Rattle.osn_letters.specs.declared.fault.LettersFault.TheVariants.{NoHeader, LacksColumn}
+use Rattle.osn_letters.specs.declared.fault.LettersFault.TheVariants.{HasColumn, BadRecord}
+use Rattle.osn_letters.specs.declared.fault.LettersFault.TheVariants.{TooLong, OpenQuote}
+use Rattle.osn_letters.specs.declared.fault.LettersFault.TheVariants.{TextAfterQuote, ReadFault}
 use Rattle.osn_letters.specs.declared.fault.LettersFault.TheVariants.{WriteFault, NoMemory}
 
 -- whether a fault is one of the table itself, and not of memory, of the input or of the output
 abbrev pub is_of_table : LettersFault → Bool
-is_of_table (LacksColumn column) = true
+is_of_table NoHeader = true
+is_of_table (LacksColumn column line found) = true
+is_of_table (HasColumn line column) = true
 is_of_table (BadRecord line) = true
 is_of_table (TooLong line) = true
+is_of_table (OpenQuote line) = true
+is_of_table (TextAfterQuote line) = true
 is_of_table ReadFault = false
 is_of_table WriteFault = false
 is_of_table NoMemory = false
@@ -32,3 +38,11 @@ is_of_stream fault = is_read_fault fault || is_write_fault fault
 abbrev pub EndsStream : Bool → Bool → Bool → Type 0 → Type 0
 EndsStream true old new Long = (new ≡ true) ⊎ Long
 EndsStream false old new Long = new ≡ old
+
+-- the same fault so many lines further on
+abbrev pub later_fault : ℕ → LettersFault → LettersFault
+later_fault n (BadRecord line) = BadRecord (line + n)
+later_fault n (TooLong line) = TooLong (line + n)
+later_fault n (OpenQuote line) = OpenQuote (line + n)
+later_fault n (TextAfterQuote line) = TextAfterQuote (line + n)
+later_fault n other = other

@@ -1,26 +1,32 @@
 -- That the records of a text are those that the kit reads.
-use Rattle.std.specs.Prelude.{ℕ, List, [], ◌∷◌, Option, Some, None, IsSome}
+use Rattle.std.specs.Prelude.{◌≡◌, ℕ, true, List, [], ◌∷◌, Option, Result, Ok, Err, is_ok}
 use Rattle.csv.specs.declared.parser.State.TheVariants.{StartRecord}
-use Rattle.csv.specs.Reading.{AreRecords, default_config, strip_bom}
-use Rattle.osn_letters.specs.Records.{PlacedRecord, records_of}
+use Rattle.csv.specs.Reading.{AreRecords, strip_bom}
+use Rattle.osn_letters.specs.declared.fault.LettersFault.{LettersFault}
+use Rattle.osn_letters.specs.declared.separator.Separator.{Separator}
+use Rattle.osn_letters.specs.Records.{PlacedRecord, records_of, separator_in}
+use Rattle.osn_letters.specs.Separators.{config_by}
 
--- the fields of a record, unless it is too long
-abbrev pub fields_of_one : Option (List (List ℕ)) → List (List (List ℕ)) → List (List (List ℕ))
-fields_of_one None more = more
-fields_of_one (Some record_fields) more = record_fields ∷ more
+-- the fields of a record, unless it has a fault
+abbrev pub fields_of_one : Result (List (List ℕ)) LettersFault → List (List (List ℕ))
+    → List (List (List ℕ))
+fields_of_one (Err fault) more = more
+fields_of_one (Ok record_fields) more = record_fields ∷ more
 
 -- the fields of each record
 abbrev pub all_fields : List PlacedRecord → List (List (List ℕ))
 all_fields [] = []
 all_fields (r ∷ rest) = fields_of_one r.fields (all_fields rest)
 
--- no record is too long
-abbrev pub AreShort : List PlacedRecord → Type 0
-AreShort [] = Unit {0}
-AreShort (r ∷ rest) = IsSome r.fields × AreShort rest
+-- no record has a fault: none is too long, no quote is open, no text stands after a closing one
+abbrev pub AreSound : List PlacedRecord → Type 0
+AreSound [] = Unit {0}
+AreSound (r ∷ rest) = (is_ok r.fields ≡ true) × AreSound rest
 
--- where no record of a text is too long, they are those that the kit reads, with its own settings
+-- where no record of a text has a fault, they are those that the kit reads, with its own settings
+-- but for the separator
 unfoldable pub AreKitRecords : Type 0
 AreKitRecords =
-    (text : List ℕ) → AreShort (records_of text)
-    → AreRecords default_config StartRecord (strip_bom text) (all_fields (records_of text))
+    (named : Option Separator) (text : List ℕ) → AreSound (records_of named text)
+    → AreRecords (config_by (separator_in named text)) StartRecord (strip_bom text)
+    (all_fields (records_of named text))

@@ -1,10 +1,9 @@
 -- What is written of the bytes that letters are read from.
 use Rattle.std.specs.Prelude.{◌≡◌, ℕ, List, [], ◌++◌, Bool, true, false, Option}
-use Rattle.std.specs.Prelude.{Result, Ok, Err, is_ok, Vec}
-use Rattle.std.specs.declared.alloc.Global.{Global}
+use Rattle.std.specs.Prelude.{Result, Ok, Err, is_ok}
 use Rattle.std.specs.Io.KnownBytes.{Appends}
 use Rattle.csv.specs.Records.{partial_of}
-use Rattle.csv.specs.declared.writer.Writer.{Writer}
+use Rattle.osn_letters.specs.declared.csv_text.RowWriter.{RowWriter}
 use Rattle.osn_letters.specs.declared.letters.Letters.{Letters}
 use Rattle.osn_letters.specs.declared.fault.LettersFault.{LettersFault}
 use Rattle.osn_letters.specs.Records.{records_from}
@@ -75,10 +74,11 @@ Waits out (Ok x) written = (rest : Written) × Wrote [] out written rest
 Waits out (Err fault) written = Stops [] out written fault
 
 -- all was taken, what waited was written, and nothing waits
-pub record WritesAll {T : Type 0} (c d : Option (List ℕ)) (old new : Writer (Vec ℕ Global))
+pub record WritesAll {T : Type 0} (c d : Option (List ℕ)) (old new : RowWriter)
     (taken : Result T LettersFault) : Type 0 where
   pub took : is_ok taken ≡ true
   pub appended : Appends c d (waiting old)
+  pub separator : new.separator ≡ old.separator
   pub empty : waiting new ≡ []
   pub between : IsBetweenRows new
 

@@ -1,6 +1,8 @@
 pub mod Faults
 pub mod Fields
+pub mod AddedColumns
 pub mod Columns
+pub mod Separators
 pub mod Records
 pub mod Law
 pub mod RecordsInside

@@ -1,47 +1,61 @@
 -- The records of a text of CSV, each with the line on which it begins. How a byte is read is the
--- kit's; lines, and which records are too long, are this project's profile.
-use Rattle.std.specs.Prelude.{ℕ, ◌+◌, ◌==◌, Bool, true, false, not, ◌&&◌, nat_lt, List, [], ◌∷◌}
-use Rattle.std.specs.Prelude.{◌++◌, Option, Some, None, if◌then◌else◌}
+-- kit's; lines, and which records have a fault, are this project's profile.
+use Rattle.std.specs.Prelude.{ℕ, ◌+◌, ◌==◌, Bool, true, false, not, ◌&&◌, ◌||◌, nat_lt, List, []}
+use Rattle.std.specs.Prelude.{◌∷◌, Option, Result, Ok, Err, if◌then◌else◌, fold}
 use Rattle.csv.specs.declared.parser.State.{State}
 use Rattle.csv.specs.declared.parser.State.TheVariants as st
 use Rattle.csv.specs.declared.parser.Action.{Action}
-use Rattle.csv.specs.Machine.{step, is_end, fields_after, field_after, ends_at_end, line_feed}
-use Rattle.csv.specs.Reading.{default_config, strip_bom}
+use Rattle.csv.specs.declared.parser.Action.TheVariants as act
+use Rattle.csv.specs.Machine.{step, is_end, fields_after, field_after, ends_at_end}
+use Rattle.csv.specs.Machine.{carriage_return, line_feed}
+use Rattle.csv.specs.Reading.{strip_bom}
+use Rattle.osn_letters.specs.declared.separator.Separator.{Separator}
+use Rattle.osn_letters.specs.declared.fault.LettersFault.{LettersFault}
+use Rattle.osn_letters.specs.declared.fault.LettersFault.TheVariants.{TooLong, OpenQuote}
+use Rattle.osn_letters.specs.declared.fault.LettersFault.TheVariants.{TextAfterQuote}
+use Rattle.osn_letters.specs.Separators.{config_by, or_comma, separator_after, separator_at}
 
 -- the most bytes that a record may have in the text, without its line end
 abbrev pub longest_record : ℕ
 longest_record = 65536
 
--- a record of a text: the line on which it begins, and its fields unless it is too long
+-- a record of a text: the line on which it begins, what separates its fields, and these, or else
+-- its fault
 pub record PlacedRecord : Type 0 where
   pub line : ℕ
-  pub fields : Option (List (List ℕ))
+  pub separator : Separator
+  pub fields : Result (List (List ℕ)) LettersFault
 
--- where a reading stands: between which bytes, with the fields of the record at hand, the bytes of
--- its last field and how many bytes it has in the text, on which line the next byte stands, and on
--- which one the record at hand begins
+-- where a reading stands: between which bytes, with the separator that was found, the fields of the
+-- record at hand, the bytes of its last field and how many bytes it has in the text, on which line
+-- the next byte stands, whether a carriage return stands before it, and on which line the record at
+-- hand begins
 pub record Reading : Type 0 where
   pub state : State
+  pub separator : Option Separator
   pub fields : List (List ℕ)
   pub field : List ℕ
   pub size : ℕ
   pub line : ℕ
+  pub returned : Bool
   pub begun : ℕ
 
--- at the beginning of a text
-abbrev pub at_start : Reading
-at_start = record {
+-- at the beginning of a text, with the separator that was named, if any
+abbrev pub at_start : Option Separator → Reading
+at_start named = record {
   state = st.StartRecord;
+  separator = named;
   fields = [];
   field = [];
   size = 0;
   line = 1;
+  returned = false;
   begun = 1;
 }
 
 -- how a byte is read
-unfoldable pub read_byte : State → ℕ → State × Action
-read_byte s b = step default_config s b
+unfoldable pub read_byte : Option Separator → State → ℕ → State × Action
+read_byte found s b = step (config_by (separator_at found b)) s b
 
 -- between two records
 abbrev pub is_between : State → Bool
@@ -54,57 +68,97 @@ is_between st.AfterQuote = false
 is_between st.InEscape = false
 is_between st.InComment = false
 
--- the line behind a byte
-abbrev pub next_line : ℕ → ℕ → ℕ
-next_line line b = if b == line_feed then line + 1 else line
+-- whether a byte ends a line: a carriage return does, and a line feed that stands after none
+abbrev pub ends_line : Bool → ℕ → Bool
+ends_line returned b = (b == carriage_return) || ((b == line_feed) && not returned)
+
+-- the line after a byte
+abbrev pub next_line : Bool → ℕ → ℕ → ℕ
+next_line returned line b = if ends_line returned b then line + 1 else line
 
 -- the same reading behind a byte, by how it is read
 abbrev pub moved : Reading → ℕ → State × Action → Reading
 moved r b s = record {
   state = s.0;
+  separator = separator_after r.separator b s.1;
   fields = if is_end s.1 then [] else fields_after s.1 r.fields r.field;
   field = field_after s.1 b r.field;
   size = if is_between s.0 then 0 else r.size + 1;
-  line = next_line r.line b;
-  begun = if is_between s.0 then next_line r.line b else r.begun;
+  line = next_line r.returned r.line b;
+  returned = b == carriage_return;
+  begun = if is_between s.0 then next_line r.returned r.line b else r.begun;
 }
 
 abbrev pub after : Reading → ℕ → Reading
-after r b = moved r b (read_byte r.state b)
+after r b = moved r b (read_byte r.separator r.state b)
+
+-- the same after some bytes
+abbrev pub reading_after : Reading → List ℕ → Reading
+reading_after = fold after
 
 -- the record at hand has no room for one more byte
 abbrev pub is_full : Reading → State → Bool
 is_full r s = not (is_between s) && not (nat_lt r.size longest_record)
 
+-- a byte after a closing quote goes on with the field
+abbrev pub is_stray : State → State → Bool
+is_stray st.AfterQuote st.InField = true
+is_stray old new = false
+
+-- a quote is open
+abbrev pub is_open : State → Bool
+is_open st.InQuoted = true
+is_open other = false
+
 -- the record at hand, ended
 abbrev pub ended : Reading → Action → PlacedRecord
-ended r a = record { line = r.begun; fields = Some (fields_after a r.fields r.field) }
+ended r a = record {
+  line = r.begun;
+  separator = or_comma r.separator;
+  fields = Ok (fields_after a r.fields r.field);
+}
 
--- the record at hand, which is too long
-abbrev pub too_long : Reading → PlacedRecord
-too_long r = record { line = r.begun; fields = None }
+-- the record at hand, which has a fault
+abbrev pub faulty : Reading → LettersFault → PlacedRecord
+faulty r fault = record {
+  line = r.begun;
+  separator = or_comma r.separator;
+  fields = Err fault;
+}
 
--- what a byte gives by how it is read, and then the records behind it. Nothing is read behind a
--- record that is too long
+-- what a byte gives by how it is read, and then the records after it. Nothing is read after a
+-- record that has a fault
 abbrev pub records_by : Reading → State × Action → List PlacedRecord → List PlacedRecord
 records_by r s more =
-    if is_full r s.0 then too_long r ∷ []
+    if is_full r s.0 then faulty r (TooLong r.begun) ∷ []
+    else if is_stray r.state s.0 then faulty r (TextAfterQuote r.begun) ∷ []
     else if is_end s.1 then ended r s.1 ∷ more
     else more
 
 -- the record that the end of the text ends, if any
 abbrev pub last_record : Reading → List PlacedRecord
 last_record r =
-    if ends_at_end r.state then
-    record { line = r.begun; fields = Some (r.fields ++ r.field ∷ []) } ∷ []
+    if is_open r.state then faulty r (OpenQuote r.begun) ∷ []
+    else if ends_at_end r.state then ended r act.EndRecord ∷ []
     else []
 
 -- the records that end in these bytes, and in the end of the text behind them
 abbrev pub records_from : Reading → List ℕ → List PlacedRecord
 records_from r [] = last_record r
 records_from r (b ∷ bytes) =
-    records_by r (read_byte r.state b) (records_from (after r b) bytes)
+    records_by r (read_byte r.separator r.state b) (records_from (after r b) bytes)
 
--- the records of a text, which may begin with a byte order mark
-abbrev pub records_of : List ℕ → List PlacedRecord
-records_of text = records_from at_start (strip_bom text)
+-- the records of a text, which may begin with a byte order mark, by the separator that was named
+abbrev pub records_of : Option Separator → List ℕ → List PlacedRecord
+records_of named text = records_from (at_start named) (strip_bom text)
+
+-- what separates the fields of a text: what was named, or else the first comma, semicolon or tab of
+-- its header that stands in no quotes, or else the comma
+abbrev pub separator_in : Option Separator → List ℕ → Separator
+separator_in named text = or_comma (reading_after (at_start named) (strip_bom text)).separator
+
+-- how many lines end in bytes, of which the first stands after a carriage return or not
+abbrev pub line_ends : Bool → List ℕ → ℕ
+line_ends returned [] = 0
+line_ends returned (b ∷ bytes) =
+    (if ends_line returned b then 1 else 0) + line_ends (b == carriage_return) bytes

@@ -1,5 +1,5 @@
 -- What a parser holds of the records of a text.
-use Rattle.std.specs.Prelude.{◌≡◌, ◌≢◌, ℕ, false, List, [], ◌∷◌, Option, Some, None}
+use Rattle.std.specs.Prelude.{◌≡◌, ◌≢◌, ℕ, false, List, [], ◌∷◌, Option, Some, None, Ok}
 use Rattle.csv.specs.declared.parser.State.{State}
 use Rattle.csv.specs.declared.parser.State.TheVariants as st
 use Rattle.csv.specs.declared.parser.Action.{Action}
@@ -11,9 +11,11 @@ use Rattle.osn_letters.specs.declared.place.Effect.{Effect}
 use Rattle.osn_letters.specs.declared.place.Effect.TheVariants as effect
 use Rattle.osn_letters.specs.declared.parser.RecordParser.{RecordParser}
 use Rattle.osn_letters.specs.declared.fault.LettersFault.{LettersFault}
-use Rattle.osn_letters.specs.declared.fault.LettersFault.TheVariants.{NoMemory, TooLong}
+use Rattle.osn_letters.specs.declared.fault.LettersFault.TheVariants.{NoMemory}
 use Rattle.osn_letters.specs.Faults.{is_of_stream}
-use Rattle.osn_letters.specs.Records.{Reading, PlacedRecord, read_byte, after, records_by, too_long}
+use Rattle.osn_letters.specs.Records.{Reading, PlacedRecord, read_byte, after, records_by, faulty}
+use Rattle.osn_letters.specs.Records.{last_record}
+use Rattle.osn_letters.specs.Separators.{or_comma}
 
 -- the kit's state and action
 abbrev pub state_of : Place → State
@@ -34,10 +36,12 @@ action_of effect.EndRecord = act.EndRecord
 abbrev pub reading_of : RecordParser → Reading
 reading_of p = record {
   state = state_of p.place;
+  separator = p.separator;
   fields = fields_of p.fields;
   field = p.field.items;
   size = p.size;
   line = p.line;
+  returned = p.returned;
   begun = p.begun;
 }
 
@@ -47,28 +51,40 @@ cleared r = record r { fields = [] }
 
 -- the record that stands in a parser, with the line on which it begins
 abbrev pub record_in : RecordParser → ℕ → PlacedRecord
-record_in p line = record { line = line; fields = Some (fields_of p.fields) }
+record_in p line = record {
+  line = line;
+  separator = or_comma p.separator;
+  fields = Ok (fields_of p.fields);
+}
 
 -- the same, if a record ended
 abbrev pub records_given : RecordParser → Option ℕ → List PlacedRecord
 records_given p None = []
 records_given p (Some line) = record_in p line ∷ []
 
+-- how a parser reads a byte
+abbrev pub read_by : RecordParser → ℕ → State × Action
+read_by p b = read_byte p.separator (state_of p.place) b
+
 -- a byte was taken, and ended no record, or one that begins on the line
 abbrev pub Takes : RecordParser → RecordParser → ℕ → Option ℕ → Type 0
 Takes p q b None =
-    ((more : List PlacedRecord) → records_by (reading_of p) (read_byte (state_of p.place) b) more
+    ((more : List PlacedRecord) → records_by (reading_of p) (read_by p b) more
     ≡ more)
     × (reading_of q ≡ after (reading_of p) b)
 Takes p q b (Some line) =
-    ((more : List PlacedRecord) → records_by (reading_of p) (read_byte (state_of p.place) b) more
+    ((more : List PlacedRecord) → records_by (reading_of p) (read_by p b) more
     ≡ record_in q line ∷ more)
     × (cleared (reading_of q) ≡ after (reading_of p) b)
 
--- a byte was not taken, since the record at hand is too long, or for want of memory
+-- a byte was not taken, since the record at hand has that fault, or for want of memory
 abbrev pub RefusesByte : RecordParser → ℕ → LettersFault → Type 0
 RefusesByte p b fault = (is_of_stream fault ≡ false)
     × ((fault ≢ NoMemory)
-    → (fault ≡ TooLong p.begun)
-    × ((more : List PlacedRecord) → records_by (reading_of p) (read_byte (state_of p.place) b) more
-    ≡ too_long (reading_of p) ∷ []))
+    → (more : List PlacedRecord) → records_by (reading_of p) (read_by p b) more
+    ≡ faulty (reading_of p) fault ∷ [])
+
+-- the same of the end of the text
+abbrev pub RefusesEnd : RecordParser → LettersFault → Type 0
+RefusesEnd p fault = (is_of_stream fault ≡ false)
+    × ((fault ≢ NoMemory) → last_record (reading_of p) ≡ faulty (reading_of p) fault ∷ [])

@@ -1,35 +1,48 @@
 -- The table that is written: the header and each record that came, with nine fields behind it. This
 -- project's profile.
 use Rattle.std.specs.Prelude.{◌≡◌, ◌≤◌, ℕ, true, ◌==◌, List, [], ◌∷◌, ◌++◌, length, get_or}
-use Rattle.std.specs.Prelude.{if◌then◌else◌, codes}
+use Rattle.std.specs.Prelude.{if◌then◌else◌}
 use Rattle.std.specs.Prelude.{Option, Some, None, option_map, Result, Ok, Err}
 use Rattle.std.specs.Io.KnownBytes.{Appends, Consumes}
-use Rattle.csv.specs.Writing.{default_writer, row_text}
+use Rattle.csv.specs.Writing.{row_text}
 use Rattle.osn_days.specs.Profile.{Profile}
 use Rattle.osn_register.specs.Plain.{LandModel}
 use Rattle.osn_letters.specs.declared.columns.Columns.{Columns}
-use Rattle.osn_letters.specs.declared.table.Rows.{Rows}
+use Rattle.osn_letters.specs.declared.separator.Separator.{Separator}
+use Rattle.osn_letters.specs.declared.settings.TableSettings.{TableSettings}
 use Rattle.osn_letters.specs.declared.fault.LettersFault.{LettersFault}
-use Rattle.osn_letters.specs.declared.fault.LettersFault.TheVariants.{LacksColumn, BadRecord}
-use Rattle.osn_letters.specs.declared.fault.LettersFault.TheVariants.{TooLong}
-use Rattle.osn_letters.specs.declared.fault.Column.TheVariants as column
-use Rattle.osn_letters.specs.declared.columns.ColumnNames.{ColumnNames}
+use Rattle.osn_letters.specs.declared.fault.LettersFault.TheVariants.{NoHeader, BadRecord}
+use Rattle.osn_letters.specs.AddedColumns.{added_names}
 use Rattle.osn_letters.specs.Columns.{NameTexts, names_of, columns_of}
 use Rattle.osn_letters.specs.Faults.{is_of_table}
 use Rattle.osn_letters.specs.Fields.{letter_fields}
 use Rattle.osn_letters.specs.Records.{PlacedRecord, records_of}
+use Rattle.osn_letters.specs.Separators.{writer_by}
 
--- by what a table is made: the rules, the territories, the number of their edition, and the names
--- of the columns that are read
+-- by what a table is made: the rules, the territories, the number of their edition, the names of
+-- the columns that are read, and what separates the fields, if it was named
 pub record TableBasis : Type 0 where
   pub rules : Profile
   pub lands : List LandModel
   pub edition : ℕ
   pub names : NameTexts
+  pub separator : Option Separator
 
-abbrev pub basis : Profile → List LandModel → ℕ → ColumnNames → TableBasis
-basis p lands edition names =
-    record { rules = p; lands = lands; edition = edition; names = names_of names }
+abbrev pub basis : Profile → List LandModel → ℕ → TableSettings → TableBasis
+basis p lands edition settings = record {
+  rules = p;
+  lands = lands;
+  edition = edition;
+  names = names_of settings.names;
+  separator = settings.separator;
+}
+
+-- what the header says of the records after it: where the columns that are read stand, how many
+-- fields each has, and what separates these
+pub record Heading : Type 0 where
+  pub columns : Columns
+  pub width : ℕ
+  pub separator : Separator
 
 -- what is written, and the fault by which the table ended early, if it did
 pub record Written : Type 0 where
@@ -48,23 +61,9 @@ ended_by fault = record { text = []; fault = Some fault }
 abbrev pub behind : List ℕ → Written → Written
 behind text written = record { text = text ++ written.text; fault = written.fault }
 
--- the names of the nine fields
-abbrev pub field_names : List (List ℕ)
-field_names =
-    codes "days"
-    ∷ codes "gregorian"
-    ∷ codes "julian"
-    ∷ codes "dual"
-    ∷ codes "weekday_found"
-    ∷ codes "jdn"
-    ∷ codes "edtf"
-    ∷ codes "edition"
-    ∷ codes "remark"
-    ∷ []
-
 -- the header that is written
-abbrev pub header_text : List (List ℕ) → List ℕ
-header_text header = row_text default_writer (header ++ field_names)
+abbrev pub header_text : Separator → List (List ℕ) → List ℕ
+header_text separator header = row_text (writer_by separator) (header ++ added_names)
 
 -- the nine fields of a record
 abbrev pub fields_behind : TableBasis → Columns → List (List ℕ) → List (List ℕ)
@@ -75,49 +74,53 @@ fields_behind s columns record_fields =
     (option_map (λ n. get_or record_fields n []) columns.weekday)
 
 -- the row that is written of a record
-unfoldable pub letter_text : TableBasis → Columns → List (List ℕ) → List ℕ
-letter_text s columns record_fields =
-    row_text default_writer (record_fields ++ fields_behind s columns record_fields)
+unfoldable pub letter_text : TableBasis → Separator → Columns → List (List ℕ) → List ℕ
+letter_text s separator columns record_fields =
+    row_text (writer_by separator) (record_fields ++ fields_behind s columns record_fields)
 
 -- what is written of a record that is no header, and then what is written of those behind it
-abbrev pub row_by : TableBasis → Rows → ℕ → Option (List (List ℕ)) → Written → Written
-row_by s rows line None more = ended_by (TooLong line)
-row_by s rows line (Some record_fields) more =
-    if length record_fields == rows.width then
-    behind (letter_text s rows.columns record_fields) more
+abbrev pub row_by : TableBasis → Heading → ℕ → Result (List (List ℕ)) LettersFault → Written
+    → Written
+row_by s heading line (Err fault) more = ended_by fault
+row_by s heading line (Ok record_fields) more =
+    if length record_fields == heading.width then
+    behind (letter_text s heading.separator heading.columns record_fields) more
     else ended_by (BadRecord line)
 
 -- what is written of the records behind the header
-abbrev pub rows_written : TableBasis → Rows → List PlacedRecord → Written
-rows_written s rows [] = whole
-rows_written s rows (r ∷ rest) = row_by s rows r.line r.fields (rows_written s rows rest)
+abbrev pub rows_written : TableBasis → Heading → List PlacedRecord → Written
+rows_written s heading [] = whole
+rows_written s heading (r ∷ rest) = row_by s heading r.line r.fields (rows_written s heading rest)
 
 -- what is written of a header whose columns stand there, and of the records behind it
-abbrev pub header_at : TableBasis → Result Columns LettersFault → List (List ℕ) → List PlacedRecord
-    → Written
-header_at s (Err fault) header rest = ended_by fault
-header_at s (Ok columns) header rest =
-    behind (header_text header)
-    (rows_written s (record { columns = columns; width = length header }) rest)
+abbrev pub header_at : TableBasis → Result Columns LettersFault → Separator → List (List ℕ)
+    → List PlacedRecord → Written
+header_at s (Err fault) separator header rest = ended_by fault
+header_at s (Ok columns) separator header rest =
+    behind (header_text separator header)
+    (rows_written s (record { columns = columns; width = length header; separator = separator })
+    rest)
 
 -- what is written of the first record, which is the header, and of those behind it
-abbrev pub header_by : TableBasis → ℕ → Option (List (List ℕ)) → List PlacedRecord → Written
-header_by s line None rest = ended_by (TooLong line)
-header_by s line (Some header) rest = header_at s (columns_of s.names header) header rest
+abbrev pub header_by : TableBasis → ℕ → Separator → Result (List (List ℕ)) LettersFault
+    → List PlacedRecord → Written
+header_by s line separator (Err fault) rest = ended_by fault
+header_by s line separator (Ok header) rest =
+    header_at s (columns_of s.names line header) separator header rest
 
 -- what is written of all records. Without any there is no header
 abbrev pub table_written : TableBasis → List PlacedRecord → Written
-table_written s [] = ended_by (LacksColumn column.Place)
-table_written s (r ∷ rest) = header_by s r.line r.fields rest
+table_written s [] = ended_by NoHeader
+table_written s (r ∷ rest) = header_by s r.line r.separator r.fields rest
 
 -- what is written of a text of CSV
 abbrev pub letters_written : TableBasis → List ℕ → Written
-letters_written s text = table_written s (records_of text)
+letters_written s text = table_written s (records_of s.separator text)
 
 -- what is written of further records, before the header or behind it
-abbrev pub written_from : TableBasis → Option Rows → List PlacedRecord → Written
+abbrev pub written_from : TableBasis → Option Heading → List PlacedRecord → Written
 written_from s None records = table_written s records
-written_from s (Some rows) records = rows_written s rows records
+written_from s (Some heading) records = rows_written s heading records
 
 -- all of the text was written, and no fault ended it
 abbrev pub IsWhole : Option (List ℕ) → Option (List ℕ) → Written → Type 0

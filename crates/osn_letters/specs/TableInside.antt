@@ -1,21 +1,37 @@
 -- What a table writes of the records that it takes.
-use Rattle.std.specs.Prelude.{◌≡◌, ◌≢◌, ℕ, false, List, ◌∷◌, ◌++◌}
+use Rattle.std.specs.Prelude.{◌≡◌, ◌≢◌, ℕ, false, List, [], ◌∷◌, ◌++◌, Option, Some, None}
+use Rattle.std.specs.Prelude.{Ok}
 use Rattle.osn_days.specs.Profile.{newest_rules}
+use Rattle.osn_letters.specs.declared.separator.Separator.{Separator}
+use Rattle.osn_letters.specs.declared.table.Rows.{Rows}
 use Rattle.osn_letters.specs.declared.table.Table.{Table}
 use Rattle.osn_letters.specs.declared.fault.LettersFault.{LettersFault}
 use Rattle.osn_letters.specs.declared.fault.LettersFault.TheVariants.{NoMemory}
 use Rattle.osn_letters.specs.Faults.{is_of_stream}
 use Rattle.osn_letters.specs.Records.{PlacedRecord}
-use Rattle.osn_letters.specs.Table.{TableBasis, basis, Written, written_from, behind, ended_by}
+use Rattle.osn_letters.specs.Table.{TableBasis, basis, Heading, Written, written_from, behind}
+use Rattle.osn_letters.specs.Table.{ended_by}
 use Rattle.osn_letters.specs.WriterInside.{waiting}
 
 -- by what it is made
 abbrev pub source_of : Table → TableBasis
-source_of t = basis newest_rules t.register.now.lands t.edition t.names
+source_of t = basis newest_rules t.register.now.lands t.edition t.settings
+
+-- what the header said, if it came
+abbrev pub heading_by : Separator → Option Rows → Option Heading
+heading_by separator None = None
+heading_by separator (Some rows) = Some (record {
+  columns = rows.columns;
+  width = rows.width;
+  separator = separator;
+})
+
+abbrev pub heading_of : Table → Option Heading
+heading_of t = heading_by t.out.separator t.rows
 
 -- what it writes of further records
 abbrev pub written_of : Table → List PlacedRecord → Written
-written_of t records = written_from (source_of t) t.rows records
+written_of t records = written_from (source_of t) (heading_of t) records
 
 -- of these records, a text was written, and the table goes on
 pub record TakesRecords (old new : Table) (taken : List PlacedRecord) : Type 0 where
@@ -32,3 +48,14 @@ RefusesRecord old new r fault = (is_of_stream fault ≡ false)
     × ((fault ≢ NoMemory)
     → (waiting new.out ≡ waiting old.out)
     × ((more : List PlacedRecord) → written_of old (r ∷ more) ≡ ended_by fault))
+
+-- the same of a record after the header, whatever separated its fields
+abbrev pub TakesRow : Table → Table → ℕ → List (List ℕ) → Type 0
+TakesRow old new line record_fields = (separator : Separator) →
+    TakesRecords old new
+    (record { line = line; separator = separator; fields = Ok record_fields } ∷ [])
+
+abbrev pub RefusesRow : Table → Table → ℕ → List (List ℕ) → LettersFault → Type 0
+RefusesRow old new line record_fields fault = (separator : Separator) →
+    RefusesRecord old new
+    (record { line = line; separator = separator; fields = Ok record_fields }) fault

@@ -1,18 +1,33 @@
 //! Which columns of a table are read.
-ghost use Rattle.std.specs.Prelude.{◌≡◌, [], get_or, true, IfErr};
+ghost use Rattle.std.specs.Prelude.{◌≡◌, ◌≢◌, [], get_or, false, IfOk, IfErr, Ok, Err};
+ghost use Rattle.std.specs.List.{find};
+ghost use Rattle.std.specs.Str.Lossy.{utf8_lossy};
 ghost use Rattle.csv.specs.Records.{fields_of};
 ghost use Rattle.osn_letters.specs.Columns as spec;
-ghost use Rattle.osn_letters.specs.Faults.{is_of_table};
+ghost use Rattle.osn_letters.specs.Faults.{is_of_stream};
+ghost use Rattle.osn_letters.specs.declared.fault.LettersFault.TheVariants.{NoMemory};
 
+use crate::added_column::{ADDED_COLUMNS, AddedColumn};
 use crate::fault::{Column, LettersFault};
 use csv::ByteRecord;
+use osn_register::Text;
+use std::alloc::{AllocError, Global};
+
+/// The name by which a header tells the column of the weekdays.
+#[derive(Clone, Copy, Debug)]
+pub enum WeekdayName<'a> {
+    /// The header has to have the column.
+    Required(&'a str),
+    /// The header may lack the column.
+    Optional(&'a str),
+}
 
 /// The names by which a header tells the columns that are read.
 #[derive(Clone, Copy, Debug)]
 pub struct ColumnNames<'a> {
     pub place: &'a str,
     pub date: &'a str,
-    pub weekday: &'a str,
+    pub weekday: WeekdayName<'a>,
 }
 
 /// Where the columns that are read stand, counted from 0.
@@ -45,26 +60,109 @@ fn place_of(header: &ByteRecord, name: &str) -> Option<usize>
     None
 }
 
-/// Where the columns of these names stand in a header. The first column of a name counts. Names are
-/// compared byte by byte, spaces and capitals included.
+impl<'a> WeekdayName<'a> {
+    /// The name.
+    fn text(self) -> &'a str
+        ensures { result.now ≡ spec.weekday_text self.entry }
+    {
+        match self {
+            WeekdayName::Required(name) | WeekdayName::Optional(name) => name,
+        }
+    }
+
+    /// Whether the header has to have the column.
+    fn is_required(self) -> bool
+        ensures { result ≡ spec.is_required self.entry }
+    {
+        matches!(self, WeekdayName::Required(_))
+    }
+}
+
+/// The names of a header, with a comma and a space between two.
+fn names_text(alloc: Global, header: &ByteRecord) -> Result<Vec<u8>, AllocError>
+    ensures { IfOk result (λ names. names.items ≡ spec.names_text (fields_of header.now)) }
+{
+    let mut names = Vec::new(alloc);
+    names.extend_from_slice(field_at(header, 0))?;
+    for place in 1..header.len() {
+        names.extend_from_slice(b", ")?;
+        names.extend_from_slice(field_at(header, place))?;
+    }
+    Ok(names)
+}
+
+/// The same as a text. Bytes that are none of UTF-8 are replaced.
+fn names_found(alloc: Global, header: &ByteRecord) -> Result<Text, AllocError>
+    ensures { IfOk result (λ found. found ≡ utf8_lossy (spec.names_text (fields_of header.now))) }
+{
+    let names = names_text(alloc, header)?;
+    Ok(Text::new(String::from_utf8_lossy(alloc, &names)?))
+}
+
+/// The fault of a header that lacks a column, or want of memory.
+fn lacks(alloc: Global, header: &ByteRecord, line: u64, column: Column) -> LettersFault
+    ensures fault { (result ≢ NoMemory) → result ≡ spec.lacks line (fields_of header.now) column }
+    ensures inner { is_of_stream result ≡ false }
+{
+    match names_found(alloc, header) {
+        Ok(found) => LettersFault::LacksColumn {
+            column,
+            line,
+            found,
+        },
+        Err(_) => LettersFault::NoMemory,
+    }
+}
+
+/// The first of these columns that a header has.
+fn column_had(header: &ByteRecord, columns: &[AddedColumn]) -> Option<AddedColumn>
+    ensures { result ≡ find (spec.has_column (fields_of header.now)) columns.now }
+{
+    for column in columns {
+        if place_of(header, column.name()).is_some() {
+            return Some(*column);
+        }
+    }
+    None
+}
+
+/// Where the columns of these names stand in a header, which begins on the line. The first column
+/// of a name counts. Names are compared byte by byte, spaces and capitals included.
 ///
 /// # Errors
 ///
-/// `LacksColumn` where no column has the name of the places, or else none that of the dates.
-pub fn find_columns(header: &ByteRecord, names: ColumnNames<'_>) -> Result<Columns, LettersFault>
-    ensures value { result ≡ spec.columns_of (spec.names_of names.entry) (fields_of header.now) }
-    // as a law: it is a fault of the table
-    ensures fault { IfErr result (λ fault. is_of_table fault ≡ true) }
+/// `HasColumn` where the header has one of the columns that are put after its own, else
+/// `LacksColumn` where no column has the name of the places, or else none that of the dates, or
+/// else none that of the weekdays, if it has to be there; and `NoMemory`.
+pub fn find_columns(
+    alloc: Global,
+    header: &ByteRecord,
+    names: ColumnNames<'_>,
+    line: u64,
+) -> Result<Columns, LettersFault>
+    ensures value { IfOk result (λ columns. spec.columns_of (spec.names_of names.entry) line
+        (fields_of header.now) ≡ Ok columns) }
+    ensures fault { IfErr result (λ fault. (fault ≢ NoMemory)
+        → spec.columns_of (spec.names_of names.entry) line (fields_of header.now) ≡ Err fault) }
+    // as a law: it is no fault of a stream
+    ensures inner { IfErr result (λ fault. is_of_stream fault ≡ false) }
 {
+    if let Some(column) = column_had(header, &ADDED_COLUMNS) {
+        return Err(LettersFault::HasColumn { line, column });
+    }
     let Some(place) = place_of(header, names.place) else {
-        return Err(LettersFault::LacksColumn(Column::Place));
+        return Err(lacks(alloc, header, line, Column::Place));
     };
     let Some(date) = place_of(header, names.date) else {
-        return Err(LettersFault::LacksColumn(Column::Date));
+        return Err(lacks(alloc, header, line, Column::Date));
     };
+    let weekday = place_of(header, names.weekday.text());
+    if names.weekday.is_required() && weekday.is_none() {
+        return Err(lacks(alloc, header, line, Column::Weekday));
+    }
     Ok(Columns {
         place,
         date,
-        weekday: place_of(header, names.weekday),
+        weekday,
     })
 }

@@ -1,47 +1,85 @@
 //! The text of rows.
 ghost use Rattle.std.specs.Prelude.{◌≡◌, ◌++◌, [], map, IfOk, OnOk};
 ghost use Rattle.csv.specs.Records.{fields_of, partial_of};
-ghost use Rattle.csv.specs.Writing.{default_writer, row_text};
+ghost use Rattle.csv.specs.Writing.{row_text};
+ghost use Rattle.osn_letters.specs.AddedColumns.{added_name};
+ghost use Rattle.osn_letters.specs.Separators.{writer_by};
 ghost use Rattle.osn_letters.specs.WriterInside as inside;
 
+use crate::added_column::AddedColumn;
 use crate::columns::field_at;
+use crate::separator::Separator;
 use csv::{ByteRecord, Writer, WriterBuilder};
 use std::alloc::{AllocError, Global};
 use std::mem;
 
 /// A writer of rows into memory, each of any number of fields.
-pub(crate) fn row_writer(alloc: Global) -> Writer<Vec<u8>>
-    ensures between { inside.IsBetweenRows result }
-    ensures empty { inside.waiting result ≡ [] }
-{
-    WriterBuilder::new()
-        .flexible(true)
-        .from_writer(Vec::new(alloc))
+#[derive(Drop)]
+pub(crate) struct RowWriter {
+    /// What separates the fields.
+    pub(crate) separator: Separator,
+    pub(crate) out: Writer<Vec<u8>>,
 }
 
-/// Writes a row, with its line end, behind the text that waits. An error of the writer is want of
-/// memory, since nothing else fails where a text goes into memory. What waits then is not known.
-pub(crate) fn write_row(out: &mut Writer<Vec<u8>>, row: &ByteRecord) -> Result<(), AllocError>
-    requires { inside.IsBetweenRows out.old }
-    ensures between { OnOk result (inside.IsBetweenRows out.new) }
-    ensures text { OnOk result (inside.waiting out.new
-        ≡ inside.waiting out.old ++ row_text default_writer (fields_of row.now)) }
-{
-    match out.write_byte_record(row) {
-        Ok(()) => Ok(()),
-        Err(_) => Err(AllocError),
+impl RowWriter {
+    /// A writer that goes on after a text.
+    pub(crate) fn new(separator: Separator, text: Vec<u8>) -> RowWriter
+        ensures separator { result.separator ≡ separator }
+        ensures between { inside.IsBetweenRows result }
+        ensures waiting { inside.waiting result ≡ text.items }
+    {
+        RowWriter {
+            separator,
+            out: WriterBuilder::new()
+                .delimiter(separator.byte())
+                .flexible(true)
+                .from_writer(text),
+        }
     }
-}
 
-/// Takes the text that waits, so that none waits then. An error is want of memory, as above.
-pub(crate) fn take_text(alloc: Global, out: &mut Writer<Vec<u8>>) -> Result<Vec<u8>, AllocError>
-    ensures text { IfOk result (λ text. text.items ≡ inside.waiting out.old) }
-    ensures between { inside.IsBetweenRows out.new }
-    ensures empty { inside.waiting out.new ≡ [] }
-{
-    match mem::replace(out, row_writer(alloc)).into_inner() {
-        Ok(text) => Ok(text),
-        Err(_) => Err(AllocError),
+    /// Writes a row, with its line end, after the text that waits. An error of the writer is want
+    /// of memory, since nothing else fails where a text goes into memory. What waits then is not
+    /// known.
+    pub(crate) fn write_row(&mut self, row: &ByteRecord) -> Result<(), AllocError>
+        requires { inside.IsBetweenRows self.old }
+        ensures between { OnOk result (inside.IsBetweenRows self.new) }
+        ensures separator { self.new.separator ≡ self.old.separator }
+        ensures text { OnOk result (inside.waiting self.new ≡ inside.waiting self.old
+            ++ row_text (writer_by self.old.separator) (fields_of row.now)) }
+    {
+        match self.out.write_byte_record(row) {
+            Ok(()) => Ok(()),
+            Err(_) => Err(AllocError),
+        }
+    }
+
+    /// Takes the text that waits, so that none waits then. An error is want of memory, as above.
+    pub(crate) fn take_text(&mut self, alloc: Global) -> Result<Vec<u8>, AllocError>
+        ensures text { IfOk result (λ text. text.items ≡ inside.waiting self.old) }
+        ensures separator { self.new.separator ≡ self.old.separator }
+        ensures between { inside.IsBetweenRows self.new }
+        ensures empty { inside.waiting self.new ≡ [] }
+    {
+        let next = RowWriter::new(self.separator, Vec::new(alloc));
+        match mem::replace(self, next).out.into_inner() {
+            Ok(text) => Ok(text),
+            Err(_) => Err(AllocError),
+        }
+    }
+
+    /// Writes with another separator from now on, after the text that waits.
+    pub(crate) fn set_separator(
+        &mut self,
+        alloc: Global,
+        separator: Separator,
+    ) -> Result<(), AllocError>
+        ensures separator { OnOk result (self.new.separator ≡ separator) }
+        ensures between { OnOk result (inside.IsBetweenRows self.new) }
+        ensures waiting { OnOk result (inside.waiting self.new ≡ inside.waiting self.old) }
+    {
+        let text = self.take_text(alloc)?;
+        *self = RowWriter::new(separator, text);
+        Ok(())
     }
 }
 
@@ -58,15 +96,15 @@ pub(crate) fn push_fields(row: &mut ByteRecord, fields: &ByteRecord) -> Result<(
     Ok(())
 }
 
-/// Appends fields of these texts.
-pub(crate) fn push_texts(row: &mut ByteRecord, texts: &[&str]) -> Result<(), AllocError>
+/// Appends fields with the names of these columns.
+pub(crate) fn push_names(row: &mut ByteRecord, columns: &[AddedColumn]) -> Result<(), AllocError>
     requires { partial_of row.old ≡ [] }
     ensures fields { OnOk result
-        (fields_of row.new ≡ fields_of row.old ++ map (λ t. t.now) texts.now) }
+        (fields_of row.new ≡ fields_of row.old ++ map added_name columns.now) }
     ensures partial { OnOk result (partial_of row.new ≡ []) }
 {
-    for text in texts {
-        row.push_field(text.as_bytes())?;
+    for column in columns {
+        row.push_field(column.name().as_bytes())?;
     }
     Ok(())
 }

@@ -2,6 +2,9 @@
 ghost use Rattle.std.specs.Prelude.{◌≡◌};
 ghost use Rattle.osn_letters.specs.Faults as spec;
 
+use crate::added_column::AddedColumn;
+use osn_register::Text;
+
 /// A column that a table of letters has to have.
 #[derive(Clone, Copy, Debug, PartialEq, Eq)]
 pub enum Column {
@@ -9,19 +12,48 @@ pub enum Column {
     Place,
     /// The column of the dates.
     Date,
+    /// The column of the weekdays.
+    Weekday,
 }
 
 /// Why a table of letters ended early. Lines are counted from 1, and a record that has several is
 /// told by its first one.
-#[derive(Clone, Copy, Debug, PartialEq, Eq)]
+#[derive(Debug, Drop)]
 pub enum LettersFault {
-    /// The header lacks a column, or there is no header. Nothing was written.
-    LacksColumn(Column),
+    /// There is no header, since there is no record. Nothing was written.
+    NoHeader,
+    /// The header, on that line, lacks a column. Found were these names, with a comma and a space
+    /// between two. Nothing was written.
+    LacksColumn {
+        column: Column,
+        line: u64,
+        found: Text,
+    },
+    /// The header, on that line, has a column already that is put after its own. Nothing was
+    /// written.
+    HasColumn {
+        line: u64,
+        column: AddedColumn,
+    },
     /// The record on that line has another number of fields than the header. The records before it
     /// were written.
-    BadRecord { line: u64 },
+    BadRecord {
+        line: u64,
+    },
     /// The record on that line has more than 65,536 bytes. The records before it were written.
-    TooLong { line: u64 },
+    TooLong {
+        line: u64,
+    },
+    /// A quote of the record on that line is still open at the end of the table. The records before
+    /// it were written.
+    OpenQuote {
+        line: u64,
+    },
+    /// In the record on that line a text stands after a closing quote. The records before it were
+    /// written.
+    TextAfterQuote {
+        line: u64,
+    },
     /// The input failed, or gave no end within 4,294,967,295 reads.
     ReadFault,
     /// The output failed, or did not take a text within 4,294,967,295 writes.
@@ -32,13 +64,17 @@ pub enum LettersFault {
 
 impl LettersFault {
     /// Whether it is one of the table itself, and not of memory, of the input or of the output.
-    pub(crate) fn is_of_table(self) -> bool
-        ensures { result ≡ spec.is_of_table self }
+    pub(crate) fn is_of_table(&self) -> bool
+        ensures { result ≡ spec.is_of_table self.now }
     {
         match self {
-            LettersFault::LacksColumn(_)
+            LettersFault::NoHeader
+            | LettersFault::LacksColumn { .. }
+            | LettersFault::HasColumn { .. }
             | LettersFault::BadRecord { .. }
-            | LettersFault::TooLong { .. } => true,
+            | LettersFault::TooLong { .. }
+            | LettersFault::OpenQuote { .. }
+            | LettersFault::TextAfterQuote { .. } => true,
             LettersFault::ReadFault | LettersFault::WriteFault | LettersFault::NoMemory => false,
         }
     }

@@ -1,19 +1,17 @@
-//! The fields that are put behind a letter's row.
-ghost use Rattle.std.specs.Prelude.{◌≡◌, [], ◌∷◌, ◌++◌, map, filter, option_map, IfOk, OnOk};
+//! The fields that are put after a letter's row.
+ghost use Rattle.std.specs.Prelude.{◌≡◌, [], ◌∷◌, ◌++◌, map, option_map, IfOk, OnOk};
 ghost use Rattle.std.specs.Fmt.{decimal};
 ghost use Rattle.csv.specs.Records.{fields_of, partial_of};
 ghost use Rattle.osn_days.specs.Profile.{newest_rules};
-ghost use Rattle.osn_pages.specs.Reading.{is_meant as meant, reading_query};
-ghost use Rattle.osn_register.specs.Answer.{answer};
-ghost use Rattle.osn_pages.specs.Words.{written_text as text_of};
-ghost use Rattle.osn_pages.specs.WrittenDate.{written_date};
 ghost use Rattle.osn_letters.specs.Fields as spec;
 
 use crate::day_field::{DayField, days_text, edtf_text};
-use crate::remark::remark;
+use crate::remark::{Told, remark_text, remarks_on_absence, remarks_on_days, remarks_on_row};
 use csv::ByteRecord;
-use osn_pages::{WrittenDate, is_meant, written_text};
-use osn_register::{Answer, Found, Query, Refusal, Register, Text};
+use osn_days::Weekday;
+use osn_lands::{DatedDay, Territory};
+use osn_register::Register;
+use osn_written::{WrittenDate, absence_of, days_meant, weekday_named};
 use std::alloc::{AllocError, Global};
 use std::str;
 
@@ -27,37 +25,57 @@ const DAY_FIELDS: [DayField; 6] = [
     DayField::JulianDayNumber,
 ];
 
-/// The days, of these, that the date means.
-fn days_among<'a>(
-    alloc: Global,
-    date: WrittenDate,
-    found: &'a [Found],
-) -> Result<Vec<&'a Found>, AllocError>
-    ensures { IfOk result (λ days. map (λ f. f.now) days.items
-        ≡ filter (meant date.later (text_of date)) found.now) }
+/// Bytes without the white space of ASCII around them.
+fn trimmed(bytes: &[u8]) -> &[u8]
+    ensures { result.now ≡ spec.trimmed bytes.now }
 {
-    let text = written_text(alloc, date)?;
-    let mut days = Vec::new(alloc);
-    for day in found {
-        if is_meant(date.later, text.as_str(), day) {
-            days.push(day)?;
-        }
-    }
-    Ok(days)
+    bytes.trim_ascii()
 }
 
-/// The days that the date means, of what is answered.
-fn days_meant<'a>(
-    alloc: Global,
-    date: WrittenDate,
-    reading: &'a Answer,
-) -> Result<Vec<&'a Found>, AllocError>
-    ensures { IfOk result (λ days. map (λ f. f.now) days.items
-        ≡ spec.days_meant date reading.now) }
+/// The text that a field has without the white space around it, if it is a text.
+fn text_in_field(bytes: &[u8]) -> Option<&str>
+    ensures { option_map (λ s. s.now) result ≡ spec.text_in_field bytes.now }
 {
-    match reading {
-        Answer::Reading { found, .. } => days_among(alloc, date, found.as_slice()),
-        _ => Ok(Vec::new(alloc)),
+    str::from_utf8(trimmed(bytes)).ok()
+}
+
+/// The date of a field, if it is one.
+fn date_in(field: &[u8]) -> Option<WrittenDate>
+    ensures { result ≡ spec.date_in field.now }
+{
+    WrittenDate::parse(text_in_field(field)?).ok()
+}
+
+/// The territory of a code, if some territory has it.
+fn territory_of_text<'a>(register: &'a Register, text: &str) -> Option<&'a Territory>
+    ensures { option_map (λ t. t.now) result
+        ≡ spec.territory_of_text register.now.lands text.now }
+{
+    let (_, territory) = register.land(text).ok()?;
+    Some(territory)
+}
+
+/// The territory of a field.
+fn territory_in<'a>(register: &'a Register, place: &[u8]) -> Option<&'a Territory>
+    ensures { option_map (λ t. t.now) result ≡ spec.territory_in register.now.lands place.now }
+{
+    territory_of_text(register, text_in_field(place)?)
+}
+
+/// The weekday of a field, which may be lacking.
+fn weekday_in(named: Option<&[u8]>) -> Option<Weekday>
+    ensures { result ≡ spec.weekday_in (option_map (λ w. w.now) named.entry) }
+{
+    weekday_named(text_in_field(named?)?)
+}
+
+/// Whether the field has something that is no weekday's name.
+fn is_malformed_weekday(named: Option<&[u8]>) -> bool
+    ensures { result ≡ spec.is_malformed_weekday (option_map (λ w. w.now) named.entry) }
+{
+    match named {
+        Some(name) => !trimmed(name).is_empty() && weekday_in(named).is_none(),
+        None => false,
     }
 }
 
@@ -66,11 +84,11 @@ fn push_day_fields(
     alloc: Global,
     fields: &mut ByteRecord,
     which: &[DayField],
-    days: &[&Found],
+    days: &[DatedDay],
 ) -> Result<(), AllocError>
     requires { partial_of fields.old ≡ [] }
     ensures fields { OnOk result (fields_of fields.new
-        ≡ fields_of fields.old ++ map (spec.text_in (map (λ f. f.now) days.now)) which.now) }
+        ≡ fields_of fields.old ++ map (spec.days_text days.now) which.now) }
     ensures partial { OnOk result (partial_of fields.new ≡ []) }
 {
     for field in which {
@@ -79,103 +97,67 @@ fn push_day_fields(
     Ok(())
 }
 
-/// Appends the fields behind those: the days as ISO 8601-2 writes them, the edition and the remark.
+/// Appends the fields after those: the days as ISO 8601-2 writes them, the edition and the remarks.
 fn push_last_fields(
     alloc: Global,
     fields: &mut ByteRecord,
     edition: usize,
-    days: &[&Found],
-    said: &str,
+    days: &[DatedDay],
+    remarks: &[Told],
 ) -> Result<(), AllocError>
     requires { partial_of fields.old ≡ [] }
     ensures { OnOk result (fields_of fields.new ≡ fields_of fields.old
-        ++ (spec.edtf_text (map (λ f. f.now) days.now) ∷ decimal edition ∷ said.now ∷ [])) }
+        ++ (spec.edtf_text days.now ∷ decimal edition ∷ spec.remark_text remarks.now ∷ [])) }
 {
     fields.push_field(edtf_text(alloc, days)?.as_bytes())?;
-    fields.push_field(format!(in alloc; "{}", edition)?.as_bytes())?;
-    fields.push_field(said.as_bytes())
+    fields.push_field(format!(in alloc; "{edition}")?.as_bytes())?;
+    fields.push_field(remark_text(alloc, remarks)?.as_bytes())
 }
 
 /// The nine fields of these days.
 fn fields_of_days(
     alloc: Global,
     edition: usize,
-    days: &[&Found],
-    said: &str,
+    days: &[DatedDay],
+    remarks: &[Told],
 ) -> Result<ByteRecord, AllocError>
     ensures { IfOk result (λ fields. fields_of fields
-        ≡ spec.fields_of_days edition (map (λ f. f.now) days.now) said.now) }
+        ≡ spec.fields_of_days edition days.now remarks.now) }
 {
     let mut fields = ByteRecord::new(alloc);
     push_day_fields(alloc, &mut fields, &DAY_FIELDS, days)?;
-    push_last_fields(alloc, &mut fields, edition, days, said)?;
+    push_last_fields(alloc, &mut fields, edition, days, remarks)?;
     Ok(fields)
 }
 
-/// The fields by what the register answers.
-fn fields_by_answer(
+/// The fields of a date in a territory, with the field of the weekday.
+fn fields_in(
     alloc: Global,
     edition: usize,
+    territory: &Territory,
     date: WrittenDate,
-    weekday: Option<&[u8]>,
-    reading: &Answer,
+    named: Option<&[u8]>,
 ) -> Result<ByteRecord, AllocError>
-    ensures { IfOk result (λ fields. fields_of fields ≡ spec.fields_by_answer edition date
-        (option_map (λ w. w.now) weekday.entry) reading.now) }
+    ensures { IfOk result (λ fields. fields_of fields ≡ spec.fields_in newest_rules edition
+        territory.now date (option_map (λ w. w.now) named.entry)) }
 {
-    let days = days_meant(alloc, date, reading)?;
-    let said = remark(weekday, &days, reading);
-    fields_of_days(alloc, edition, &days, said)
-}
-
-/// The date that a text is, if it is one.
-fn date_written(text: &[u8]) -> Option<WrittenDate>
-    ensures { result ≡ written_date text.now }
-{
-    match str::from_utf8(text) {
-        Ok(text) => WrittenDate::parse(text),
-        Err(_) => None,
+    let given = weekday_in(named);
+    let is_malformed = is_malformed_weekday(named);
+    let days = days_meant(alloc, territory, date, given)?;
+    if days.is_empty() {
+        let reason = absence_of(territory, date)?;
+        let remarks = remarks_on_absence(reason, is_malformed);
+        return fields_of_days(alloc, edition, &[], &remarks);
     }
+    let remarks = remarks_on_days(date, given, &days, is_malformed);
+    fields_of_days(alloc, edition, &days, &remarks)
 }
 
-/// What the register answers to the reading of a date in the territory of a code.
-fn reading_of_code(
-    alloc: Global,
-    register: &Register,
-    code: &str,
-    date: WrittenDate,
-) -> Result<Answer, AllocError>
-    ensures { IfOk result (λ a. a ≡ answer newest_rules register.now.lands
-        (reading_query code.now date)) }
-{
-    register.answer(&Query::Read {
-        code: Text::from_str(alloc, code)?,
-        year: i64::from(date.year),
-        month: i64::from(date.month),
-        day: i64::from(date.day),
-    })
-}
-
-/// The same in a place, which is no code if it is no text.
-fn reading_in(
-    alloc: Global,
-    register: &Register,
-    place: &[u8],
-    date: WrittenDate,
-) -> Result<Answer, AllocError>
-    ensures { IfOk result (λ a. a ≡ answer newest_rules register.now.lands
-        (reading_query place.now date)) }
-{
-    match str::from_utf8(place) {
-        Ok(code) => reading_of_code(alloc, register, code, date),
-        Err(_) => Ok(Answer::Refused(Refusal::BadCode)),
-    }
-}
-
-/// The nine fields that are put behind the row of a letter, by the register of that edition: which
+/// The nine fields that are put after the row of a letter, by the register of that edition: which
 /// days its date means in its place, as `days`, `gregorian`, `julian`, `dual`, `weekday_found`,
-/// `jdn`, `edtf`, `edition` and `remark`. The place is the code of a territory; a weekday that is
-/// empty is none. Each of the three is compared byte by byte, spaces and capitals included.
+/// `jdn`, `edtf`, `edition` and `remark`. The place is the code of a territory. The weekday may be
+/// lacking or empty, and its letters may be capital or small. White space of ASCII around each of
+/// the three is passed over.
 ///
 /// # Errors
 ///
@@ -191,9 +173,12 @@ pub fn letter_fields(
     ensures { IfOk result (λ fields. fields_of fields ≡ spec.letter_fields newest_rules
         register.now.lands edition place.now date.now (option_map (λ w. w.now) weekday.entry)) }
 {
-    let Some(date) = date_written(date) else {
-        return fields_of_days(alloc, edition, &[], "malformed date");
-    };
-    let reading = reading_in(alloc, register, place, date)?;
-    fields_by_answer(alloc, edition, date, weekday, &reading)
+    let date = date_in(date);
+    let territory = territory_in(register, place);
+    if let (Some(date), Some(territory)) = (date, territory) {
+        return fields_in(alloc, edition, territory, date, weekday);
+    }
+    let is_malformed = is_malformed_weekday(weekday);
+    let remarks = remarks_on_row(date.is_none(), territory.is_none(), is_malformed);
+    fields_of_days(alloc, edition, &[], &remarks)
 }

@@ -10,10 +10,11 @@ ghost use Rattle.osn_letters.specs.Table.{whole, basis, letters_written};
 ghost use Rattle.osn_letters.specs.TableInside.{written_of};
 ghost use Rattle.osn_letters.specs.WriterInside.{waiting};
 
-use crate::columns::ColumnNames;
-use crate::csv_text::row_writer;
+use crate::csv_text::RowWriter;
 use crate::fault::LettersFault;
 use crate::parser::RecordParser;
+use crate::separator::Separator;
+use crate::settings::TableSettings;
 use crate::start::{MARK, Start};
 use crate::table::Table;
 use osn_register::Register;
@@ -33,24 +34,24 @@ impl<'a> Letters<'a> {
         alloc: Global,
         register: &'a Register,
         edition: usize,
-        names: ColumnNames<'a>,
+        settings: TableSettings<'a>,
     ) -> Letters<'a>
         ensures ready { inside.IsReady result }
         ensures line { result.parser.line ≡ 1 }
         ensures empty { waiting result.table.out ≡ [] }
         ensures text { (text : List ℕ) → inside.text_from result text
-            ≡ letters_written (basis newest_rules register.now.lands edition names.entry) text }
+            ≡ letters_written (basis newest_rules register.now.lands edition settings.entry) text }
     {
         Letters {
             start: Start::Nothing,
-            parser: RecordParser::new(alloc),
+            parser: RecordParser::new(alloc, settings.separator),
             table: Table {
                 alloc,
                 register,
                 edition,
-                names,
+                settings,
                 rows: None,
-                out: row_writer(alloc),
+                out: RowWriter::new(Separator::Comma, Vec::new(alloc)),
             },
         }
     }
@@ -63,7 +64,8 @@ impl Letters<'_> {
         requires line { self.old.parser.line + 1 < 2 ^ 64 }
         ensures ready { OnOk result (inside.IsReady self.new) }
         ensures line { OnOk result
-            (self.new.parser.line ≡ next_line self.old.parser.line byte) }
+            (self.new.parser.line
+            ≡ next_line self.old.parser.returned self.old.parser.line byte) }
         ensures start { self.new.start ≡ self.old.start }
         ensures takes { OnOk result (inside.TakesBehind self.old self.new (byte ∷ [])) }
         ensures stops { IfErr result (inside.StopsBehind self.old self.new (byte ∷ [])) }
@@ -71,7 +73,8 @@ impl Letters<'_> {
         let Some(line) = self.parser.take(byte)? else {
             return Ok(());
         };
-        self.table.take(&mut self.parser.fields, line)?;
+        let separator = self.parser.separator();
+        self.table.take(&mut self.parser.fields, line, separator)?;
         self.parser.clear();
         Ok(())
     }
@@ -142,7 +145,8 @@ impl Letters<'_> {
             (waiting self.new.table.out) (inside.text_behind self.old [])) }
     {
         if let Some(line) = self.parser.finish()? {
-            self.table.take(&mut self.parser.fields, line)?;
+            let separator = self.parser.separator();
+            self.table.take(&mut self.parser.fields, line, separator)?;
         }
         Ok(())
     }

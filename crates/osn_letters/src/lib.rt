@@ -1,9 +1,10 @@
 //! Letters: a table in CSV, each row of which is told which days its date means in its place. What
 //! the crate promises to those above: `write_letters` writes the table of the definition and
 //! nothing else, in whatever pieces the bytes come, and says where it ended early and why; the
-//! fields behind a row are those of `letter_fields`, from what the register answers.
+//! fields behind a row are those of `letter_fields`, by which days its date means in the territory.
 #![tactic(auto)]
 
+mod added_column;
 mod columns;
 mod csv_text;
 mod day_field;
@@ -14,12 +15,17 @@ mod parser;
 mod place;
 mod progress;
 mod remark;
+mod separator;
+mod settings;
 mod start;
 mod stream;
 mod table;
 
-pub use columns::{ColumnNames, Columns, find_columns};
+pub use added_column::AddedColumn;
+pub use columns::{ColumnNames, Columns, WeekdayName, find_columns};
 pub use fault::{Column, LettersFault};
 pub use letter::letter_fields;
 pub use progress::Progress;
+pub use separator::Separator;
+pub use settings::TableSettings;
 pub use stream::write_letters;

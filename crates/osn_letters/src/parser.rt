@@ -1,15 +1,16 @@
 //! The records of a text of CSV, as its bytes come.
 ghost use Rattle.std.specs.Prelude.{◌≡◌, ◌+◌, ◌++◌, ◌<◌, ◌^◌, ◌∷◌, [], false, IfOk, IfErr, OnOk};
-ghost use Rattle.std.specs.Prelude.{if◌then◌else◌};
-ghost use Rattle.csv.specs.Machine.{fields_after, field_after};
+ghost use Rattle.std.specs.Prelude.{if◌then◌else◌, ◌==◌};
+ghost use Rattle.csv.specs.Machine.{carriage_return, fields_after, field_after};
 ghost use Rattle.csv.specs.Records.{fields_of, partial_of};
 ghost use Rattle.osn_letters.specs.Records as spec;
-ghost use Rattle.osn_letters.specs.declared.fault.LettersFault.TheVariants.{NoMemory};
 ghost use Rattle.osn_letters.specs.RecordsInside as inside;
 ghost use Rattle.osn_letters.specs.RecordsInside.{state_of, action_of, reading_of};
+ghost use Rattle.osn_letters.specs.Separators as separators;
 
 use crate::fault::LettersFault;
 use crate::place::{Effect, Place, Step};
+use crate::separator::{Separator, or_comma, separator_after};
 use csv::ByteRecord;
 use std::alloc::{AllocError, Global};
 
@@ -20,25 +21,29 @@ const LONGEST_RECORD: usize = 65_536;
 #[derive(Drop)]
 pub(crate) struct RecordParser {
     pub(crate) place: Place,
+    pub(crate) separator: Option<Separator>,
     pub(crate) fields: ByteRecord,
     pub(crate) field: Vec<u8>,
     pub(crate) size: usize,
     pub(crate) line: u64,
+    pub(crate) returned: bool,
     pub(crate) begun: u64,
 }
 
 impl RecordParser {
-    /// At the beginning of a text.
-    pub(crate) fn new(alloc: Global) -> RecordParser
-        ensures reading { reading_of result ≡ spec.at_start }
+    /// At the beginning of a text, with the separator that was named, if any.
+    pub(crate) fn new(alloc: Global, named: Option<Separator>) -> RecordParser
+        ensures reading { reading_of result ≡ spec.at_start named }
         ensures partial { partial_of result.fields ≡ [] }
     {
         RecordParser {
             place: Place::StartRecord,
+            separator: named,
             fields: ByteRecord::new(alloc),
             field: Vec::new(alloc),
             size: 0,
             line: 1,
+            returned: false,
             begun: 1,
         }
     }
@@ -51,8 +56,10 @@ impl RecordParser {
         ensures partial { OnOk result (partial_of self.new.fields ≡ []) }
         ensures field { OnOk result (self.new.field.items ≡ []) }
         ensures place { self.new.place ≡ self.old.place }
+        ensures separator { self.new.separator ≡ self.old.separator }
         ensures size { self.new.size ≡ self.old.size }
         ensures line { self.new.line ≡ self.old.line }
+        ensures returned { self.new.returned ≡ self.old.returned }
         ensures begun { self.new.begun ≡ self.old.begun }
     {
         self.fields.push_field(&self.field)?;
@@ -69,8 +76,10 @@ impl RecordParser {
         ensures field { OnOk result (self.new.field.items
             ≡ field_after (action_of effect) byte self.old.field.items) }
         ensures place { self.new.place ≡ self.old.place }
+        ensures separator { self.new.separator ≡ self.old.separator }
         ensures size { self.new.size ≡ self.old.size }
         ensures line { self.new.line ≡ self.old.line }
+        ensures returned { self.new.returned ≡ self.old.returned }
         ensures begun { self.new.begun ≡ self.old.begun }
     {
         match effect {
@@ -88,22 +97,39 @@ impl RecordParser {
         !place.is_between() && self.size >= LONGEST_RECORD
     }
 
+    /// Whether a byte ends a line.
+    fn ends_line(&self, byte: u8) -> bool
+        ensures { result ≡ spec.ends_line self.now.returned byte }
+    {
+        byte == b'\r' || (byte == b'\n' && !self.returned)
+    }
+
+    /// Whether a byte is a text after a closing quote, where it leads to a place.
+    fn is_stray(&self, place: Place) -> bool
+        ensures { result ≡ spec.is_stray (state_of self.now.place) (state_of place) }
+    {
+        self.place == Place::AfterQuote && place == Place::InField
+    }
+
     /// Counts a byte behind which the reading stands at a place.
     fn advance(&mut self, place: Place, byte: u8)
         requires line { self.old.line + 1 < 2 ^ 64 }
         requires room { spec.is_full (reading_of self.old) (state_of place) ≡ false }
         ensures place { self.new.place ≡ place }
-        ensures line { self.new.line ≡ spec.next_line self.old.line byte }
+        ensures line { self.new.line ≡ spec.next_line self.old.returned self.old.line byte }
+        ensures returned { self.new.returned ≡ (byte == carriage_return) }
         ensures size { self.new.size
             ≡ (if spec.is_between (state_of place) then 0 else self.old.size + 1) }
         ensures begun { self.new.begun ≡ (if spec.is_between (state_of place) then
-            spec.next_line self.old.line byte else self.old.begun) }
+            spec.next_line self.old.returned self.old.line byte else self.old.begun) }
+        ensures separator { self.new.separator ≡ self.old.separator }
         ensures fields { self.new.fields ≡ self.old.fields }
         ensures field { self.new.field ≡ self.old.field }
     {
-        if byte == b'\n' {
+        if self.ends_line(byte) {
             self.line += 1;
         }
+        self.returned = byte == b'\r';
         self.place = place;
         if place.is_between() {
             self.size = 0;
@@ -113,29 +139,42 @@ impl RecordParser {
         }
     }
 
+    /// What separates the fields of the record at hand.
+    pub(crate) fn separator(&self) -> Separator
+        ensures { result ≡ separators.or_comma self.now.separator }
+    {
+        or_comma(self.separator)
+    }
+
     /// Takes the next byte. Answers the line on which the record begins that the byte ended, if it
     /// ended one: that record stands in the parser then, until it is cleared.
     ///
     /// # Errors
     ///
-    /// `TooLong` where the record at hand has no room for the byte, and `NoMemory`.
+    /// `TooLong` where the record at hand has no room for the byte, else `TextAfterQuote` where the
+    /// byte is a text after a closing quote, and `NoMemory`.
     pub(crate) fn take(&mut self, byte: u8) -> Result<Option<u64>, LettersFault>
         requires partial { partial_of self.old.fields ≡ [] }
         requires line { self.old.line + 1 < 2 ^ 64 }
         ensures partial { OnOk result (partial_of self.new.fields ≡ []) }
-        ensures line { OnOk result (self.new.line ≡ spec.next_line self.old.line byte) }
+        ensures line { OnOk result
+            (self.new.line ≡ spec.next_line self.old.returned self.old.line byte) }
         ensures takes { IfOk result (inside.Takes self.old self.new byte) }
         ensures fault { IfErr result (inside.RefusesByte self.old byte) }
     {
-        let Step { place, effect } = self.place.read_byte(byte);
+        let Step { place, effect } = self.place.read_byte(self.separator, byte);
         if self.is_full(place) {
             return Err(LettersFault::TooLong { line: self.begun });
+        }
+        if self.is_stray(place) {
+            return Err(LettersFault::TextAfterQuote { line: self.begun });
         }
         let begun = self.begun;
         if self.apply(effect, byte).is_err() {
             return Err(LettersFault::NoMemory);
         }
         self.advance(place, byte);
+        self.separator = separator_after(self.separator, byte, effect);
         if effect == Effect::EndRecord {
             return Ok(Some(begun));
         }
@@ -155,16 +194,19 @@ impl RecordParser {
     ///
     /// # Errors
     ///
-    /// `NoMemory`, and nothing else.
+    /// `OpenQuote` where a quote is still open, and `NoMemory`.
     pub(crate) fn finish(&mut self) -> Result<Option<u64>, LettersFault>
         requires partial { partial_of self.old.fields ≡ [] }
         ensures ends { IfOk result (λ ended. spec.last_record (reading_of self.old)
             ≡ inside.records_given self.new ended) }
         ensures partial { OnOk result (partial_of self.new.fields ≡ []) }
-        ensures fault { IfErr result (λ fault. fault ≡ NoMemory) }
+        ensures fault { IfErr result (inside.RefusesEnd self.old) }
     {
         if self.place.is_between() {
             return Ok(None);
+        }
+        if self.place == Place::InQuoted {
+            return Err(LettersFault::OpenQuote { line: self.begun });
         }
         match self.end_field() {
             Ok(()) => Ok(Some(self.begun)),

@@ -1,9 +1,11 @@
 //! How a byte of CSV is read.
 ghost use Rattle.std.specs.Prelude.{◌≡◌};
 ghost use Rattle.csv.specs.Machine as machine;
-ghost use Rattle.csv.specs.Reading.{default_config};
 ghost use Rattle.osn_letters.specs.Records as spec;
 ghost use Rattle.osn_letters.specs.RecordsInside.{state_of, action_of};
+ghost use Rattle.osn_letters.specs.Separators.{config_by};
+
+use crate::separator::{Separator, separator_at};
 
 /// Where a reading of CSV stands.
 #[derive(Clone, Copy, Debug, PartialEq, Eq)]
@@ -50,12 +52,14 @@ fn to(place: Place, effect: Effect) -> Step
 }
 
 /// How a byte is read in a field without quotes.
-fn in_field(byte: u8) -> Step
+fn in_field(separator: Separator, byte: u8) -> Step
     ensures { (state_of result.place, action_of result.effect)
-        ≡ machine.in_field default_config byte }
+        ≡ machine.in_field (config_by separator) byte }
 {
+    if byte == separator.byte() {
+        return to(Place::StartField, Effect::EndField);
+    }
     match byte {
-        b',' => to(Place::StartField, Effect::EndField),
         b'\r' => to(Place::AfterReturn, Effect::EndRecord),
         b'\n' => to(Place::StartRecord, Effect::EndRecord),
         _ => to(Place::InField, Effect::Copy),
@@ -63,42 +67,43 @@ fn in_field(byte: u8) -> Step
 }
 
 /// How a byte is read before a field.
-fn start_field(byte: u8) -> Step
+fn start_field(separator: Separator, byte: u8) -> Step
     ensures { (state_of result.place, action_of result.effect)
-        ≡ machine.start_field default_config byte }
+        ≡ machine.start_field (config_by separator) byte }
 {
     match byte {
         b'"' => to(Place::InQuoted, Effect::Skip),
-        _ => in_field(byte),
+        _ => in_field(separator, byte),
     }
 }
 
 /// How a byte is read before a record.
-fn start_record(byte: u8) -> Step
+fn start_record(separator: Separator, byte: u8) -> Step
     ensures { (state_of result.place, action_of result.effect)
-        ≡ machine.start_record default_config byte }
+        ≡ machine.start_record (config_by separator) byte }
 {
     match byte {
         b'\r' | b'\n' => to(Place::StartRecord, Effect::Skip),
-        _ => start_field(byte),
+        _ => start_field(separator, byte),
     }
 }
 
 impl Place {
-    /// How the next byte is read.
+    /// How the next byte is read, where that separator was found.
     #[tactic(auto, unfolding(crate::specs::Records::read_byte))]
-    pub(crate) fn read_byte(self, byte: u8) -> Step
+    pub(crate) fn read_byte(self, found: Option<Separator>, byte: u8) -> Step
         ensures { (state_of result.place, action_of result.effect)
-            ≡ spec.read_byte (state_of self) byte }
+            ≡ spec.read_byte found (state_of self) byte }
     {
+        let separator = separator_at(found, byte);
         match self {
-            Place::StartRecord | Place::AfterReturn => start_record(byte),
-            Place::StartField => start_field(byte),
-            Place::InField => in_field(byte),
+            Place::StartRecord | Place::AfterReturn => start_record(separator, byte),
+            Place::StartField => start_field(separator, byte),
+            Place::InField => in_field(separator, byte),
             Place::InQuoted if byte == b'"' => to(Place::AfterQuote, Effect::Skip),
             Place::InQuoted => to(Place::InQuoted, Effect::Copy),
             Place::AfterQuote if byte == b'"' => to(Place::InQuoted, Effect::Copy),
-            Place::AfterQuote => in_field(byte),
+            Place::AfterQuote => in_field(separator, byte),
         }
     }
 

@@ -1,57 +1,171 @@
-//! The remark behind a row.
-ghost use Rattle.std.specs.Prelude.{◌≡◌, map, option_map};
+//! What is said of a letter in its last field.
+ghost use Rattle.std.specs.Prelude.{◌≡◌, IfOk, Some, string_bytes};
+ghost use Rattle.std.specs.Prelude.{count_by};
 ghost use Rattle.std.specs.List.{list_any};
-ghost use Rattle.std.specs.Str.{bytes_eq};
-ghost use Rattle.osn_pages.specs.Words.{weekday_words};
+ghost use Rattle.osn_written.specs.Meaning as meaning;
 ghost use Rattle.osn_letters.specs.Fields as spec;
 
-use osn_register::{Answer, Found, Refusal};
+use itertools::Itertools;
+use osn_days::Weekday;
+use osn_lands::DatedDay;
+use osn_written::{Absence, WrittenDate, has_weekday, is_not_counted_double};
+use std::alloc::{AllocError, Global};
+use std::fmt;
+
+/// What may be said of a letter.
+#[derive(Clone, Copy, Debug, PartialEq, Eq)]
+pub(crate) enum Remark {
+    /// Its date can't be read.
+    MalformedDate,
+    /// Its place is no code, or that of no territory.
+    UnknownPlace,
+    /// Its date means no day.
+    NoDay(Absence),
+    /// Its date means several days, of which one alone has the weekday that is given.
+    ByItsWeekday,
+    /// Its date means several days, and no weekday tells which.
+    SeveralDays,
+    /// None of its days has the weekday that is given.
+    WeekdayDiffers,
+    /// Its date is a double one, and the territory wrote the later year alone.
+    NotCountedDouble,
+    /// Its weekday is no weekday's name.
+    MalformedWeekday,
+}
 
 /// Why there is no day.
-fn absence(reading: &Answer) -> &'static str
-    ensures { result.now ≡ spec.absence reading.now }
+fn absence_text(reason: Absence) -> &'static str
+    ensures { result.now ≡ spec.absence_text reason }
 {
-    match reading {
-        Answer::Refused(Refusal::BadCode | Refusal::UnknownLand) => "unknown place",
-        Answer::Reading { skipped, .. } if !skipped.as_slice().is_empty() => "skipped",
-        _ => "no such date",
+    match reason {
+        Absence::NotWithBothYears => "not with both years",
+        Absence::NotOfItsCalendar => "no date of its calendar",
+        Absence::OffTheLine => "off the line",
+        Absence::Skipped => "skipped",
+        Absence::NotInThatYear => "no such date in that year",
     }
 }
 
-/// Whether one of the days is on the weekday of that name.
-fn has_weekday(days: &[&Found], name: &[u8]) -> bool
-    ensures { result ≡ list_any (λ day. bytes_eq (weekday_words day.day) name.now)
-        (map (λ f. f.now) days.now) }
-{
-    for found in days {
-        if found.day.weekday().name().as_bytes() == name {
-            return true;
+impl Remark {
+    /// The remark in words.
+    fn words(self) -> &'static str
+        ensures { result.now ≡ spec.remark_words self }
+    {
+        match self {
+            Remark::MalformedDate => "malformed date",
+            Remark::UnknownPlace => "unknown place",
+            Remark::NoDay(reason) => absence_text(reason),
+            Remark::ByItsWeekday => "by its weekday",
+            Remark::SeveralDays => "several days",
+            Remark::WeekdayDiffers => "weekday differs",
+            Remark::NotCountedDouble => "not counted double there",
+            Remark::MalformedWeekday => "malformed weekday",
         }
     }
-    false
 }
 
-/// Whether a weekday is given, and none of the days is one.
-fn differs(weekday: Option<&[u8]>, days: &[&Found]) -> bool
-    ensures { result
-        ≡ spec.differs (option_map (λ w. w.now) weekday.entry) (map (λ f. f.now) days.now) }
-{
-    match weekday {
-        Some(name) if !name.is_empty() => !has_weekday(days, name),
-        _ => false,
+impl fmt::Display for Remark {
+    ghost output = { λ r. Some (spec.remark_words r) };
+
+    fn fmt<W: fmt::Write>(&self, f: &mut fmt::Formatter<W>) -> fmt::Result {
+        f.write_str(self.words())
     }
 }
 
-/// What is said of the days, or why there is none.
-pub(crate) fn remark(weekday: Option<&[u8]>, days: &[&Found], reading: &Answer) -> &'static str
-    ensures { result.now ≡ spec.remark (option_map (λ w. w.now) weekday.entry)
-        (map (λ f. f.now) days.now) reading.now }
+/// A remark, and whether it applies.
+pub(crate) type Told = (bool, Remark);
+
+/// The remarks that apply, in their order.
+pub(crate) fn remark_text(alloc: Global, remarks: &[Told]) -> Result<String, AllocError>
+    ensures { IfOk result (λ s. string_bytes s ≡ spec.remark_text remarks.now) }
 {
-    if days.is_empty() {
-        return absence(reading);
+    remarks
+        .iter()
+        .filter(|remark| remark.0)
+        .map(|remark| remark.1)
+        .join(alloc, "; ")
+}
+
+/// Whether a weekday is given, by the date itself or beside it.
+fn is_weekday_given(date: WrittenDate, given: Option<Weekday>) -> bool
+    ensures { result ≡ spec.is_weekday_given date given }
+{
+    date.weekday.is_some() || given.is_some()
+}
+
+/// How many of the days have the weekday.
+fn count_on_weekday(date: WrittenDate, given: Option<Weekday>, days: &[DatedDay]) -> usize
+    ensures { result ≡ count_by (meaning.has_weekday date given) days.now }
+{
+    days.iter()
+        .filter(|day| has_weekday(date, given, day))
+        .count()
+}
+
+/// Whether a weekday is given, and so many of the days have it.
+fn are_on_weekday(
+    count: usize,
+    date: WrittenDate,
+    given: Option<Weekday>,
+    days: &[DatedDay],
+) -> bool
+    ensures { result ≡ spec.are_on_weekday count date given days.now }
+{
+    is_weekday_given(date, given) && count_on_weekday(date, given, days) == count
+}
+
+/// What is said of several days: whether the weekday that is given tells one of them.
+fn several_remark(date: WrittenDate, given: Option<Weekday>, days: &[DatedDay]) -> Remark
+    ensures { result ≡ spec.several_remark date given days.now }
+{
+    if are_on_weekday(1, date, given, days) {
+        Remark::ByItsWeekday
+    } else {
+        Remark::SeveralDays
     }
-    if differs(weekday, days) {
-        return "weekday differs";
-    }
-    if days.len() > 1 { "two days" } else { "" }
+}
+
+/// Whether the date means one of the days although the territory wrote the later year alone.
+fn has_not_counted_double(date: WrittenDate, days: &[DatedDay]) -> bool
+    ensures { result ≡ list_any (meaning.is_not_counted_double date) days.now }
+{
+    days.iter().any(|day| is_not_counted_double(date, day))
+}
+
+/// What is said of days.
+pub(crate) fn remarks_on_days(
+    date: WrittenDate,
+    given: Option<Weekday>,
+    days: &[DatedDay],
+    is_malformed: bool,
+) -> [Told; 4]
+    ensures { result ≡ spec.remarks_on_days date given days.now is_malformed }
+{
+    [
+        (days.len() > 1, several_remark(date, given, days)),
+        (are_on_weekday(0, date, given, days), Remark::WeekdayDiffers),
+        (has_not_counted_double(date, days), Remark::NotCountedDouble),
+        (is_malformed, Remark::MalformedWeekday),
+    ]
+}
+
+/// What is said where there is no day.
+pub(crate) fn remarks_on_absence(reason: Absence, is_malformed: bool) -> [Told; 2]
+    ensures { result ≡ spec.remarks_on_absence reason is_malformed }
+{
+    [
+        (true, Remark::NoDay(reason)),
+        (is_malformed, Remark::MalformedWeekday),
+    ]
+}
+
+/// What is said where the date or the place can't be read.
+pub(crate) fn remarks_on_row(lacks_date: bool, lacks_place: bool, is_malformed: bool) -> [Told; 3]
+    ensures { result ≡ spec.remarks_on_row lacks_date lacks_place is_malformed }
+{
+    [
+        (lacks_date, Remark::MalformedDate),
+        (lacks_place, Remark::UnknownPlace),
+        (is_malformed, Remark::MalformedWeekday),
+    ]
 }

@@ -1,5 +1,5 @@
 //! Letters from a source to a sink.
-ghost use Rattle.std.specs.Prelude.{◌≡◌, ◌+◌, ◌≤◌, ◌<◌, ◌^◌, [], length, true, false, IfOk, IfErr};
+ghost use Rattle.std.specs.Prelude.{◌≡◌, ◌+◌, ◌≤◌, ◌<◌, ◌^◌, [], length, true, false, IfErr};
 ghost use Rattle.std.specs.Prelude.{IfSome, OnOk, MatchResult};
 ghost use Rattle.std.specs.Io.KnownBytes.{IsAtEnd};
 ghost use Rattle.osn_days.specs.Profile.{newest_rules};
@@ -9,19 +9,18 @@ ghost use Rattle.osn_letters.specs.TableLaws.{AreTableLaws};
 ghost use Rattle.osn_letters.specs.Table as spec;
 ghost use Rattle.osn_letters.specs.WriterInside.{waiting};
 
-use crate::columns::ColumnNames;
-use crate::csv_text::take_text;
+use crate::csv_text::RowWriter;
 use crate::fault::LettersFault;
 use crate::letters::Letters;
 use crate::progress::Progress;
-use csv::Writer;
+use crate::settings::TableSettings;
 use osn_lines::{Sink, Source, read_buffer, write_all};
 use osn_register::Register;
 use std::alloc::Global;
 
 /// Whether it is known what waits of what was taken: not where memory ran out.
-fn is_known(taken: Result<(), LettersFault>) -> bool
-    ensures { result ≡ inside.is_known taken }
+fn is_known(taken: &Result<(), LettersFault>) -> bool
+    ensures { result ≡ inside.is_known taken.now }
 {
     match taken {
         Ok(()) => true,
@@ -34,7 +33,7 @@ fn is_known(taken: Result<(), LettersFault>) -> bool
 fn write_out<W: Sink>(
     alloc: Global,
     sink: &mut W,
-    out: &mut Writer<Vec<u8>>,
+    out: &mut RowWriter,
     taken: Result<(), LettersFault>,
 ) -> Result<(), LettersFault>
     requires inner { IfErr taken (λ f. is_of_stream f ≡ false) }
@@ -48,10 +47,10 @@ fn write_out<W: Sink>(
         ((w : spec.Written) → inside.Waits (waiting out.old) taken w → spec.IsLong w)) }
     ensures unread { IfErr result (λ f. is_read_fault f ≡ false) }
 {
-    if !is_known(taken) {
+    if !is_known(&taken) {
         return taken;
     }
-    let Ok(text) = take_text(alloc, out) else {
+    let Ok(text) = out.take_text(alloc) else {
         return Err(LettersFault::NoMemory);
     };
     match write_all(sink, &text) {
@@ -108,7 +107,9 @@ fn finish_and_write<W: Sink>(letters: &mut Letters<'_>, sink: &mut W) -> Result<
 /// Writes a table of letters in CSV from one in CSV: the header with nine names behind those that
 /// came, and each record with the nine fields of `letter_fields` behind its own, by the register of
 /// that edition. Which columns hold the places, the dates and the weekdays is told by their names.
-/// A byte order mark at the beginning is left out.
+/// The fields are separated by what the settings name, or else by the first comma, semicolon or
+/// tab of the header that stands in no quotes, or else by commas; so are those that are written. A
+/// byte order mark at the beginning is left out.
 ///
 /// What comes of a read is written before the next one. Besides the register there is one read of
 /// at most 65,536 bytes, what is written of them, and of a record that hasn't ended yet at most
@@ -119,18 +120,20 @@ fn finish_and_write<W: Sink>(letters: &mut Letters<'_>, sink: &mut W) -> Result<
 ///
 /// # Errors
 ///
-/// `LacksColumn` where the header lacks a column that has to be there, or there is none;
-/// `BadRecord` at a record with another number of fields than the header; `TooLong` at a record of
-/// more than 65,536 bytes: of these all that stood before was written. `ReadFault` where the source
-/// failed or gave no end within 4,294,967,295 reads, `WriteFault` where the sink failed or did not
-/// take a text within as many writes, and `NoMemory`: of these a beginning of the table was
-/// written.
+/// `NoHeader` where there is no record; `HasColumn` where the header has one of the nine names
+/// already; `LacksColumn` where it lacks a column that has to be there; `BadRecord` at a record
+/// with another number of fields than the header; `TooLong` at a record of more than 65,536 bytes;
+/// `OpenQuote` at one with a quote that is open at the end of the table; `TextAfterQuote` at one in
+/// which a text stands after a closing quote: of these all that stood before was written.
+/// `ReadFault` where the source failed or gave no end within 4,294,967,295 reads, `WriteFault`
+/// where the sink failed or did not take a text within as many writes, and `NoMemory`: of these a
+/// beginning of the table was written.
 #[tactic(auto, using(crate::proofs::PartFacts::table_laws))]
 pub fn write_letters<R: Source, W: Sink, P: Progress>(
     alloc: Global,
     register: &Register,
     edition: usize,
-    names: ColumnNames<'_>,
+    settings: TableSettings<'_>,
     source: &mut R,
     sink: &mut W,
     progress: &mut P,
@@ -138,11 +141,11 @@ pub fn write_letters<R: Source, W: Sink, P: Progress>(
     ensures whole { OnOk result (IfSome (R.remaining source.old) (λ text.
         spec.IsWhole (W.contents sink.old) (W.contents sink.new)
         (spec.letters_written
-        (spec.basis newest_rules register.now.lands edition names.entry) text))) }
+        (spec.basis newest_rules register.now.lands edition settings.entry) text))) }
     ensures early { IfErr result (λ fault. IfSome (R.remaining source.old) (λ text.
         spec.EndsEarly (W.contents sink.old) (W.contents sink.new)
         (spec.letters_written
-        (spec.basis newest_rules register.now.lands edition names.entry) text) fault)) }
+        (spec.basis newest_rules register.now.lands edition settings.entry) text) fault)) }
     // All was read, and nothing is held back.
     ensures end { OnOk result
         (IsAtEnd (R.remaining source.new) × (W.holds_back sink.new ≡ false)) }
@@ -156,20 +159,20 @@ pub fn write_letters<R: Source, W: Sink, P: Progress>(
         × (is_read_fault f ≡ true → spec.EndsRead (R.remaining source.old)
         (R.remaining source.new) (W.contents sink.old) (W.contents sink.new)
         (spec.letters_written
-        (spec.basis newest_rules register.now.lands edition names.entry)))) }
+        (spec.basis newest_rules register.now.lands edition settings.entry)))) }
     ensures sink { MatchResult result (λ _. W.has_failed sink.new ≡ W.has_failed sink.old)
         (λ f. EndsStream (is_write_fault f) (W.has_failed sink.old) (W.has_failed sink.new)
         (IfSome (R.remaining source.old) (λ text. spec.IsLong (spec.letters_written
-        (spec.basis newest_rules register.now.lands edition names.entry) text)))) }
+        (spec.basis newest_rules register.now.lands edition settings.entry) text)))) }
 
-    // As laws: the records of a text are those that the kit reads, where none is too long; and a
-    // table may be cut between its records and written in parts, each behind the header.
+    // As laws: the records of a text are those that the kit reads, where none has a fault; and a
+    // table may be cut between its records and written in parts, each after the header.
     ensures laws { AreTableLaws }
 {
     let Ok(mut buffer) = read_buffer(alloc) else {
         return Err(LettersFault::NoMemory);
     };
-    let mut letters = Letters::new(alloc, register, edition, names);
+    let mut letters = Letters::new(alloc, register, edition, settings);
     for _call in 0..u32::MAX {
         let Ok(read) = source.read(&mut buffer) else {
             return Err(LettersFault::ReadFault);

@@ -1,5 +1,5 @@
 //! The table that is written, record by record.
-ghost use Rattle.std.specs.Prelude.{ℕ, ◌≡◌, ◌∷◌, ◌++◌, [], true, get_or, IfErr, OnOk, Some};
+ghost use Rattle.std.specs.Prelude.{◌≡◌, ◌∷◌, ◌++◌, [], true, get_or, IfErr, OnOk, Some, Ok};
 ghost use Rattle.std.specs.Prelude.{None, option_map};
 ghost use Rattle.csv.specs.Records.{fields_of, partial_of};
 ghost use Rattle.osn_letters.specs.Faults.{is_of_table};
@@ -7,26 +7,16 @@ ghost use Rattle.osn_letters.specs.Table as spec;
 ghost use Rattle.osn_letters.specs.TableInside as inside;
 ghost use Rattle.osn_letters.specs.WriterInside.{IsBetweenRows, waiting};
 
-use crate::columns::{ColumnNames, Columns, field_at, find_columns};
-use crate::csv_text::{push_fields, push_texts, write_row};
-use crate::fault::{Column, LettersFault};
+use crate::added_column::ADDED_COLUMNS;
+use crate::columns::{Columns, field_at, find_columns};
+use crate::csv_text::{RowWriter, push_fields, push_names};
+use crate::fault::LettersFault;
 use crate::letter::letter_fields;
-use csv::{ByteRecord, Writer};
+use crate::separator::Separator;
+use crate::settings::TableSettings;
+use csv::ByteRecord;
 use osn_register::Register;
 use std::alloc::{AllocError, Global};
-
-/// The names of the nine fields.
-const FIELD_NAMES: [&str; 9] = [
-    "days",
-    "gregorian",
-    "julian",
-    "dual",
-    "weekday_found",
-    "jdn",
-    "edtf",
-    "edition",
-    "remark",
-];
 
 /// What the header says of the records behind it.
 #[derive(Clone, Copy, Debug, PartialEq, Eq)]
@@ -43,9 +33,9 @@ pub(crate) struct Table<'a> {
     pub(crate) alloc: Global,
     pub(crate) register: &'a Register,
     pub(crate) edition: usize,
-    pub(crate) names: ColumnNames<'a>,
+    pub(crate) settings: TableSettings<'a>,
     pub(crate) rows: Option<Rows>,
-    pub(crate) out: Writer<Vec<u8>>,
+    pub(crate) out: RowWriter,
 }
 
 /// The weekday of a record, where there is such a column.
@@ -60,34 +50,46 @@ fn weekday_at(row: &ByteRecord, place: Option<usize>) -> Option<&[u8]>
 }
 
 impl Table<'_> {
-    /// Appends to the text that waits the header, with the nine names.
-    fn push_header(&mut self, header: &mut ByteRecord) -> Result<(), AllocError>
-        requires partial { partial_of header.old ≡ [] }
-        requires between { IsBetweenRows self.old.out }
+    /// Appends to the text that waits the header, with the nine names, by the separator by which
+    /// rows are written from now on.
+    fn push_header(
+        &mut self,
+        header: &mut ByteRecord,
+        separator: Separator,
+    ) -> Result<(), AllocError>
+        requires { partial_of header.old ≡ [] }
         ensures text { OnOk result (waiting self.new.out
-            ≡ waiting self.old.out ++ spec.header_text (fields_of header.old)) }
+            ≡ waiting self.old.out ++ spec.header_text separator (fields_of header.old)) }
+        ensures separator { OnOk result (self.new.out.separator ≡ separator) }
         ensures between { OnOk result (IsBetweenRows self.new.out) }
         ensures source { inside.source_of self.new ≡ inside.source_of self.old }
         ensures rows { self.new.rows ≡ self.old.rows }
     {
-        push_texts(header, &FIELD_NAMES)?;
-        write_row(&mut self.out, header)
+        self.out.set_separator(self.alloc, separator)?;
+        push_names(header, &ADDED_COLUMNS)?;
+        self.out.write_row(header)
     }
 
     /// Takes the header.
-    fn take_header(&mut self, header: &mut ByteRecord) -> Result<(), LettersFault>
+    fn take_header(
+        &mut self,
+        header: &mut ByteRecord,
+        line: u64,
+        separator: Separator,
+    ) -> Result<(), LettersFault>
         requires partial { partial_of header.old ≡ [] }
         requires between { IsBetweenRows self.old.out }
         requires rows { self.old.rows ≡ None }
-        ensures takes { OnOk result ((line : ℕ) → inside.TakesRecords self.old self.new
-            (record { line = line; fields = Some (fields_of header.old) } ∷ [])) }
-        ensures refuses { IfErr result (λ fault. (line : ℕ) → inside.RefusesRecord self.old self.new
-            (record { line = line; fields = Some (fields_of header.old) }) fault) }
+        ensures takes { OnOk result (inside.TakesRecords self.old self.new
+            (record { line = line; separator = separator; fields = Ok (fields_of header.old) }
+            ∷ [])) }
+        ensures refuses { IfErr result (inside.RefusesRecord self.old self.new
+            (record { line = line; separator = separator; fields = Ok (fields_of header.old) })) }
         ensures between { OnOk result (IsBetweenRows self.new.out) }
     {
-        let columns = find_columns(header, self.names)?;
+        let columns = find_columns(self.alloc, header, self.settings.names, line)?;
         let width = header.len();
-        if self.push_header(header).is_err() {
+        if self.push_header(header, separator).is_err() {
             return Err(LettersFault::NoMemory);
         }
         self.rows = Some(Rows { columns, width });
@@ -99,7 +101,9 @@ impl Table<'_> {
         requires partial { partial_of row.old ≡ [] }
         requires between { IsBetweenRows self.old.out }
         ensures text { OnOk result (waiting self.new.out ≡ waiting self.old.out
-            ++ spec.letter_text (inside.source_of self.old) columns (fields_of row.old)) }
+            ++ spec.letter_text (inside.source_of self.old) self.old.out.separator columns
+            (fields_of row.old)) }
+        ensures separator { OnOk result (self.new.out.separator ≡ self.old.out.separator) }
         ensures between { OnOk result (IsBetweenRows self.new.out) }
         ensures source { inside.source_of self.new ≡ inside.source_of self.old }
         ensures rows { self.new.rows ≡ self.old.rows }
@@ -113,7 +117,7 @@ impl Table<'_> {
             weekday_at(row, columns.weekday),
         )?;
         push_fields(row, &fields)?;
-        write_row(&mut self.out, row)
+        self.out.write_row(row)
     }
 
     /// Takes a record behind the header.
@@ -121,10 +125,9 @@ impl Table<'_> {
         requires partial { partial_of row.old ≡ [] }
         requires between { IsBetweenRows self.old.out }
         requires rows { self.old.rows ≡ Some rows }
-        ensures takes { OnOk result (inside.TakesRecords self.old self.new
-            (record { line = line; fields = Some (fields_of row.old) } ∷ [])) }
-        ensures refuses { IfErr result (inside.RefusesRecord self.old self.new
-            (record { line = line; fields = Some (fields_of row.old) })) }
+        ensures takes { OnOk result (inside.TakesRow self.old self.new line (fields_of row.old)) }
+        ensures refuses { IfErr result
+            (inside.RefusesRow self.old self.new line (fields_of row.old)) }
         ensures between { OnOk result (IsBetweenRows self.new.out) }
     {
         if row.len() != rows.width {
@@ -136,22 +139,27 @@ impl Table<'_> {
         }
     }
 
-    /// Takes the next record, which begins on the line.
+    /// Takes the next record, which begins on the line and has that separator.
     ///
     /// # Errors
     ///
     /// `LacksColumn` of a header, `BadRecord` of a record behind it, and `NoMemory`.
-    pub(crate) fn take(&mut self, row: &mut ByteRecord, line: u64) -> Result<(), LettersFault>
+    pub(crate) fn take(
+        &mut self,
+        row: &mut ByteRecord,
+        line: u64,
+        separator: Separator,
+    ) -> Result<(), LettersFault>
         requires partial { partial_of row.old ≡ [] }
         requires between { IsBetweenRows self.old.out }
         ensures takes { OnOk result (inside.TakesRecords self.old self.new
-            (record { line = line; fields = Some (fields_of row.old) } ∷ [])) }
+            (record { line = line; separator = separator; fields = Ok (fields_of row.old) } ∷ [])) }
         ensures refuses { IfErr result (inside.RefusesRecord self.old self.new
-            (record { line = line; fields = Some (fields_of row.old) })) }
+            (record { line = line; separator = separator; fields = Ok (fields_of row.old) })) }
         ensures between { OnOk result (IsBetweenRows self.new.out) }
     {
         match self.rows {
-            None => self.take_header(row),
+            None => self.take_header(row, line, separator),
             Some(rows) => self.take_row(rows, row, line),
         }
     }
@@ -160,7 +168,7 @@ impl Table<'_> {
     ///
     /// # Errors
     ///
-    /// `LacksColumn` where there was no header, and nothing else.
+    /// `NoHeader` where there was no header, and nothing else.
     pub(crate) fn finish(&self) -> Result<(), LettersFault>
         ensures whole { OnOk result (inside.written_of self.now [] ≡ spec.whole) }
         ensures fault { IfErr result
@@ -168,7 +176,7 @@ impl Table<'_> {
             × (is_of_table fault ≡ true)) }
     {
         match self.rows {
-            None => Err(LettersFault::LacksColumn(Column::Place)),
+            None => Err(LettersFault::NoHeader),
             Some(_) => Ok(()),
         }
     }

@@ -1,10 +1,6 @@
-pub mod Grammar
-pub mod PageFacts
 pub mod LawFacts
-mod CheckFacts
-mod ConversionFacts
-mod PeriodFacts
-mod TrimmedFacts
-mod TerritoryTrimmed
+mod GridFacts
 mod MonthFacts
-mod MonthTrimmed
+mod NearestFacts
+mod PeriodFacts
+mod YearFacts

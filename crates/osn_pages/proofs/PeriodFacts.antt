@@ -1,13 +1,15 @@
 -- The periods of a territory are those that hold its days.
 use Rattle.std.proofs.Common.{◌≡◌, ◌≤◌, ◌<◌, ℕ, true, false, cond, List, [], ◌∷◌, length}
 use Rattle.std.proofs.Common.{Option, Some, None, option_map, IfSome, pos, get_or, refl, sym, ap}
-use Rattle.std.proofs.Common.{subst, ◌∙◌, arith}
+use Rattle.std.proofs.Common.{subst, ◌∙◌, arith, ◌++◌, append_assoc, append-nil}
+use Rattle.std.specs.List.{flat_map}
+use Rattle.std.specs.Option.{option_to_list}
 use Rattle.std.specs.List.{All, HoldsAt}
 use Rattle.std.specs.Str.{bytes_eq}
 use Rattle.std.proofs.lemmas.Bool.Decides.{nat_tests}
 use Rattle.std.proofs.lemmas.Int.{ints}
 use Rattle.std.proofs.lemmas.List.{get_or_default}
-use Rattle.osn_days.specs.Profile.{Profile}
+use Rattle.osn_days.specs.Profile.{Profile, newest_rules}
 use Rattle.osn_lands.specs.declared.period.Period.{Period}
 use Rattle.osn_lands.specs.Territory.{TerritoryModel, CoversLine, Holds, periods_of}
 use Rattle.osn_lands.proofs.CoverFacts.{within_at}
@@ -18,12 +20,18 @@ use Rattle.osn_register.specs.declared.limits.Limits.{Limits}
 use Rattle.osn_register.specs.declared.refusal.Refusal.{Refusal}
 use Rattle.osn_register.specs.declared.refusal.Refusal.TheVariants.{DayOffLine}
 use Rattle.osn_register.specs.Answer.{unless, day_answer, periods_answer, on_day}
-use Rattle.osn_register.specs.Answer.{found_on, found_under}
+use Rattle.osn_register.specs.Answer.{found_on, found_under, period_on}
 use Rattle.osn_register.specs.Plain.{LandModel, land_of, territory_of, code_refusal, is_off_line}
 use Rattle.osn_register.specs.Plain.{AreSound}
 use Rattle.osn_register.specs.Refusal.{first_refusal, or_else}
 use Rattle.osn_register.proofs.CoverFacts.{period_on-place}
+use Rattle.osn_lands.specs.Dated.{dated_on}
 use Rattle.osn_pages.specs.Law.{periods_in, ArePeriodsAnswered}
+use Rattle.osn_pages.specs.Page.{day_lines, AnswersPeriods}
+use Rattle.osn_pages.specs.Periods.{period_line}
+use Rattle.osn_pages.specs.Reading.{plain_day_line}
+use Rattle.osn_pages.specs.declared.page.Page.{Page}
+use Rattle.osn_pages.specs.declared.page.Page.TheVariants as pages
 
 -- the territory of a code, of those that are sound, has periods that cover the line
 covers_line_of : (p : Profile) (limits : Limits) (code : List ℕ) (lands : List LandModel)
@@ -88,3 +96,28 @@ unfolding ArePeriodsAnswered
 are_periods_answered p limits lands code sound lawful =
     subst (λ refused. AreAnsweredIf p refused (territory_of code lands)) (sym lawful)
     (are_answered p (territory_of code lands) (covers_line_of p limits code lands sound))
+
+-- the line of a day, and then that of the period that holds it
+pub day_and_period : (t : TerritoryModel) (d : ℕ) (period : Period) (t0 t1 t2 : List ℕ)
+    → period_on (periods_of newest_rules t) d ≡ Some period
+    → t1 ≡ t0 ++ plain_day_line (dated_on newest_rules t d)
+    → t2 ≡ t1 ++ period_line newest_rules period
+    → t2 ≡ t0 ++ day_lines newest_rules t d
+day_and_period t d period t0 t1 t2 held first second =
+    let line = period_line newest_rules period in
+    let day = plain_day_line (dated_on newest_rules t d) in
+    second
+    ∙ ap (λ s. s ++ line) first
+    ∙ append_assoc t0 day line
+    ∙ ap (λ s. t0 ++ (day ++ s)) (sym (append-nil line))
+    ∙ ap (λ o. t0 ++ (day ++ flat_map (period_line newest_rules) (option_to_list o))) (sym held)
+
+-- each page
+pub answers_periods : (page : Page) (p : Profile) (limits : Limits) (lands : List LandModel)
+    (code : List ℕ) → AreSound p limits lands → code_refusal lands code ≡ None
+    → AnswersPeriods p lands code page
+answers_periods (pages.Reading date given) p limits lands code sound lawful = tt
+answers_periods (pages.OfDay day) p limits lands code sound lawful = tt
+answers_periods (pages.Month year month) p limits lands code sound lawful = tt
+answers_periods pages.Periods p limits lands code sound lawful =
+    are_periods_answered p limits lands code sound lawful

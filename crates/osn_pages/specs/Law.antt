@@ -1,45 +1,26 @@
--- What is written of a day, by the register or by a calendar, is read again as that day's date; and
--- the periods of a territory are those that hold its days.
-use Rattle.std.specs.Prelude.{◌≡◌, ◌≤◌, ℕ, List, [], ◌∷◌, Some, pos}
+-- What is written of a day by a calendar is read again as that day's date; and the periods of a
+-- territory are those that hold its days.
+use Rattle.std.specs.Prelude.{◌≡◌, ◌≤◌, ℕ, List, [], ◌∷◌, Ok, pos}
 use Rattle.std.specs.List.{All}
 use Rattle.osn_days.specs.declared.calendar.Calendar.{Calendar}
 use Rattle.osn_days.specs.Line.{IsDay}
 use Rattle.osn_days.specs.Profile.{Profile}
-use Rattle.osn_lands.specs.declared.label.Label.{Label}
 use Rattle.osn_lands.specs.declared.period.Period.{Period}
-use Rattle.osn_lands.specs.declared.regime.Regime.{Regime}
-use Rattle.osn_lands.specs.Dual.{dual_text}
-use Rattle.osn_lands.specs.Label.{local_label}
 use Rattle.osn_lands.specs.Territory.{Holds}
 use Rattle.osn_register.specs.declared.answer.Answer.{Answer}
 use Rattle.osn_register.specs.declared.answer.Answer.TheVariants as answers
 use Rattle.osn_register.specs.declared.query.Query.TheVariants.{DayIn, Periods}
 use Rattle.osn_register.specs.Answer.{answer, found_under}
 use Rattle.osn_register.specs.Plain.{LandModel}
-use Rattle.osn_pages.specs.declared.written_date.WrittenDate.{WrittenDate}
-use Rattle.osn_pages.specs.WrittenDate.{written_date}
-use Rattle.osn_pages.specs.Words.{written_text, calendar_words}
+use Rattle.osn_written.specs.declared.written_date.WrittenDate.{WrittenDate}
+use Rattle.osn_written.specs.WrittenDate.{written_date}
+use Rattle.osn_pages.specs.Words.{calendar_words}
 use Rattle.osn_pages.specs.Conversion.{days_of_written}
-
--- the text is a date as people write it, with the label's year, month and day, and is the text of
--- that date
-pub record IsWritten (label : Label) (dual : List ℕ) : Type 0 where
-  pub date : WrittenDate
-  pub is : written_date dual ≡ Some date
-  pub year : pos date.year ≡ label.year
-  pub month : date.month ≡ label.month
-  pub day : date.day ≡ label.day
-  pub text : written_text date ≡ dual
-
--- so is the dual text of each day of the line, under each regime
-abbrev pub AreDualTextsWritten : Profile → Type 0
-AreDualTextsWritten p =
-    (r : Regime) (d : ℕ) → IsDay p d → IsWritten (local_label p r d) (dual_text p r d)
 
 -- the text is a date as people write it, and the calendar has that date on the day and no other
 pub record IsDateOf (p : Profile) (c : Calendar) (d : ℕ) (text : List ℕ) : Type 0 where
   pub date : WrittenDate
-  pub is : written_date text ≡ Some date
+  pub is : written_date text ≡ Ok date
   pub day : days_of_written p c date ≡ d ∷ []
 
 -- so are the words of each day of the line, by each calendar

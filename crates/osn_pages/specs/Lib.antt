@@ -1,11 +1,11 @@
-pub mod WrittenDate
 pub mod Words
 pub mod Heading
+pub mod Nearest
 pub mod Reading
+pub mod Why
 pub mod Conversion
 pub mod Periods
-pub mod DayPage
 pub mod Territory
-pub mod MonthPage
+pub mod Grid
 pub mod Law
 pub mod Page

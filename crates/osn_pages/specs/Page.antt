@@ -1,77 +1,77 @@
 -- The pages: which there are, the text of each, and why there is none.
-use Rattle.std.specs.Prelude.{ℕ, ⊤, pos, List, Option, None}
-use Rattle.osn_days.specs.Profile.{Profile}
+use Rattle.std.specs.Prelude.{◌≡◌, ℕ, ⊤, pos, List, [], ◌∷◌, ◌++◌, map, Option, Some, None, codes}
+use Rattle.std.specs.Fmt.{decimal}
+use Rattle.std.specs.List.{flat_map}
+use Rattle.std.specs.Option.{option_to_list}
 use Rattle.osn_days.specs.declared.weekday.Weekday.{Weekday}
-use Rattle.osn_register.specs.Answer.{day_refusal}
-use Rattle.osn_register.specs.Plain.{LandModel, code_refusal}
-use Rattle.osn_register.specs.declared.refusal.Refusal.{Refusal}
-use Rattle.osn_almanac.specs.Almanac as almanacs
-use Rattle.osn_pages.specs.DayPage as days
-use Rattle.osn_pages.specs.Law.{ArePeriodsAnswered}
-use Rattle.osn_pages.specs.MonthPage as months
-use Rattle.osn_pages.specs.Reading as readings
-use Rattle.osn_pages.specs.Territory as lists
+use Rattle.osn_days.specs.Profile.{Profile}
+use Rattle.osn_lands.specs.declared.dated.DatedDay.{DatedDay}
+use Rattle.osn_lands.specs.Dated.{dated_on}
+use Rattle.osn_lands.specs.Runs.{days_of_month}
+use Rattle.osn_lands.specs.Territory.{TerritoryModel, periods_of}
+use Rattle.osn_register.specs.Answer.{period_on}
+use Rattle.osn_register.specs.Named.{named_of}
+use Rattle.osn_register.specs.Plain.{LandModel}
+use Rattle.osn_written.specs.declared.written_date.WrittenDate.{WrittenDate}
+use Rattle.osn_written.specs.Meaning.{meaning}
+use Rattle.osn_written.specs.Text.{written_text}
 use Rattle.osn_pages.specs.declared.page.Page.{Page}
 use Rattle.osn_pages.specs.declared.page.Page.TheVariants as pages
-use Rattle.osn_pages.specs.declared.written_date.WrittenDate.{WrittenDate}
+use Rattle.osn_pages.specs.declared.page.Published.{Published}
+use Rattle.osn_pages.specs.Grid.{grids}
+use Rattle.osn_pages.specs.Heading.{land_heading, heading, pending_line}
+use Rattle.osn_pages.specs.Law.{ArePeriodsAnswered}
+use Rattle.osn_pages.specs.Periods.{period_line}
+use Rattle.osn_pages.specs.Reading.{days_text, plain_day_line}
+use Rattle.osn_pages.specs.Territory.{territory_lines}
+use Rattle.osn_pages.specs.Why.{why_lines}
 
--- the almanac of a territory's code and a year, the reading of a date with a weekday to compare, a
--- day by its number, a month of a year, the periods of a territory, and all territories
-pub data PageModel : Type 0 where
-  almanac_of : List ℕ → ℕ → PageModel
-  reading_of : List ℕ → WrittenDate → Option Weekday → PageModel
-  day_of : List ℕ → ℕ → PageModel
-  month_of : List ℕ → ℕ → ℕ → PageModel
-  territory_of : List ℕ → PageModel
-  all_territories : PageModel
+-- ---- what a page says of a territory
 
--- the same of a page, by the texts behind its references
-abbrev pub model_of : Page → PageModel
-model_of (pages.Almanac code year) = almanac_of code.now year
-model_of (pages.Reading code date weekday) = reading_of code.now date weekday
-model_of (pages.Day code number) = day_of code.now number
-model_of (pages.Month code year number) = month_of code.now year number
-model_of (pages.Territory code) = territory_of code.now
-model_of pages.Territories = all_territories
+-- the days that a date means, and where it means none why
+abbrev pub reading_lines : Profile → TerritoryModel → WrittenDate → Option Weekday → List DatedDay
+    → List ℕ
+reading_lines p t w given [] = why_lines p t w
+reading_lines p t w given (day ∷ days) = days_text w given (day ∷ days)
 
--- the text of the page, of what was published as an edition
-abbrev pub page_text : Profile → List LandModel → ℕ → PageModel → List ℕ
-page_text p lands edition (almanac_of code year) = almanacs.almanac p lands code (pos year)
-page_text p lands edition (reading_of code date weekday) =
-    readings.reading_page p lands edition code date weekday
-page_text p lands edition (day_of code number) = days.day_page p lands edition code (pos number)
-page_text p lands edition (month_of code year number) =
-    months.month_page p lands edition code year number
-page_text p lands edition (territory_of code) = lists.territory_page p lands edition code
-page_text p lands edition all_territories = lists.territories_page p lands edition
+-- a day as the territory dated it, and the period that holds it
+abbrev pub day_lines : Profile → TerritoryModel → ℕ → List ℕ
+day_lines p t d =
+    plain_day_line (dated_on p t d)
+    ++ flat_map (period_line p) (option_to_list (period_on (periods_of p t) d))
 
--- its lines
-abbrev pub page_lines : Profile → List LandModel → ℕ → PageModel → List (List ℕ)
-page_lines p lands edition (almanac_of code year) = almanacs.almanac_lines p lands code (pos year)
-page_lines p lands edition (reading_of code date weekday) =
-    readings.reading_lines p lands edition code date weekday
-page_lines p lands edition (day_of code number) =
-    days.day_page_lines p lands edition code (pos number)
-page_lines p lands edition (month_of code year number) =
-    months.month_lines p lands edition code year number
-page_lines p lands edition (territory_of code) = lists.territory_lines p lands edition code
-page_lines p lands edition all_territories = lists.territories_lines p lands edition
+-- a month as the territory lived it
+abbrev pub month_lines : Profile → TerritoryModel → ℕ → ℕ → List ℕ
+month_lines p t year month = grids (map (dated_on p t) (days_of_month p t (pos year) month))
 
--- the periods of a page, where it lists them, are those that hold the territory's days
-abbrev pub AnswersPeriods : Profile → List LandModel → PageModel → Type 0
-AnswersPeriods p lands (almanac_of code year) = ⊤
-AnswersPeriods p lands (reading_of code date weekday) = ⊤
-AnswersPeriods p lands (day_of code number) = ⊤
-AnswersPeriods p lands (month_of code year number) = ⊤
-AnswersPeriods p lands (territory_of code) = ArePeriodsAnswered p lands code
-AnswersPeriods p lands all_territories = ⊤
+-- the lines of a page, its heading first
+unfoldable pub land_lines : Profile → List ℕ → TerritoryModel → List ℕ → ℕ → Page → List ℕ
+land_lines p name t code edition (pages.Reading date given) =
+    heading (written_text date) name code edition
+    ++ reading_lines p t date given (meaning p t date given)
+land_lines p name t code edition (pages.OfDay day) =
+    heading (codes "day " ++ decimal day) name code edition ++ day_lines p t day
+land_lines p name t code edition (pages.Month year month) =
+    land_heading name code edition ++ month_lines p t year month
+land_lines p name t code edition pages.Periods =
+    land_heading name code edition ++ territory_lines p t
 
--- why there is no page
-abbrev pub page_refusal : Profile → List LandModel → PageModel → Option Refusal
-page_refusal p lands (almanac_of code year) = almanacs.almanac_refusal p lands code (pos year)
-page_refusal p lands (reading_of code date weekday) = readings.page_refusal p lands code date
-page_refusal p lands (day_of code number) = day_refusal p lands code (pos number)
-page_refusal p lands (month_of code year number) =
-    months.month_refusal p lands code year number
-page_refusal p lands (territory_of code) = code_refusal lands code
-page_refusal p lands all_territories = None
+-- ---- the whole
+
+-- the lines, of the name and the territory of the code, and how many edits wait
+abbrev pub page_of_land : Profile → Option (List ℕ × TerritoryModel) → List ℕ → Published → Page
+    → List ℕ
+page_of_land p None code published page = []
+page_of_land p (Some named) code published page =
+    land_lines p named.0 named.1 code published.edition page ++ pending_line published.pending
+
+-- the text of a page. A code that no territory has is refused
+abbrev pub page_text : Profile → List LandModel → List ℕ → Published → Page → List ℕ
+page_text p lands code published page = page_of_land p (named_of code lands) code published page
+
+-- as a law: the periods that the page of a territory lists are those that hold its days
+abbrev pub AnswersPeriods : Profile → List LandModel → List ℕ → Page → Type 0
+AnswersPeriods p lands code (pages.Reading date given) = ⊤
+AnswersPeriods p lands code (pages.OfDay day) = ⊤
+AnswersPeriods p lands code (pages.Month year month) = ⊤
+AnswersPeriods p lands code pages.Periods = ArePeriodsAnswered p lands code

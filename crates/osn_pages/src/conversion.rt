@@ -1,77 +1,88 @@
 //! The page of a conversion, a day by each calendar, and the day of a date in one of them.
-ghost use Rattle.std.specs.Prelude.{◌≡◌, IfOk, string_bytes};
+ghost use Rattle.std.specs.Prelude.{◌≡◌, ◌++◌, IfOk, OnOk, string_bytes};
 ghost use Rattle.std.specs.Option.{option_to_list};
-ghost use Rattle.osn_days.specs.Chain.{days_with_date};
 ghost use Rattle.osn_days.specs.Profile.{newest_rules};
 ghost use Rattle.osn_pages.specs.Conversion as spec;
 ghost use Rattle.osn_pages.specs.Law.{AreCalendarWordsWritten};
-ghost use Rattle.osn_pages.specs.Words.{weekday_words};
 
-use crate::words::calendar_words;
-use crate::written_date::WrittenDate;
-use osn_days::{Calendar, Date, Day, day_of};
+use crate::reading::Verdict;
+use crate::words::DayInCalendar;
+use osn_days::{Calendar, Date, Day, Weekday, day_of};
+use osn_written::WrittenDate;
 use std::alloc::{AllocError, Global};
+use std::fmt::Write;
 
-/// The last year that a date of the line has.
-const LAST_YEAR: u32 = 9_999;
+/// The room that the text gets at first: that of a page takes some 130 bytes.
+const ROOM: usize = 160;
 
-/// The line of a day, with these dates.
-#[tactic(auto, unfolding(crate::specs::Conversion::line_text))]
-fn line_text(
-    alloc: Global,
-    gregorian: &str,
-    julian: &str,
-    swedish: &str,
-    day: Day,
-) -> Result<String, AllocError>
-    ensures { IfOk result (λ s. string_bytes s ≡ spec.line_text (weekday_words day)
-        gregorian.now julian.now swedish.now day) }
+/// Appends the weekday of a day and its date in each calendar.
+#[tactic(auto, unfolding(crate::specs::Conversion::dates_text))]
+fn push_dates(out: &mut String, day: Day) -> Result<(), AllocError>
+    ensures { OnOk result (string_bytes out.new ≡ string_bytes out.old ++ spec.dates_text day) }
 {
-    format!(in alloc;
-        "{}    {} Gregorian    {} Julian    {} Swedish    day {}    JDN {}\n",
+    let gregorian = DayInCalendar {
+        calendar: Calendar::Gregorian,
+        day,
+    };
+    let julian = DayInCalendar {
+        calendar: Calendar::Julian,
+        day,
+    };
+    let swedish = DayInCalendar {
+        calendar: Calendar::Swedish,
+        day,
+    };
+    write!(
+        out,
+        "{}    {} Gregorian    {} Julian    {} Swedish",
         day.weekday().name(),
         gregorian,
         julian,
-        swedish,
+        swedish
+    )
+}
+
+/// Appends the numbers of a day.
+#[tactic(auto, unfolding(crate::specs::Conversion::numbers_text))]
+fn push_numbers(out: &mut String, day: Day) -> Result<(), AllocError>
+    ensures { OnOk result (string_bytes out.new ≡ string_bytes out.old ++ spec.numbers_text day) }
+{
+    write!(
+        out,
+        "    day {}    JDN {}",
         day.number(),
         day.julian_day_number()
     )
 }
 
-/// The page of a conversion: the weekday of a day, its date in each calendar, and its numbers.
+/// The page of a conversion: the weekday of a day, its date in each calendar, its numbers, and
+/// whether it is of the weekday that is given, if any.
 ///
 /// # Errors
 ///
 /// Want of memory, and nothing else.
-pub fn conversion_page(alloc: Global, day: Day) -> Result<String, AllocError>
-    ensures { IfOk result (λ s. string_bytes s ≡ spec.conversion_page day) }
+#[tactic(auto, unfolding(crate::specs::Conversion::conversion_page))]
+pub fn conversion_page(
+    alloc: Global,
+    day: Day,
+    given: Option<Weekday>,
+) -> Result<String, AllocError>
+    ensures { IfOk result (λ s. string_bytes s ≡ spec.conversion_page day given) }
 {
-    let gregorian = calendar_words(alloc, Calendar::Gregorian, day)?;
-    let julian = calendar_words(alloc, Calendar::Julian, day)?;
-    let swedish = calendar_words(alloc, Calendar::Swedish, day)?;
-    line_text(
-        alloc,
-        gregorian.as_str(),
-        julian.as_str(),
-        swedish.as_str(),
-        day,
-    )
-}
-
-/// The day that has the date of these numbers.
-fn day_of_numbers(calendar: Calendar, year: u32, month: u32, day: u32) -> Option<Day>
-    ensures { option_to_list result
-        ≡ days_with_date newest_rules calendar (spec.numbered_date year month day) }
-{
-    if year > LAST_YEAR || month > 12 || day > 31 {
-        return None;
-    }
-    let date = Date {
-        year: year as i32,
-        month: month as u8,
-        day: day as u8,
-    };
-    day_of(calendar, date)
+    let mut text = String::with_capacity(alloc, ROOM)?;
+    push_dates(&mut text, day)?;
+    push_numbers(&mut text, day)?;
+    let written = None;
+    writeln!(
+        &mut text,
+        "{}",
+        Verdict {
+            written,
+            given,
+            day
+        }
+    )?;
+    Ok(text)
 }
 
 /// The one day that has the written date in the calendar, or `None` where no day of the line has
@@ -82,8 +93,15 @@ pub fn day_of_written(calendar: Calendar, date: WrittenDate) -> Option<Day>
     // as a law: what a page says of a day of the line, by each calendar, is read as that day
     ensures found { AreCalendarWordsWritten newest_rules }
 {
-    match date.later {
-        Some(_) => None,
-        None => day_of_numbers(calendar, date.year, date.month, date.day),
+    if date.is_double {
+        return None;
     }
+    day_of(
+        calendar,
+        Date {
+            year: i32::from(date.year),
+            month: date.month,
+            day: date.day,
+        },
+    )
 }

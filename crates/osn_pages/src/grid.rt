@@ -1,16 +1,14 @@
 //! Days of a month in grids, as the program `cal` prints them.
-ghost use Rattle.std.specs.Prelude.{◌≡◌, ◌<◌, ◌≤◌, [], ◌∷◌, ◌++◌, OnOk, string_bytes};
-ghost use Rattle.std.specs.Prelude.{length, map, replicate, take, drop};
+ghost use Rattle.std.specs.Prelude.{◌≡◌, ◌<◌, ◌≤◌, ◌∷◌, ◌++◌, OnOk, IfOk, string_bytes};
+ghost use Rattle.std.specs.Prelude.{length, replicate, take, drop};
 ghost use Rattle.std.specs.List.{flat_map};
 ghost use Rattle.osn_days.specs.Line.{weekday};
-ghost use Rattle.osn_almanac.specs.Almanac.{lines_text};
-ghost use Rattle.osn_pages.specs.MonthPage as spec;
+ghost use Rattle.osn_pages.specs.Grid as spec;
 
-use crate::written_date::parts_at;
-use osn_almanac::push_line;
-use osn_days::Day;
-use osn_register::Found;
+use osn_days::{Day, month_name};
+use osn_lands::{DatedDay, DatedYears};
 use std::alloc::{AllocError, Global};
+use std::fmt::Write;
 
 /// How many characters a grid has in a line.
 const WIDTH: usize = 20;
@@ -25,33 +23,32 @@ fn push_spaces(out: &mut String, count: usize) -> Result<(), AllocError>
     Ok(())
 }
 
-/// The month and year of a dual text: what stands behind its first space.
-#[tactic(auto, unfolding(crate::specs::MonthPage::month_year))]
-fn month_year(dual: &str) -> &str
-    ensures { result.now ≡ spec.month_year dual.now }
+/// The month and year of a day.
+#[tactic(auto, unfolding(crate::specs::Grid::month_year))]
+fn month_year(alloc: Global, dated: DatedDay) -> Result<String, AllocError>
+    ensures { IfOk result (λ s. string_bytes s ≡ spec.month_year dated) }
 {
-    match parts_at(dual, ' ') {
-        None => dual,
-        Some((_, month_year)) => month_year,
-    }
+    format!(in alloc; "{} {}", month_name(dated.label.month), DatedYears(dated))
 }
 
 /// Appends the line of a title.
+#[tactic(auto, unfolding(crate::specs::Grid::centred))]
 fn push_centred(out: &mut String, title: &str) -> Result<(), AllocError>
     ensures { OnOk result (string_bytes out.new
-        ≡ string_bytes out.old ++ lines_text (spec.centred title.now ∷ [])) }
+        ≡ string_bytes out.old ++ spec.centred title.now) }
 {
     push_spaces(out, WIDTH.saturating_sub(title.len()) / 2)?;
-    push_line(out, title)
+    writeln!(out, "{}", title)
 }
 
 /// Appends the title of a run of days.
-fn push_title(out: &mut String, run: &[Found]) -> Result<(), AllocError>
+fn push_title(alloc: Global, out: &mut String, run: &[DatedDay]) -> Result<(), AllocError>
     requires { 0 < length run.now }
     ensures { OnOk result (string_bytes out.new
-        ≡ string_bytes out.old ++ lines_text (spec.title_line run.now ∷ [])) }
+        ≡ string_bytes out.old ++ spec.title_line run.now) }
 {
-    push_centred(out, month_year(run[0].dual.as_str()))
+    let title = month_year(alloc, run[0])?;
+    push_centred(out, title.as_str())
 }
 
 /// The weekday of a day, 0 for Sunday.
@@ -62,57 +59,55 @@ fn weekday_number(day: Day) -> u32
 }
 
 /// Appends the number of a day in its month.
-#[tactic(auto, unfolding(crate::specs::MonthPage::cell))]
-fn push_cell(alloc: Global, out: &mut String, found: &Found) -> Result<(), AllocError>
-    ensures { OnOk result (string_bytes out.new ≡ string_bytes out.old ++ spec.cell found.now) }
+#[tactic(auto, unfolding(crate::specs::Grid::cell))]
+fn push_cell(out: &mut String, dated: DatedDay) -> Result<(), AllocError>
+    ensures { OnOk result (string_bytes out.new ≡ string_bytes out.old ++ spec.cell dated) }
 {
-    let cell = format!(in alloc; "{:>2}", found.label.day)?;
-    out.push_str(cell.as_str())
+    write!(out, "{:>2}", dated.label.day)
 }
 
-/// Appends the same behind another cell.
-#[tactic(auto, unfolding(crate::specs::MonthPage::next_cell))]
-fn push_next_cell(alloc: Global, out: &mut String, found: &Found) -> Result<(), AllocError>
-    ensures { OnOk result (string_bytes out.new
-        ≡ string_bytes out.old ++ spec.next_cell found.now) }
+/// Appends the same after another cell.
+#[tactic(auto, unfolding(crate::specs::Grid::next_cell))]
+fn push_next_cell(out: &mut String, dated: DatedDay) -> Result<(), AllocError>
+    ensures { OnOk result (string_bytes out.new ≡ string_bytes out.old ++ spec.next_cell dated) }
 {
     out.push(' ')?;
-    push_cell(alloc, out, found)
+    push_cell(out, dated)
 }
 
-/// Appends the cells of these days behind another one.
-fn push_next_cells(alloc: Global, out: &mut String, days: &[Found]) -> Result<(), AllocError>
+/// Appends the cells of these days after another one.
+fn push_next_cells(out: &mut String, days: &[DatedDay]) -> Result<(), AllocError>
     ensures { OnOk result (string_bytes out.new
         ≡ string_bytes out.old ++ flat_map spec.next_cell days.now) }
 {
-    for found in days {
-        push_next_cell(alloc, out, found)?;
+    for dated in days {
+        push_next_cell(out, *dated)?;
     }
     Ok(())
 }
 
 /// Appends the line of a week.
-fn push_week(alloc: Global, out: &mut String, week: &[Found]) -> Result<(), AllocError>
+fn push_week(out: &mut String, week: &[DatedDay]) -> Result<(), AllocError>
     requires { 0 < length week.now }
     ensures { OnOk result (string_bytes out.new
-        ≡ string_bytes out.old ++ lines_text (spec.week_line week.now ∷ [])) }
+        ≡ string_bytes out.old ++ spec.week_line week.now) }
 {
-    let first = &week[0];
+    let first = week[0];
     push_spaces(out, 3 * weekday_number(first.day) as usize)?;
-    push_cell(alloc, out, first)?;
-    push_next_cells(alloc, out, &week[1..])?;
-    out.push('\n')
+    push_cell(out, first)?;
+    push_next_cells(out, &week[1..])?;
+    out.push_str("\n")
 }
 
 /// Whether the day begins a week.
-fn begins_week(found: &Found) -> bool
-    ensures { result ≡ spec.begins_week found.now }
+fn begins_week(dated: &DatedDay) -> bool
+    ensures { result ≡ spec.begins_week dated.now }
 {
-    weekday_number(found.day) == 0
+    weekday_number(dated.day) == 0
 }
 
 /// How many days the first week has.
-fn week_len(days: &[Found]) -> usize
+fn week_len(days: &[DatedDay]) -> usize
     requires { 0 < length days.now }
     ensures some { 0 < result }
     ensures most { result ≤ length days.now }
@@ -128,40 +123,47 @@ fn week_len(days: &[Found]) -> usize
 }
 
 /// Appends a line for each week.
-fn push_weeks(alloc: Global, out: &mut String, run: &[Found]) -> Result<(), AllocError>
+fn push_weeks(out: &mut String, run: &[DatedDay]) -> Result<(), AllocError>
     ensures { OnOk result (string_bytes out.new
-        ≡ string_bytes out.old ++ lines_text (map spec.week_line (spec.weeks_of run.now))) }
+        ≡ string_bytes out.old ++ flat_map spec.week_line (spec.weeks_of run.now)) }
 {
     let mut rest = run;
     while !rest.is_empty() {
         let (week, others) = rest.split_at(week_len(rest));
-        push_week(alloc, out, week)?;
+        push_week(out, week)?;
         rest = others;
     }
     Ok(())
 }
 
-/// Appends the grid of a run of days.
-#[tactic(auto, unfolding(crate::specs::MonthPage::grid))]
-fn push_grid(alloc: Global, out: &mut String, run: &[Found]) -> Result<(), AllocError>
-    requires { 0 < length run.now }
-    ensures { OnOk result (string_bytes out.new
-        ≡ string_bytes out.old ++ lines_text (spec.grid run.now)) }
+/// Appends the line of the weekdays.
+#[tactic(auto, unfolding(crate::specs::Grid::weekdays_line))]
+fn push_weekdays(out: &mut String) -> Result<(), AllocError>
+    ensures { OnOk result (string_bytes out.new ≡ string_bytes out.old ++ spec.weekdays_line) }
 {
-    push_title(out, run)?;
-    push_line(out, "Su Mo Tu We Th Fr Sa")?;
-    push_weeks(alloc, out, run)
+    out.push_str("Su Mo Tu We Th Fr Sa\n")
+}
+
+/// Appends the grid of a run of days.
+#[tactic(auto, unfolding(crate::specs::Grid::grid))]
+fn push_grid(alloc: Global, out: &mut String, run: &[DatedDay]) -> Result<(), AllocError>
+    requires { 0 < length run.now }
+    ensures { OnOk result (string_bytes out.new ≡ string_bytes out.old ++ spec.grid run.now) }
+{
+    push_title(alloc, out, run)?;
+    push_weekdays(out)?;
+    push_weeks(out, run)
 }
 
 /// Whether a day is the next one on the line.
-fn is_next(before: &Found, found: &Found) -> bool
-    ensures { result ≡ spec.is_next before.now found.now }
+fn is_next(before: &DatedDay, after: &DatedDay) -> bool
+    ensures { result ≡ spec.is_next before.now after.now }
 {
-    found.day.number() == before.day.number() + 1
+    after.day.number() == before.day.number() + 1
 }
 
 /// How many days the first run has.
-fn run_len(days: &[Found]) -> usize
+fn run_len(days: &[DatedDay]) -> usize
     requires { 0 < length days.now }
     ensures some { 0 < result }
     ensures most { result ≤ length days.now }
@@ -177,9 +179,9 @@ fn run_len(days: &[Found]) -> usize
 }
 
 /// Appends a grid for each run of days that follow one another.
-fn push_grids(alloc: Global, out: &mut String, days: &[Found]) -> Result<(), AllocError>
+fn push_all_grids(alloc: Global, out: &mut String, days: &[DatedDay]) -> Result<(), AllocError>
     ensures { OnOk result (string_bytes out.new
-        ≡ string_bytes out.old ++ lines_text (flat_map spec.grid (spec.runs_of days.now))) }
+        ≡ string_bytes out.old ++ flat_map spec.grid (spec.runs_of days.now)) }
 {
     let mut rest = days;
     while !rest.is_empty() {
@@ -191,12 +193,15 @@ fn push_grids(alloc: Global, out: &mut String, days: &[Found]) -> Result<(), All
 }
 
 /// Appends the grids of days in order, and where there is no day that there is none.
-pub(crate) fn push_days(alloc: Global, out: &mut String, days: &[Found]) -> Result<(), AllocError>
-    ensures { OnOk result (string_bytes out.new
-        ≡ string_bytes out.old ++ lines_text (spec.grid_lines days.now)) }
+pub(crate) fn push_grids(
+    alloc: Global,
+    out: &mut String,
+    days: &[DatedDay],
+) -> Result<(), AllocError>
+    ensures { OnOk result (string_bytes out.new ≡ string_bytes out.old ++ spec.grids days.now) }
 {
     if days.is_empty() {
-        return push_line(out, "no such month");
+        return out.push_str("no such month\n");
     }
-    push_grids(alloc, out, days)
+    push_all_grids(alloc, out, days)
 }

@@ -1,100 +1,205 @@
-ghost use Rattle.std.specs.Prelude.{◌≡◌, None, IfOk, IfErr, OnOk, string_bytes};
+//! The pages on a territory: which there are, and the text of each.
+ghost use Rattle.std.specs.Prelude.{◌≡◌, ◌++◌, ◌∷◌, None, IfOk, IfErr, OnOk, string_bytes, codes};
+ghost use Rattle.std.specs.Fmt.{decimal};
 ghost use Rattle.osn_days.specs.Profile.{newest_rules};
 ghost use Rattle.osn_register.specs.Refusal.{IsRefusalOrNoMemory};
-ghost use Rattle.osn_almanac.specs.Trimmed.{AreTrimmed};
+ghost use Rattle.osn_register.specs.Plain.{code_refusal};
+ghost use Rattle.osn_pages.specs.Heading.{heading, pending_line};
 ghost use Rattle.osn_pages.specs.Page as spec;
+ghost use Rattle.osn_written.specs.Meaning.{meaning};
+ghost use Rattle.osn_written.specs.Text.{written_text};
 
-use crate::day_in::day_page;
-use crate::month::month_page;
-use crate::reading::reading_page;
-use crate::territory::territory_page;
-use crate::territory_list::territories_page;
-use crate::written_date::WrittenDate;
-use osn_almanac::almanac_text;
-use osn_days::Weekday;
+use crate::heading::{push_land_heading, push_pending};
+use crate::month::push_month;
+use crate::periods::push_period;
+use crate::reading::{push_day, push_days};
+use crate::territory::push_territory;
+use crate::why::push_why;
+use osn_days::{Day, Weekday};
+use osn_lands::Territory;
 use osn_register::{Refusal, Register};
-use std::alloc::Global;
+use osn_written::{WrittenDate, days_meant};
+use std::alloc::{AllocError, Global};
+use std::fmt::Write;
 
-/// What people may ask of a register, and get a page on. A territory is named by its code.
+/// What people may ask of a territory, and get a page on.
 #[derive(Clone, Copy, Debug, PartialEq, Eq)]
-pub enum Page<'a> {
-    /// The almanac of a territory and year.
-    Almanac {
-        code: &'a str,
-        /// The year, counted from 1 January.
-        year: u32,
-    },
-    /// Which days a written date names in a territory.
+pub enum Page {
+    /// Which days a written date means.
     Reading {
-        code: &'a str,
         date: WrittenDate,
-        /// The weekday that each day is compared with, if any.
+        /// The weekday that is given beside the date, if any.
         weekday: Option<Weekday>,
     },
-    /// How a territory dated a day.
-    Day {
-        code: &'a str,
-        /// The day number.
-        day: u32,
-    },
-    /// A month as a territory lived it.
+    /// How the territory dated a day.
+    OfDay(Day),
+    /// A month as the territory lived it.
     Month {
-        code: &'a str,
         /// The year as the territory counted it.
-        year: u32,
+        year: u16,
         /// The month, 1 to 12.
-        month: u32,
+        month: u8,
     },
-    /// The periods of a territory.
-    Territory {
-        code: &'a str,
-    },
-    /// All territories.
-    Territories,
+    /// The periods and the listed Easters.
+    Periods,
 }
 
-/// The text of a page, by what was published as the edition of that number.
+/// What was published when a page was asked for.
+#[derive(Clone, Copy, Debug, PartialEq, Eq)]
+pub struct Published {
+    /// The number of the edition, 0 before the first one.
+    pub edition: usize,
+    /// How many edits wait to be published.
+    pub pending: usize,
+}
+
+/// What the heading of a page says, and the territory that the page is on.
+#[derive(Clone, Copy)]
+struct Place<'a> {
+    name: &'a str,
+    code: &'a str,
+    territory: &'a Territory,
+    edition: usize,
+}
+
+/// The room that the text gets at first: that of most pages takes less than 500 bytes.
+const ROOM: usize = 512;
+
+/// Appends the days that a date means, and where it means none why.
+fn push_reading(
+    alloc: Global,
+    out: &mut String,
+    territory: &Territory,
+    date: WrittenDate,
+    given: Option<Weekday>,
+) -> Result<(), AllocError>
+    ensures { OnOk result (string_bytes out.new ≡ string_bytes out.old
+        ++ spec.reading_lines newest_rules territory.now date given
+        (meaning newest_rules territory.now date given)) }
+{
+    let days = days_meant(alloc, territory, date, given)?;
+    if days.is_empty() {
+        return push_why(alloc, out, territory, date);
+    }
+    push_days(out, date, given, days.as_slice())
+}
+
+/// Appends a day as the territory dated it, and the period that holds it.
+fn push_day_lines(out: &mut String, territory: &Territory, day: Day) -> Result<(), AllocError>
+    ensures { OnOk result (string_bytes out.new
+        ≡ string_bytes out.old ++ spec.day_lines newest_rules territory.now day) }
+{
+    push_day(out, territory.dated(day))?;
+    let (place, _) = territory.period_at(day);
+    push_period(out, &territory.periods()[place])
+}
+
+/// Appends the page of a reading.
+#[tactic(auto, unfolding(crate::specs::Heading::heading))]
+fn push_reading_page(
+    alloc: Global,
+    out: &mut String,
+    place: Place<'_>,
+    date: WrittenDate,
+    given: Option<Weekday>,
+) -> Result<(), AllocError>
+    ensures { OnOk result (string_bytes out.new ≡ string_bytes out.old
+        ++ (heading (written_text date) place.entry.name.now place.entry.code.now
+        place.entry.edition ++ spec.reading_lines newest_rules place.entry.territory.now date given
+        (meaning newest_rules place.entry.territory.now date given))) }
+{
+    write!(out, "{} in ", date)?;
+    push_land_heading(out, place.name, place.code, place.edition)?;
+    push_reading(alloc, out, place.territory, date, given)
+}
+
+/// Appends the page of a day.
+#[tactic(auto, unfolding(crate::specs::Heading::heading))]
+fn push_day_page(out: &mut String, place: Place<'_>, day: Day) -> Result<(), AllocError>
+    ensures { OnOk result (string_bytes out.new ≡ string_bytes out.old
+        ++ (heading (codes "day " ++ decimal day) place.entry.name.now place.entry.code.now
+        place.entry.edition ++ spec.day_lines newest_rules place.entry.territory.now day)) }
+{
+    write!(out, "day {} in ", day.number())?;
+    push_land_heading(out, place.name, place.code, place.edition)?;
+    push_day_lines(out, place.territory, day)
+}
+
+/// Appends the lines of a page, its heading first.
+#[tactic(auto, unfolding(crate::specs::Page::land_lines))]
+fn push_page(
+    alloc: Global,
+    out: &mut String,
+    place: Place<'_>,
+    page: Page,
+) -> Result<(), AllocError>
+    ensures { OnOk result (string_bytes out.new ≡ string_bytes out.old
+        ++ spec.land_lines newest_rules place.entry.name.now place.entry.territory.now
+        place.entry.code.now place.entry.edition page) }
+{
+    match page {
+        Page::Reading { date, weekday } => push_reading_page(alloc, out, place, date, weekday),
+        Page::OfDay(day) => push_day_page(out, place, day),
+        Page::Month { year, month } => {
+            push_land_heading(out, place.name, place.code, place.edition)?;
+            push_month(alloc, out, place.territory, year, month)
+        }
+        Page::Periods => {
+            push_land_heading(out, place.name, place.code, place.edition)?;
+            push_territory(out, place.territory)
+        }
+    }
+}
+
+/// The whole text of a page.
+fn text_of(
+    alloc: Global,
+    place: Place<'_>,
+    pending: usize,
+    page: Page,
+) -> Result<String, AllocError>
+    ensures { IfOk result (λ s. string_bytes s
+        ≡ spec.land_lines newest_rules place.entry.name.now place.entry.territory.now
+        place.entry.code.now place.entry.edition page ++ pending_line pending) }
+{
+    let mut text = String::with_capacity(alloc, ROOM)?;
+    push_page(alloc, &mut text, place, page)?;
+    push_pending(&mut text, pending)?;
+    Ok(text)
+}
+
+/// The text of a page on the territory of that code, by what was published.
 ///
 /// # Errors
 ///
-/// Those of the queries that the page is made of, in their order: `BadCode`, `UnknownLand`,
-/// `DayOffLine` of a day, `YearOffRange` of a year, `BadDate` of a date or month. Else `NoMemory`
-/// where no memory is found.
+/// `BadCode` for a code that no territory can have, then `UnknownLand` where none has it. Else
+/// `NoMemory` where no memory is found.
 pub fn page_text(
     alloc: Global,
     register: &Register,
-    edition: usize,
-    page: Page<'_>,
+    code: &str,
+    published: Published,
+    page: Page,
 ) -> Result<String, Refusal>
-    ensures lawful { OnOk result
-        (spec.page_refusal newest_rules register.now.lands (spec.model_of page.entry) ≡ None) }
+    ensures lawful { OnOk result (code_refusal register.now.lands code.now ≡ None) }
     ensures text { IfOk result (λ s. string_bytes s
-        ≡ spec.page_text newest_rules register.now.lands edition (spec.model_of page.entry)) }
-    ensures refused { IfErr result (IsRefusalOrNoMemory
-        (spec.page_refusal newest_rules register.now.lands (spec.model_of page.entry))) }
+        ≡ spec.page_text newest_rules register.now.lands code.now published page) }
+    ensures refused { IfErr result
+        (IsRefusalOrNoMemory (code_refusal register.now.lands code.now)) }
 
-    // As laws: no line ends with a space; and to each day of a period that the page of a territory
-    // lists the register answers that period.
-    ensures trimmed { OnOk result (AreTrimmed
-        (spec.page_lines newest_rules register.now.lands edition (spec.model_of page.entry))) }
+    // As a law: to each day of a period that the page of a territory lists the register answers
+    // that period.
     ensures answered { OnOk result
-        (spec.AnswersPeriods newest_rules register.now.lands (spec.model_of page.entry)) }
+        (spec.AnswersPeriods newest_rules register.now.lands code.now page) }
 {
-    match page {
-        Page::Almanac { code, year } => almanac_text(alloc, register, code, i64::from(year)),
-        Page::Reading {
-            code,
-            date,
-            weekday,
-        } => reading_page(alloc, register, edition, code, date, weekday),
-        Page::Day { code, day } => day_page(alloc, register, edition, code, i64::from(day)),
-        Page::Month { code, year, month } => {
-            month_page(alloc, register, edition, code, year, month)
-        }
-        Page::Territory { code } => territory_page(alloc, register, edition, code),
-        Page::Territories => match territories_page(alloc, register, edition) {
-            Ok(text) => Ok(text),
-            Err(_) => Err(Refusal::NoMemory),
-        },
-    }
+    // Its contract tells that the periods of each territory cover the line.
+    let _limits = register.limits();
+    let (name, territory) = register.land(code)?;
+    let place = Place {
+        name,
+        code,
+        territory,
+        edition: published.edition,
+    };
+    Ok(text_of(alloc, place, published.pending, page)?)
 }

@@ -1,143 +1,133 @@
-ghost use Rattle.std.specs.Prelude.{◌≡◌, ◌++◌, None, IfOk, IfErr, OnOk, string_bytes};
-ghost use Rattle.std.specs.Prelude.{codes};
-ghost use Rattle.osn_days.specs.Profile.{newest_rules};
-ghost use Rattle.osn_register.specs.Refusal.{IsRefusalOrNoMemory};
-ghost use Rattle.osn_register.specs.Answer.{answer};
-ghost use Rattle.osn_almanac.specs.Almanac.{lines_text};
-ghost use Rattle.osn_almanac.specs.Trimmed.{AreTrimmed};
+//! The lines of the days that a written date means.
+ghost use Rattle.std.specs.Prelude.{◌≡◌, ◌++◌, OnOk, string_bytes, IfSome, is_some};
+ghost use Rattle.osn_days.specs.Weekday.{weekday_name};
 ghost use Rattle.osn_pages.specs.Reading as spec;
 
-use crate::days::push_days;
-use crate::heading::push_heading;
-use crate::skips::push_skips;
-use crate::words::written_text;
-use crate::written_date::WrittenDate;
-use osn_almanac::push_line;
-use osn_days::Weekday;
-use osn_register::{Answer, Query, Refusal, Register, Text};
-use std::alloc::{AllocError, Global};
+use crate::words::{DayInCalendar, NamedDay};
+use osn_days::{Calendar, Day, Weekday};
+use osn_lands::DatedDay;
+use osn_written::{WrittenDate, is_not_counted_double, is_on};
+use std::alloc::AllocError;
+use std::fmt;
+use std::fmt::Write;
 
-/// The room that the text gets at first: that of a page with one day takes some 180 bytes.
-const ROOM: usize = 256;
-
-/// Appends why no day was found: the changes that skipped the date, or that its calendar lacks it.
-fn push_why(
-    alloc: Global,
-    out: &mut String,
-    register: &Register,
-    code: &str,
-    reading: &Answer,
-) -> Result<(), AllocError>
-    ensures { OnOk result (string_bytes out.new ≡ string_bytes out.old ++ lines_text
-        (spec.why_lines newest_rules register.now.lands code.now reading.now)) }
+/// The weekday, where one is given and the day is another.
+fn other_weekday(given: Option<Weekday>, day: Day) -> Option<Weekday>
+    ensures { result ≡ spec.other_weekday given day }
 {
-    let begun = out.len();
-    push_skips(alloc, out, register, code, reading)?;
-    if out.len() > begun {
-        return Ok(());
-    }
-    push_line(out, "no date of its calendar")
+    if is_on(given, day) { None } else { given }
 }
 
-/// Appends the days found, and where there is none why there is none.
-fn push_days_or_why(
-    alloc: Global,
-    out: &mut String,
-    register: &Register,
-    code: &str,
-    date: WrittenDate,
-    given: Option<Weekday>,
-    reading: &Answer,
-) -> Result<(), AllocError>
-    ensures { OnOk result (string_bytes out.new ≡ string_bytes out.old ++ lines_text
-        (spec.days_or_why newest_rules register.now.lands code.now date given reading.now)) }
-{
-    let begun = out.len();
-    push_days(alloc, out, date, given, reading)?;
-    if out.len() > begun {
-        return Ok(());
-    }
-    push_why(alloc, out, register, code, reading)
+/// What is said of a day, of the weekday that its date names and of the one given beside it.
+#[derive(Clone, Copy)]
+pub(crate) struct Verdict {
+    pub(crate) written: Option<Weekday>,
+    pub(crate) given: Option<Weekday>,
+    pub(crate) day: Day,
 }
 
-/// Appends the days that the date names in the territory, or why it names none.
-fn push_reading(
-    alloc: Global,
-    out: &mut String,
-    register: &Register,
-    code: &str,
-    date: WrittenDate,
-    given: Option<Weekday>,
-) -> Result<(), AllocError>
-    ensures { OnOk result (string_bytes out.new ≡ string_bytes out.old ++ lines_text
-        (spec.days_or_why newest_rules register.now.lands code.now date given
-        (answer newest_rules register.now.lands (spec.reading_query code.now date)))) }
+impl fmt::Display for Verdict {
+    ghost use Rattle.std.specs.Prelude.{Some};
+    ghost use Rattle.osn_pages.specs.Reading.{verdict};
+
+    ghost output = { λ x. Some (verdict x.written x.given x.day) };
+
+    #[tactic(auto, unfolding(crate::specs::Reading::verdict))]
+    fn fmt<W: fmt::Write>(&self, f: &mut fmt::Formatter<W>) -> fmt::Result {
+        if self.written.is_none() && self.given.is_none() {
+            return Ok(());
+        }
+        let written = other_weekday(self.written, self.day);
+        match written.or(other_weekday(self.given, self.day)) {
+            None => f.write_str(" ok"),
+            Some(other) => write!(f, " not {}", other.name()),
+        }
+    }
+}
+
+/// Appends the line of a day, and what is said of its weekday.
+#[tactic(auto, unfolding(crate::specs::Reading::day_line))]
+fn push_day_line(out: &mut String, said: Verdict, dated: DatedDay) -> Result<(), AllocError>
+    ensures { OnOk result (string_bytes out.new ≡ string_bytes out.old
+        ++ spec.day_line (spec.verdict said.written said.given said.day) dated) }
 {
-    let query = Query::Read {
-        code: Text::from_str(alloc, code)?,
-        year: i64::from(date.year),
-        month: i64::from(date.month),
-        day: i64::from(date.day),
+    let day = dated.day;
+    writeln!(
+        out,
+        "{}    {} Gregorian    {} Julian    day {}    JDN {}{}",
+        NamedDay(dated),
+        DayInCalendar {
+            calendar: Calendar::Gregorian,
+            day
+        },
+        DayInCalendar {
+            calendar: Calendar::Julian,
+            day
+        },
+        day.number(),
+        day.julian_day_number(),
+        said
+    )
+}
+
+/// Appends the line of a day, of which no weekday is asked.
+#[tactic(auto, unfolding(crate::specs::Reading::verdict))]
+pub(crate) fn push_day(out: &mut String, dated: DatedDay) -> Result<(), AllocError>
+    ensures { OnOk result (string_bytes out.new
+        ≡ string_bytes out.old ++ spec.plain_day_line dated) }
+{
+    let said = Verdict {
+        written: None,
+        given: None,
+        day: dated.day,
     };
-    let reading = register.answer(&query)?;
-    push_days_or_why(alloc, out, register, code, date, given, &reading)
+    push_day_line(out, said, dated)
 }
 
-/// The page, line by line.
-fn page_text(
-    alloc: Global,
-    register: &Register,
-    edition: usize,
-    code: &str,
+/// Appends that the territory counted from 1 January, and what it wrote.
+#[tactic(auto, unfolding(crate::specs::Reading::not_double_line))]
+fn push_not_double(out: &mut String, dated: DatedDay) -> Result<(), AllocError>
+    ensures { OnOk result (string_bytes out.new
+        ≡ string_bytes out.old ++ spec.not_double_line dated) }
+{
+    writeln!(out, "not counted double there: the place wrote {}", dated)
+}
+
+/// Appends the lines of a day that the date means.
+#[tactic(auto, unfolding(crate::specs::Reading::meant_lines))]
+fn push_meant(
+    out: &mut String,
     date: WrittenDate,
     given: Option<Weekday>,
-) -> Result<String, AllocError>
-    ensures { IfOk result (λ s. string_bytes s
-        ≡ spec.reading_page newest_rules register.now.lands edition code.now date given) }
+    dated: DatedDay,
+) -> Result<(), AllocError>
+    ensures { OnOk result (string_bytes out.new
+        ≡ string_bytes out.old ++ spec.meant_lines date given dated) }
 {
-    let mut text = String::with_capacity(alloc, ROOM)?;
-    let subject = written_text(alloc, date)?;
-    push_heading(alloc, &mut text, register, edition, code, subject.as_str())?;
-    push_reading(alloc, &mut text, register, code, date, given)?;
-    Ok(text)
+    let said = Verdict {
+        written: date.weekday,
+        given,
+        day: dated.day,
+    };
+    push_day_line(out, said, dated)?;
+    if is_not_counted_double(date, &dated) {
+        push_not_double(out, dated)?;
+    }
+    Ok(())
 }
 
-/// The page of a reading: which days a written date names in a territory, by the register of that
-/// edition, and where it names none which changes skipped it. A double date names the days alone
-/// whose dual text it is. Where a weekday is given, each day says whether it is one.
-///
-/// # Errors
-///
-/// Those of a query of the reading, in their order: `BadCode`, `UnknownLand`, `YearOffRange`,
-/// `BadDate`. Else `NoMemory` where no memory is found.
-pub(crate) fn reading_page(
-    alloc: Global,
-    register: &Register,
-    edition: usize,
-    code: &str,
+/// Appends the lines of all days that the date means.
+pub(crate) fn push_days(
+    out: &mut String,
     date: WrittenDate,
-    weekday: Option<Weekday>,
-) -> Result<String, Refusal>
-    ensures lawful { OnOk result
-        (spec.page_refusal newest_rules register.now.lands code.now date ≡ None) }
-    ensures text { IfOk result (λ s. string_bytes s
-        ≡ spec.reading_page newest_rules register.now.lands edition code.now date weekday) }
-    ensures refused { IfErr result (IsRefusalOrNoMemory
-        (spec.page_refusal newest_rules register.now.lands code.now date)) }
-
-    // As a law: no line ends with a space.
-    ensures trimmed { OnOk result
-        (AreTrimmed (spec.reading_lines newest_rules register.now.lands edition code.now date
-        weekday)) }
+    given: Option<Weekday>,
+    days: &[DatedDay],
+) -> Result<(), AllocError>
+    ensures { OnOk result (string_bytes out.new
+        ≡ string_bytes out.old ++ spec.days_text date given days.now) }
 {
-    register.check_read(
-        code,
-        i64::from(date.year),
-        i64::from(date.month),
-        i64::from(date.day),
-    )?;
-    match page_text(alloc, register, edition, code, date, weekday) {
-        Ok(text) => Ok(text),
-        Err(_) => Err(Refusal::NoMemory),
+    for dated in days {
+        push_meant(out, date, given, *dated)?;
     }
+    Ok(())
 }

@@ -1,53 +1,61 @@
 //! Days and dates in English words.
-ghost use Rattle.std.specs.Prelude.{◌≡◌, IfOk, string_bytes};
-ghost use Rattle.osn_days.specs.Month as months;
-ghost use Rattle.osn_pages.specs.Words as spec;
+ghost use Rattle.std.specs.Prelude.{◌≡◌};
 
-use crate::written_date::WrittenDate;
 use osn_days::{Calendar, Day, date_of, month_name};
-use std::alloc::{AllocError, Global};
+use osn_lands::DatedDay;
+use std::fmt;
 
-/// The English name of a month from 1 to 12. Any other number is taken for 12.
-fn name_of_month(month: u32) -> &'static str
-    ensures { result.now ≡ months.month_name month }
-{
-    month_name(if month > 12 { 12 } else { month as u8 })
+/// The date of a day in a calendar, as `22 February 1732`.
+#[derive(Clone, Copy)]
+pub(crate) struct DayInCalendar {
+    pub(crate) calendar: Calendar,
+    pub(crate) day: Day,
 }
 
-/// A written date in words, with what stands behind its `/`: `11 February 1731/2`. A month above 12
-/// is named as the twelfth.
-///
-/// # Errors
-///
-/// Want of memory, and nothing else.
-#[tactic(auto, unfolding(crate::specs::Words::written_text))]
-pub fn written_text(alloc: Global, date: WrittenDate) -> Result<String, AllocError>
-    ensures { IfOk result (λ s. string_bytes s ≡ spec.written_text date) }
-{
-    let month = name_of_month(date.month);
-    match date.later {
-        Some(later) => format!(in alloc; "{} {} {}/{}", date.day, month, date.year, later),
-        None => format!(in alloc; "{} {} {}", date.day, month, date.year),
+impl fmt::Display for DayInCalendar {
+    ghost use Rattle.std.specs.Prelude.{Some};
+    ghost use Rattle.osn_pages.specs.Words.{calendar_words};
+
+    ghost output = { λ x. Some (calendar_words x.calendar x.day) };
+
+    #[tactic(auto, unfolding(crate::specs::Words::calendar_words))]
+    fn fmt<W: fmt::Write>(&self, f: &mut fmt::Formatter<W>) -> fmt::Result {
+        let date = date_of(self.calendar, self.day);
+        write!(f, "{} {} {}", date.day, month_name(date.month), date.year)
     }
 }
 
-/// The date of a day in a calendar.
-#[tactic(auto, unfolding(crate::specs::Words::calendar_words))]
-pub(crate) fn calendar_words(
-    alloc: Global,
-    calendar: Calendar,
-    day: Day,
-) -> Result<String, AllocError>
-    ensures { IfOk result (λ s. string_bytes s ≡ spec.calendar_words calendar day) }
-{
-    let date = date_of(calendar, day);
-    format!(in alloc; "{} {} {}", date.day, month_name(date.month), date.year)
+/// A day by its weekday and as it is dated, as `Friday 11 February 1731/2`.
+#[derive(Clone, Copy)]
+pub(crate) struct NamedDay(pub(crate) DatedDay);
+
+impl fmt::Display for NamedDay {
+    ghost use Rattle.std.specs.Prelude.{Some};
+    ghost use Rattle.osn_pages.specs.Words.{named_day};
+
+    ghost output = { λ x. Some (named_day x.0) };
+
+    #[tactic(auto, unfolding(crate::specs::Words::named_day))]
+    fn fmt<W: fmt::Write>(&self, f: &mut fmt::Formatter<W>) -> fmt::Result {
+        let day = self.0;
+        write!(f, "{} {}", day.day.weekday().name(), day)
+    }
 }
 
-/// A day by its weekday and its dual text.
-#[tactic(auto, unfolding(crate::specs::Words::named_day))]
-pub(crate) fn named_day(alloc: Global, day: Day, dual: &str) -> Result<String, AllocError>
-    ensures { IfOk result (λ s. string_bytes s ≡ spec.named_day day dual.now) }
-{
-    format!(in alloc; "{} {}", day.weekday().name(), dual)
+/// The same with its number, as `Thursday 14 September 1752 (day 639797)`.
+#[derive(Clone, Copy)]
+pub(crate) struct NumberedDay(pub(crate) DatedDay);
+
+impl fmt::Display for NumberedDay {
+    ghost use Rattle.std.specs.Prelude.{Some};
+    ghost use Rattle.osn_pages.specs.Words.{numbered_day};
+
+    ghost output = { λ x. Some (numbered_day x.0) };
+
+    #[tactic(auto, unfolding(crate::specs::Words::numbered_day))]
+    fn fmt<W: fmt::Write>(&self, f: &mut fmt::Formatter<W>) -> fmt::Result {
+        let named = NamedDay(self.0);
+        let number = self.0.day.number();
+        write!(f, "{named} (day {number})")
+    }
 }

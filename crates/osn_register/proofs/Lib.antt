@@ -4,3 +4,4 @@ pub mod Kept
 pub mod PeriodCount
 pub mod KeptAnswers
 pub mod TerritoryFacts
+pub mod NamedFacts

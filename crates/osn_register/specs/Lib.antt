@@ -4,6 +4,7 @@ pub mod Code
 pub mod Query
 pub mod BorrowedQuery
 pub mod Plain
+pub mod Named
 pub mod Answer
 pub mod Inside
 pub mod InsideChange

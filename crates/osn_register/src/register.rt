@@ -13,6 +13,7 @@ ghost use Rattle.osn_register.specs.InsideChange.{change_refusal, territory_afte
 ghost use Rattle.osn_register.specs.InsideChange.{change_takes_memory};
 
 mod copy;
+mod lands;
 mod queries;
 
 use crate::change::TerritoryEdit;
@@ -107,23 +108,12 @@ impl Register {
         self.lands.contains_key(code)
     }
 
-    fn territory(&self, code: &str) -> Option<&Territory>
-        ensures { option_copied result ≡ territory_of code.now self.now.lands }
-    {
-        match self.lands.get(code) {
-            Some(entry) => Some(&entry.territory),
-            None => None,
-        }
-    }
-
     fn known_territory(&self, code: &str) -> Result<&Territory, Refusal>
         ensures test { IsTestOf (code_refusal self.now.lands code.now) result }
         ensures value { IfOk result (λ t. territory_of code.now self.now.lands ≡ Some t.now) }
     {
-        if !is_code(code) {
-            return Err(Refusal::BadCode);
-        }
-        self.territory(code).ok_or(Refusal::UnknownLand)
+        let (_, territory) = self.land(code)?;
+        Ok(territory)
     }
 }
 

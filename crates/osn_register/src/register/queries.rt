@@ -154,7 +154,12 @@ impl Register {
         Ok(periods(self.alloc, territory)?)
     }
 
-    fn listed(&self) -> Result<Vec<Land>, AllocError>
+    /// The territories with their names, in the order in which they were added.
+    ///
+    /// # Errors
+    ///
+    /// `AllocError` where there is no memory for them. An empty register takes none.
+    pub fn listed(&self) -> Result<Vec<Land>, AllocError>
         ensures value { IfOk result (λ v. v.items ≡ map spec.listed self.now.lands) }
         ensures memory { OnErr result (0 < length self.now.lands) }
     {

@@ -34,18 +34,9 @@ returns-in-Desk g c =
     c.refused-in-Desk.ensures)
     c.tell_refusal-in-Desk.ensures.ok c.tell_refusal-in-Desk.ensures.err
 
-pub returns-in-Misused : goal.returns-in-Misused
-returns-in-Misused g c =
-    told_as_it_is _ c.args.fault _ _ c.in-Misused.is
-    (refl, subst (WritesLine _) c.line.ensures c.write_line.ensures)
-
-pub returns-in-BadTable : goal.returns-in-BadTable
-returns-in-BadTable g c =
-    told_refusal string_bytes _ c.args.fault _ c.line-in-BadTable.result
-    (ap fault_status c.in-BadTable.is)
-    (IfOk-weaker c.line-in-BadTable.result _ _
-    (λ text e. e ∙ sym (ap fault_line c.in-BadTable.is)) c.line-in-BadTable.ensures)
-    c.tell_refusal-in-BadTable.ensures.ok c.tell_refusal-in-BadTable.ensures.err
+pub returns-in-KeptWithOther : goal.returns-in-KeptWithOther
+returns-in-KeptWithOther g c =
+    told_as_it_is _ c.args.fault _ _ c.in-KeptWithOther.is (refl, c.write_line.ensures)
 
 pub returns-in-KeptElsewhere : goal.returns-in-KeptElsewhere
 returns-in-KeptElsewhere g c =

@@ -1,9 +1,11 @@
-use Rattle.std.proofs.Common.{string_bytes, inl, inr}
-use Rattle.osn_commands.proofs.PrintLemmas.{printed}
+use Rattle.std.proofs.Common.{sym}
+use Rattle.osn_days.specs.Profile.{newest_rules}
+use Rattle.osn_invocation.specs.Invocation.{page_words}
+use Rattle.osn_commands.proofs.PageLemmas.{page_printed}
 use Rattle.osn_commands.proofs.page.page_command.Goals as goal
 
-pub returns : goal.returns
-returns g c =
-    printed string_bytes _ _ c.journal_page-made.result _ _ _
-    c.journal_page-made.ensures.ok c.journal_page-made.ensures.err (inr (inl tt))
-    c.print.ensures.ok c.print.ensures.err
+pub returns-in-Ok : goal.returns-in-Ok
+returns-in-Ok g c =
+    page_printed newest_rules c.args.limits c.args.path.now _ (page_words c.args.words)
+    c.in-Ok.asked _ _ _
+    c.print_asked.result (sym c.in-Ok.ensures) c.code_of-code.ensures c.print_asked.ensures

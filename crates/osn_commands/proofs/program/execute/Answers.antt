@@ -1,5 +1,6 @@
-use Rattle.std.proofs.Common.{refl}
+use Rattle.std.proofs.Common.{option_map, refl}
 use Rattle.std.proofs.lemmas.Result.{IfOk-weaker}
+use Rattle.osn_commands.proofs.LettersLemmas.{letters_ran}
 use Rattle.osn_commands.proofs.RunLemmas.{ran}
 use Rattle.osn_commands.proofs.program.execute.Goals as goal
 
@@ -38,8 +39,12 @@ returns-in-Convert-clause-ok g c =
     ran c.args.limits c.args.command _ _ _ _ _ _ c.convert_command.result c.in-Convert.is
     (refl, c.convert_command.ensures)
 
-pub returns-in-Letters-clause-ok : goal.returns-in-Letters-clause-ok
-returns-in-Letters-clause-ok g c =
+pub returns-in-Ok-clause-ok : goal.returns-in-Ok-clause-ok
+returns-in-Ok-clause-ok g c =
     IfOk-weaker c.letters.result _ _
-    (λ status h. ran c.args.limits c.args.command _ _ _ _ _ _ status c.in-Letters.is h)
+    (λ status h. ran c.args.limits c.args.command _ _ _ _ _ _ status c.in-Letters.is
+    (letters_ran c.args.limits c.in-Letters.journal.now c.in-Letters.place.now c.in-Letters.date.now
+    (option_map (λ name. name.now) c.in-Letters.weekday)
+    (option_map (λ word. word.now) c.in-Letters.separator)
+    _ _ _ _ _ _ _ status c.in-Ok.ensures.ok h))
     c.letters.ensures.ok

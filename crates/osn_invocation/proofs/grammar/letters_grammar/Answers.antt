@@ -17,5 +17,8 @@ returns c =
     let first = one_more_arg _ _ _ _ _ c.in_ok-arg.ensures command journal in
     let second = one_more_arg _ _ _ _ _ c.in_ok-arg-2.ensures first place in
     let third = one_more_arg _ _ _ _ _ c.in_ok-arg-3.ensures second date in
-    IfOk-weaker c.arg-4.result _ _
-    (λ new added. one_more_arg _ new _ _ _ added third weekday) c.arg-4.ensures
+    let separator = helped c.option_arg-4.result c.help-5.result _ _
+    c.help-5.ensures c.option_arg-4.ensures in
+    let fourth = one_more_arg _ _ _ _ _ c.in_ok-arg-4.ensures third weekday in
+    IfOk-weaker c.arg-5.result _ _
+    (λ new added. one_more_arg _ new _ _ _ added fourth separator) c.arg-5.ensures

@@ -10,10 +10,10 @@ returns c =
     c.help.ensures c.required_arg.ensures in
     let code = helped c.required_arg-2.result c.help-2.result _ _
     c.help-2.ensures c.required_arg-2.ensures in
-    let year = helped c.year_arg.result c.help-3.result _ _
-    c.help-3.ensures c.year_arg.ensures in
-    let month = helped c.month_arg.result c.help-4.result _ _
-    c.help-4.ensures c.month_arg.ensures in
+    let year = helped c.required_arg-3.result c.help-3.result _ _
+    c.help-3.ensures c.required_arg-3.ensures in
+    let month = helped c.required_arg-4.result c.help-4.result _ _
+    c.help-4.ensures c.required_arg-4.ensures in
     let first = one_more_arg _ _ _ _ _ c.in_ok-arg.ensures command journal in
     let second = one_more_arg _ _ _ _ _ c.in_ok-arg-2.ensures first code in
     let third = one_more_arg _ _ _ _ _ c.in_ok-arg-3.ensures second year in

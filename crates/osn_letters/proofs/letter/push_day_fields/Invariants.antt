@@ -7,5 +7,5 @@ use Rattle.osn_letters.proofs.letter.push_day_fields.Given as goal
 abbrev pub invariant-loop-field : goal.invariant-loop-field
 invariant-loop-field l =
     (fields_of l.fields ≡ fields_of l.initial.fields
-    ++ map (spec.text_in (map (λ f. f.now) l.days)) (take l.field-index l.which))
+    ++ map (spec.days_text l.days) (take l.field-index l.which))
     × (partial_of l.fields ≡ [])

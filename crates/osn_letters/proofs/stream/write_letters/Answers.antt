@@ -20,12 +20,12 @@ use Rattle.osn_letters.proofs.stream.write_letters.Goals as goal
 pub returns-in_default-clause-early : goal.returns-in_default-clause-early
 returns-in_default-clause-early g c =
     nothing_early (letters_written (basis newest_rules c.args.register.now.lands c.args.edition
-    c.args.names)) _ _ NoMemory refl
+    c.args.settings)) _ _ NoMemory refl
 
 pub returns-then-read-eq0-clause-whole : goal.returns-then-read-eq0-clause-whole
 returns-then-read-eq0-clause-whole g c =
     let all = letters_written (basis newest_rules c.args.register.now.lands c.args.edition
-    c.args.names) in
+    c.args.settings) in
     let inv = c.loop-call.invariant.taken in
     let bytes = c.in-Ok-read.ensures.bytes in
     let some : 0 < length c.read.new.buffer =
@@ -46,7 +46,7 @@ returns-then-read-eq0-clause-whole g c =
 pub returns-then-read-eq0-clause-early : goal.returns-then-read-eq0-clause-early
 returns-then-read-eq0-clause-early g c =
     let all = letters_written (basis newest_rules c.args.register.now.lands c.args.edition
-    c.args.names) in
+    c.args.settings) in
     let inv = c.loop-call.invariant.taken in
     let bytes = c.in-Ok-read.ensures.bytes in
     let some : 0 < length c.read.new.buffer =
@@ -67,7 +67,7 @@ returns-then-read-eq0-clause-early g c =
 pub returns-then-read-eq0-clause-sink : goal.returns-then-read-eq0-clause-sink
 returns-then-read-eq0-clause-sink g c =
     let all = letters_written (basis newest_rules c.args.register.now.lands c.args.edition
-    c.args.names) in
+    c.args.settings) in
     let inv = c.loop-call.invariant.taken in
     let bytes = c.in-Ok-read.ensures.bytes in
     let some : 0 < length c.read.new.buffer =
@@ -93,7 +93,7 @@ returns-then-read-eq0-clause-sink g c =
 pub returns-in_err-take_and_write-clause-early : goal.returns-in_err-take_and_write-clause-early
 returns-in_err-take_and_write-clause-early g c =
     let all = letters_written (basis newest_rules c.args.register.now.lands c.args.edition
-    c.args.names) in
+    c.args.settings) in
     let inv = c.loop-call.invariant.taken in
     let read = c.in-Ok-read.read in
     let got = take read c.read.new.buffer in
@@ -116,7 +116,7 @@ returns-in_err-take_and_write-clause-early g c =
 pub returns-in_err-take_and_write-clause-sink : goal.returns-in_err-take_and_write-clause-sink
 returns-in_err-take_and_write-clause-sink g c =
     let all = letters_written (basis newest_rules c.args.register.now.lands c.args.edition
-    c.args.names) in
+    c.args.settings) in
     let inv = c.loop-call.invariant.taken in
     let read = c.in-Ok-read.read in
     let got = take read c.read.new.buffer in
@@ -140,7 +140,7 @@ returns-in_err-take_and_write-clause-sink g c =
 pub returns-in_default-read-clause-source : goal.returns-in_default-read-clause-source
 returns-in_default-read-clause-source g c =
     let all = letters_written (basis newest_rules c.args.register.now.lands c.args.edition
-    c.args.names) in
+    c.args.settings) in
     let inv = c.loop-call.invariant.taken in (
       inl (search rules),
       λ told. read_settled all c.loop-call.letters _ _ _ _ inv.0
@@ -165,7 +165,7 @@ returns-in_err-take_and_write-clause-source g c =
 pub returns-clause-source : goal.returns-clause-source
 returns-clause-source g c =
     let all = letters_written (basis newest_rules c.args.register.now.lands c.args.edition
-    c.args.names) in
+    c.args.settings) in
     let inv = c.loop-call.invariant.taken in (
       inr (input_long _ _ inv.0 4294967295 (omega (arith, inv.1, c.loop-call-test.false)) inv.2),
       λ told. read_settled all c.loop-call.letters _ _ _ _ inv.0 inv.2 inv.3,
@@ -174,7 +174,7 @@ returns-clause-source g c =
 pub loop-call-preserved : goal.loop-call-preserved
 loop-call-preserved g c =
     let all = letters_written (basis newest_rules c.args.register.now.lands c.args.edition
-    c.args.names) in
+    c.args.settings) in
     let inv = c.loop-call.invariant.taken in
     let read = c.in-Ok-read.read in
     let got = take read c.read.new.buffer in

@@ -20,7 +20,7 @@ invariant-loop-call g l =
           × Consumes (g.R.Source.remaining l.fn.source) (g.R.Source.remaining l.source) read
           × ((more : List ℕ)
           → Passes (g.W.Sink.contents l.fn.sink) (g.W.Sink.contents l.sink)
-          (letters_written (basis newest_rules l.fn.register.lands l.fn.edition l.fn.names)
+          (letters_written (basis newest_rules l.fn.register.lands l.fn.edition l.fn.settings)
           (read ++ more))
           (text_from l.letters more));
     }

@@ -22,8 +22,8 @@ returns-in-Ok-write_all-clause-early g c =
     (subst (Appends (g.W.Sink.contents c.args.sink.now) (g.W.Sink.contents c.write_all.new.sink))
     text c.in-Ok-write_all.ensures.ok)
 
-pub returns-clause-early : goal.returns-clause-early
-returns-clause-early g c =
+pub returns-in-Err-clause-early : goal.returns-in-Err-clause-early
+returns-in-Err-clause-early g c =
     let known : is_known c.args.taken ≡ true = search rules in
     let text : c.deref.result.now ≡ waiting c.args.out.now = search rules in
     λ w waits.

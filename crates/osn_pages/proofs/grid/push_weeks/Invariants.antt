@@ -1,13 +1,13 @@
-use Rattle.std.proofs.Common.{◌≡◌, ◌++◌, length, map, string_bytes}
-use Rattle.osn_almanac.specs.Almanac.{lines_text}
-use Rattle.osn_pages.specs.MonthPage as spec
+use Rattle.std.proofs.Common.{◌≡◌, ◌++◌, length, string_bytes}
+use Rattle.std.specs.List.{flat_map}
+use Rattle.osn_pages.specs.Grid as spec
 use Rattle.osn_pages.proofs.grid.push_weeks.Given as goal
 
 -- the lines of the days that are left are still to come
 abbrev pub invariant-loop-rest : goal.invariant-loop-rest
 invariant-loop-rest l =
-    string_bytes l.initial.out ++ lines_text (map spec.week_line (spec.weeks_of l.run))
-    ≡ string_bytes l.out ++ lines_text (map spec.week_line (spec.weeks_of l.rest))
+    string_bytes l.initial.out ++ flat_map spec.week_line (spec.weeks_of l.run)
+    ≡ string_bytes l.out ++ flat_map spec.week_line (spec.weeks_of l.rest)
 
 -- the days that are left
 abbrev pub decreases-loop-rest : goal.decreases-loop-rest

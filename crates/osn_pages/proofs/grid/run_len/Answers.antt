@@ -1,6 +1,6 @@
 use Rattle.std.proofs.Common.{arith, rules}
-use Rattle.osn_pages.specs.MonthPage as spec
-use Rattle.osn_pages.proofs.MonthFacts.{piece_cut, at_cut, one_piece}
+use Rattle.osn_pages.specs.Grid as spec
+use Rattle.osn_pages.proofs.GridFacts.{piece_cut, at_cut, one_piece}
 use Rattle.osn_pages.proofs.grid.run_len.Goals as goal
 
 pub returns-then-not-is_next-clause-cut : goal.returns-then-not-is_next-clause-cut

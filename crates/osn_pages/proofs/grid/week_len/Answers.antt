@@ -1,7 +1,7 @@
 use Rattle.std.proofs.Common.{arith, rules, get_or, ◌-◌}
 use Rattle.std.proofs.lemmas.List.{get_or_default}
-use Rattle.osn_pages.specs.MonthPage as spec
-use Rattle.osn_pages.proofs.MonthFacts.{piece_cut, at_cut, one_piece}
+use Rattle.osn_pages.specs.Grid as spec
+use Rattle.osn_pages.proofs.GridFacts.{piece_cut, at_cut, one_piece}
 use Rattle.osn_pages.proofs.grid.week_len.Goals as goal
 
 pub returns-then-begins_week-clause-cut : goal.returns-then-begins_week-clause-cut

@@ -1,10 +1,10 @@
 use Rattle.std.proofs.Common.{◌≡◌, ◌<◌, ℕ, suc, true, get_or}
-use Rattle.osn_register.specs.declared.answer.Found.{Found}
-use Rattle.osn_pages.specs.MonthPage as spec
+use Rattle.osn_lands.specs.declared.dated.DatedDay.{DatedDay}
+use Rattle.osn_pages.specs.Grid as spec
 use Rattle.osn_pages.proofs.grid.week_len.Given as goal
 
 -- each day so far is of the week of the day before it
 abbrev pub invariant-loop-place : goal.invariant-loop-place
 invariant-loop-place l =
-    (k : ℕ) (d : Found) → suc k < l.place
+    (k : ℕ) (d : DatedDay) → suc k < l.place
     → spec.is_in_week (get_or l.days k d) (get_or l.days (suc k) d) ≡ true

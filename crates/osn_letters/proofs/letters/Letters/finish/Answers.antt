@@ -3,7 +3,8 @@ use Rattle.std.proofs.lemmas.Result.{on_ok_weaker, IfErr-weaker}
 use Rattle.osn_letters.specs.LettersInside.{Wrote, text_behind}
 use Rattle.osn_letters.specs.Table.{whole}
 use Rattle.osn_letters.specs.WriterInside.{waiting}
-use Rattle.osn_letters.proofs.LetterFacts.{told, end_taken, end_stops, end_stops_held, last_stops}
+use Rattle.osn_letters.proofs.LetterFacts.{told, end_taken, end_stops, end_stops_held}
+use Rattle.osn_letters.proofs.PassFacts.{last_stops}
 use Rattle.osn_letters.proofs.letters.Letters.finish.Goals as goal
 
 pub returns-in_err-take_held-clause-stops : goal.returns-in_err-take_held-clause-stops

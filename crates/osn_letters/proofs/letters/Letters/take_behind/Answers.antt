@@ -10,6 +10,7 @@ returns-in_err-line-clause-stops c = told _ c.from_residual.result c.in_err-line
 pub returns-in_err-take-clause-stops : goal.returns-in_err-take-clause-stops
 returns-in_err-take-clause-stops c = told _ c.from_residual-in_err-take.result
     c.in_err-take.field-0.0 c.from_residual-in_err-take.ensures.1
-    (record_refused c.args.self.now c.take-2.new.self c.take.new.self c.args.byte c.in-Some.line
-    c.in_err-take.field-0.0 (rw c.in-Some.is at c.in_ok-line.ensures.takes)
+    (record_refused c.args.self.now c.take-2.new.self c.take.new.self c.args.byte c.in-Some.line _
+    c.in_err-take.field-0.0 c.separator-separator.ensures
+    (rw c.in-Some.is at c.in_ok-line.ensures.takes)
     c.in_err-take.ensures.refuses)

@@ -1,7 +1,7 @@
 use Rattle.std.proofs.lemmas.Result.{IfErr-weaker}
 use Rattle.osn_letters.proofs.table.Table.take.Goals as goal
 
-pub returns-in-None-clause-refuses : goal.returns-in-None-clause-refuses
-returns-in-None-clause-refuses c =
-    IfErr-weaker c.take_header.result _ _ (λ fault refuses. refuses c.args.line)
-    c.take_header.ensures.refuses
+pub returns-in-Some-clause-refuses : goal.returns-in-Some-clause-refuses
+returns-in-Some-clause-refuses c =
+    IfErr-weaker c.take_row.result _ _ (λ fault refuses. refuses c.args.separator)
+    c.take_row.ensures.refuses

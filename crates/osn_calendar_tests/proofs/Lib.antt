@@ -1,2 +1,0 @@
-mod SearchLemmas
-mod TableLemmas

@@ -1,0 +1,30 @@
+-- What is told of a file that could not be opened. This project's profile.
+use Rattle.std.specs.Prelude.{ℕ, List, ◌++◌, Option, Some, None, codes}
+use Rattle.osn_folder.specs.declared.fault.OpenFailed.{OpenFailed}
+use Rattle.osn_folder.specs.declared.fault.OpenFailed.TheVariants.{NotFound, PermissionDenied}
+use Rattle.osn_folder.specs.declared.fault.OpenFailed.TheVariants.{Other}
+use Rattle.osn_invocation.specs.Invocation.{CommandModel}
+use Rattle.osn_invocation.specs.Invocation.{serving, replaying, working, printing, almanac_words}
+use Rattle.osn_invocation.specs.Invocation.{auditing, converting, reading_letters}
+
+-- the path that is named where the file could not be opened: that of the journal of a page or of
+-- letters. The almanac and the other commands name none
+abbrev pub named_file : CommandModel → Option (List ℕ)
+named_file (printing journal (almanac_words code year)) = None
+named_file (printing journal page) = Some journal
+named_file (reading_letters journal place date weekday separator) = Some journal
+named_file (serving journal save kept readers) = None
+named_file (replaying readers schedule) = None
+named_file (working script questions) = None
+named_file (auditing journal transcript) = None
+named_file (converting calendar date) = None
+
+abbrev pub cause_text : OpenFailed → List ℕ
+cause_text NotFound = codes "no such file"
+cause_text PermissionDenied = codes "permission denied"
+cause_text Other = codes "read fault"
+
+-- the line on the file of a path
+abbrev pub unopened_line : List ℕ → OpenFailed → List ℕ
+unopened_line path cause =
+    codes "oldstyle: " ++ (path ++ (codes ": " ++ (cause_text cause ++ codes "\n")))

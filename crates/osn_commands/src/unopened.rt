@@ -1,0 +1,67 @@
+//! How standard error is told of a file that could not be opened.
+ghost use Rattle.std.specs.Prelude.{◌≡◌, IfOk, option_map, string_bytes};
+ghost use Rattle.osn_invocation.specs.Invocation.{command_model};
+ghost use Rattle.osn_commands.specs.Run.{TellsUnopened};
+ghost use Rattle.osn_commands.specs.Streams.{output_of};
+ghost use Rattle.osn_commands.specs.Unopened as spec;
+
+use crate::fault::{CommandFault, report, tell_line};
+use crate::status::Status;
+use osn_folder::OpenFailed;
+use osn_invocation::{CommandWords, PageWords};
+use osn_lines::Sink;
+use std::alloc::{AllocError, Global};
+
+/// The path that a command names where its file could not be opened, if it does.
+pub(crate) fn named_file<'a>(command: CommandWords<'a>) -> Option<&'a str>
+    ensures { option_map (λ path. path.now) result
+        ≡ spec.named_file (command_model command.entry) }
+{
+    match command {
+        CommandWords::Page {
+            page: PageWords::Almanac { .. },
+            ..
+        } => None,
+        CommandWords::Page { journal, .. } | CommandWords::Letters { journal, .. } => Some(journal),
+        CommandWords::Serve(_)
+        | CommandWords::Replay { .. }
+        | CommandWords::Desk { .. }
+        | CommandWords::Audit { .. }
+        | CommandWords::Convert { .. } => None,
+    }
+}
+
+/// Why a file could not be opened.
+fn cause_text(cause: OpenFailed) -> &'static str
+    ensures { result.now ≡ spec.cause_text cause }
+{
+    match cause {
+        OpenFailed::NotFound => "no such file",
+        OpenFailed::PermissionDenied => "permission denied",
+        OpenFailed::Other => "read fault",
+    }
+}
+
+/// The line on a file of this path.
+fn unopened_line(alloc: Global, path: &str, cause: OpenFailed) -> Result<String, AllocError>
+    ensures { IfOk result (λ line. string_bytes line ≡ spec.unopened_line path.now cause) }
+{
+    let cause = cause_text(cause);
+    format!(in alloc; "oldstyle: {path}: {cause}\n")
+}
+
+/// Tells standard error of a file that could not be opened, by its path where that is to be named.
+pub(crate) fn tell_unopened<E: Sink>(
+    alloc: Global,
+    errors: &mut E,
+    named: Option<&str>,
+    cause: OpenFailed,
+) -> Status
+    ensures { TellsUnopened (option_map (λ path. path.now) named.entry)
+        (output_of E.contents E.has_failed errors.old errors.new) result }
+{
+    match named {
+        Some(path) => tell_line(errors, Status::ReadFault, unopened_line(alloc, path, cause)),
+        None => report(alloc, errors, CommandFault::ReadFault),
+    }
+}

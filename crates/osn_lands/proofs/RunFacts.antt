@@ -1,0 +1,183 @@
+-- Runs: a filter that passes the days between two bounds, one run more, and what periods have in
+-- order, the line has.
+use Rattle.std.proofs.Common.{◌≡◌, ℕ, zero, suc, ◌+◌, ◌-◌, ◌<◌, ◌≤◌, Bool, true, false, List}
+use Rattle.std.proofs.Common.{[], ◌∷◌, ◌++◌, filter, map, drop, length, refl, sym, ap, ◌∙◌, arith}
+use Rattle.std.proofs.Math.Bool.{and-true}
+use Rattle.std.specs.Ordering.{int_eq}
+use Rattle.std.proofs.Common.{ℤ, None, Some, ◌&&◌}
+use Rattle.std.proofs.lemmas.List.{append-nil, drop_all}
+use Rattle.std.proofs.lemmas.List.Elements.{filter-append}
+use Rattle.std.proofs.lemmas.Grind.{flat_map-append}
+use Rattle.std.specs.List.{range_with_len, flat_map}
+use Rattle.osn_days.specs.Profile.{Profile}
+use Rattle.osn_days.specs.Line.{line}
+use Rattle.osn_days.proofs.FilterFacts.{filter_none}
+use Rattle.osn_lands.specs.declared.regime.Regime.{Regime}
+use Rattle.osn_lands.specs.declared.period.Period.{Period}
+use Rattle.osn_lands.specs.declared.runs.Run.{Run}
+use Rattle.osn_lands.specs.declared.runs.Sought.{Sought}
+use Rattle.osn_lands.specs.Territory.{TerritoryModel, Covers, CoversLine, regime_at, periods_of}
+use Rattle.osn_lands.specs.Inside.{start_of}
+use Rattle.osn_lands.specs.Label.{local_label}
+use Rattle.osn_lands.specs.Runs.{days_in, AreRunsAfter, AreRuns, days_of_year, days_of_month}
+use Rattle.osn_lands.specs.RunKeys.{is_sought, sought_in, days_sought, LieBetween}
+use Rattle.osn_lands.proofs.OrderFacts.{range_split, filter_same}
+use Rattle.osn_lands.proofs.PeriodFacts.{starts_back}
+use Rattle.osn_lands.proofs.RegimeFacts.{Agrees, agrees}
+
+range_join : (a b e : ℕ) → a ≤ b → b ≤ e →
+    range_with_len a (e - a) ≡ range_with_len a (b - a) ++ range_with_len b (e - b)
+range_join a b e low high =
+    let all : e - a ≡ (b - a) + (e - b) = omega arith in
+    let next : a + (b - a) ≡ b = omega arith in
+    ap (range_with_len a) all ∙ range_split a (b - a) (e - b)
+    ∙ ap (λ k. range_with_len a (b - a) ++ range_with_len k (e - b)) next
+
+pub filter_all : (f : ℕ → Bool) (a n : ℕ) → ((d : ℕ) → a ≤ d → d < a + n → f d ≡ true) →
+    filter f (range_with_len a n) ≡ range_with_len a n
+filter_all f a zero all = refl
+filter_all f a (suc n) all =
+    rw (all a (omega arith) (omega arith))
+    (ap (λ l. a ∷ l) (filter_all f (a + 1) n (λ d low high. all d (omega arith) (omega arith))))
+
+-- the days that pass are those from one bound to the day before another
+pub filter_run : (f : ℕ → Bool) (a b c e : ℕ) → a ≤ b → b ≤ c → c ≤ e →
+    ((d : ℕ) → a ≤ d → d < b → f d ≡ false) → ((d : ℕ) → b ≤ d → d < c → f d ≡ true) →
+    ((d : ℕ) → c ≤ d → d < e → f d ≡ false) →
+    filter f (range_with_len a (e - a)) ≡ range_with_len b (c - b)
+filter_run f a b c e first next last before inside after =
+    ap (filter f) (range_join a b e first (omega arith))
+    ∙ filter-append f (range_with_len a (b - a)) (range_with_len b (e - b))
+    ∙ ap (λ l. l ++ filter f (range_with_len b (e - b)))
+    (filter_none f a (b - a) (λ d low high. before d low (omega arith)))
+    ∙ ap (filter f) (range_join b c e next last)
+    ∙ filter-append f (range_with_len b (c - b)) (range_with_len c (e - c))
+    ∙ ap (λ l. l ++ filter f (range_with_len c (e - c)))
+    (filter_all f b (c - b) (λ d low high. inside d low (omega arith)))
+    ∙ ap (λ l. range_with_len b (c - b) ++ l)
+    (filter_none f c (e - c) (λ d low high. after d low (omega arith)))
+    ∙ append-nil (range_with_len b (c - b))
+
+-- and so for two parts of the days
+pub filter_two : (f : ℕ → Bool) (a e : ℕ) (m : ℕ) (xs ys : List ℕ) → a ≤ m → m ≤ e →
+    filter f (range_with_len a (m - a)) ≡ xs → filter f (range_with_len m (e - m)) ≡ ys →
+    filter f (range_with_len a (e - a)) ≡ xs ++ ys
+filter_two f a e m xs ys low high first second =
+    ap (filter f) (range_join a m e low high)
+    ∙ filter-append f (range_with_len a (m - a)) (range_with_len m (e - m))
+    ∙ ap (λ l. l ++ filter f (range_with_len m (e - m))) first
+    ∙ ap (λ l. xs ++ l) second
+
+-- of some days, those that pass lie between two bounds, and there another test says which
+pub filter_part : (f g : ℕ → Bool) (a b c e : ℕ) → a ≤ b → b ≤ c → c ≤ e →
+    ((d : ℕ) → a ≤ d → d < b → f d ≡ false) → ((d : ℕ) → b ≤ d → d < c → f d ≡ g d) →
+    ((d : ℕ) → c ≤ d → d < e → f d ≡ false) →
+    filter f (range_with_len a (e - a)) ≡ filter g (range_with_len b (c - b))
+filter_part f g a b c e first next last before inside after =
+    ap (filter f) (range_join a b e first (omega arith))
+    ∙ filter-append f (range_with_len a (b - a)) (range_with_len b (e - b))
+    ∙ ap (λ l. l ++ filter f (range_with_len b (e - b)))
+    (filter_none f a (b - a) (λ d low high. before d low (omega arith)))
+    ∙ ap (filter f) (range_join b c e next last)
+    ∙ filter-append f (range_with_len b (c - b)) (range_with_len c (e - c))
+    ∙ ap (λ l. l ++ filter f (range_with_len c (e - c)))
+    (filter_same f g b (c - b) (λ d low high. inside d low (omega arith)))
+    ∙ ap (λ l. filter g (range_with_len b (c - b)) ++ l)
+    (filter_none f c (e - c) (λ d low high. after d low (omega arith)))
+    ∙ append-nil (filter g (range_with_len b (c - b)))
+
+-- runs that end before a day end before a later one
+pub lie_until : (a b c : ℕ) (rs : List Run) → LieBetween a b rs → b ≤ c → LieBetween a c rs
+lie_until a b c [] lie less = omega (arith, lie)
+lie_until a b c (r ∷ rs) lie less = (lie.0, lie.1, lie_until r.last b c rs lie.2 less)
+
+-- one run more
+pub lie_more : (a b c : ℕ) (rs : List Run) (r : Run) → LieBetween a b rs → b ≤ r.first →
+    r.first ≤ r.last → r.last < c → LieBetween a c (rs ++ r ∷ [])
+lie_more a b c [] r lie from some less = (omega (arith, lie), some, less)
+lie_more a b c (q ∷ rs) r lie from some less =
+    (lie.0, lie.1, lie_more q.last b c rs r lie.2 from some less)
+
+runs_after : (a b : ℕ) (rs : List Run) → LieBetween a b rs → AreRunsAfter a rs
+runs_after a b [] lie = tt
+runs_after a b (r ∷ rs) lie = (lie.0, lie.1, runs_after r.last b rs lie.2)
+
+pub are_runs : (b : ℕ) (rs : List Run) → LieBetween 0 b rs → AreRuns rs
+are_runs b rs lie = runs_after 0 b rs lie
+
+pub days_more : (rs : List Run) (r : Run) (first end : ℕ) → r.first ≡ first → r.last + 1 ≡ end →
+    days_in (rs ++ r ∷ []) ≡ days_in rs ++ range_with_len first (end - first)
+days_more rs r first end from until =
+    flat_map-append (λ (q : Run). range_with_len q.first (q.last + 1 - q.first)) rs (r ∷ [])
+    ∙ ap (λ l. days_in rs ++ l) (append-nil (range_with_len r.first (r.last + 1 - r.first))
+    ∙ ap (λ n. range_with_len r.first (n - r.first)) until
+    ∙ ap (λ n. range_with_len n (end - n)) from)
+
+pub no_days : (ds : List ℕ) (first end : ℕ) → end ≤ first →
+    ds ≡ ds ++ range_with_len first (end - first)
+no_days ds first end none =
+    let empty : end - first ≡ 0 = omega arith in rw empty (sym (append-nil ds))
+
+covers_until : (first last : ℕ) (ps : List Period) → Covers first last ps → first ≤ last + 1
+covers_until first last [] covers = omega (arith, covers)
+covers_until first last (p ∷ ps) covers =
+    omega (arith, covers.0, covers.1, covers_until (p.last + 1) last ps covers.2)
+
+-- period by period, or day by day
+in_periods : (p : Profile) (s : Sought) (regime : ℕ → Regime) (first last : ℕ)
+    (ps : List Period) → Covers first last ps → Agrees regime ps →
+    flat_map (sought_in p s) ps ≡ filter (λ d. is_sought p s (regime d) d)
+    (range_with_len first (last + 1 - first))
+in_periods p s regime first last [] covers agree =
+    let none : last + 1 - first ≡ 0 = omega (arith, covers) in rw none refl
+in_periods p s regime first last (q ∷ qs) covers agree =
+    let on : ℕ → Bool = λ d. is_sought p s (regime d) d in
+    let here : sought_in p s q ≡ filter on (range_with_len q.first (q.last + 1 - q.first)) =
+    filter_same (is_sought p s q.regime) on q.first (q.last + 1 - q.first) (λ d low high.
+    ap (λ r. is_sought p s r d) (sym (agree.0 d low (omega arith)))) in
+    let until = covers_until (q.last + 1) last qs covers.2 in
+    sym (filter_two on q.first (last + 1) (q.last + 1) (sought_in p s q)
+    (flat_map (sought_in p s) qs) (omega (arith, covers.1)) until (sym here)
+    (sym (in_periods p s regime (q.last + 1) last qs covers.2 agree.1)))
+    ∙ ap (λ n. filter on (range_with_len n (last + 1 - n))) covers.0
+
+in_territory : (p : Profile) (s : Sought) (t : TerritoryModel) (ps : List Period) →
+    ps ≡ periods_of p t → CoversLine p ps → flat_map (sought_in p s) ps ≡ days_sought p t s
+unfolding days_sought line
+in_territory p s t ps same covers =
+    let es = t.exceptions in
+    let whole : p.high + 1 - 1 ≡ p.high = omega arith in
+    in_periods p s (regime_at (record { starts = map start_of ps; exceptions = es })) 1
+    p.high ps covers (agrees es 1 p.high ps covers)
+    ∙ rw whole refl
+    ∙ ap (λ qs. filter (λ d. is_sought p s
+    (regime_at (record { starts = map start_of qs; exceptions = es }) d) d)
+    (range_with_len 1 p.high)) same
+    ∙ ap (λ starts. filter (λ d. is_sought p s
+    (regime_at (record { starts = starts; exceptions = es }) d) d) (range_with_len 1 p.high))
+    (starts_back p.high t.starts)
+
+-- all periods are done
+pub all_sought : (p : Profile) (s : Sought) (t : TerritoryModel) (rs : List Run)
+    (ps : List Period) (i : ℕ) → ps ≡ periods_of p t → CoversLine p ps → length ps ≤ i →
+    days_in rs ++ flat_map (sought_in p s) (drop i ps) ≡ flat_map (sought_in p s) ps →
+    days_in rs ≡ days_sought p t s
+all_sought p s t rs ps i same covers all invariant =
+    sym (append-nil (days_in rs))
+    ∙ ap (λ qs. days_in rs ++ flat_map (sought_in p s) qs) (sym (drop_all i ps all))
+    ∙ invariant
+    ∙ in_territory p s t ps same covers
+
+-- a year has no month of its own, and the month is that of the label
+pub sought_year : (p : Profile) (t : TerritoryModel) (y : ℤ) →
+    days_sought p t (record { year = y; month = None }) ≡ days_of_year p t y
+unfolding days_sought days_of_year line
+sought_year p t y =
+    filter_same (λ d. int_eq (local_label p (regime_at t d) d).year y && true)
+    (λ d. int_eq (local_label p (regime_at t d) d).year y) 1 p.high
+    (λ d low high. and-true (int_eq (local_label p (regime_at t d) d).year y))
+
+pub sought_month : (p : Profile) (t : TerritoryModel) (y : ℤ) (m : ℕ) →
+    days_sought p t (record { year = y; month = Some m }) ≡ days_of_month p t y m
+unfolding days_sought days_of_month
+sought_month p t y m = refl

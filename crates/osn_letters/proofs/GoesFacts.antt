@@ -1,0 +1,148 @@
+-- What is written of records and of more after them.
+use Rattle.std.proofs.Common.{◌≡◌, ◌∙◌, ℕ, ◌+◌, ◌==◌, Bool, true, false, List, [], ◌∷◌, ◌++◌}
+use Rattle.std.proofs.Common.{Option, None, Result, Ok, Err, refl, sym, ap, if◌then◌else◌}
+use Rattle.std.proofs.Common.{length, map, append_assoc}
+use Rattle.std.specs.Prelude.{option_map, is_ok}
+use Rattle.osn_letters.specs.declared.columns.Columns.{Columns}
+use Rattle.osn_letters.specs.declared.fault.LettersFault.{LettersFault}
+use Rattle.osn_letters.specs.declared.fault.LettersFault.TheVariants.{BadRecord}
+use Rattle.osn_letters.specs.declared.separator.Separator.{Separator}
+use Rattle.osn_letters.specs.Columns.{columns_of}
+use Rattle.osn_letters.specs.Faults.{later_fault}
+use Rattle.osn_letters.specs.Law.{AreSound}
+use Rattle.osn_letters.specs.Records.{PlacedRecord}
+use Rattle.osn_letters.specs.Table.{TableBasis, Heading, Written, behind, ended_by, header_at}
+use Rattle.osn_letters.specs.Table.{header_by, header_text, letter_text, row_by, rows_written}
+use Rattle.osn_letters.specs.Table.{table_written}
+use Rattle.osn_letters.proofs.LaterFacts.{later_fields, later_record}
+
+abbrev pub with_text : List ℕ → Option LettersFault → Written
+with_text text fault = record { text = text; fault = fault }
+
+-- the same, with a fault so many lines further on
+abbrev pub later : ℕ → Written → Written
+later n w = with_text w.text (option_map (later_fault n) w.fault)
+
+pub behind_behind : (xs ys : List ℕ) (w : Written)
+    → behind xs (behind ys w) ≡ behind (xs ++ ys) w
+behind_behind xs ys w = ap (λ l. with_text l w.fault) (sym (append_assoc xs ys w.text))
+
+row_later : (n line : ℕ) (text : List ℕ) (more : Written) (same : Bool)
+    → (if same then behind text (later n more) else ended_by (BadRecord (line + n)))
+    ≡ later n (if same then behind text more else ended_by (BadRecord line))
+row_later n line text more true = refl
+row_later n line text more false = refl
+
+fields_later : (s : TableBasis) (heading : Heading) (n line : ℕ)
+    (fields : Result (List (List ℕ)) LettersFault) (more : Written)
+    → row_by s heading (line + n) (later_fields n fields) (later n more)
+    ≡ later n (row_by s heading line fields more)
+fields_later s heading n line (Err fault) more = refl
+fields_later s heading n line (Ok fields) more =
+    row_later n line (letter_text s heading.separator heading.columns fields) more
+    (length fields == heading.width)
+
+pub rows_later : (s : TableBasis) (heading : Heading) (n : ℕ) (records : List PlacedRecord)
+    → rows_written s heading (map (later_record n) records)
+    ≡ later n (rows_written s heading records)
+rows_later s heading n [] = refl
+rows_later s heading n (r ∷ rest) =
+    ap (row_by s heading (r.line + n) (later_fields n r.fields)) (rows_later s heading n rest)
+    ∙ fields_later s heading n r.line r.fields (rows_written s heading rest)
+
+-- a table goes on behind one that has no fault
+abbrev GoesOn : Written → Written → Written → Type 0
+GoesOn first more all = first.fault ≡ None → all ≡ behind first.text more
+
+row_goes : (line : ℕ) (text : List ℕ) (first more all : Written) (same : Bool)
+    → GoesOn first more all
+    → GoesOn (if same then behind text first else ended_by (BadRecord line)) more
+    (if same then behind text all else ended_by (BadRecord line))
+row_goes line text first more all true goes whole =
+    ap (behind text) (goes whole) ∙ behind_behind text first.text more
+row_goes line text first more all false goes whole = absurd (cc whole)
+
+fields_go : (s : TableBasis) (heading : Heading) (line : ℕ)
+    (fields : Result (List (List ℕ)) LettersFault) (first more all : Written)
+    → GoesOn first more all
+    → GoesOn (row_by s heading line fields first) more (row_by s heading line fields all)
+fields_go s heading line (Err fault) first more all goes whole = absurd (cc whole)
+fields_go s heading line (Ok fields) first more all goes whole =
+    row_goes line (letter_text s heading.separator heading.columns fields) first more all
+    (length fields == heading.width) goes whole
+
+pub rows_go : (s : TableBasis) (heading : Heading) (xs ys : List PlacedRecord)
+    → GoesOn (rows_written s heading xs) (rows_written s heading ys)
+    (rows_written s heading (xs ++ ys))
+rows_go s heading [] ys whole = refl
+rows_go s heading (r ∷ xs) ys whole =
+    fields_go s heading r.line r.fields (rows_written s heading xs) (rows_written s heading ys)
+    (rows_written s heading (xs ++ ys)) (rows_go s heading xs ys) whole
+
+row_sound : (line : ℕ) (text : List ℕ) (more : Written) (same : Bool)
+    → (if same then behind text more else ended_by (BadRecord line)).fault ≡ None
+    → more.fault ≡ None
+row_sound line text more true whole = whole
+row_sound line text more false whole = absurd (cc whole)
+
+fields_sound : (s : TableBasis) (heading : Heading) (line : ℕ)
+    (fields : Result (List (List ℕ)) LettersFault) (more : Written)
+    → (row_by s heading line fields more).fault ≡ None → (is_ok fields ≡ true) × (more.fault ≡ None)
+fields_sound s heading line (Err fault) more whole = absurd (cc whole)
+fields_sound s heading line (Ok fields) more whole = (
+  refl,
+  row_sound line (letter_text s heading.separator heading.columns fields) more
+      (length fields == heading.width) whole,
+)
+
+-- without a fault no record has one
+pub rows_sound : (s : TableBasis) (heading : Heading) (xs : List PlacedRecord)
+    → (rows_written s heading xs).fault ≡ None → AreSound xs
+rows_sound s heading [] whole = tt
+rows_sound s heading (r ∷ xs) whole =
+    let h = fields_sound s heading r.line r.fields (rows_written s heading xs) whole in
+    (h.0, rows_sound s heading xs h.1)
+
+-- ---- a table without a fault has a header, behind which its rows go on
+
+pub record GoesBy (s : TableBasis) (written : List PlacedRecord → Written) (xs : List PlacedRecord)
+    : Type 0 where
+  pub heading : Heading
+  pub goes : (ys : List PlacedRecord)
+      → written (xs ++ ys) ≡ behind (written xs).text (rows_written s heading ys)
+  pub sound : AreSound xs
+
+columns_go : (s : TableBasis) (columns : Result Columns LettersFault) (separator : Separator)
+    (header : List (List ℕ)) (xs : List PlacedRecord)
+    → (header_at s columns separator header xs).fault ≡ None
+    → GoesBy s (header_at s columns separator header) xs
+columns_go s (Err fault) separator header xs whole = absurd (cc whole)
+columns_go s (Ok columns) separator header xs whole =
+    let heading : Heading = record {
+      columns = columns;
+      width = length header;
+      separator = separator;
+    } in
+    record {
+      heading = heading;
+      goes = λ ys.
+          ap (behind (header_text separator header)) (rows_go s heading xs ys whole)
+          ∙ behind_behind (header_text separator header) (rows_written s heading xs).text
+          (rows_written s heading ys);
+      sound = rows_sound s heading xs whole;
+    }
+
+header_goes : (s : TableBasis) (line : ℕ) (separator : Separator)
+    (fields : Result (List (List ℕ)) LettersFault)
+    (xs : List PlacedRecord) → (header_by s line separator fields xs).fault ≡ None
+    → (is_ok fields ≡ true) × GoesBy s (header_by s line separator fields) xs
+header_goes s line separator (Err fault) xs whole = absurd (cc whole)
+header_goes s line separator (Ok header) xs whole =
+    (refl, columns_go s (columns_of s.names line header) separator header xs whole)
+
+pub table_goes : (s : TableBasis) (xs : List PlacedRecord) → (table_written s xs).fault ≡ None
+    → GoesBy s (table_written s) xs
+table_goes s [] whole = absurd (cc whole)
+table_goes s (r ∷ xs) whole =
+    let h = header_goes s r.line r.separator r.fields xs whole in
+    record { heading = h.1.heading; goes = h.1.goes; sound = (h.0, h.1.sound) }

@@ -1,0 +1,9 @@
+use Rattle.std.proofs.Common.{◌≡◌, take}
+use Rattle.csv.specs.Records.{fields_of}
+use Rattle.osn_letters.specs.Columns.{names_text}
+use Rattle.osn_letters.proofs.columns.names_text.Given as goal
+
+-- the names so far
+abbrev pub invariant-loop-place : goal.invariant-loop-place
+invariant-loop-place l =
+    l.names.items ≡ names_text (take l.place (fields_of l.header))

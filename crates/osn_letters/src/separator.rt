@@ -1,0 +1,74 @@
+//! What separates the fields of a record.
+ghost use Rattle.std.specs.Prelude.{◌≡◌};
+ghost use Rattle.osn_letters.specs.Separators as spec;
+ghost use Rattle.osn_letters.specs.RecordsInside.{action_of};
+
+use crate::place::Effect;
+
+/// What separates the fields of a record.
+#[derive(Clone, Copy, Debug, PartialEq, Eq)]
+pub enum Separator {
+    Comma,
+    Semicolon,
+    Tab,
+}
+
+impl Separator {
+    /// Its byte.
+    pub(crate) fn byte(self) -> u8
+        ensures { result ≡ spec.separator_byte self }
+    {
+        match self {
+            Separator::Comma => b',',
+            Separator::Semicolon => b';',
+            Separator::Tab => b'\t',
+        }
+    }
+
+    /// The separator that a byte is, if it is one.
+    fn of(byte: u8) -> Option<Separator>
+        ensures { result ≡ spec.separator_of byte }
+    {
+        match byte {
+            b',' => Some(Separator::Comma),
+            b';' => Some(Separator::Semicolon),
+            b'\t' => Some(Separator::Tab),
+            _ => None,
+        }
+    }
+}
+
+/// The separator that was found, or the comma while none was.
+pub(crate) fn or_comma(found: Option<Separator>) -> Separator
+    ensures { result ≡ spec.or_comma found }
+{
+    match found {
+        Some(separator) => separator,
+        None => Separator::Comma,
+    }
+}
+
+/// The separator by which a byte is read: the one that was found, or the byte while none was.
+pub(crate) fn separator_at(found: Option<Separator>, byte: u8) -> Separator
+    ensures { result ≡ spec.separator_at found byte }
+{
+    match found {
+        Some(separator) => separator,
+        None => or_comma(Separator::of(byte)),
+    }
+}
+
+/// The separator that was found after a byte that does that to the record at hand.
+pub(crate) fn separator_after(
+    found: Option<Separator>,
+    byte: u8,
+    effect: Effect,
+) -> Option<Separator>
+    ensures { result ≡ spec.separator_after found byte (action_of effect) }
+{
+    match (found, effect) {
+        (None, Effect::EndField) => Separator::of(byte),
+        (None, Effect::EndRecord) => Some(Separator::Comma),
+        _ => found,
+    }
+}

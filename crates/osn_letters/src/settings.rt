@@ -1,0 +1,12 @@
+//! How a table of letters is read.
+use crate::columns::ColumnNames;
+use crate::separator::Separator;
+
+/// How a table of letters is read.
+#[derive(Clone, Copy, Debug)]
+pub struct TableSettings<'a> {
+    /// The names of the columns that are read.
+    pub names: ColumnNames<'a>,
+    /// What separates the fields. Where it is not named, the header says it.
+    pub separator: Option<Separator>,
+}

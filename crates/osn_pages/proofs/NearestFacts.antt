@@ -1,0 +1,50 @@
+-- The first list with days, year by year.
+use Rattle.std.proofs.Common.{◌≡◌, ◌<◌, ◌+◌, ◌-◌, ℕ, suc, List, [], ◌∷◌, map, ap, ◌∙◌, refl, arith}
+use Rattle.std.proofs.Common.{length, sym}
+use Rattle.std.specs.List.{range_with_len}
+use Rattle.osn_days.specs.Profile.{Profile}
+use Rattle.osn_lands.specs.Territory.{TerritoryModel}
+use Rattle.osn_written.specs.declared.written_date.WrittenDate.{WrittenDate}
+use Rattle.osn_pages.specs.Nearest as spec
+
+-- what is left of the years from one on
+abbrev left : (ℕ → List ℕ) → ℕ → ℕ → List ℕ
+left f y most = spec.first_with_days (map f (range_with_len y (most + 1 - y)))
+
+one_more : (f : ℕ → List ℕ) (y most : ℕ) → y < most + 1
+    → left f y most ≡ spec.first_with_days (f y ∷ map f (range_with_len (y + 1) (most + 1 - (y + 1))))
+one_more f y most low =
+    let count : most + 1 - y ≡ suc (most + 1 - (y + 1)) = omega (arith, low) in
+    ap (λ n. spec.first_with_days (map f (range_with_len y n))) count
+
+-- a year with no day is passed over
+pub next_years : (f : ℕ → List ℕ) (whole days : List ℕ) (y most : ℕ) → y < most + 1
+    → whole ≡ left f y most → days ≡ f y → length days ≡ 0 → whole ≡ left f (y + 1) most
+next_years f whole [] y most low so_far is none =
+    so_far ∙ one_more f y most low
+    ∙ ap (λ ds. spec.first_with_days (ds ∷ map f (range_with_len (y + 1) (most + 1 - (y + 1)))))
+    (sym is)
+next_years f whole (d ∷ ds) y most low so_far is none = absurd (omega (arith, none))
+
+-- the days of the first year that has some
+pub first_years : (f : ℕ → List ℕ) (whole days : List ℕ) (y most : ℕ) → y < most + 1
+    → whole ≡ left f y most → days ≡ f y → 0 < length days → days ≡ whole
+first_years f whole [] y most low so_far is some = absurd (omega (arith, some))
+first_years f whole (d ∷ ds) y most low so_far is some =
+    sym (so_far ∙ one_more f y most low
+    ∙ ap (λ es. spec.first_with_days (es ∷ map f (range_with_len (y + 1) (most + 1 - (y + 1)))))
+    (sym is))
+
+-- no year has a day
+pub no_years : (f : ℕ → List ℕ) (whole : List ℕ) (y most : ℕ) → y ≡ most + 1
+    → whole ≡ left f y most → [] ≡ whole
+no_years f whole y most last so_far =
+    let count : most + 1 - y ≡ 0 = omega (arith, last) in
+    sym (so_far ∙ ap (λ n. spec.first_with_days (map f (range_with_len y n))) count)
+
+pub begin_years : (p : Profile) (t : TerritoryModel) (w : WrittenDate) (most : ℕ)
+    → spec.nearest_within p t w most ≡ left (spec.days_apart p t w) 1 most
+unfolding spec.nearest_within
+begin_years p t w most =
+    let count : most ≡ most + 1 - 1 = omega arith in
+    ap (λ n. spec.first_with_days (map (spec.days_apart p t w) (range_with_len 1 n))) count

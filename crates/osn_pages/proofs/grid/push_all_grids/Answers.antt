@@ -1,0 +1,7 @@
+use Rattle.std.proofs.Common.{string_bytes, rules}
+use Rattle.osn_pages.proofs.GridFacts.{no_runs}
+use Rattle.osn_pages.proofs.grid.push_all_grids.Goals as goal
+
+pub returns : goal.returns
+returns c = no_runs _ (string_bytes c.loop-rest.out) c.loop-rest.rest.now (search rules)
+    c.loop-rest.invariant

@@ -1,7 +1,0 @@
-use Rattle.osn_days.specs.Profile.{newest_rules}
-use Rattle.osn_pages.proofs.TrimmedFacts.{page-bare}
-use Rattle.osn_pages.proofs.reading.reading_page.Goals as goal
-
-pub returns-in-Ok-clause-trimmed : goal.returns-in-Ok-clause-trimmed
-returns-in-Ok-clause-trimmed c = page-bare newest_rules c.args.register.now.lands c.args.edition
-    c.args.code.now c.args.date c.args.weekday

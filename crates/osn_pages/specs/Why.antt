@@ -1,0 +1,117 @@
+-- The lines that say why a written date means no day. This project's profile.
+use Rattle.std.specs.Prelude.{ℕ, Bool, not, ◌-◌, if◌then◌else◌, List, [], ◌∷◌, ◌++◌, map, pos, codes}
+use Rattle.std.specs.Fmt.{decimal}
+use Rattle.std.specs.List.{flat_map}
+use Rattle.std.specs.Str.{bytes_eq}
+use Rattle.osn_days.specs.Profile.{Profile}
+use Rattle.osn_lands.specs.declared.dated.DatedDay.{DatedDay}
+use Rattle.osn_lands.specs.declared.style.Style.{Style}
+use Rattle.osn_lands.specs.Dated.{dated_on}
+use Rattle.osn_lands.specs.LabelOrder.{gaps}
+use Rattle.osn_lands.specs.Runs.{days_of_year}
+use Rattle.osn_lands.specs.StyleWords.{style_word}
+use Rattle.osn_lands.specs.Territory.{TerritoryModel, regime_at, reading}
+use Rattle.osn_written.specs.declared.absence.Absence.{Absence}
+use Rattle.osn_written.specs.declared.absence.Absence.TheVariants as why
+use Rattle.osn_written.specs.declared.written_date.WrittenDate.{WrittenDate}
+use Rattle.osn_written.specs.Absence.{absence}
+use Rattle.osn_written.specs.Meaning.{label_of}
+use Rattle.osn_pages.specs.Nearest.{nearest}
+use Rattle.osn_pages.specs.Periods.{beginning_of_year}
+use Rattle.osn_pages.specs.Words.{named_day, numbered_day}
+
+-- ---- a line about a day
+
+-- the day that the date means with its first year alone
+unfoldable pub with_one_year_line : DatedDay → List ℕ
+with_one_year_line x = codes "not with both years: " ++ (numbered_day x ++ codes "\n")
+
+-- a day of the date's month and day in a nearest year
+unfoldable pub nearest_line : DatedDay → List ℕ
+nearest_line x = codes "nearest: " ++ (numbered_day x ++ codes "\n")
+
+-- the lines of the nearest days
+abbrev pub nearest_lines : Profile → TerritoryModel → WrittenDate → List ℕ
+nearest_lines p t w = flat_map nearest_line (nearest p t w)
+
+-- ---- off the line
+
+-- the ends of the line, as the territory dated them
+unfoldable pub line_ends : DatedDay → DatedDay → List ℕ
+line_ends first last =
+    codes "off the line of days: there it goes from "
+    ++ (numbered_day first ++ (codes " to " ++ (numbered_day last ++ codes "\n")))
+
+-- ---- a gap
+
+-- the day before a change and the day of the change, as the territory named both
+unfoldable pub skip_line : DatedDay → DatedDay → List ℕ
+skip_line before change =
+    codes "skipped: "
+    ++ (named_day before ++ (codes " was followed by " ++ (numbered_day change ++ codes "\n")))
+
+-- that the year began on another date from the change on, with these words of both
+unfoldable pub beginning_text : List ℕ → List ℕ → List ℕ
+beginning_text old new =
+    codes "the year's beginning changed: until then "
+    ++ (old ++ (codes ", from then on " ++ (new ++ codes "\n")))
+
+abbrev pub beginning_line : Style → Style → List ℕ
+beginning_line old new = beginning_text (beginning_of_year old) (beginning_of_year new)
+
+-- the two styles are one
+abbrev pub is_style : Style → Style → Bool
+is_style a b = bytes_eq (style_word a) (style_word b)
+
+-- where the change is one of the year's beginning, that it is, and the nearest days
+unfoldable pub beginning_lines : Profile → TerritoryModel → WrittenDate → Style → Style → List ℕ
+beginning_lines p t w old new =
+    if is_style old new then [] else beginning_line old new ++ nearest_lines p t w
+
+-- the lines of a change in whose gap the date lies
+unfoldable pub skip_lines : Profile → TerritoryModel → WrittenDate → ℕ → List ℕ
+skip_lines p t w change =
+    skip_line (dated_on p t (change - 1)) (dated_on p t change)
+    ++ beginning_lines p t w (regime_at t (change - 1)).style (regime_at t change).style
+
+-- ---- a year that lacks the date
+
+-- the last of a day and those after it
+abbrev pub last_day : ℕ → List ℕ → ℕ
+last_day d [] = d
+last_day d (next ∷ ds) = last_day next ds
+
+-- from which day to which the year went
+unfoldable pub year_ends : ℕ → DatedDay → DatedDay → List ℕ
+year_ends year first last =
+    codes "no such date in that year: the year "
+    ++ (decimal year
+    ++ (codes " went there from "
+    ++ (numbered_day first ++ (codes " to " ++ (numbered_day last ++ codes "\n")))))
+
+-- that the year had no day there
+unfoldable pub no_year_line : ℕ → List ℕ
+no_year_line year =
+    codes "no such date in that year: the place had no day of the year "
+    ++ (decimal year ++ codes "\n")
+
+-- the same of the days that the year had there
+abbrev pub year_line : Profile → TerritoryModel → ℕ → List ℕ → List ℕ
+year_line p t year [] = no_year_line year
+year_line p t year (d ∷ ds) = year_ends year (dated_on p t d) (dated_on p t (last_day d ds))
+
+-- ---- the whole
+
+-- the lines of a reason
+abbrev pub why_text : Profile → TerritoryModel → WrittenDate → Absence → List ℕ
+why_text p t w why.NotWithBothYears =
+    flat_map with_one_year_line (map (dated_on p t) (reading p t (label_of w)))
+why_text p t w why.NotOfItsCalendar = codes "no date of its calendar\n"
+why_text p t w why.OffTheLine = line_ends (dated_on p t 1) (dated_on p t p.high)
+why_text p t w why.Skipped = flat_map (skip_lines p t w) (gaps p t (label_of w))
+why_text p t w why.NotInThatYear =
+    year_line p t w.year (days_of_year p t (pos w.year)) ++ nearest_lines p t w
+
+-- why the date means no day
+abbrev pub why_lines : Profile → TerritoryModel → WrittenDate → List ℕ
+why_lines p t w = why_text p t w (absence p t w)

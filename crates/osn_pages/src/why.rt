@@ -1,0 +1,300 @@
+//! The lines that say why a written date means no day.
+ghost use Rattle.std.specs.Prelude.{◌≡◌, ◌++◌, ◌<◌, ◌-◌, OnOk, map, pos, string_bytes};
+ghost use Rattle.std.specs.List.{flat_map, All};
+ghost use Rattle.osn_days.specs.Profile.{newest_rules};
+ghost use Rattle.osn_lands.specs.Dated.{dated_on};
+ghost use Rattle.osn_lands.specs.Runs.{days_in, days_of_year, AreRuns};
+ghost use Rattle.osn_written.specs.Absence.{absence};
+ghost use Rattle.osn_pages.specs.Nearest.{nearest_days as days_nearest};
+ghost use Rattle.osn_pages.specs.Why as spec;
+
+use crate::nearest::nearest_days;
+use crate::periods::beginning_of_year;
+use crate::words::{NamedDay, NumberedDay};
+use osn_days::{Day, Keyword};
+use osn_lands::{DatedDay, Run, Style, Territory};
+use osn_written::{Absence, WrittenDate, absence_of};
+use std::alloc::{AllocError, Global};
+use std::fmt::Write;
+
+/// Appends the line of a day that the date means with its first year alone.
+#[tactic(auto, unfolding(crate::specs::Why::with_one_year_line))]
+fn push_with_one_year(out: &mut String, dated: DatedDay) -> Result<(), AllocError>
+    ensures { OnOk result (string_bytes out.new
+        ≡ string_bytes out.old ++ spec.with_one_year_line dated) }
+{
+    writeln!(out, "not with both years: {}", NumberedDay(dated))
+}
+
+/// Appends such a line for each of these days.
+fn push_all_with_one_year(
+    out: &mut String,
+    territory: &Territory,
+    days: &[Day],
+) -> Result<(), AllocError>
+    ensures { OnOk result (string_bytes out.new ≡ string_bytes out.old
+        ++ flat_map spec.with_one_year_line (map (dated_on newest_rules territory.now) days.now)) }
+{
+    for day in days {
+        push_with_one_year(out, territory.dated(*day))?;
+    }
+    Ok(())
+}
+
+/// Appends the line of a nearest day.
+#[tactic(auto, unfolding(crate::specs::Why::nearest_line))]
+fn push_nearest_line(out: &mut String, dated: DatedDay) -> Result<(), AllocError>
+    ensures { OnOk result (string_bytes out.new ≡ string_bytes out.old ++ spec.nearest_line dated) }
+{
+    writeln!(out, "nearest: {}", NumberedDay(dated))
+}
+
+/// Appends such a line for each of these days.
+fn push_nearest_lines(
+    out: &mut String,
+    territory: &Territory,
+    days: &[Day],
+) -> Result<(), AllocError>
+    ensures { OnOk result (string_bytes out.new ≡ string_bytes out.old
+        ++ flat_map spec.nearest_line (map (dated_on newest_rules territory.now) days.now)) }
+{
+    for day in days {
+        push_nearest_line(out, territory.dated(*day))?;
+    }
+    Ok(())
+}
+
+/// Appends the lines of the nearest days.
+fn push_nearest(
+    alloc: Global,
+    out: &mut String,
+    territory: &Territory,
+    date: WrittenDate,
+) -> Result<(), AllocError>
+    ensures { OnOk result (string_bytes out.new
+        ≡ string_bytes out.old ++ spec.nearest_lines newest_rules territory.now date) }
+{
+    let days = nearest_days(alloc, territory, date)?;
+    push_nearest_lines(out, territory, days.as_slice())
+}
+
+/// Appends the ends of the line.
+#[tactic(auto, unfolding(crate::specs::Why::line_ends))]
+fn push_line_ends(out: &mut String, first: DatedDay, last: DatedDay) -> Result<(), AllocError>
+    ensures { OnOk result (string_bytes out.new
+        ≡ string_bytes out.old ++ spec.line_ends first last) }
+{
+    writeln!(
+        out,
+        "off the line of days: there it goes from {} to {}",
+        NumberedDay(first),
+        NumberedDay(last)
+    )
+}
+
+/// Appends the day before a change and the day of the change.
+#[tactic(auto, unfolding(crate::specs::Why::skip_line))]
+fn push_skip_line(out: &mut String, before: DatedDay, change: DatedDay) -> Result<(), AllocError>
+    ensures { OnOk result (string_bytes out.new
+        ≡ string_bytes out.old ++ spec.skip_line before change) }
+{
+    writeln!(
+        out,
+        "skipped: {} was followed by {}",
+        NamedDay(before),
+        NumberedDay(change)
+    )
+}
+
+/// Whether the two styles are one.
+fn is_style(one: Style, other: Style) -> bool
+    ensures { result ≡ spec.is_style one other }
+{
+    one.word() == other.word()
+}
+
+/// Appends that the year began on another date from a change on, with these words of both.
+#[tactic(auto, unfolding(crate::specs::Why::beginning_text))]
+fn push_beginning_text(out: &mut String, old: &str, new: &str) -> Result<(), AllocError>
+    ensures { OnOk result (string_bytes out.new
+        ≡ string_bytes out.old ++ spec.beginning_text old.now new.now) }
+{
+    writeln!(
+        out,
+        "the year's beginning changed: until then {}, from then on {}",
+        old, new
+    )
+}
+
+/// Appends, where a change is one of the year's beginning, that it is, and the nearest days.
+#[tactic(auto, unfolding(crate::specs::Why::beginning_lines))]
+fn push_beginning(
+    alloc: Global,
+    out: &mut String,
+    territory: &Territory,
+    date: WrittenDate,
+    old: Style,
+    new: Style,
+) -> Result<(), AllocError>
+    ensures { OnOk result (string_bytes out.new ≡ string_bytes out.old
+        ++ spec.beginning_lines newest_rules territory.now date old new) }
+{
+    if is_style(old, new) {
+        return Ok(());
+    }
+    push_beginning_text(out, beginning_of_year(old), beginning_of_year(new))?;
+    push_nearest(alloc, out, territory, date)
+}
+
+/// Appends the lines of a change in whose gap the date lies.
+#[tactic(auto, unfolding(crate::specs::Why::skip_lines))]
+fn push_skip(
+    alloc: Global,
+    out: &mut String,
+    territory: &Territory,
+    date: WrittenDate,
+    change: Day,
+) -> Result<(), AllocError>
+    requires { 1 < change }
+    ensures { OnOk result (string_bytes out.new ≡ string_bytes out.old
+        ++ spec.skip_lines newest_rules territory.now date change) }
+{
+    let before = Day::on_line(i64::from(change.number()) - 1);
+    push_skip_line(out, territory.dated(before), territory.dated(change))?;
+    let old = territory.regime_at(before).style;
+    let new = territory.regime_at(change).style;
+    push_beginning(alloc, out, territory, date, old, new)
+}
+
+/// Appends the lines of the changes in whose gap the date lies.
+fn push_skips(
+    alloc: Global,
+    out: &mut String,
+    territory: &Territory,
+    date: WrittenDate,
+    changes: &[Day],
+) -> Result<(), AllocError>
+    requires { All (λ change. 1 < change) changes.now }
+    ensures { OnOk result (string_bytes out.new ≡ string_bytes out.old
+        ++ flat_map (spec.skip_lines newest_rules territory.now date) changes.now) }
+{
+    for change in changes {
+        push_skip(alloc, out, territory, date, *change)?;
+    }
+    Ok(())
+}
+
+/// Appends from which day to which a year went.
+#[tactic(auto, unfolding(crate::specs::Why::year_ends))]
+fn push_year_ends(
+    out: &mut String,
+    year: u16,
+    first: DatedDay,
+    last: DatedDay,
+) -> Result<(), AllocError>
+    ensures { OnOk result (string_bytes out.new
+        ≡ string_bytes out.old ++ spec.year_ends year first last) }
+{
+    writeln!(
+        out,
+        "no such date in that year: the year {} went there from {} to {}",
+        year,
+        NumberedDay(first),
+        NumberedDay(last)
+    )
+}
+
+/// Appends that the territory had no day of a year.
+#[tactic(auto, unfolding(crate::specs::Why::no_year_line))]
+fn push_no_year(out: &mut String, year: u16) -> Result<(), AllocError>
+    ensures { OnOk result (string_bytes out.new ≡ string_bytes out.old ++ spec.no_year_line year) }
+{
+    writeln!(
+        out,
+        "no such date in that year: the place had no day of the year {}",
+        year
+    )
+}
+
+/// Appends from which day to which a year went, of which these are the runs of days.
+fn push_year(
+    out: &mut String,
+    territory: &Territory,
+    year: u16,
+    runs: &[Run],
+) -> Result<(), AllocError>
+    requires { AreRuns runs.now }
+    ensures { OnOk result (string_bytes out.new ≡ string_bytes out.old
+        ++ spec.year_line newest_rules territory.now year (days_in runs.now)) }
+{
+    if runs.is_empty() {
+        return push_no_year(out, year);
+    }
+    let first = runs[0];
+    let last = runs[runs.len() - 1];
+    push_year_ends(
+        out,
+        year,
+        territory.dated(first.first),
+        territory.dated(last.last),
+    )
+}
+
+/// Appends from which day to which the date's year went, and the nearest days.
+fn push_not_in_year(
+    alloc: Global,
+    out: &mut String,
+    territory: &Territory,
+    date: WrittenDate,
+) -> Result<(), AllocError>
+    ensures { OnOk result (string_bytes out.new ≡ string_bytes out.old
+        ++ (spec.year_line newest_rules territory.now date.year
+        (days_of_year newest_rules territory.now (pos date.year))
+        ++ spec.nearest_lines newest_rules territory.now date)) }
+{
+    let runs = territory.days_of_year(i32::from(date.year))?;
+    push_year(out, territory, date.year, runs.as_slice())?;
+    push_nearest(alloc, out, territory, date)
+}
+
+/// Appends the lines of a reason.
+fn push_reason(
+    alloc: Global,
+    out: &mut String,
+    territory: &Territory,
+    date: WrittenDate,
+    reason: Absence,
+) -> Result<(), AllocError>
+    ensures { OnOk result (string_bytes out.new ≡ string_bytes out.old
+        ++ spec.why_text newest_rules territory.now date reason) }
+{
+    match reason {
+        Absence::NotWithBothYears => {
+            let days = territory.read(date.label())?;
+            push_all_with_one_year(out, territory, days.as_slice())
+        }
+        Absence::NotOfItsCalendar => out.push_str("no date of its calendar\n"),
+        Absence::OffTheLine => {
+            push_line_ends(out, territory.dated(Day::FIRST), territory.dated(Day::LAST))
+        }
+        Absence::Skipped => {
+            let changes = territory.gaps(date.label())?;
+            push_skips(alloc, out, territory, date, changes.as_slice())
+        }
+        Absence::NotInThatYear => push_not_in_year(alloc, out, territory, date),
+    }
+}
+
+/// Appends why the date means no day.
+pub(crate) fn push_why(
+    alloc: Global,
+    out: &mut String,
+    territory: &Territory,
+    date: WrittenDate,
+) -> Result<(), AllocError>
+    ensures { OnOk result (string_bytes out.new
+        ≡ string_bytes out.old ++ spec.why_lines newest_rules territory.now date) }
+{
+    let reason = absence_of(territory, date)?;
+    push_reason(alloc, out, territory, date, reason)
+}

@@ -1,0 +1,9 @@
+-- The territory of a code with its name: this project's profile.
+use Rattle.std.specs.Prelude.{ℕ, List, Option, option_map}
+use Rattle.osn_lands.specs.Territory.{TerritoryModel}
+use Rattle.osn_register.specs.Plain.{LandModel, land_of}
+
+-- the name and the territory of a code
+abbrev pub named_of : List ℕ → List LandModel → Option (List ℕ × TerritoryModel)
+named_of code lands =
+    option_map {U = List ℕ × TerritoryModel} (λ l. (l.name, l.territory)) (land_of code lands)

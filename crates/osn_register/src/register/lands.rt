@@ -1,0 +1,40 @@
+//! The territory that the register keeps under a code, lent with its name.
+ghost use Rattle.std.specs.Prelude.{◌≡◌, Some, is_some, IfOk, IfSome};
+ghost use Rattle.osn_register.specs.Named.{named_of};
+ghost use Rattle.osn_register.specs.Plain.{code_refusal, land_of};
+ghost use Rattle.osn_register.specs.Refusal.{IsTestOf};
+
+use crate::code::is_code;
+use crate::refusal::Refusal;
+use crate::register::Register;
+use osn_lands::Territory;
+
+impl Register {
+    /// The name and the territory of a code, where some territory has it.
+    fn named(&self, code: &str) -> Option<(&str, &Territory)>
+        ensures value { IfSome result (λ l.
+            named_of code.now self.now.lands ≡ Some (l.0.now, l.1.now)) }
+        ensures known { is_some result ≡ is_some (land_of code.now self.now.lands) }
+    {
+        match self.lands.get(code) {
+            Some(entry) => Some((entry.name.as_str(), &entry.territory)),
+            None => None,
+        }
+    }
+
+    /// The name and the territory of a code.
+    ///
+    /// # Errors
+    ///
+    /// `BadCode` where no territory may have the code, then `UnknownLand` where none has it.
+    pub fn land(&self, code: &str) -> Result<(&str, &Territory), Refusal>
+        ensures test { IsTestOf (code_refusal self.now.lands code.now) result }
+        ensures value { IfOk result (λ l.
+            named_of code.now self.now.lands ≡ Some (l.0.now, l.1.now)) }
+    {
+        if !is_code(code) {
+            return Err(Refusal::BadCode);
+        }
+        self.named(code).ok_or(Refusal::UnknownLand)
+    }
+}

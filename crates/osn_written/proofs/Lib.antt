@@ -1,0 +1,5 @@
+mod Grammar
+mod WeekdayFacts
+pub mod LawFacts
+mod DualLaw
+mod Meant

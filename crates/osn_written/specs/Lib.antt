@@ -1,0 +1,5 @@
+pub mod WrittenDate
+pub mod Text
+pub mod Meaning
+pub mod Absence
+pub mod Law

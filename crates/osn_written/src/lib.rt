@@ -1,0 +1,12 @@
+//! Written dates: a date as people write it, the days that it means in a territory, and why it
+//! means none. What the crate promises to those above is that each of these is its definition.
+#![tactic(auto)]
+
+mod absence;
+mod meaning;
+mod written_date;
+mod written_text;
+
+pub use absence::{Absence, absence_of};
+pub use meaning::{days_meant, has_weekday, is_not_counted_double, is_on};
+pub use written_date::{DateFault, WrittenDate, month_named, number_of, parts_at, weekday_named};

@@ -1,0 +1,125 @@
+#!/usr/bin/env python3
+"""Holds that what is written of a day is read as that day: a property over random days.
+
+    verify/dual_dates.py [COUNT [READ [SEED [PROGRAM]]]]
+        100,000 days through `letters`, 500 of them through `read` too, seed 1 and ../oldstyle where
+        none is given
+
+Random days of random territories, most of them from January to March. Of each the dual text is
+asked, and where that has both years the text with the last two digits of the later one and with all
+four; each without a weekday and with the day's before it. A row of `letters` has to have that day,
+days of its weekday first, and a remark that goes with the days and weekdays of the row; the page of
+`read` has to have the day's line, with ` ok` after it where the weekday was asked.
+"""
+import csv
+import os
+import random
+import tempfile
+
+from common import argument, program, run
+from letter_rows import COLUMNS
+from reference import HIGH
+from samples import journal_lines, later_digits, middle_day, write_journal
+from written import Territory, parse, weekday_of
+
+COUNT, READ, SEED, PROGRAM = argument(1, 100_000), argument(2, 500), argument(3, 1), program(4)
+EACH = 1_000
+
+
+def random_day(chance, territory, middle):
+    """A day about the changes or anywhere, moved to January, February or March mostly."""
+    day = chance.choice([middle + chance.randint(-1_600, 1_600), chance.randint(1, HIGH)])
+    day = min(HIGH, max(1, day))
+    if chance.random() < 0.7:
+        day += chance.randint(0, 110) - 30 * (territory.date(day)[1] - 1) - territory.date(day)[2]
+    return min(HIGH, max(1, day))
+
+
+def texts_of(territory, day):
+    """Each text that is to mean the day, without its weekday."""
+    dual = territory.dual(day)
+    yield dual
+    if "/" in dual:
+        front, later = dual.split("/")[0], territory.date(day)[0]
+        yield f"{front}/{later_digits(later, 2)}"
+        yield f"{front}/{later_digits(later, 4)}"
+
+
+def all_texts(territory, day):
+    for text in texts_of(territory, day):
+        yield text, None
+        yield f"{weekday_of(day)} {text}", weekday_of(day)
+
+
+def remark_of(row, text, weekday):
+    """The remark that goes with the days, weekdays and dual texts of a row."""
+    duals, weekdays = row["dual"].split("; "), row["weekday_found"].split("; ")
+    remarks = []
+    if len(duals) > 1:
+        is_one = weekday is not None and weekdays.count(weekday) == 1
+        remarks.append("by its weekday" if is_one else "several days")
+    years = [int(dual.split(" ")[2].split("/")[0]) for dual in duals]
+    if "/" in text and any(year != parse(text).year for year in years):
+        remarks.append("not counted double there")
+    return "; ".join(remarks)
+
+
+def row_differs(row, day, text, weekday):
+    days = row["days"].split("; ")
+    if str(day) not in days:
+        return "the day is not found"
+    if weekday and row["weekday_found"].split("; ")[0] != weekday:
+        return "a day of another weekday is first"
+    wanted = remark_of(row, text, weekday)
+    return "" if row["remark"] == wanted else f"the remark is not {wanted!r}"
+
+
+def letters_differ(journal, asked):
+    """Each text whose row in a table of letters hasn't the day."""
+    lines = ["place,date", *(f"XX,{text}" for _, text, _ in asked)]
+    done = run(PROGRAM, ["letters", journal], lines)
+    rows = list(csv.DictReader(done.stdout.splitlines()))
+    if done.returncode or len(rows) != len(asked) or list(rows[0])[2:] != COLUMNS:
+        yield f"status {done.returncode}, {len(rows)} of {len(asked)} rows: {done.stderr}"
+    for row, (day, text, weekday) in zip(rows, asked):
+        why = row_differs(row, day, text, weekday)
+        if why:
+            yield f"day {day}, {text}: {why}: {row}"
+
+
+def page_differs(journal, day, text, weekday):
+    done = run(PROGRAM, ["read", journal, "XX", text])
+    lines = [line for line in done.stdout.splitlines() if f"    day {day}    JDN " in line]
+    if len(lines) != 1 or lines[0].endswith(" ok") != (weekday is not None):
+        yield f"day {day}, {text}: {done.stdout}{done.stderr}"
+
+
+def differences(chance, journal, count, read):
+    """Those about this many random days of a random territory, of which some are read too."""
+    middle = middle_day(chance)
+    service = write_journal(journal, journal_lines(chance, middle))
+    territory = Territory(service.published["XX"])
+    days = [random_day(chance, territory, middle) for _ in range(count)]
+    asked = [(day, *text) for day in days for text in all_texts(territory, day)]
+    yield from letters_differ(journal, asked)
+    for day in days[:read]:
+        for text in all_texts(territory, day):
+            yield from page_differs(journal, day, *text)
+
+
+def main():
+    chance = random.Random(SEED)
+    differ = 0
+    with tempfile.TemporaryDirectory() as folder:
+        journal = os.path.join(folder, "some.journal")
+        for done in range(0, COUNT, EACH):
+            count = min(EACH, COUNT - done)
+            for difference in differences(chance, journal, count, READ * count // COUNT):
+                differ += 1
+                print(difference, flush=True)
+    print(f"{COUNT} days, {differ} texts differ")
+    return 1 if differ else 0
+
+
+if __name__ == "__main__":
+    raise SystemExit(main())

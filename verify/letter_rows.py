@@ -1,0 +1,58 @@
+"""The nine fields that letters puts after a row, over written.py.
+
+Written from docs/FORMATS.md alone, for letters.py and dual_dates.py.
+"""
+from reference import dates, written
+from written import Malformed, has_weekday, is_not_counted_double, parse, weekday_named, weekday_of
+
+COLUMNS = ["days", "gregorian", "julian", "dual", "weekday_found", "jdn", "edtf", "edition",
+           "remark"]
+SPACES = " \t\n\r\f"
+
+
+def number_remark(date, given, days):
+    """What is said of several days."""
+    if len(days) < 2:
+        return []
+    is_given = given is not None or date.weekday is not None
+    have_it = [day for day in days if has_weekday(date, given, day)]
+    return ["by its weekday" if is_given and len(have_it) == 1 else "several days"]
+
+
+def remarks_of_days(territory, date, given, days):
+    if not days:
+        return [territory.absence(date)]
+    differs = not any(has_weekday(date, given, day) for day in days)
+    alone = any(is_not_counted_double(territory, date, day) for day in days)
+    return [*number_remark(date, given, days), *(["weekday differs"] if differs else []),
+            *(["not counted double there"] if alone else [])]
+
+
+def meant_in_place(territories, code, text, given):
+    """The days of a row with their territory, and what is said of them."""
+    territory = territories.get(code)
+    unknown = [] if territory else ["unknown place"]
+    try:
+        date = parse(text)
+    except Malformed:
+        return territory, [], ["malformed date", *unknown]
+    if territory is None:
+        return None, [], unknown
+    days = territory.days_meant(date, given)
+    return territory, days, remarks_of_days(territory, date, given, days)
+
+
+def letter_fields(territories, edition, code, text, weekday=""):
+    """The nine fields, of a row whose place, date and weekday are these."""
+    code, text, weekday = (field.strip(SPACES) for field in (code, text, weekday))
+    given = weekday_named(weekday)
+    territory, days, remarks = meant_in_place(territories, code, text, given)
+    if weekday and given is None:
+        remarks.append("malformed weekday")
+    gregorian, julian = ([written(dates(name)[day]) for day in days]
+                         for name in ("gregorian", "julian"))
+    fields = [[str(day) for day in days], gregorian, julian,
+              [territory.dual(day) for day in days], [weekday_of(day) for day in days],
+              [str(day + 1_721_425) for day in days]]
+    edtf = f"[{','.join(gregorian)}]" if len(days) > 1 else "".join(gregorian)
+    return [*("; ".join(field) for field in fields), edtf, str(edition), "; ".join(remarks)]

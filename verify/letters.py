@@ -1,0 +1,217 @@
+#!/usr/bin/env python3
+"""Holds tables of letters against tables written apart, byte by byte.
+
+    verify/letters.py [COUNT [SEED [PROGRAM]]]
+        200 tables of up to 60 rows, seed 1 and ../oldstyle where none is given
+
+Each table is about a random territory. Its fields stand between commas, semicolons or tabs, in
+quotes or not, with line ends in them; its lines end by LF, CR or CRLF, and empty ones stand
+between. Its dates are of all forms, its places and weekdays are wrong now and then, and spaces
+stand around them. Many tables have a fault in the header or in a row: what stands before it has to
+be written, and the fault has to be told with the line on which the record begins, status 1.
+"""
+import os
+import random
+import subprocess
+import tempfile
+
+from common import argument, program
+from letter_rows import COLUMNS, letter_fields
+from reference import WEEKDAYS
+from samples import (MALFORMED, any_case, date_text, journal_lines, label_near, middle_day,
+                     write_journal)
+from written import Territory
+
+COUNT, SEED, PROGRAM = argument(1, 200), argument(2, 1), program(3)
+SEPARATORS = {"comma": ",", "semicolon": ";", "tab": "\t"}
+READ = ["place", "date", "weekday"]
+TEXTS = ["", "x", "Sir, yours came", 'he said "no"', "one\ntwo", "one\rtwo", "one\r\ntwo", "a;b",
+         "a\tb", "\u00e9", " ", "'"]
+WRONG_PLACES = ["ZZ", "xx", "", "X", "a place"]
+WRONG_WEEKDAYS = ["Fryday", "Fri", "5"]
+SPACES = ["", "", "", " ", "\t", "  "]
+LONGEST = 65_536
+
+# What is told of a table, after `oldstyle: letters line <n>: `.
+LACKS = "no column {name}: the columns are {found}: name yours by --{role}"
+IS_THERE = "the column {name} is there already: take it out or rename it"
+OTHER_NUMBER = "another number of fields than the header"
+TOO_LONG = "a record of more than 65536 bytes"
+OPEN_QUOTE = "a quote that opens in this record is never closed"
+TEXT_AFTER = "text follows a closing quote"
+
+
+def quoted(field):
+    return '"' + field.replace('"', '""') + '"'
+
+
+def needs_quotes(field, separator):
+    return any(mark in field for mark in (separator, '"', "\n", "\r"))
+
+
+def written_row(fields, separator):
+    """A row as it is written: quoted where it needs it."""
+    return separator.join(quoted(field) if needs_quotes(field, separator) else field
+                          for field in fields) + "\n"
+
+
+def line_ends(text):
+    """How many lines end in a text."""
+    return text.replace("\r\n", "\n").replace("\r", "\n").count("\n")
+
+
+class Form:
+    """How a table is written: what separates its fields, how its lines end, what columns it has."""
+
+    def __init__(self, chance):
+        self.chance = chance
+        self.word, self.separator = chance.choice(list(SEPARATORS.items()))
+        self.line_end = chance.choice(["\n", "\r\n", "\r"])
+        self.names = {role: chance.choice([role, role, "the " + role]) for role in READ}
+        self.has_weekday = chance.random() < 0.7
+        others = chance.sample(["text", "a note", "No.", "\u00fcber"], chance.randint(0, 3))
+        roles = READ if self.has_weekday else READ[:2]
+        self.columns = [*others, *(self.names[role] for role in roles)]
+        chance.shuffle(self.columns)
+
+    def options(self):
+        words = []
+        for role in READ if self.has_weekday else READ[:2]:
+            if self.names[role] != role:
+                words += [f"--{role}", self.names[role]]
+        return words + (["--separator", self.word] if self.chance.random() < 0.3 else [])
+
+    def field_text(self, field):
+        """A field in quotes where it needs them, and sometimes where it doesn't."""
+        in_quotes = needs_quotes(field, self.separator) or self.chance.random() < 0.1
+        return quoted(field) if in_quotes else field
+
+    def record(self, fields):
+        return self.separator.join(self.field_text(field) for field in fields)
+
+    def empty_lines(self):
+        return self.line_end * self.chance.choice([0, 0, 0, 0, 1, 2])
+
+
+class Table:
+    """A table as it is read, and what is to be written and told of it."""
+
+    def __init__(self, form):
+        self.form, self.text, self.out, self.fault = form, form.empty_lines(), "", ""
+
+    def add(self, record, last=False):
+        self.text += record + ("" if last else self.form.line_end)
+
+    def told(self, why):
+        """The line of a fault in the record that begins where the text ends."""
+        return f"oldstyle: letters line {1 + line_ends(self.text)}: {why}\n"
+
+
+def row_of(chance, form, territory, middle):
+    """A row by the names of its columns."""
+    date = date_text(chance, label_near(chance, territory, middle))
+    read = {"place": "XX", "date": date,
+            "weekday": chance.choice(["", any_case(chance, chance.choice(WEEKDAYS))])}
+    wrong = {"place": WRONG_PLACES, "date": MALFORMED, "weekday": WRONG_WEEKDAYS}
+    for role in READ:
+        if chance.random() < 0.08:
+            read[role] = chance.choice(wrong[role])
+        read[role] = chance.choice(SPACES) + read[role] + chance.choice(SPACES)
+    named = {form.names[role]: text for role, text in read.items()}
+    return [named[name] if name in named else chance.choice(TEXTS)
+            for name in form.columns], read
+
+
+def bad_header(chance, form):
+    """A header that lacks a column, or has one of those put after it; and why it is bad."""
+    roles = READ if form.has_weekday and form.names["weekday"] != "weekday" else READ[:2]
+    role = chance.choice([*roles, None])
+    columns = list(form.columns)
+    if role is None:
+        name = chance.choice(COLUMNS)
+        columns.insert(chance.randint(0, len(columns)), name)
+        return columns, IS_THERE.format(name=name)
+    columns[columns.index(form.names[role])] = "other"
+    return columns, LACKS.format(name=form.names[role], found=", ".join(columns), role=role)
+
+
+def bad_record(chance, form, fields):
+    """A record that ends the table, and why."""
+    kind = chance.randrange(4)
+    if kind == 0:
+        more = fields[:-1] if len(fields) > 2 and chance.random() < 0.5 else [*fields, "x"]
+        return form.record(more), OTHER_NUMBER
+    if kind == 1:
+        return form.record(["x" * LONGEST, *fields]), TOO_LONG
+    front = form.record(fields[:-1]) + form.separator
+    if kind == 2:
+        return f'{front}"never closed{form.line_end}', OPEN_QUOTE
+    return f'{front}"closed" here', TEXT_AFTER
+
+
+def table_of(chance, form, territories, edition, middle):
+    """A table with a fault or none, and its name columns as they are found."""
+    table = Table(form)
+    rows, bad = chance.randint(0, 60), chance.choice([None, None, -1, 1])
+    if bad == -1:
+        columns, why = bad_header(chance, form)
+        table.fault = table.told(why)
+        table.add(form.record(columns))
+        return table
+    table.add(form.record(form.columns), last=rows == 0)
+    table.out = written_row(form.columns + COLUMNS, form.separator)
+    for place in range(rows):
+        table.text += form.empty_lines()
+        fields, read = row_of(chance, form, territories["XX"], middle)
+        if bad and chance.random() < 0.05:
+            record, why = bad_record(chance, form, fields)
+            table.fault = table.told(why)
+            table.add(record)
+            return table
+        table.add(form.record(fields), last=place == rows - 1 and chance.random() < 0.5)
+        weekday = read["weekday"] if form.has_weekday else ""
+        found = letter_fields(territories, edition, read["place"], read["date"], weekday)
+        table.out += written_row(fields + found, form.separator)
+    return table
+
+
+def differs(journal, form, table):
+    """Where the program writes or tells another thing: what it was given and gave."""
+    words = [PROGRAM, "letters", journal, *form.options()]
+    mark = form.chance.choice(["", "\ufeff"])
+    done = subprocess.run(words, input=(mark + table.text).encode(), capture_output=True,
+                          check=False)
+    found = done.returncode, done.stdout.decode(), done.stderr.decode()
+    wanted = 1 if table.fault else 0, table.out, table.fault
+    if found == wanted:
+        return []
+    kept = f"/tmp/letters-{os.getpid()}.csv"
+    with open(kept, "w", encoding="utf-8", newline="") as file:
+        file.write(mark + table.text)
+    places = [place for place, (one, other) in enumerate(zip(found[1], wanted[1])) if one != other]
+    at = places[0] if places else min(len(found[1]), len(wanted[1]))
+    return [f"{words}, the table in {kept}: status and fault {found[0]} {found[2]!r}, wanted "
+            f"{wanted[0]} {wanted[2]!r}; at {at} {found[1][at - 60:at + 90]!r}, wanted "
+            f"{wanted[1][at - 60:at + 90]!r}"]
+
+
+def main():
+    chance = random.Random(SEED)
+    differ = faults = 0
+    with tempfile.TemporaryDirectory() as folder:
+        journal = os.path.join(folder, "some.journal")
+        for _ in range(COUNT):
+            middle, form = middle_day(chance), Form(chance)
+            service = write_journal(journal, journal_lines(chance, middle))
+            lands = {code: Territory(land) for code, land in service.published.items()}
+            table = table_of(chance, form, lands, service.edition, middle)
+            faults += table.fault != ""
+            for difference in differs(journal, form, table):
+                differ += 1
+                print(difference, flush=True)
+    print(f"{COUNT} tables, {faults} of them with a fault: {differ} differ")
+    return 1 if differ else 0
+
+
+if __name__ == "__main__":
+    raise SystemExit(main())
