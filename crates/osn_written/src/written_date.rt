@@ -133,7 +133,7 @@ pub fn weekday_named(name: &str) -> Option<Weekday>
     first_named(&WEEKDAYS, name)
 }
 
-/// Whether the last digits of the year that follows, so many, are the digits of a number.
+/// Whether `later` is the last `digits` digits of the year that follows `year`.
 fn ends_next_year(year: u32, later: u32, digits: u32) -> bool
     requires year { year < 10 ^ 9 }
     requires digits { digits ≤ 9 }
