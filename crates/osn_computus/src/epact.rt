@@ -1,3 +1,4 @@
+//! Epacts, and how they are written.
 ghost use Rattle.std.specs.Prelude.{◌≡◌, IfOk, string_bytes};
 ghost use Rattle.osn_computus.specs.FigureTexts as spec;
 

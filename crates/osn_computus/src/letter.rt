@@ -1,3 +1,4 @@
+//! The Sunday letters.
 ghost use Rattle.std.specs.Prelude.{◌≡◌, ◌<◌};
 ghost use Rattle.osn_computus.specs.Letters.{letter_name, letter_number};
 

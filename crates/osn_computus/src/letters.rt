@@ -26,8 +26,8 @@ pub struct Letters {
 /// The places from A to D, which stands beside 1 February and 1 March in every year.
 const PLACE_OF_D: u32 = 3;
 
-/// The letter of the next Sundays, from a day that stands beside D: a Sunday that is so many days
-/// later stands beside the letter so many places after D.
+/// The letter of the next Sundays, from a day that stands beside D: a Sunday some days later
+/// stands beside the letter as many places after D.
 fn sunday_letter(day: Day) -> Letter
     ensures { (letter_number result + day) % 7 ≡ letter_number D }
 {

@@ -1,3 +1,4 @@
+//! The two rules of Easter, and their words.
 ghost use Rattle.std.specs.Prelude.{◌≡◌};
 ghost use Rattle.osn_computus.specs.Easter.{calendar_of};
 ghost use Rattle.osn_computus.specs.RuleWords as words;

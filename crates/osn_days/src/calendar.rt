@@ -1,3 +1,4 @@
+//! The three calendars with their words, and the dates of days by them, both ways.
 ghost use Rattle.std.specs.Prelude.{◌≡◌};
 ghost use Rattle.std.specs.Option.{option_to_list};
 ghost use Rattle.osn_days.specs.Profile.{newest_rules};

@@ -1,3 +1,4 @@
+//! The months, with their English names.
 ghost use Rattle.std.specs.Prelude.{◌≡◌};
 ghost use Rattle.osn_days.specs.Month as spec;
 

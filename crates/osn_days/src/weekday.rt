@@ -1,3 +1,4 @@
+//! The days of the week, with their English names.
 ghost use Rattle.std.specs.Prelude.{◌≡◌};
 ghost use Rattle.osn_days.specs.Weekday.{weekday_name, weekday_named};
 

@@ -11,7 +11,7 @@ use Rattle.osn_lands.specs.declared.regime.Regime.{Regime}
 use Rattle.osn_lands.specs.declared.period.Period.{Period}
 use Rattle.osn_lands.specs.Territory.{Covers}
 use Rattle.osn_lands.specs.Changes.{with_start}
-use Rattle.osn_lands.specs.Inside.{start_of, has_start}
+use Rattle.osn_lands.specs.PeriodList.{start_of, has_start}
 use Rattle.osn_lands.proofs.CoverFacts.{at_place, begins, begins_later}
 
 abbrev alter : ℕ → Regime → ℕ × Regime → ℕ × Regime
@@ -23,7 +23,7 @@ is_on d s = s.0 == d
 abbrev is_off : ℕ → ℕ × Regime → Bool
 is_off d s = not (s.0 == d)
 
--- starts behind a day are on others
+-- starts after a day are on others
 
 none_behind : (ps : List Period) (first last d : ℕ) → Covers first last ps → d < first →
     list_any (is_on d) (map start_of ps) ≡ false

@@ -33,7 +33,7 @@ at_places ps i j p q next within first second =
     ∙ ap (λ qs. take i ps ++ p ∷ qs) (drop_more ps j q within)
     ∙ ap (λ x. take i ps ++ p ∷ x ∷ drop (j + 1) ps) (sym second)
 
--- an element at a place and a new one behind it
+-- an element at a place and a new one after it
 pub set-insert : (front rest : List Period) (p before after : Period) (i : ℕ) → length front ≡ i →
     set (insert (front ++ p ∷ rest) (i + 1) after) i before ≡ front ++ before ∷ after ∷ rest
 set-insert front rest p before after i at =
@@ -43,7 +43,7 @@ set-insert front rest p before after i at =
     ∙ ap (λ n. set (front ++ insert (p ∷ rest) n after) i before) one
     ∙ set_at front p (after ∷ rest) before i at
 
--- an element at a place, the one behind it removed
+-- an element at a place, the one after it removed
 pub set-remove : (front rest : List Period) (p q joined : Period) (i j : ℕ) → length front ≡ i →
     i + 1 ≡ j → set (remove (front ++ p ∷ q ∷ rest) j) i joined ≡ front ++ joined ∷ rest
 set-remove front rest p q joined i j at next =
@@ -52,7 +52,7 @@ set-remove front rest p q joined i j at next =
     ∙ ap (λ n. set (front ++ remove (p ∷ q ∷ rest) n) i joined) one
     ∙ set_at front p rest joined i at
 
--- the period at a place, with those behind it
+-- the period at a place, with those after it
 pub covers_at : (ps : List Period) (i first last : ℕ) (p : Period) → i < length ps →
     p ≡ get_or ps i p → Covers first last (drop i ps) → Covers first last (p ∷ drop (i + 1) ps)
 covers_at ps i first last p within is covers =
@@ -78,7 +78,7 @@ begins (q ∷ front) rest p first last covers =
     let later : q.last + 1 ≤ p.first = begins front rest p (q.last + 1) last covers.2 in
     omega (arith, covers.0, covers.1)
 
--- and one behind others begins later
+-- and one after others begins later
 pub begins_later : (front rest : List Period) (p : Period) (first last : ℕ) → 0 < length front →
     Covers first last (front ++ p ∷ rest) → first < p.first
 begins_later [] rest p first last some covers = absurd (omega arith)
@@ -156,16 +156,16 @@ no_more_than_days (p ∷ ps) first last covers =
     omega (arith, more, covers.0, covers.1)
 
 -- a day before the next period begins, or on the line where none does, is before a period's end
-pub not_behind : (ps : List Period) (i first last d : ℕ) → Covers first last ps → i < length ps →
+pub not_after : (ps : List Period) (i first last d : ℕ) → Covers first last ps → i < length ps →
     d ≤ last → ((q : Period) → suc i < length ps → d < (get_or ps (suc i) q).first) → (p : Period) →
     d ≤ (get_or ps i p).last
-not_behind [] i first last d covers within on next p = absurd (omega arith)
-not_behind (r ∷ []) zero first last d covers within on next p = omega (arith, on, covers.2)
-not_behind (r ∷ s ∷ ps) zero first last d covers within on next p =
+not_after [] i first last d covers within on next p = absurd (omega arith)
+not_after (r ∷ []) zero first last d covers within on next p = omega (arith, on, covers.2)
+not_after (r ∷ s ∷ ps) zero first last d covers within on next p =
     let before : d < s.first = next p (omega arith) in omega (arith, before, covers.2.0)
-not_behind (r ∷ []) (suc i) first last d covers within on next p = absurd (omega arith)
-not_behind (r ∷ s ∷ ps) (suc i) first last d covers within on next p =
-    not_behind (s ∷ ps) i (r.last + 1) last d covers.2 (omega arith) on (λ q more.
+not_after (r ∷ []) (suc i) first last d covers within on next p = absurd (omega arith)
+not_after (r ∷ s ∷ ps) (suc i) first last d covers within on next p =
+    not_after (s ∷ ps) i (r.last + 1) last d covers.2 (omega arith) on (λ q more.
     next q (omega arith)) p
 
 -- half as many are left after a test
@@ -199,7 +199,7 @@ within_at (q ∷ ps) (suc i) first last p covers within is =
     let later = within_at ps i (q.last + 1) last p covers.2 (omega arith) is in
     (omega (arith, later.0, covers.0, covers.1), later.1, later.2)
 
--- a period behind another starts behind the first day
+-- a period after another starts after the first day
 pub later_at : (ps : List Period) (i first last : ℕ) (p : Period) → Covers first last ps → 0 < i →
     i < length ps → p ≡ get_or ps i p → (first < p.first) × (p.first ≤ last)
 later_at [] i first last p covers later within is = absurd (omega arith)

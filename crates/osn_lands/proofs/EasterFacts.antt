@@ -19,7 +19,7 @@ use Rattle.osn_days.proofs.FilterFacts.{filter_none, filter_one, filter_is}
 use Rattle.osn_lands.specs.Territory.{TerritoryModel, regime_at}
 use Rattle.osn_lands.specs.Easters.{is_on, is_easter, easters_by_rule, unless_listed, easters}
 use Rattle.osn_lands.specs.Exceptions.{exception_of}
-use Rattle.osn_lands.specs.Inside.{is_rule, easters_in_force, days_in_order}
+use Rattle.osn_lands.specs.EasterSearch.{is_rule, easters_in_force, days_in_order}
 use Rattle.osn_lands.proofs.MemberFacts.{any_from}
 use Rattle.osn_lands.proofs.OrderFacts.{filter_or}
 

@@ -16,18 +16,19 @@ use Rattle.osn_lands.specs.Label.{days_with_label}
 use Rattle.osn_lands.specs.Territory.{TerritoryModel, Covers, IsExplained, regime_at, reading}
 use Rattle.osn_lands.specs.Territory.{is_empty, is_skipped_at, skipped_after, skipped_among}
 use Rattle.osn_lands.specs.Territory.{skipped}
-use Rattle.osn_lands.specs.Inside.{start_of, has_label}
+use Rattle.osn_lands.specs.PeriodList.{start_of}
+use Rattle.osn_lands.specs.LabelSearch.{has_label}
 use Rattle.osn_lands.proofs.MemberFacts.{any_in, any_from, no_days_is, no_days_not, some_days_any}
 use Rattle.osn_lands.proofs.PeriodFacts.{periods_back}
 use Rattle.osn_lands.proofs.RegimeFacts.{Agrees, agrees}
 
--- the label has no day under the regime, or one behind the period
+-- the label has no day under the regime, or one after the period
 abbrev IsAhead : Profile → Label → Period → Type 0
 IsAhead p label q =
     (is_empty (days_with_label p q.regime label) ≡ true)
     ⊎ (list_any (λ d. nat_le (q.last + 1) d) (days_with_label p q.regime label) ≡ true)
 
--- a label that is not read has no day from the first of the period on that is not behind it
+-- a label that is not read has no day from the first of the period on that is not after it
 ahead_from : (p : Profile) (t : TerritoryModel) (label : Label) (q : Period) (d : ℕ) →
     is_empty (reading p t label) ≡ true →
     ((e : ℕ) → q.first ≤ e → e ≤ q.last → regime_at t e ≡ q.regime) → 1 ≤ d → d ≤ p.high →
@@ -35,7 +36,7 @@ ahead_from : (p : Profile) (t : TerritoryModel) (label : Label) (q : Period) (d 
 unfolding days_with_label reading line
 ahead_from p t label q d none inside low high has from =
     elim (cases_lt q.last d) [
-      | inl behind ↦ inr (any_from (λ e. nat_le (q.last + 1) e)
+      | inl later ↦ inr (any_from (λ e. nat_le (q.last + 1) e)
           (λ e. has_label p label q.regime e) 1
           p.high d low (omega arith) has (le-leb (q.last + 1) d (omega arith)))
       | inr within ↦ absurd (no_days_not (λ e. has_label p label
@@ -78,14 +79,14 @@ ahead_past p t label q none inside not_before some =
           d.1.passes from
     ]
 
--- what is behind the last period is not on the line
+-- what is after the last period is not on the line
 no_days_at_end : (p : Profile) (label : Label) (q : Period) → q.last + 1 ≡ p.high + 1 →
     IsAhead p label q → is_empty (days_with_label p q.regime label) ≡ true
 unfolding days_with_label line
 no_days_at_end p label q end (inl none_at_all) = none_at_all
-no_days_at_end p label q end (inr behind) =
+no_days_at_end p label q end (inr later) =
     let d = any_in (λ e. nat_le (q.last + 1) e)
-    (λ e. has_label p label q.regime e) 1 p.high behind in
+    (λ e. has_label p label q.regime e) 1 p.high later in
     absurd (omega (arith, d.1.high, leb-true (q.last + 1) d.0 d.1.tested))
 
 -- the first and the last of four conditions hold, and not all of them
@@ -122,8 +123,8 @@ failed p t label old new none next ahead is =
     elim ahead [
       | inl none_at_all ↦ or_right (list_any (λ d. nat_le new.first d) olds) (is_empty olds)
           none_at_all
-      | inr behind ↦ or_left (list_any (λ d. nat_le new.first d) olds) (is_empty olds)
-          (ap (λ n. list_any (λ d. nat_le n d) olds) next ∙ behind)
+      | inr later ↦ or_left (list_any (λ d. nat_le new.first d) olds) (is_empty olds)
+          (ap (λ n. list_any (λ d. nat_le n d) olds) next ∙ later)
     ] in
     let unread : not (list_any q (reading p t label)) ≡ true =
     ap (λ ds. not (list_any q ds)) (no_days_is (reading p t label) none) in
@@ -168,7 +169,7 @@ none_here false d ds none = (refl, none)
 abbrev is_dated_among : Profile → Label → List (ℕ × Regime) → Bool
 is_dated_among p label starts = list_any (λ s. not (is_empty (days_with_label p s.1 label))) starts
 
--- no regime has the label, from a period on behind which it has its days or none, where no change
+-- no regime has the label, from a period on after which it has its days or none, where no change
 -- is named
 undated_after : (p : Profile) (t : TerritoryModel) (label : Label) (first : ℕ) (old : Period)
     (rest : List Period) → Covers first p.high (old ∷ rest) → Agrees (regime_at t) (old ∷ rest) →

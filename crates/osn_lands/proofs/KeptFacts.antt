@@ -64,7 +64,7 @@ within_line : (p q : Profile) (f g : ℕ → Bool) → p.high ≤ q.high
 unfolding line
 within_line p q f g longer same =
     filter_until (λ d. nat_le d p.high) f p.high q.high longer (λ d until. le-leb d p.high until)
-    (λ d behind. lt-leb d p.high behind)
+    (λ d past. lt-leb d p.high past)
     ∙ filter_same f g 1 p.high (λ d low high. same d (low, omega arith))
 
 -- the days of the first rules that are read are those that they read
@@ -89,12 +89,12 @@ same_on_line p q f g longer none same =
 not_that_day : (e d : ℕ) → e < d → (e == d) ≡ false
 not_that_day e d less = grind (arith, nat_tests)
 
--- no day behind the first rules' line is Easter of a year that they have
-none_behind : (rule : Rule) (y d : ℕ) → IsYear first_rules y → first_rules.high < d
+-- no day after the first rules' line is Easter of a year that they have
+none_after : (rule : Rule) (y d : ℕ) → IsYear first_rules y → first_rules.high < d
     → is_easter newest_rules rule y d ≡ false
-none_behind rule y d year behind =
+none_after rule y d year past =
     let kept = kept_easter rule y year in
-    ap (λ o. is_on o d) kept.newest ∙ not_that_day kept.day d (omega (arith, kept.within, behind))
+    ap (λ o. is_on o d) kept.newest ∙ not_that_day kept.day d (omega (arith, kept.within, past))
 
 kept_by_rule : (t : TerritoryModel) (y : ℕ) → IsYear first_rules y
     → easters_by_rule newest_rules t y ≡ easters_by_rule first_rules t y
@@ -103,7 +103,7 @@ kept_by_rule t y year =
     same_on_line first_rules newest_rules
     (λ d. is_easter newest_rules (regime_at t d).rule y d)
     (λ d. is_easter first_rules (regime_at t d).rule y d) (omega arith)
-    (λ d behind. none_behind (regime_at t d).rule y d year behind)
+    (λ d past. none_after (regime_at t d).rule y d year past)
     (λ d on. ap (λ o. is_on o d) (sym (same_easter (regime_at t d).rule y year)))
 
 -- the Easters of a year that the first rules have

@@ -31,7 +31,7 @@ use Rattle.osn_lands.specs.declared.label.Label.{Label}
 use Rattle.osn_lands.specs.Style.{is_before_25_march, is_from_25_december, is_from_september}
 use Rattle.osn_lands.specs.Style.{is_before, is_before_easter, year_by, style_year, is_from_easter}
 use Rattle.osn_lands.specs.Label.{local_label, same_label, days_with_label}
-use Rattle.osn_lands.specs.Inside.{has_label, days_in_year, date_in, year_in}
+use Rattle.osn_lands.specs.LabelSearch.{has_label, days_in_year, date_in, year_in}
 use Rattle.osn_lands.specs.LabelOrder.{is_dated_before}
 use Rattle.osn_lands.proofs.EarlierFacts.{earlier_day}
 use Rattle.osn_lands.proofs.EasterFacts.{easter_on_line}

@@ -25,7 +25,7 @@ use Rattle.osn_days.proofs.SwedishFacts.{swedish_after}
 use Rattle.osn_lands.specs.declared.regime.Regime.{Regime}
 use Rattle.osn_lands.specs.declared.period.Period.{Period}
 use Rattle.osn_lands.specs.Territory.{TerritoryModel}
-use Rattle.osn_lands.specs.Inside.{start_of}
+use Rattle.osn_lands.specs.PeriodList.{start_of}
 use Rattle.osn_lands.specs.MonthDay.{has_month_day}
 use Rattle.osn_lands.proofs.LabelFacts.{later_year}
 

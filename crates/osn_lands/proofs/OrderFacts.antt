@@ -1,4 +1,4 @@
--- Filters of days in a row: two whose days come one behind the other, one within another, and one
+-- Filters of days in a row: two whose days come one after the other, one within another, and one
 -- that passes one day.
 use Rattle.std.proofs.Common.{◌≡◌, ℕ, zero, suc, ◌+◌, ◌-◌, ◌<◌, ◌≤◌, Bool, true, false, ◌||◌}
 use Rattle.std.proofs.Common.{if◌then◌else◌, List, [], ◌∷◌, ◌++◌, filter, length, refl, sym, ap}
@@ -80,7 +80,7 @@ pub filter_within : (h f : ℕ → Bool) (high first last : ℕ) → 1 ≤ first
     last ≤ high → ((d : ℕ) → first ≤ d → d ≤ last → h d ≡ true) →
     ((d : ℕ) → d < first → h d ≡ false) → ((d : ℕ) → last < d → h d ≡ false) →
     filter h (filter f (range_with_len 1 high)) ≡ filter f (range_with_len first (last + 1 - first))
-filter_within h f high first last low some most inside before behind =
+filter_within h f high first last low some most inside before past =
     let m = first - 1 in
     let n = last + 1 - first in
     let k = high - last in
@@ -104,14 +104,14 @@ filter_within h f high first last low some most inside before behind =
     ∙ ap (λ l. l ++ filter h (filter f (range_with_len (last + 1) k)))
     (kept_all h f first n (λ d from until. inside d from (omega arith)))
     ∙ ap (λ l. filter f (range_with_len first n) ++ l)
-    (dropped_all h f (last + 1) k (λ d from until. behind d (omega arith)))
+    (dropped_all h f (last + 1) k (λ d from until. past d (omega arith)))
     ∙ append-nil (filter f (range_with_len first n))
 
 -- the days up to one
 pub filter_until : (h f : ℕ → Bool) (low high : ℕ) → low ≤ high →
     ((d : ℕ) → d ≤ low → h d ≡ true) → ((d : ℕ) → low < d → h d ≡ false) →
     filter h (filter f (range_with_len 1 high)) ≡ filter f (range_with_len 1 low)
-filter_until h f low high less inside behind =
+filter_until h f low high less inside past =
     let k = high - low in
     let all : low + k ≡ high = omega arith in
     ap (λ l. filter h (filter f (range_with_len 1 l))) (sym all)
@@ -121,21 +121,21 @@ filter_until h f low high less inside behind =
     ∙ ap (λ l. l ++ filter h (filter f (range_with_len (1 + low) k)))
     (kept_all h f 1 low (λ d from until. inside d (omega arith)))
     ∙ ap (λ l. filter f (range_with_len 1 low) ++ l)
-    (dropped_all h f (1 + low) k (λ d from until. behind d (omega arith)))
+    (dropped_all h f (1 + low) k (λ d from until. past d (omega arith)))
     ∙ append-nil (filter f (range_with_len 1 low))
 
--- which are all that pass, where none does behind it
+-- which are all that pass, where none does after it
 pub filter_ends : (f : ℕ → Bool) (low high : ℕ) → low ≤ high →
     ((d : ℕ) → low < d → f d ≡ false) →
     filter f (range_with_len 1 high) ≡ filter f (range_with_len 1 low)
-filter_ends f low high less behind =
+filter_ends f low high less past =
     let k = high - low in
     let all : low + k ≡ high = omega arith in
     ap (λ l. filter f (range_with_len 1 l)) (sym all)
     ∙ ap (filter f) (range_split 1 low k)
     ∙ filter-append f (range_with_len 1 low) (range_with_len (1 + low) k)
     ∙ ap (λ l. filter f (range_with_len 1 low) ++ l)
-    (filter_none f (1 + low) k (λ d from until. behind d (omega arith)))
+    (filter_none f (1 + low) k (λ d from until. past d (omega arith)))
     ∙ append-nil (filter f (range_with_len 1 low))
 
 single_step : (here : Bool) (a : ℕ) (ds : List ℕ) → (here ≡ true → ds ≡ []) → length ds ≤ 1 →

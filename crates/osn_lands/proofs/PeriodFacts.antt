@@ -4,7 +4,7 @@ use Rattle.osn_days.specs.Profile.{Profile}
 use Rattle.osn_lands.specs.declared.regime.Regime.{Regime}
 use Rattle.osn_lands.specs.declared.period.Period.{Period}
 use Rattle.osn_lands.specs.Territory.{TerritoryModel, Covers, last_before, periods_from, periods_of}
-use Rattle.osn_lands.specs.Inside.{start_of}
+use Rattle.osn_lands.specs.PeriodList.{start_of}
 
 -- the last day of a period that these follow
 last_is : (last : ℕ) (p : Period) (ps : List Period) → Covers (p.last + 1) last ps →

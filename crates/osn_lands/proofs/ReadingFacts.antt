@@ -14,7 +14,8 @@ use Rattle.osn_lands.specs.declared.label.Label.{Label}
 use Rattle.osn_lands.specs.declared.period.Period.{Period}
 use Rattle.osn_lands.specs.Label.{days_with_label}
 use Rattle.osn_lands.specs.Territory.{TerritoryModel, Covers, regime_at, reading}
-use Rattle.osn_lands.specs.Inside.{start_of, has_label, is_held, days_read}
+use Rattle.osn_lands.specs.PeriodList.{start_of, is_held}
+use Rattle.osn_lands.specs.LabelSearch.{has_label, days_read}
 use Rattle.osn_lands.proofs.OrderFacts.{range_split, filter_same, filter_within}
 use Rattle.osn_lands.proofs.RegimeFacts.{Agrees, agrees}
 
@@ -95,4 +96,4 @@ held_days p label q low some most =
     (λ d from until. and_from (nat_le q.first d) (nat_le d q.last) (le-leb q.first d from)
     (le-leb d q.last until))
     (λ d before. and_left (nat_le q.first d) (nat_le d q.last) (lt-leb q.first d before))
-    (λ d behind. and_right (nat_le q.first d) (nat_le d q.last) (lt-leb d q.last behind))
+    (λ d past. and_right (nat_le q.first d) (nat_le d q.last) (lt-leb d q.last past))

@@ -9,7 +9,7 @@ use Rattle.osn_lands.specs.declared.regime.Regime.{Regime}
 use Rattle.osn_lands.specs.declared.period.Period.{Period}
 use Rattle.osn_lands.specs.Territory.{TerritoryModel, Covers, CoversLine, no_start, periods_of}
 use Rattle.osn_lands.specs.Territory.{regime_at}
-use Rattle.osn_lands.specs.Inside.{start_of}
+use Rattle.osn_lands.specs.PeriodList.{start_of}
 use Rattle.osn_lands.proofs.CoverFacts.{at_place}
 use Rattle.osn_lands.proofs.PeriodFacts.{starts_back}
 
@@ -17,14 +17,14 @@ use Rattle.osn_lands.proofs.PeriodFacts.{starts_back}
 abbrev regime_after : ℕ → Regime → List (ℕ × Regime) → Regime
 regime_after d before starts = fold (λ r s. if nat_le s.0 d then s.1 else r) before starts
 
--- starts behind a day change nothing on it
-behind : (first last : ℕ) (ps : List Period) (d : ℕ) (before : Regime) → Covers first last ps →
+-- starts after a day change nothing on it
+past : (first last : ℕ) (ps : List Period) (d : ℕ) (before : Regime) → Covers first last ps →
     d < first → regime_after d before (map start_of ps) ≡ before
-behind first last [] d before covers low = refl
-behind first last (p ∷ ps) d before covers low =
+past first last [] d before covers low = refl
+past first last (p ∷ ps) d before covers low =
     ap (λ b. regime_after d (if b then p.regime else before) (map start_of ps))
     (lt-leb p.first d (omega (arith, covers.0)))
-    ∙ behind (p.last + 1) last ps d before covers.2 (omega (arith, covers.0, covers.1))
+    ∙ past (p.last + 1) last ps d before covers.2 (omega (arith, covers.0, covers.1))
 
 -- on a day of the first period
 at_first : (first last : ℕ) (p : Period) (rest : List Period) (d : ℕ) (before : Regime) →
@@ -33,9 +33,9 @@ at_first : (first last : ℕ) (p : Period) (rest : List Period) (d : ℕ) (befor
 at_first first last p rest d before covers low high =
     ap (λ b. regime_after d (if b then p.regime else before) (map start_of rest))
     (le-leb p.first d low)
-    ∙ behind (p.last + 1) last rest d p.regime covers.2 (omega arith)
+    ∙ past (p.last + 1) last rest d p.regime covers.2 (omega arith)
 
--- on a day of a period behind others
+-- on a day of a period after others
 at_period : (first last : ℕ) (front rest : List Period) (p : Period) (d : ℕ) (before : Regime) →
     Covers first last (front ++ p ∷ rest) → p.first ≤ d → d ≤ p.last →
     regime_after d before (map start_of (front ++ p ∷ rest)) ≡ p.regime

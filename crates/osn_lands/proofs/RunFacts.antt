@@ -17,7 +17,7 @@ use Rattle.osn_lands.specs.declared.period.Period.{Period}
 use Rattle.osn_lands.specs.declared.runs.Run.{Run}
 use Rattle.osn_lands.specs.declared.runs.Sought.{Sought}
 use Rattle.osn_lands.specs.Territory.{TerritoryModel, Covers, CoversLine, regime_at, periods_of}
-use Rattle.osn_lands.specs.Inside.{start_of}
+use Rattle.osn_lands.specs.PeriodList.{start_of}
 use Rattle.osn_lands.specs.Label.{local_label}
 use Rattle.osn_lands.specs.Runs.{days_in, AreRunsAfter, AreRuns, days_of_year, days_of_month}
 use Rattle.osn_lands.specs.RunKeys.{is_sought, sought_in, days_sought, LieBetween}

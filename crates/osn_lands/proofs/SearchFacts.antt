@@ -18,10 +18,11 @@ use Rattle.osn_lands.specs.declared.label_table.LabelTable.{LabelTable}
 use Rattle.osn_lands.specs.Style.{is_from_easter}
 use Rattle.osn_lands.specs.Label.{days_with_label}
 use Rattle.osn_lands.specs.Territory.{is_empty}
-use Rattle.osn_lands.specs.Inside.{has_label, days_read, is_held, is_skipped_by_days}
-use Rattle.osn_lands.specs.Inside.{AreBetween, AllOrNone, IsKnown, AreKnown, IsForFew, years_of}
-use Rattle.osn_lands.specs.Inside.{most_for_one, most_tested, is_calendar, goes_by, is_used}
-use Rattle.osn_lands.specs.Inside.{three_if}
+use Rattle.osn_lands.specs.PeriodList.{is_held}
+use Rattle.osn_lands.specs.LabelSearch.{has_label, days_read, is_skipped_by_days}
+use Rattle.osn_lands.specs.LabelSearch.{AreBetween, AllOrNone, IsKnown, AreKnown, IsForFew, years_of}
+use Rattle.osn_lands.specs.LabelSearch.{most_for_one, most_tested, is_calendar, goes_by, is_used}
+use Rattle.osn_lands.specs.LabelSearch.{three_if}
 use Rattle.osn_lands.proofs.MemberFacts.{any_in}
 
 -- a period that none of the days can lie in reads none
@@ -36,7 +37,7 @@ reads_none p l q table first last known low some most between out =
     elim (and_cases (nat_le first q.last) (nat_le q.first last) out) [
       | inl before ↦ both_ways (nat_le first q.last) before
           (le-leb first q.last (omega (arith, inside.0, until, some)))
-      | inr behind ↦ both_ways (nat_le q.first last) behind
+      | inr past ↦ both_ways (nat_le q.first last) past
           (le-leb q.first last (omega (arith, inside.1, from)))
     ])))
 
@@ -52,12 +53,12 @@ none_before_first p l q table first last c known between from =
     let less = lt_of e.0 c e.1.tested in
     omega (arith, inside.0, less, from))
 
--- and none is behind the last one
-none_behind_last : (p : Profile) (l : Label) (q : Period) (table : Option LabelTable)
+-- and none is after the last one
+none_after_last : (p : Profile) (l : Label) (q : Period) (table : Option LabelTable)
     (first last c : ℕ) → IsKnown table q.regime → AreBetween p l table first last → last < c →
     list_any (λ d. nat_le c d) (days_with_label p q.regime l) ≡ false
 unfolding days_with_label line
-none_behind_last p l q table first last c known between until =
+none_after_last p l q table first last c known between until =
     not_true _ (λ found.
     let e = any_in (λ d. nat_le c d) (has_label p l q.regime) 1 p.high found in
     let inside = between q.regime e.0 known (e.1.low, omega (arith, e.1.high)) e.1.passes in
@@ -98,11 +99,11 @@ names_none p l old new table first last known_old known_new later most between
           (none_before_first p l new table first last change known_new between
           (not_lt_of first change before))
           (some new.regime known_new fixed_new))
-      | inr behind ↦ elim (cases_lt last change) [
+      | inr past ↦ elim (cases_lt last change) [
         | inl less ↦ named_first late early both there (or_from _ _
-            (none_behind_last p l old table first last change known_old between less)
+            (none_after_last p l old table first last change known_old between less)
             (some old.regime known_old fixed_old))
-        | inr more ↦ absurd (both_ways (nat_le change last) behind (le-leb change last more))
+        | inr more ↦ absurd (both_ways (nat_le change last) past (le-leb change last more))
       ]
     ]
 names_none p l old new table first last known_old known_new later most between (inr
@@ -122,7 +123,7 @@ names_none p l old new table first last known_old known_new later most between (
     elim (and_cases (nat_lt first new.first) (nat_le new.first last) out) [
       | inl before ↦ absurd (both_ways (nat_lt first new.first) before
           (lt-ltb first new.first (omega (arith, ends.0, later))))
-      | inr behind ↦ absurd (both_ways (nat_le new.first last) behind
+      | inr past ↦ absurd (both_ways (nat_le new.first last) past
           (le-leb new.first last (omega (arith, ends.1, most))))
     ]
 

@@ -14,7 +14,8 @@ use Rattle.osn_lands.specs.declared.period.Period.{Period}
 use Rattle.osn_lands.specs.Label.{days_with_label}
 use Rattle.osn_lands.specs.Territory.{TerritoryModel, Covers, regime_at, reading, is_empty}
 use Rattle.osn_lands.specs.Territory.{is_skipped_at, skipped_after, skipped_among, skipped}
-use Rattle.osn_lands.specs.Inside.{start_of, has_label, is_held, is_skipped_by_days}
+use Rattle.osn_lands.specs.PeriodList.{start_of, is_held}
+use Rattle.osn_lands.specs.LabelSearch.{has_label, is_skipped_by_days}
 use Rattle.osn_lands.proofs.MemberFacts.{any_in, any_from}
 use Rattle.osn_lands.proofs.PeriodFacts.{periods_back}
 use Rattle.osn_lands.proofs.RegimeFacts.{Agrees, agrees}
@@ -158,7 +159,7 @@ step_named p label ps i old new d e low high at_old at_new =
     ∙ ap (λ qs. if is_named_at p label old new then new.first ∷ named_among p label qs
     else named_among p label qs) (sym from_new)
 
--- a change that is named goes behind those found so far
+-- a change that is named goes after those found so far
 pub named_more : (p : Profile) (label : Label) (ps : List Period) (i : ℕ) (old new d e : Period)
     (before after all : List ℕ) → 1 ≤ i → i < length ps → get_or ps (i - 1) d ≡ old →
     get_or ps i e ≡ new → before ++ named_among p label (drop (i - 1) ps) ≡ all → after ≡ before

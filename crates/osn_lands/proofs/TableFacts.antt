@@ -25,8 +25,8 @@ use Rattle.osn_lands.specs.declared.label_table.LabelTable.{LabelTable}
 use Rattle.osn_lands.specs.Style.{is_from_easter}
 use Rattle.osn_lands.specs.Label.{local_label, days_with_label}
 use Rattle.osn_lands.specs.Territory.{is_empty}
-use Rattle.osn_lands.specs.Inside.{has_label, days_in_year, date_in, years_of, are_none_in, year_in}
-use Rattle.osn_lands.specs.Inside.{AreInYears, AreAllWithin, IsTable, AreBetween, AllOrNone}
+use Rattle.osn_lands.specs.LabelSearch.{has_label, days_in_year, date_in, years_of, are_none_in, year_in}
+use Rattle.osn_lands.specs.LabelSearch.{AreInYears, AreAllWithin, IsTable, AreBetween, AllOrNone}
 use Rattle.osn_lands.proofs.LabelFacts.{in_year, in_year_date, in_three_years, later_year}
 use Rattle.osn_lands.proofs.LabelFacts.{same_label_decides, three_years_found, some_year_counts}
 use Rattle.osn_lands.proofs.LabelFacts.{year_of_day}

@@ -20,7 +20,7 @@ use Rattle.osn_lands.specs.Style.{is_before_25_march, is_from_25_december, is_fr
 use Rattle.osn_lands.specs.Style.{is_before_easter, year_by, style_year}
 use Rattle.osn_lands.specs.Label.{local_label, days_with_label}
 use Rattle.osn_lands.specs.Territory.{is_empty}
-use Rattle.osn_lands.specs.Inside.{has_label, days_in_year}
+use Rattle.osn_lands.specs.LabelSearch.{has_label, days_in_year}
 use Rattle.osn_lands.proofs.MemberFacts.{any_in, some_days_any}
 use Rattle.osn_lands.proofs.OrderFacts.{filter_single}
 use Rattle.osn_lands.proofs.LabelFacts.{in_year, in_year_year, in_year_date, three_years}

@@ -62,7 +62,7 @@ other_length xs ys apart = rw (not_eq (length xs) (length ys) apart) refl
 length_more : (xs : List ℕ) (a : ℕ) → length (xs ++ a ∷ []) ≡ length xs + 1
 length_more xs a = simp length-append
 
--- one digit more behind two numbers that differ
+-- one digit more after two numbers that differ
 more_by_length : (xs ys : List ℕ) (a b : ℕ) (t : Bool) → (xs ≡ ys → ⊥) →
     (length xs == length ys) ≡ t → later_digits (xs ++ a ∷ []) (ys ++ b ∷ []) ≡ later_digits xs ys
     ++ b ∷ []

@@ -12,5 +12,7 @@ pub mod Changes
 pub mod Exceptions
 pub mod Faults
 pub mod Easters
-pub mod Inside
+pub mod PeriodList
+pub mod LabelSearch
+pub mod EasterSearch
 pub mod Kept

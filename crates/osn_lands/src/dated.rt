@@ -29,7 +29,7 @@ pub fn dated_day(regime: Regime, day: Day) -> DatedDay
     ensures value { result ≡ spec.dated_day newest_rules regime day }
     // as a law: its text is that of the day under the regime
     ensures text { spec.dated_text result ≡ dual.dual_text newest_rules regime day }
-    // as a law: where the style's years begin on a fixed date, the label is the day's date again
+    // as a law: where the style's years begin on a fixed date, the label reads as the day's date
     ensures ordered { is_from_easter regime.style ≡ false
         → label_date newest_rules regime result.label ≡ date_of regime.calendar day }
 {

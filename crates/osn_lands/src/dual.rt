@@ -1,3 +1,4 @@
+//! The English text of a day under a regime, with both years where they differ.
 ghost use Rattle.std.specs.Prelude.{◌≡◌, ◌<◌, ◌≤◌, ◌++◌, IfOk, OnOk, pos, codes, string_bytes};
 ghost use Rattle.std.specs.Fmt.{decimal};
 ghost use Rattle.osn_days.specs.Profile.{first_rules, newest_rules};
@@ -28,7 +29,7 @@ pub(crate) fn later_part(earlier: u32, later: u32) -> u32
     }
 }
 
-/// Writes a number behind what stands before it.
+/// Writes a number after what stands before it.
 fn push_number(text: &mut String, front: &str, number: u32) -> Result<(), AllocError>
     ensures { OnOk result (string_bytes text.new
         ≡ string_bytes text.old ++ (front.now ++ decimal number)) }

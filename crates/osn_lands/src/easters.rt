@@ -1,11 +1,11 @@
 //! The Easters of both rules, in order.
 ghost use Rattle.std.specs.Prelude.{◌≡◌, ◌++◌, OnOk};
-ghost use Rattle.osn_lands.specs.Inside.{days_in_order};
+ghost use Rattle.osn_lands.specs.EasterSearch.{days_in_order};
 
 use osn_days::Day;
 use std::alloc::AllocError;
 
-/// Puts one day and another, where they are, in order behind the days found so far.
+/// Puts one day and another, where they are, in order after the days found so far.
 pub(crate) fn push_in_order(
     one: Option<Day>,
     other: Option<Day>,

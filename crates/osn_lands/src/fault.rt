@@ -1,3 +1,4 @@
+//! Why a territory refuses a call.
 ghost use Rattle.std.specs.Prelude.{◌≡◌};
 ghost use Rattle.osn_lands.specs.declared.fault.LandFault.TheVariants.{NoMemory};
 

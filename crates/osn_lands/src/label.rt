@@ -1,7 +1,8 @@
+//! A date as a territory writes it, and the days that have it under a regime.
 ghost use Rattle.std.specs.Prelude.{◌≡◌, ◌↔◌, ◌≤◌, IsSome, IfSome, length};
 ghost use Rattle.osn_days.specs.Line.{IsYearNumber};
 ghost use Rattle.osn_days.specs.Profile.{first_rules, newest_rules};
-ghost use Rattle.osn_lands.specs.Inside.{date_in};
+ghost use Rattle.osn_lands.specs.LabelSearch.{date_in};
 ghost use Rattle.osn_lands.specs.Label.{local_label, days_with_label, first_two};
 
 use crate::label_days::days_of_label;

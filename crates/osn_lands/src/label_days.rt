@@ -3,7 +3,7 @@ ghost use Rattle.std.specs.Prelude.{◌≡◌, ◌+◌, ◌<◌, ◌≤◌};
 ghost use Rattle.std.specs.Option.{option_to_list};
 ghost use Rattle.osn_days.specs.Profile.{newest_rules};
 ghost use Rattle.osn_lands.specs.Label.{days_with_label};
-ghost use Rattle.osn_lands.specs.Inside.{days_found, days_in_year};
+ghost use Rattle.osn_lands.specs.LabelSearch.{days_found, days_in_year};
 
 use crate::label::{Label, date_in_year};
 use crate::regime::Regime;

@@ -3,8 +3,8 @@
 ghost use Rattle.std.specs.Prelude.{◌≡◌, ◌≤◌, ◌&&◌, nat_le, nat_lt, length};
 ghost use Rattle.osn_days.specs.Profile.{newest_rules};
 ghost use Rattle.osn_lands.specs.Label.{days_with_label};
-ghost use Rattle.osn_lands.specs.Inside.{days_found, most_for_one, most_tested, IsSearch};
-ghost use Rattle.osn_lands.specs.Inside.{IsKnown, AreKnown, IsForFew};
+ghost use Rattle.osn_lands.specs.LabelSearch.{days_found, most_for_one, most_tested, IsSearch};
+ghost use Rattle.osn_lands.specs.LabelSearch.{IsKnown, AreKnown, IsForFew};
 
 use crate::label::Label;
 use crate::label_days::days_of_label;
@@ -14,8 +14,8 @@ use crate::regime::Regime;
 use crate::three_days::ThreeDays;
 use osn_days::Day;
 
-/// From so many periods on the days of all regimes are found at once, by three dates for each
-/// calendar, so that none is tested again where two periods meet.
+/// From this number of periods on the days of all regimes are found at once, by three dates for each
+/// calendar, so that none is tested twice where two periods meet.
 const PERIODS_FOR_A_TABLE: usize = 2;
 
 /// What a search in a territory goes by. Every day that has the label under some regime of the
@@ -76,7 +76,7 @@ impl LabelSearch {
         self.first <= period.last && period.first <= self.last
     }
 
-    /// Whether a change is behind the first day, and not behind the last.
+    /// Whether a change is after the first day, and not after the last.
     pub fn straddles(&self, change: Day) -> bool
         ensures { result ≡ (nat_lt self.now.first change && nat_le change self.now.last) }
     {

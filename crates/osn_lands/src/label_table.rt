@@ -5,10 +5,10 @@ ghost use Rattle.std.specs.Option.{option_to_list};
 ghost use Rattle.osn_days.specs.Profile.{newest_rules};
 ghost use Rattle.osn_days.specs.Chain.{days_with_date};
 ghost use Rattle.osn_lands.specs.Label.{days_with_label};
-ghost use Rattle.osn_lands.specs.Inside.{date_in, days_in_year, days_found, years_of};
-ghost use Rattle.osn_lands.specs.Inside.{are_none_in, AreAllWithin, AreInYears, IsTable};
-ghost use Rattle.osn_lands.specs.Inside.{IsKnown, AreKnown, AreBetween, AllOrNone};
-ghost use Rattle.osn_lands.specs.Inside.{is_used, three_if};
+ghost use Rattle.osn_lands.specs.LabelSearch.{date_in, days_in_year, days_found, years_of};
+ghost use Rattle.osn_lands.specs.LabelSearch.{are_none_in, AreAllWithin, AreInYears, IsTable};
+ghost use Rattle.osn_lands.specs.LabelSearch.{IsKnown, AreKnown, AreBetween, AllOrNone};
+ghost use Rattle.osn_lands.specs.LabelSearch.{is_used, three_if};
 ghost use Rattle.osn_days.specs.declared.calendar.Calendar.{Calendar};
 
 use crate::label::{Label, date_in_year};
@@ -85,7 +85,7 @@ fn day_of_label_year(found: Option<Day>, regime: Regime, label: Label, year: i64
 }
 
 /// The first and the last of days, if there are three. Where no period goes by the calendar, no day
-/// counts: the first is behind all days then, and the last before them.
+/// counts: the first is after all days then, and the last before them.
 fn ends_of(days: Option<ThreeDays>) -> Option<(Day, Day)>
     ensures { IfSome result (λ e. IfSome days (AreAllWithin e.0 e.1)) }
 {

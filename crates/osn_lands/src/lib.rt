@@ -5,7 +5,6 @@
 //! style.
 #![tactic(auto)]
 
-mod cover;
 mod dated;
 mod dual;
 mod easters;
@@ -17,6 +16,7 @@ mod label_search;
 mod label_table;
 mod month_day;
 mod period;
+mod period_list;
 mod reading;
 mod regime;
 mod runs;

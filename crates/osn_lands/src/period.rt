@@ -1,5 +1,7 @@
+//! The days through which a regime is in force.
 ghost use Rattle.std.specs.Prelude.{◌≡◌};
-ghost use Rattle.osn_lands.specs.Inside.{is_held, goes_by};
+ghost use Rattle.osn_lands.specs.PeriodList.{is_held};
+ghost use Rattle.osn_lands.specs.LabelSearch.{goes_by};
 
 use crate::regime::Regime;
 use osn_days::{Calendar, Day};

@@ -3,8 +3,9 @@ ghost use Rattle.std.specs.Prelude.{◌≡◌, ◌++◌, ◌≤◌, ◌<◌, ◌
 ghost use Rattle.osn_days.specs.Profile.{newest_rules};
 ghost use Rattle.osn_lands.specs.Label.{days_with_label};
 ghost use Rattle.osn_lands.specs.Style.{is_from_easter};
-ghost use Rattle.osn_lands.specs.Inside.{IsWithinLine, IsSearch, days_found, days_read};
-ghost use Rattle.osn_lands.specs.Inside.{is_skipped_by_days, most_for_one, IsKnown};
+ghost use Rattle.osn_lands.specs.PeriodList.{IsWithinLine};
+ghost use Rattle.osn_lands.specs.LabelSearch.{IsSearch, days_found, days_read};
+ghost use Rattle.osn_lands.specs.LabelSearch.{is_skipped_by_days, most_for_one, IsKnown};
 
 use crate::label_search::LabelSearch;
 use crate::period::Period;
@@ -12,8 +13,8 @@ use crate::three_days::ThreeDays;
 use osn_days::Day;
 use std::alloc::AllocError;
 
-/// Puts the days of a period that have the label behind those found so far, and tells how many
-/// dates were tested for it.
+/// Puts the days of a period that have the label after those found so far, and tells how many dates
+/// were tested for it.
 pub(crate) fn read_period(
     period: &Period,
     search: &LabelSearch,

@@ -1,3 +1,4 @@
+//! How a territory reckons its days.
 ghost use Rattle.std.specs.Prelude.{◌≡◌};
 ghost use Rattle.osn_lands.specs.Style as plain;
 

@@ -6,7 +6,7 @@ ghost use Rattle.std.specs.List.{range_with_len};
 ghost use Rattle.osn_days.specs.Profile.{newest_rules};
 ghost use Rattle.osn_days.specs.Chain.{date_of};
 ghost use Rattle.osn_lands.specs.Style.{style_year};
-ghost use Rattle.osn_lands.specs.Inside.{IsWithinLine};
+ghost use Rattle.osn_lands.specs.PeriodList.{IsWithinLine};
 ghost use Rattle.osn_lands.specs.Runs.{days_in};
 ghost use Rattle.osn_lands.specs.RunKeys as keys;
 

@@ -1,3 +1,4 @@
+//! Where a year begins, and the words for it.
 ghost use Rattle.std.specs.Prelude.{◌≡◌};
 ghost use Rattle.osn_lands.specs.Style as plain;
 ghost use Rattle.osn_lands.specs.StyleWords as words;

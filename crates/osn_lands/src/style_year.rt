@@ -4,7 +4,7 @@ ghost use Rattle.osn_days.specs.Profile.{newest_rules};
 ghost use Rattle.osn_days.specs.Line.{IsYearNumber};
 ghost use Rattle.osn_days.specs.Chain.{date_of};
 ghost use Rattle.osn_lands.specs.Style as plain;
-ghost use Rattle.osn_lands.specs.Inside as inside;
+ghost use Rattle.osn_lands.specs.LabelSearch.{year_in};
 ghost use Rattle.osn_lands.specs.LabelOrder as order;
 
 use crate::regime::Regime;
@@ -37,9 +37,7 @@ pub(crate) fn is_from_september(month: u8) -> bool
 fn is_earlier(one: Date, other: Date) -> bool
     ensures { result ≡ order.is_earlier one other }
 {
-    one.year < other.year
-        || one.year == other.year
-            && (one.month < other.month || one.month == other.month && one.day < other.day)
+    one < other
 }
 
 /// Whether a date of a calendar is before the Easter day of its year by the Julian rule.
@@ -54,7 +52,7 @@ pub(crate) fn is_before_easter(calendar: Calendar, date: Date) -> bool
 /// The year of a date as the regime's style counts it.
 pub(crate) fn year_of(regime: Regime, date: Date) -> i32
     requires { IsYearNumber newest_rules date.year }
-    ensures { result ≡ inside.year_in newest_rules regime date }
+    ensures { result ≡ year_in newest_rules regime date }
 {
     let Date { year, month, day } = date;
     match regime.style {

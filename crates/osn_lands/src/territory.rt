@@ -1,3 +1,4 @@
+//! A territory: a list of the starts of its regimes and of the years with a listed Easter.
 ghost use Rattle.std.specs.Prelude.{◌≡◌, ◌<◌, Some, None, IfOk, IfErr, OnOk, OnErr, length};
 ghost use Rattle.std.specs.List.{HoldsAt};
 ghost use Rattle.std.specs.Option.{option_to_list};
@@ -5,7 +6,7 @@ ghost use Rattle.osn_days.specs.Profile.{first_rules, newest_rules};
 ghost use Rattle.osn_lands.specs.Territory as plain;
 ghost use Rattle.osn_lands.specs.Changes as changes;
 ghost use Rattle.osn_lands.specs.Easters as feast;
-ghost use Rattle.osn_lands.specs.Inside.{easters_in_force};
+ghost use Rattle.osn_lands.specs.EasterSearch.{easters_in_force};
 ghost use Rattle.osn_lands.specs.Exceptions as exceptions;
 ghost use Rattle.osn_lands.specs.Kept.{KeepsEasters};
 ghost use Rattle.osn_lands.specs.Faults.{IsTestOf, IsFaultOrNoMemory};
@@ -15,10 +16,10 @@ mod gaps;
 mod readings;
 mod years;
 
-use crate::cover::{alter, find_period, is_start, join, split};
 use crate::easters::push_in_order;
 use crate::fault::LandFault;
 use crate::period::Period;
+use crate::period_list::{alter, find_period, is_start, join, split};
 use crate::regime::Regime;
 use osn_computus::{Rule, easter};
 use osn_days::{Day, Year};
@@ -40,7 +41,7 @@ impl Model for Territory {
 
     ghost Value = { TerritoryModel };
 
-    ghost use Rattle.osn_lands.specs.Inside.{territory_in, IsWhole};
+    ghost use Rattle.osn_lands.specs.PeriodList.{territory_in, IsWhole};
 
     ghost view = { territory_in };
 
@@ -218,7 +219,7 @@ impl Territory {
         Ok(())
     }
 
-    /// Drops the exception of a year, whose Easter is the rule's again.
+    /// Drops the exception of a year, whose Easter is then the rule's.
     ///
     /// # Errors
     ///

@@ -4,7 +4,8 @@ ghost use Rattle.std.specs.List.{list_any};
 ghost use Rattle.std.specs.Option.{option_to_list};
 ghost use Rattle.osn_lands.specs.Label.{first_two};
 ghost use Rattle.osn_lands.specs.Territory.{is_empty};
-ghost use Rattle.osn_lands.specs.Inside.{AreAllWithin, days_found, is_held};
+ghost use Rattle.osn_lands.specs.PeriodList.{is_held};
+ghost use Rattle.osn_lands.specs.LabelSearch.{AreAllWithin, days_found};
 
 use crate::period::Period;
 use osn_days::Day;
@@ -21,7 +22,7 @@ pub(crate) struct ThreeDays {
     pub after: Option<Day>,
 }
 
-/// Whether a day was found, and is the day or behind it.
+/// Whether a day was found, and is the day or after it.
 fn is_from(found: Option<Day>, day: Day) -> bool
     ensures { result ≡ list_any (λ d. nat_le day d) (option_to_list found) }
 {
@@ -42,7 +43,7 @@ fn is_in(found: Option<Day>, period: &Period) -> bool
     found.is_some_and(|found| period.holds(found))
 }
 
-/// Puts the day, if one was found and is in the period, behind the days found so far.
+/// Puts the day, if one was found and is in the period, after the days found so far.
 fn push_if_in(found: Option<Day>, period: &Period, days: &mut Vec<Day>) -> Result<(), AllocError>
     ensures { OnOk result (days.new.items ≡ days.old.items
         ++ filter (is_held period.now) (option_to_list found)) }
@@ -61,7 +62,7 @@ impl ThreeDays {
         self.before.is_none() && self.same.is_none() && self.after.is_none()
     }
 
-    /// Whether one of them is the day or behind it.
+    /// Whether one of them is the day or after it.
     pub fn has_from(&self, day: Day) -> bool
         ensures { result ≡ list_any (λ d. nat_le day d) (days_found self.now) }
     {
@@ -82,7 +83,7 @@ impl ThreeDays {
         is_in(self.before, period) || is_in(self.same, period) || is_in(self.after, period)
     }
 
-    /// Puts those that are in the period behind the days found so far.
+    /// Puts those that are in the period after the days found so far.
     pub fn push_in(&self, period: &Period, days: &mut Vec<Day>) -> Result<(), AllocError>
         ensures { OnOk result (days.new.items ≡ days.old.items
             ++ filter (is_held period.now) (days_found self.now)) }

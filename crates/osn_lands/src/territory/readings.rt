@@ -3,7 +3,7 @@ ghost use Rattle.std.specs.Prelude.{◌≡◌, ◌≤◌, ◌*◌, IfOk, length}
 ghost use Rattle.osn_days.specs.Profile.{first_rules, newest_rules};
 ghost use Rattle.osn_lands.specs.Territory as plain;
 ghost use Rattle.osn_lands.specs.Kept.{KeepsReading};
-ghost use Rattle.osn_lands.specs.Inside.{most_tested, IsSearchIn};
+ghost use Rattle.osn_lands.specs.LabelSearch.{most_tested, IsSearchIn};
 
 use crate::label::Label;
 use crate::label_search::LabelSearch;

@@ -2,7 +2,7 @@ use Rattle.std.proofs.Common.{◌≡◌, ap, sym, ◌∙◌, rules, of_z, to_z, 
 use Rattle.std.specs.Option.{option_to_list}
 use Rattle.osn_days.specs.Profile.{newest_rules}
 use Rattle.osn_days.specs.Chain.{days_with_date}
-use Rattle.osn_lands.specs.Inside.{date_in, year_in}
+use Rattle.osn_lands.specs.LabelSearch.{date_in, year_in}
 use Rattle.osn_lands.proofs.LabelFacts.{no_day_off_the_years, no_day_of_other_year, days_of_year}
 use Rattle.osn_lands.proofs.TableFacts.{none_counted}
 use Rattle.osn_lands.proofs.label_table.day_of_label_year.Goals as goal

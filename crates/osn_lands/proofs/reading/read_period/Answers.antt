@@ -1,7 +1,7 @@
 use Rattle.std.proofs.Common.{◌++◌, filter, sym, ap, ◌∙◌, rules}
 use Rattle.std.proofs.lemmas.List.{append-nil}
 use Rattle.osn_days.specs.Profile.{newest_rules}
-use Rattle.osn_lands.specs.Inside.{is_held}
+use Rattle.osn_lands.specs.PeriodList.{is_held}
 use Rattle.osn_lands.proofs.ReadingFacts.{held_days}
 use Rattle.osn_lands.proofs.SearchFacts.{reads_none}
 use Rattle.osn_lands.proofs.reading.read_period.Goals as goal

@@ -1,6 +1,6 @@
 use Rattle.std.proofs.Common.{◌≤◌, sym, ap, ◌∙◌, arith, rules}
 use Rattle.osn_days.specs.Profile.{newest_rules}
-use Rattle.osn_lands.specs.Inside.{year_in}
+use Rattle.osn_lands.specs.LabelSearch.{year_in}
 use Rattle.osn_lands.specs.LabelOrder.{is_dated_before_easter}
 use Rattle.osn_lands.proofs.LabelFacts.{year_of_day, style_year_range}
 use Rattle.osn_lands.proofs.style_year.date_and_year.Goals as goal

@@ -1,7 +1,7 @@
 use Rattle.std.proofs.Common.{◌≡◌, is_some, arith}
 use Rattle.osn_days.specs.declared.calendar.Calendar.TheVariants.{Julian, Gregorian, Swedish}
 use Rattle.osn_lands.specs.declared.label_table.LabelTable.{LabelTable}
-use Rattle.osn_lands.specs.Inside.{years_of, is_used}
+use Rattle.osn_lands.specs.LabelSearch.{years_of, is_used}
 use Rattle.osn_lands.proofs.SearchFacts.{all_known, three_for_each}
 use Rattle.osn_lands.proofs.label_table.LabelTable.new.Goals as goal
 

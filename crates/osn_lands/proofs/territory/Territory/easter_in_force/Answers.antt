@@ -1,7 +1,7 @@
 use Rattle.std.proofs.Common.{sym, ap, ◌∙◌}
 use Rattle.osn_days.specs.Profile.{newest_rules}
 use Rattle.osn_lands.specs.declared.regime.Regime.{Regime}
-use Rattle.osn_lands.specs.Inside.{is_rule}
+use Rattle.osn_lands.specs.EasterSearch.{is_rule}
 use Rattle.osn_lands.proofs.EasterFacts.{in_force, not_in_force, same_rule}
 use Rattle.osn_lands.proofs.territory.Territory.easter_in_force.Goals as goal
 

@@ -1,6 +1,6 @@
 use Rattle.std.proofs.Common.{◌++◌, sym, ap, ◌∙◌}
 use Rattle.osn_days.specs.Profile.{newest_rules}
-use Rattle.osn_lands.specs.Inside.{days_in_order}
+use Rattle.osn_lands.specs.EasterSearch.{days_in_order}
 use Rattle.osn_lands.proofs.EasterFacts.{easters_are}
 use Rattle.osn_lands.proofs.KeptFacts.{kept_easters}
 use Rattle.osn_lands.proofs.territory.Territory.easters.Goals as goal

@@ -3,7 +3,7 @@ use Rattle.osn_days.specs.Profile.{newest_rules}
 use Rattle.osn_lands.specs.declared.period.Period.{Period}
 use Rattle.osn_lands.specs.Territory.{CoversLine}
 use Rattle.std.specs.List.{flat_map}
-use Rattle.osn_lands.specs.Inside.{days_read, most_tested, AreKnown}
+use Rattle.osn_lands.specs.LabelSearch.{days_read, most_tested, AreKnown}
 use Rattle.osn_lands.proofs.CoverFacts.{within_at, no_more_than_days}
 use Rattle.osn_lands.proofs.PeriodFacts.{periods_kept}
 use Rattle.osn_lands.proofs.ReadingFacts.{reading_is}

@@ -1,7 +1,7 @@
 use Rattle.std.proofs.Common.{◌≡◌, ◌≤◌, ◌++◌, drop, length}
 use Rattle.std.specs.List.{flat_map}
 use Rattle.osn_days.specs.Profile.{newest_rules}
-use Rattle.osn_lands.specs.Inside.{days_read, most_tested}
+use Rattle.osn_lands.specs.LabelSearch.{days_read, most_tested}
 use Rattle.osn_lands.proofs.territory.Territory.read_by.Given as goal
 
 -- the days found so far, and those of the periods that are left; and no more were tested than for

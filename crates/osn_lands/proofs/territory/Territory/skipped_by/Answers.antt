@@ -3,7 +3,7 @@ use Rattle.std.proofs.lemmas.List.{get_or_default}
 use Rattle.osn_days.specs.Profile.{newest_rules}
 use Rattle.osn_lands.specs.declared.period.Period.{Period}
 use Rattle.osn_lands.specs.Territory.{CoversLine}
-use Rattle.osn_lands.specs.Inside.{AreKnown}
+use Rattle.osn_lands.specs.LabelSearch.{AreKnown}
 use Rattle.osn_lands.proofs.CoverFacts.{later_at}
 use Rattle.osn_lands.proofs.PeriodFacts.{periods_kept}
 use Rattle.osn_lands.proofs.SearchFacts.{known_at}

@@ -7,12 +7,12 @@ use Rattle.osn_days.specs.Profile.{newest_rules}
 use Rattle.osn_lands.specs.declared.period.Period.{Period}
 use Rattle.osn_lands.specs.Territory.{CoversLine}
 use Rattle.osn_lands.specs.Changes.{with_start}
-use Rattle.osn_lands.specs.Inside.{start_of}
+use Rattle.osn_lands.specs.PeriodList.{start_of}
 use Rattle.osn_lands.proofs.CoverFacts.{at_place, set-insert, covers_split, read_at}
 use Rattle.osn_lands.proofs.ChangeFacts.{with_start-is, no_sooner-at}
-use Rattle.osn_lands.proofs.cover.split.Goals as goal
+use Rattle.osn_lands.proofs.period_list.split.Goals as goal
 
--- the period that is split still stands at its place behind the insertion
+-- the period that is split still stands at its place after the insertion
 same_place : (ps qs : List Period) (i : ℕ) (p x after : Period) → i < length ps →
     p ≡ get_or ps i p → qs ≡ insert ps (i + 1) after → x ≡ get_or qs i x → x ≡ p
 same_place ps qs i p x after within is inserted read =

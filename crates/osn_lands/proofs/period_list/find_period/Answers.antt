@@ -1,8 +1,8 @@
 use Rattle.std.proofs.Common.{◌≡◌, ◌+◌, ◌-◌, ◌/◌, ◌<◌, ◌≤◌, length, get_or, suc, subst, arith}
 use Rattle.std.proofs.lemmas.List.{get_or_default}
 use Rattle.osn_days.specs.Profile.{newest_rules}
-use Rattle.osn_lands.proofs.CoverFacts.{no_more_than_days, not_behind, halved, one_more_test}
-use Rattle.osn_lands.proofs.cover.find_period.Goals as goal
+use Rattle.osn_lands.proofs.CoverFacts.{no_more_than_days, not_after, halved, one_more_test}
+use Rattle.osn_lands.proofs.period_list.find_period.Goals as goal
 
 pub overflow_add-tested : goal.overflow_add-tested
 overflow_add-tested c =
@@ -58,9 +58,9 @@ returns-clause-holds c p =
     omega (arith, holds.0, c.loop-high-test.false) in
     let first = holds.2 p in (
       omega (arith, first, day),
-      not_behind ps c.loop-high.low 1 newest_rules.high c.args.day c.requires
+      not_after ps c.loop-high.low 1 newest_rules.high c.args.day c.requires
           (omega (arith, holds.0, holds.1)) (omega (arith, c.number-number.ensures.on_line.1, day))
-          (λ q within. let behind = subst (λ n. c.number-number.result < (get_or ps n q).first) next
-          (holds.3 q (omega (arith, within, next))) in omega (arith, behind, day))
+          (λ q within. let past = subst (λ n. c.number-number.result < (get_or ps n q).first) next
+          (holds.3 q (omega (arith, within, next))) in omega (arith, past, day))
           p,
     )

@@ -5,7 +5,7 @@ ghost use Rattle.std.specs.List.{HoldsAt};
 ghost use Rattle.osn_days.specs.Profile.{newest_rules};
 ghost use Rattle.osn_lands.specs.Territory.{CoversLine, Holds, IsWithinBinaryDigits};
 ghost use Rattle.osn_lands.specs.Changes as changes;
-ghost use Rattle.osn_lands.specs.Inside.{start_of, has_start, with_regime, without_start};
+ghost use Rattle.osn_lands.specs.PeriodList.{start_of, has_start, with_regime, without_start};
 
 use crate::period::Period;
 use crate::regime::Regime;

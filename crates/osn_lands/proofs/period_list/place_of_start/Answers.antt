@@ -2,7 +2,7 @@ use Rattle.std.proofs.Common.{get_or, arith}
 use Rattle.std.proofs.lemmas.List.{get_or_default}
 use Rattle.osn_days.specs.Profile.{newest_rules}
 use Rattle.osn_lands.proofs.ChangeFacts.{found_on_start, later_place}
-use Rattle.osn_lands.proofs.cover.place_of_start.Goals as goal
+use Rattle.osn_lands.proofs.period_list.place_of_start.Goals as goal
 
 pub returns-clause-starts : goal.returns-clause-starts
 returns-clause-starts c p =

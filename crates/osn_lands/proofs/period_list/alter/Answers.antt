@@ -3,7 +3,7 @@ use Rattle.osn_days.specs.Profile.{newest_rules}
 use Rattle.osn_lands.specs.declared.period.Period.{Period}
 use Rattle.osn_lands.proofs.CoverFacts.{covers_set, read_at}
 use Rattle.osn_lands.proofs.ChangeFacts.{altered-at}
-use Rattle.osn_lands.proofs.cover.alter.Goals as goal
+use Rattle.osn_lands.proofs.period_list.alter.Goals as goal
 
 abbrev altered : goal.After-periods-1 → Period
 altered c = record c.index_mut-period.result.now { regime = c.args.regime }

@@ -1,16 +1,13 @@
--- How a territory keeps its starts and its exceptions, and what is found period by period.
-use Rattle.std.specs.Prelude.{ℕ, ◌+◌, ◌-◌, ◌≤◌, ◌==◌, ◌&&◌, ◌||◌, nat_le, nat_lt, ℤ, Bool, true}
-use Rattle.std.specs.Prelude.{false, not, if◌then◌else◌, Option, Some, None, List, [], ◌∷◌, ◌++◌}
-use Rattle.std.specs.Prelude.{filter, map, ◌≡◌, ◌⊎◌, ◌*◌, ◌+ℤ◌, ◌-ℤ◌, pos, length}
+-- How the days of a label are found period by period, and how many dates are tested for it.
+use Rattle.std.specs.Prelude.{ℕ, ◌+◌, ◌-◌, ◌≤◌, ◌&&◌, ◌||◌, nat_le, nat_lt, ℤ, Bool, true}
+use Rattle.std.specs.Prelude.{false, not, Option, Some, None, List, [], ◌∷◌, ◌++◌}
+use Rattle.std.specs.Prelude.{filter, ◌≡◌, ◌⊎◌, ◌*◌, ◌+ℤ◌, ◌-ℤ◌, pos, length}
 use Rattle.std.specs.Prelude.{IsSome, IsSomeAnd, IfSome}
 use Rattle.std.specs.List.{range_with_len, list_any}
 use Rattle.std.specs.Option.{option_to_list}
 use Rattle.std.specs.Ordering.{int_eq}
-use Rattle.osn_computus.specs.declared.rule.Rule.{Rule}
-use Rattle.osn_computus.specs.declared.rule.Rule.TheVariants.{Julian, Gregorian}
 use Rattle.osn_days.specs.Profile.{Profile, newest_rules}
 use Rattle.osn_days.specs.declared.calendar.Calendar.{Calendar}
-use Rattle.osn_days.specs.declared.calendar.Calendar.TheVariants as calendars
 use Rattle.osn_days.specs.declared.date.Date.{Date}
 use Rattle.osn_days.specs.Line.{line, IsDay}
 use Rattle.osn_days.specs.Chain.{date_of, days_with_date}
@@ -20,42 +17,12 @@ use Rattle.osn_lands.specs.declared.three_days.ThreeDays.{ThreeDays}
 use Rattle.osn_lands.specs.declared.label_table.LabelTable.{LabelTable}
 use Rattle.osn_lands.specs.declared.label_search.LabelSearch.{LabelSearch}
 use Rattle.osn_lands.specs.declared.period.Period.{Period}
-use Rattle.osn_lands.specs.declared.territory.Territory.TheInside.{Inside}
 use Rattle.osn_lands.specs.Style.{year_by, is_from_easter}
 use Rattle.osn_lands.specs.Label.{local_label, same_label, days_with_label}
 use Rattle.osn_lands.specs.LabelOrder.{is_dated_before_easter}
-use Rattle.osn_lands.specs.Territory.{TerritoryModel, CoversLine, is_empty, regime_at, periods_of}
-use Rattle.osn_lands.specs.Easters.{is_easter}
-
-abbrev pub start_of : Period → ℕ × Regime
-start_of p = (p.first, p.regime)
-
--- one of the periods starts on the day
-abbrev pub has_start : ℕ → List Period → Bool
-has_start d ps = list_any (λ s. s.0 == d) (map start_of ps)
-
--- the starts, with another regime from one of them on
-abbrev pub with_regime : ℕ → Regime → List (ℕ × Regime) → List (ℕ × Regime)
-with_regime d regime starts = map (λ s. if s.0 == d then (d, regime) else s) starts
-
--- the starts without that day
-abbrev pub without_start : ℕ → List (ℕ × Regime) → List (ℕ × Regime)
-without_start d starts = filter (λ s. not (s.0 == d)) starts
-
-abbrev pub territory_in : Inside → TerritoryModel
-territory_in t = record { starts = map start_of t.periods.items; exceptions = t.exceptions.entries }
-
--- from day 1 to the end of the line, each day in one period, in order
-abbrev pub IsWhole : Inside → Type 0
-IsWhole t = CoversLine newest_rules t.periods.items
-
--- the period is of days of the line, and has one
-abbrev pub IsWithinLine : Period → Type 0
-IsWithinLine p = (1 ≤ p.first) × (p.first ≤ p.last) × (p.last ≤ newest_rules.high)
-
--- the day is one of the period's
-abbrev pub is_held : Period → ℕ → Bool
-is_held p d = nat_le p.first d && nat_le d p.last
+use Rattle.osn_lands.specs.Territory.{TerritoryModel, is_empty, periods_of}
+use Rattle.osn_days.specs.declared.calendar.Calendar.TheVariants as calendars
+use Rattle.osn_lands.specs.PeriodList.{is_held}
 
 -- the style's year of a date under a regime, whether a day has the date or not
 abbrev pub year_in : Profile → Regime → Date → ℤ
@@ -158,7 +125,7 @@ IsSearchIn t s =
     IsSearch newest_rules s × AreKnown s.table (periods_of newest_rules t)
     × IsForFew s.table (length (periods_of newest_rules t))
 
--- how many dates are tested for one regime, and for the first of so many periods, at most: those of
+-- how many dates are tested for one regime, and for the first periods of some number, at most: those of
 -- a table were tested to begin with
 abbrev pub most_for_one : Option LabelTable → ℕ
 most_for_one None = 3
@@ -199,22 +166,3 @@ is_skipped_by_days old new old_days new_days =
     && ((list_any (λ d. nat_lt d new.first) new_days || is_empty new_days)
     && (not (is_empty old_days && is_empty new_days)
     && not (list_any (is_held old) old_days || list_any (is_held new) new_days)))
-
--- the two rules are one
-abbrev pub is_rule : Rule → Rule → Bool
-is_rule Julian Julian = true
-is_rule Julian Gregorian = false
-is_rule Gregorian Julian = false
-is_rule Gregorian Gregorian = true
-
--- the days that are Easter of the year by the rule, which is in force on them
-unfoldable pub easters_in_force : Profile → TerritoryModel → Rule → ℕ → List ℕ
-easters_in_force p t rule y =
-    filter (λ d. is_rule (regime_at t d).rule rule && is_easter p rule y d) (line p)
-
--- one day and another, in order
-abbrev pub days_in_order : Option ℕ → Option ℕ → List ℕ
-days_in_order None None = []
-days_in_order None (Some b) = b ∷ []
-days_in_order (Some a) None = a ∷ []
-days_in_order (Some a) (Some b) = if nat_le a b then a ∷ b ∷ [] else b ∷ a ∷ []

@@ -1,7 +1,7 @@
 use Rattle.std.proofs.Common.{◌==◌, sym, ap, ◌∙◌}
 use Rattle.osn_days.specs.Profile.{newest_rules}
 use Rattle.osn_lands.proofs.ChangeFacts.{found_start}
-use Rattle.osn_lands.proofs.cover.is_start.Goals as goal
+use Rattle.osn_lands.proofs.period_list.is_start.Goals as goal
 
 pub returns : goal.returns
 returns c =

@@ -6,12 +6,12 @@ use Rattle.std.proofs.lemmas.List.Edits.{get_or-remove_below, length-remove}
 use Rattle.osn_days.specs.Profile.{newest_rules}
 use Rattle.osn_lands.specs.declared.period.Period.{Period}
 use Rattle.osn_lands.specs.Territory.{CoversLine}
-use Rattle.osn_lands.specs.Inside.{start_of}
+use Rattle.osn_lands.specs.PeriodList.{start_of}
 use Rattle.osn_lands.proofs.ChangeFacts.{without-at}
 use Rattle.osn_lands.proofs.CoverFacts.{at_places, set-remove, covers_join, read_at}
-use Rattle.osn_lands.proofs.cover.join.Goals as goal
+use Rattle.osn_lands.proofs.period_list.join.Goals as goal
 
--- the period before stands in its place when the one behind is removed
+-- the period before stands in its place when the one after it is removed
 same_place : (ps qs : List Period) (i j : ℕ) (p : Period) → i + 1 ≡ j → j < length ps →
     qs ≡ remove ps j → p ≡ get_or qs i p → p ≡ get_or ps i p
 same_place ps qs i j p next within removed read =

@@ -2,7 +2,7 @@ use Rattle.std.proofs.Common.{get_or}
 use Rattle.std.proofs.lemmas.List.{get_or_default}
 use Rattle.osn_days.specs.Profile.{newest_rules}
 use Rattle.osn_lands.proofs.ChangeFacts.{found_apart}
-use Rattle.osn_lands.proofs.cover.place_to_split.Goals as goal
+use Rattle.osn_lands.proofs.period_list.place_to_split.Goals as goal
 
 pub returns-clause-holds : goal.returns-clause-holds
 returns-clause-holds c p =
