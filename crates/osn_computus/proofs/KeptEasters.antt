@@ -1,53 +1,19 @@
 -- The years of the first rules keep their Easters: the longer line has no other.
-use Rattle.std.proofs.Common.{◌≡◌, ◌≢◌, ℕ, zero, suc, ◌+◌, ◌-◌, ◌*◌, ◌%◌, ◌<◌, ◌≤◌, Bool, true}
-use Rattle.std.proofs.Common.{false, if◌then◌else◌, Option, Some, sym, ap, ◌∙◌, arith}
-use Rattle.std.specs.List.{range_with_len, find}
+use Rattle.std.proofs.Common.{◌≡◌, ◌≢◌, ℕ, ◌+◌, ◌-◌, ◌*◌, ◌%◌, ◌<◌, ◌≤◌}
+use Rattle.std.proofs.Common.{Some, sym, ap, ◌∙◌, arith}
 use Rattle.osn_days.specs.declared.calendar.Calendar.{Calendar}
 use Rattle.osn_days.specs.declared.calendar.Calendar.TheVariants as calendars
-use Rattle.osn_days.specs.Profile.{Profile, first_rules, newest_rules}
-use Rattle.osn_days.specs.Line.{line, IsYear}
+use Rattle.osn_days.specs.Profile.{first_rules, newest_rules}
+use Rattle.osn_days.specs.Line.{IsYear}
 use Rattle.osn_computus.specs.declared.rule.Rule.{Rule}
 use Rattle.osn_computus.specs.declared.rule.Rule.TheVariants.{Julian, Gregorian}
 use Rattle.osn_computus.specs.Moon.{after_march_1}
 use Rattle.osn_computus.specs.Easter.{calendar_of, date_in, day_with, paschal_moon}
 use Rattle.osn_computus.specs.Easter.{first_sunday_after, easter_of}
+use Rattle.osn_days.proofs.RangeFacts.{find_on_both}
 use Rattle.osn_computus.proofs.WalkFacts.{march_1}
 use Rattle.osn_computus.proofs.MoonFacts.{of_months, day_with_spring, HasMoonAt, moon_of, moon_is}
 use Rattle.osn_computus.proofs.MoonFacts.{sunday_is}
-
-low_step : (here : Bool) (a d : ℕ) (rest : Option ℕ) → (rest ≡ Some d → a + 1 ≤ d)
-    → (if here then Some a else rest) ≡ Some d → a ≤ d
-low_step true a d rest later found = let same : a ≡ d = cc in omega arith
-low_step false a d rest later found = let more = later found in omega arith
-
--- what a search finds is none before its first number
-find_low : (test : ℕ → Bool) (a n d : ℕ) → find test (range_with_len a n) ≡ Some d → a ≤ d
-find_low test a zero d found = absurd cc
-find_low test a (suc n) d found =
-    low_step (test a) a d (find test (range_with_len (a + 1) n)) (find_low test (a + 1) n d) found
-
-shorter_step : (here : Bool) (a d : ℕ) (long short : Option ℕ)
-    → (long ≡ Some d → short ≡ Some d) → (if here then Some a else long) ≡ Some d
-    → (if here then Some a else short) ≡ Some d
-shorter_step true a d long short later found = found
-shorter_step false a d long short later found = later found
-
--- a search through other numbers from the same one on finds it too, where they reach it
-find_other : (test : ℕ → Bool) (a n m d : ℕ) → find test (range_with_len a n) ≡ Some d → d < a + m
-    → find test (range_with_len a m) ≡ Some d
-find_other test a zero m d found within = absurd cc
-find_other test a (suc n) zero d found within =
-    absurd (omega (arith, find_low test a (suc n) d found))
-find_other test a (suc n) (suc m) d found within =
-    shorter_step (test a) a d (find test (range_with_len (a + 1) n))
-    (find test (range_with_len (a + 1) m))
-    (λ later. find_other test (a + 1) n m d later (omega arith)) found
-
--- so does a search of another line
-pub find_on_both : (p q : Profile) (test : ℕ → Bool) (d : ℕ) → find test (line p) ≡ Some d
-    → d ≤ q.high → find test (line q) ≡ Some d
-unfolding line
-find_on_both p q test d found within = find_other test 1 p.high q.high d found (omega arith)
 
 -- 1 March of a year of the first rules is 277 days at least before the end of their line
 pub march_1-kept : (c : Calendar) (y : ℕ) → IsYear first_rules y

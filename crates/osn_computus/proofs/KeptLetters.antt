@@ -8,10 +8,10 @@ use Rattle.osn_days.specs.declared.calendar.Calendar.TheVariants.{Julian, Gregor
 use Rattle.osn_days.specs.Profile.{first_rules, newest_rules}
 use Rattle.osn_days.specs.Line.{line, IsYear}
 use Rattle.osn_days.proofs.ChainFacts.{julian_by_months, gregorian_by_months}
+use Rattle.osn_days.proofs.RangeFacts.{found_on_line, find_on_both}
 use Rattle.osn_computus.specs.Letters.{letter_of, is_sunday_of, letter_of_sundays, letters_of}
-use Rattle.osn_computus.proofs.FindFacts.{found_on_line}
 use Rattle.osn_computus.proofs.LetterFacts.{january_sunday, march_sunday, march_sunday_is}
-use Rattle.osn_computus.proofs.KeptEasters.{find_on_both, march_1-kept, kept_year}
+use Rattle.osn_computus.proofs.KeptEasters.{march_1-kept, kept_year}
 
 -- a search that a day of the first rules passes finds the same day on both lines
 same_found : (test : ℕ → Bool) (d : ℕ) → 1 ≤ d → d ≤ first_rules.high → test d ≡ true

@@ -14,6 +14,7 @@ use Rattle.osn_days.specs.Line.{weekday, IsDay, IsYear}
 use Rattle.osn_days.specs.Chain.{is_leap, month_length, chain, date_of, days_with_date}
 use Rattle.osn_days.proofs.ChainFacts.{chain_apart, chain_rises}
 use Rattle.osn_days.proofs.LineFacts.{one_day}
+use Rattle.osn_days.proofs.RangeFacts.{Found, found_on_line}
 use Rattle.osn_computus.specs.declared.letter.Letter.{Letter}
 use Rattle.osn_computus.specs.declared.letter.Letter.TheVariants.{A, B, C, D, E, F, G}
 use Rattle.osn_computus.specs.declared.letters.Letters.{Letters}
@@ -22,7 +23,6 @@ use Rattle.osn_computus.specs.Letters.{letter_of, is_sunday_of, letter_of_sunday
 use Rattle.osn_computus.specs.Letters.{AreSundayLetters}
 use Rattle.osn_computus.proofs.WalkFacts.{date, lt_test, ge_test, on_in_month, to_next_month}
 use Rattle.osn_computus.proofs.WalkFacts.{march_1, march_on_chain, march_1-bound, january_8}
-use Rattle.osn_computus.proofs.FindFacts.{Found, found_on_line}
 use Rattle.osn_computus.proofs.MoonFacts.{march_at, some_same, one_of, spring_found}
 use Rattle.osn_computus.proofs.PlaceFacts.{mark, mark_test, ahead_early, ahead_late, leap_days}
 use Rattle.osn_computus.proofs.PlaceFacts.{leap_days-common, leap_days-bound, length_february}

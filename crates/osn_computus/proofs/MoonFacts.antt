@@ -13,6 +13,7 @@ use Rattle.osn_days.specs.Profile.{newest_rules}
 use Rattle.osn_days.specs.Line.{IsDay, IsYear, weekday}
 use Rattle.osn_days.specs.Chain.{chain, date_of, same_date, days_with_date}
 use Rattle.osn_days.proofs.ChainFacts.{julian_by_months, gregorian_by_months, date_apart, days_one}
+use Rattle.osn_days.proofs.RangeFacts.{find_on_line}
 use Rattle.osn_computus.specs.declared.rule.Rule.{Rule}
 use Rattle.osn_computus.specs.declared.rule.Rule.TheVariants.{Julian, Gregorian}
 use Rattle.osn_computus.specs.Figures.{golden_number, gregorian_epact}
@@ -21,7 +22,6 @@ use Rattle.osn_computus.specs.Easter.{calendar_of, date_in, day_with, paschal_mo
 use Rattle.osn_computus.specs.Easter.{first_sunday_after, IsEasterDate}
 use Rattle.osn_computus.proofs.WalkFacts.{date, lt_test, ge_test, on_in_month, to_next_month}
 use Rattle.osn_computus.proofs.WalkFacts.{march_1, march_on_chain, march_1-bound}
-use Rattle.osn_computus.proofs.FindFacts.{find_on_line}
 use Rattle.osn_computus.proofs.TableFacts.{julian_days, julian_row, gregorian_days, gregorian_row}
 
 not_true : (b : Bool) → (b ≡ true → ⊥) → b ≡ false

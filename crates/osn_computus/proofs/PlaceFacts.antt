@@ -1,7 +1,7 @@
 -- The place of each date of a chain that goes by the lengths of the months: how many days it lies
 -- after 1 March, and which letter it has.
 use Rattle.std.proofs.Common.{◌≡◌, ◌≢◌, ℕ, zero, suc, ◌+◌, ◌-◌, ◌%◌, ◌<◌, ◌≤◌, inl, inr, ◌==◌, ◌&&◌}
-use Rattle.std.proofs.Common.{true, false, nat_lt, if◌then◌else◌, refl, ap, subst, ◌∙◌, arith, ℤ}
+use Rattle.std.proofs.Common.{false, nat_lt, if◌then◌else◌, refl, ap, subst, ◌∙◌, arith, ℤ}
 use Rattle.std.proofs.Common.{pos}
 use Rattle.std.proofs.lemmas.Bool.{cases_lt, cases_order}
 use Rattle.std.proofs.lemmas.Bool.Decides.{nat_tests}
@@ -44,10 +44,6 @@ before_year = refl
 -- 1 in a leap year and else 0
 pub leap_days : Calendar → ℕ → ℕ
 leap_days c y = if is_leap c (pos y) then 1 else 0
-
-pub leap_days-leap : (c : Calendar) (y : ℕ) → is_leap c (pos y) ≡ true → leap_days c y ≡ 1
-unfolding leap_days
-leap_days-leap c y is = rw is refl
 
 pub leap_days-common : (c : Calendar) (y : ℕ) → is_leap c (pos y) ≡ false → leap_days c y ≡ 0
 unfolding leap_days

@@ -3,17 +3,18 @@ use Rattle.std.proofs.Common.{◌≡◌, ◌≢◌, ℕ, [], ◌∷◌, zero, su
 use Rattle.std.proofs.Common.{inr, Bool, true, false, nat_lt, if◌then◌else◌, refl, sym, ap, ◌∙◌}
 use Rattle.std.proofs.Common.{arith, ℤ, pos, ◌+ℤ◌, ◌*ℤ◌, ◌<ℤ◌, ◌≤ℤ◌}
 use Rattle.std.proofs.lemmas.Bool.{cases_order}
+use Rattle.std.proofs.lemmas.Bool.{false_from_ne_true}
 use Rattle.std.proofs.lemmas.Bool.Decides.{nat_tests, Decides-and, Decides-eqb, Decides-int_eq}
 use Rattle.std.proofs.lemmas.Int.{ints}
 use Rattle.std.specs.Bool.{Decides}
 use Rattle.osn_days.specs.declared.date.Date.{Date}
 use Rattle.osn_days.specs.declared.calendar.Calendar.{Calendar}
 use Rattle.osn_days.specs.declared.calendar.Calendar.TheVariants.{Julian, Gregorian, Swedish}
-use Rattle.osn_days.specs.Profile.{Profile, newest_rules}
+use Rattle.osn_days.specs.Profile.{Profile}
 use Rattle.osn_days.specs.Line.{line, IsDay}
 use Rattle.osn_days.specs.Chain.{month_length, next, next_by_months, february, march_1, first_date}
 use Rattle.osn_days.specs.Chain.{chain, date_of, same_date, days_with_date}
-use Rattle.osn_days.proofs.FilterFacts.{filter_none, filter_one}
+use Rattle.osn_days.proofs.RangeFacts.{filter_none, filter_one}
 
 pub chain-zero : (c : Calendar) → chain c 0 ≡ first_date c
 unfolding chain
@@ -252,22 +253,14 @@ pub chain_apart : (c : Calendar) (m n : ℕ) → m < n ⊎ (n < m) → chain c m
 chain_apart c m n (inl lt) e = omega (arith, ints, chain_rises c m n lt, ap key e)
 chain_apart c m n (inr gt) e = omega (arith, ints, chain_rises c n m gt, ap key e)
 
-pub year_bound : (c : Calendar) (d : ℕ) → d ≤ newest_rules.high + 1
-    → (date_of c d).year <ℤ pos 4000000
-year_bound c d h = let s = chain_small c (d - 1) in omega (arith, ints, s.year_high)
-
 pub same_date_self : (a : Date) → same_date a a ≡ true
 same_date_self a = (same_date_decides a a).1 (refl, (refl, refl))
-
-pub not_true : (b : Bool) → (b ≡ true → ⊥) → b ≡ false
-not_true true h = absurd (h refl)
-not_true false h = refl
 
 -- a date is that of no other day
 pub date_apart : (c : Calendar) (date : Date) (d e : ℕ) → 1 ≤ d → 1 ≤ e
     → same_date (date_of c d) date ≡ true → e < d ⊎ (d < e) → same_date (date_of c e) date ≡ false
 date_apart c date d e dl el is apart =
-    not_true (same_date (date_of c e) date) (λ too. chain_apart c (e - 1) (d - 1)
+    false_from_ne_true (same_date (date_of c e) date) (λ too. chain_apart c (e - 1) (d - 1)
     (elim apart [ inl lt ↦ inl (omega arith) | inr gt ↦ inr (omega arith) ])
     (same_date_is (date_of c e) date too ∙ sym (same_date_is (date_of c d) date is)))
 

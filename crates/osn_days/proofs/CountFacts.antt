@@ -5,6 +5,7 @@ use Rattle.std.proofs.Common.{inr, nat_lt, refl, sym, ap, arith, pos, ◌+ℤ◌
 use Rattle.std.proofs.Common.{Option, None, Some, IsSome, IfSome}
 use Rattle.std.specs.Option.{option_to_list}
 use Rattle.std.proofs.lemmas.Bool.{cases_order, false≢true}
+use Rattle.std.proofs.lemmas.Bool.{false_from_ne_true}
 use borrow.Author.Differences.{up}
 use Rattle.std.proofs.lemmas.Int.{ints, by_lt_z}
 use Rattle.osn_days.specs.declared.date.Date.{Date}
@@ -16,7 +17,7 @@ use Rattle.osn_days.specs.Chain.{month_length, next_by_months, first_date, chain
 use Rattle.osn_days.specs.Chain.{same_date, days_with_date}
 use Rattle.osn_days.proofs.ChainFacts.{chain-zero, chain-suc, next_is, cases_of_three}
 use Rattle.osn_days.proofs.ChainFacts.{month_length_bounds, lt_of, not_lt_of, key, chain_rises}
-use Rattle.osn_days.proofs.ChainFacts.{date_is, same_date_is, same_date_self, not_true, days_one}
+use Rattle.osn_days.proofs.ChainFacts.{date_is, same_date_is, same_date_self, days_one}
 use Rattle.osn_days.proofs.ChainFacts.{days_none}
 
 -- the calendar has the date, in a year from 1 on
@@ -187,7 +188,7 @@ days_of_count p c count k d n s on e =
 pub days_not : (p : Profile) (c : Calendar) (d : Date) → c ≢ Swedish
     → ((n : ℕ) → IsDay p n → IsReal c d → date_of c n ≡ d → ⊥) → [] ≡ days_with_date p c d
 days_not p c d h none =
-    sym (days_none p c d (λ n on. not_true (same_date (date_of c n) d)
+    sym (days_none p c d (λ n on. false_from_ne_true (same_date (date_of c n) d)
     (λ is. let same = same_date_is (date_of c n) d is in
     none n on (rw same at (chain_real c (n - 1) h)) same)))
 

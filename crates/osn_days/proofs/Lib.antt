@@ -1,7 +1,7 @@
 pub mod KnownDays
 pub mod ChainFacts
 pub mod CountFacts
-pub mod FilterFacts
+pub mod RangeFacts
 pub mod GregorianFacts
 pub mod JulianFacts
 pub mod LineFacts

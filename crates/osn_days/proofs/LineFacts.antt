@@ -3,20 +3,21 @@
 use Rattle.std.proofs.Common.{◌≡◌, ℕ, [], ◌∷◌, ◌+◌, ◌-◌, ◌≤◌, sym, ◌∙◌, arith, refl, inl, inr, pos}
 use Rattle.std.proofs.Common.{◌≤ℤ◌}
 use Rattle.std.proofs.lemmas.Bool.{cases_order}
+use Rattle.std.proofs.lemmas.Bool.{false_from_ne_true}
 use Rattle.osn_days.specs.declared.date.Date.{Date}
 use Rattle.osn_days.specs.declared.calendar.Calendar.{Calendar}
 use Rattle.osn_days.specs.declared.calendar.Calendar.TheVariants.{Julian, Gregorian, Swedish}
 use Rattle.osn_days.specs.Profile.{Profile, newest_rules}
 use Rattle.osn_days.specs.Line.{line, IsDay, IsYearNumber}
 use Rattle.osn_days.specs.Chain.{date_of, same_date, days_with_date}
-use Rattle.osn_days.proofs.FilterFacts.{filter_is}
 use Rattle.osn_days.proofs.ChainFacts.{julian_by_months, gregorian_by_months, chain_small}
-use Rattle.osn_days.proofs.ChainFacts.{chain_apart, same_date_is, same_date_self, not_true}
+use Rattle.osn_days.proofs.ChainFacts.{chain_apart, same_date_is, same_date_self}
 use Rattle.osn_days.proofs.ChainFacts.{days_one, days_none}
 use Rattle.osn_days.proofs.CountFacts.{chain_real}
 use Rattle.osn_days.proofs.GregorianFacts.{gregorian_place, gregorian_last_year}
 use Rattle.osn_days.proofs.JulianFacts.{julian_place, julian_last_year}
 use Rattle.osn_days.proofs.SwedishFacts.{swedish_cases}
+use Rattle.osn_days.proofs.RangeFacts.{filter_is}
 
 -- the date of a day of the line: a year that has figures, a month, and a day of at most 31
 pub record IsLineDate (d : Date) : Type 0 where
@@ -80,7 +81,7 @@ one_day p c d n on is = sym (days_one p c d n on (rw is (same_date_self d)))
 pub no_day : (p : Profile) (c : Calendar) (d : Date) → ((n : ℕ) → IsDay p n → date_of c n ≡ d → ⊥)
     → [] ≡ days_with_date p c d
 no_day p c d none =
-    sym (days_none p c d (λ n on. not_true (same_date (date_of c n) d)
+    sym (days_none p c d (λ n on. false_from_ne_true (same_date (date_of c n) d)
     (λ is. none n on (same_date_is (date_of c n) d is))))
 
 -- the day with a date has that date

@@ -3,11 +3,12 @@
 use Rattle.std.proofs.Common.{◌≡◌, ◌≢◌, ℕ, zero, suc, ◌+◌, ◌-◌, ◌≤◌, inl, inr, false, refl, sym, ap}
 use Rattle.std.proofs.Common.{subst, ◌∙◌, arith}
 use Rattle.std.proofs.lemmas.Bool.{cases_order, cases_lt}
+use Rattle.std.proofs.lemmas.Bool.{false_from_ne_true}
 use Rattle.osn_days.specs.declared.date.Date.{Date}
 use Rattle.osn_days.specs.declared.calendar.Calendar.TheVariants.{Julian, Swedish}
 use Rattle.osn_days.specs.Chain.{next, february, march_1, first_date, chain, date_of, same_date}
 use Rattle.osn_days.proofs.ChainFacts.{chain-zero, chain-suc, julian_by_months, chain_apart}
-use Rattle.osn_days.proofs.ChainFacts.{same_date_is, not_true}
+use Rattle.osn_days.proofs.ChainFacts.{same_date_is}
 use Rattle.osn_days.proofs.CountFacts.{IsReal, chain_real, date_of_count}
 use Rattle.osn_days.proofs.JulianFacts.{julian_count, julian_is}
 
@@ -74,7 +75,7 @@ march_1_1712 =
 other_date : (m n : ℕ) (d : Date) → chain Julian n ≡ d → m ≢ n
     → same_date (chain Julian m) d ≡ false
 other_date m n d is other =
-    not_true (same_date (chain Julian m) d) (λ same.
+    false_from_ne_true (same_date (chain Julian m) d) (λ same.
     let clash : chain Julian m ≡ chain Julian n = same_date_is (chain Julian m) d same ∙ sym is in
     elim (cases_order m n) [
       | inl here ↦ other here
@@ -84,7 +85,7 @@ other_date m n d is other =
 -- the Julian calendar has no 30 February
 no_february_30 : (m : ℕ) → same_date (chain Julian m) (february 1712 30) ≡ false
 no_february_30 m =
-    not_true (same_date (chain Julian m) (february 1712 30)) (λ same.
+    false_from_ne_true (same_date (chain Julian m) (february 1712 30)) (λ same.
     let real : IsReal Julian (february 1712 30) =
     rw (same_date_is (chain Julian m) (february 1712 30) same) at
     (chain_real Julian m julian_by_months) in

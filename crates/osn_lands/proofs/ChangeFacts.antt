@@ -25,39 +25,39 @@ is_off d s = not (s.0 == d)
 
 -- starts after a day are on others
 
-none_behind : (ps : List Period) (first last d : ℕ) → Covers first last ps → d < first →
+none_after : (ps : List Period) (first last d : ℕ) → Covers first last ps → d < first →
     list_any (is_on d) (map start_of ps) ≡ false
-none_behind [] first last d covers low = refl
-none_behind (p ∷ ps) first last d covers low =
+none_after [] first last d covers low = refl
+none_after (p ∷ ps) first last d covers low =
     ap (λ b. b || list_any (is_on d) (map start_of ps))
     (ne_eqb p.first d (λ e. omega (arith, covers.0)))
-    ∙ none_behind ps (p.last + 1) last d covers.2 (omega (arith, covers.0, covers.1))
+    ∙ none_after ps (p.last + 1) last d covers.2 (omega (arith, covers.0, covers.1))
 
-same_behind : (ps : List Period) (first last d : ℕ) (regime : Regime) → Covers first last ps →
+same_after : (ps : List Period) (first last d : ℕ) (regime : Regime) → Covers first last ps →
     d < first → map (alter d regime) (map start_of ps) ≡ map start_of ps
-same_behind [] first last d regime covers low = refl
-same_behind (p ∷ ps) first last d regime covers low =
+same_after [] first last d regime covers low = refl
+same_after (p ∷ ps) first last d regime covers low =
     ap (λ b. (if b then (d, regime) else start_of p) ∷ map (alter d regime) (map start_of ps))
     (ne_eqb p.first d (λ e. omega (arith, covers.0)))
-    ∙ ap (λ ss. start_of p ∷ ss) (same_behind ps (p.last + 1) last d regime covers.2
+    ∙ ap (λ ss. start_of p ∷ ss) (same_after ps (p.last + 1) last d regime covers.2
     (omega (arith, covers.0, covers.1)))
 
-kept_behind : (ps : List Period) (first last d : ℕ) → Covers first last ps → d < first →
+kept_after : (ps : List Period) (first last d : ℕ) → Covers first last ps → d < first →
     filter (is_off d) (map start_of ps) ≡ map start_of ps
-kept_behind [] first last d covers low = refl
-kept_behind (p ∷ ps) first last d covers low =
+kept_after [] first last d covers low = refl
+kept_after (p ∷ ps) first last d covers low =
     ap (λ b. if not b then start_of p ∷ filter (is_off d) (map start_of ps)
     else filter (is_off d) (map start_of ps)) (ne_eqb p.first d (λ e. omega (arith, covers.0)))
-    ∙ ap (λ ss. start_of p ∷ ss) (kept_behind ps (p.last + 1) last d covers.2 (omega (
+    ∙ ap (λ ss. start_of p ∷ ss) (kept_after ps (p.last + 1) last d covers.2 (omega (
       arith,
       covers.0,
       covers.1,
     )))
 
-first_behind : (ps : List Period) (first last d : ℕ) (regime : Regime) → Covers first last ps →
+first_after : (ps : List Period) (first last d : ℕ) (regime : Regime) → Covers first last ps →
     d < first → with_start d regime (map start_of ps) ≡ (d, regime) ∷ map start_of ps
-first_behind [] first last d regime covers low = refl
-first_behind (p ∷ ps) first last d regime covers low =
+first_after [] first last d regime covers low = refl
+first_after (p ∷ ps) first last d regime covers low =
     ap (λ b. if b then (d, regime) ∷ start_of p ∷ map start_of ps else start_of p
     ∷ with_start d regime (map start_of ps)) (lt-ltb d p.first (omega (arith, covers.0)))
 
@@ -66,7 +66,7 @@ pub starts_on-is : (front rest : List Period) (p : Period) (first last d : ℕ) 
     Covers first last (front ++ p ∷ rest) → p.first ≤ d → d ≤ p.last →
     list_any (is_on d) (map start_of (front ++ p ∷ rest)) ≡ (p.first == d)
 starts_on-is [] rest p first last d covers low high =
-    ap (λ b. (p.first == d) || b) (none_behind rest (p.last + 1) last d covers.2 (omega arith))
+    ap (λ b. (p.first == d) || b) (none_after rest (p.last + 1) last d covers.2 (omega arith))
     ∙ or-false (p.first == d)
 starts_on-is (q ∷ front) rest p first last d covers low high =
     let later = begins front rest p (q.last + 1) last covers.2 in
@@ -83,7 +83,7 @@ pub with_start-is : (front rest : List Period) (p before after : Period) (first 
 with_start-is [] rest p before after first last d regime covers low high same new =
     ap (λ s. s ∷ start_of after ∷ map start_of rest) same
     ∙ ap (λ s. start_of p ∷ s ∷ map start_of rest) new
-    ∙ ap (λ ss. start_of p ∷ ss) (sym (first_behind rest (p.last + 1) last d regime covers.2 (omega
+    ∙ ap (λ ss. start_of p ∷ ss) (sym (first_after rest (p.last + 1) last d regime covers.2 (omega
     arith)))
     ∙ ap (λ b. if b then (d, regime) ∷ start_of p ∷ map start_of rest else start_of p
     ∷ with_start d regime (map start_of rest)) (sym (le-ltb d p.first (omega arith)))
@@ -102,7 +102,7 @@ pub altered-is : (front rest : List Period) (p other : Period) (first last d : �
     (map start_of (front ++ p ∷ rest))
 altered-is [] rest p other first last d regime covers on new =
     ap (λ s. s ∷ map start_of rest) new
-    ∙ ap (λ ss. (d, regime) ∷ ss) (sym (same_behind rest (p.last + 1) last d regime covers.2 (omega
+    ∙ ap (λ ss. (d, regime) ∷ ss) (sym (same_after rest (p.last + 1) last d regime covers.2 (omega
     (arith, covers.1))))
     ∙ ap (λ b. (if b then (d, regime) else start_of p) ∷ map (alter d regime) (map start_of rest))
     (sym (eq-eqb p.first d on))
@@ -120,7 +120,7 @@ pub without-is : (front rest : List Period) (p : Period) (first last d : ℕ) �
     map start_of (front ++ rest) ≡ filter (is_off d) (map start_of (front ++ p ∷ rest))
 without-is [] rest p first last d covers on =
     let starts = map start_of rest in
-    sym (kept_behind rest (p.last + 1) last d covers.2 (omega (arith, covers.1)))
+    sym (kept_after rest (p.last + 1) last d covers.2 (omega (arith, covers.1)))
     ∙ ap (λ b. if not b then start_of p ∷ filter (is_off d) starts else filter (is_off d) starts)
     (sym (eq-eqb p.first d on))
 without-is (q ∷ front) rest p first last d covers on =

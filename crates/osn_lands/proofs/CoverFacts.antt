@@ -5,7 +5,7 @@ use Rattle.std.proofs.Common.{◌∷◌, ◌++◌, length, get_or, take, drop, s
 use Rattle.std.proofs.Common.{arith}
 use Rattle.std.proofs.Math.Nat.{pow-suc, mul-le-mul_left}
 use Rattle.std.specs.List.{HoldsAt, insert, remove}
-use Rattle.std.proofs.lemmas.List.{take-append-drop, drop_more, drop_all, set_at, length-take-le}
+use Rattle.std.proofs.lemmas.List.{take-append-drop, drop_more, set_at, length-take-le}
 use Rattle.std.proofs.lemmas.List.Edits.{insert-append_right, remove-append_right}
 use Rattle.osn_lands.specs.declared.period.Period.{Period}
 use Rattle.osn_lands.specs.Territory.{Covers}
@@ -51,24 +51,6 @@ set-remove front rest p q joined i j at next =
     ap (λ ps. set ps i joined) (remove-append_right front (p ∷ q ∷ rest) i j at (omega arith))
     ∙ ap (λ n. set (front ++ remove (p ∷ q ∷ rest) n) i joined) one
     ∙ set_at front p rest joined i at
-
--- the period at a place, with those after it
-pub covers_at : (ps : List Period) (i first last : ℕ) (p : Period) → i < length ps →
-    p ≡ get_or ps i p → Covers first last (drop i ps) → Covers first last (p ∷ drop (i + 1) ps)
-covers_at ps i first last p within is covers =
-    subst (Covers first last) (drop_more ps i p within ∙ ap (λ q. q ∷ drop (i + 1) ps) (sym is))
-    covers
-
--- none is left
-pub covers_end : (ps : List Period) (i first last : ℕ) → length ps ≤ i →
-    Covers first last (drop i ps) → first ≡ last + 1
-covers_end ps i first last past covers = subst (Covers first last) (drop_all i ps past) covers
-
--- the first of the periods begins on the first day
-pub first_at : (ps : List Period) (first last : ℕ) (p : Period) → Covers first last ps →
-    0 < length ps → p ≡ get_or ps 0 p → p.first ≡ first
-first_at [] first last p covers some is = absurd (omega arith)
-first_at (q ∷ ps) first last p covers some is = ap (λ (r : Period). r.first) is ∙ covers.0
 
 -- no period begins before the first day
 pub begins : (front rest : List Period) (p : Period) (first last : ℕ) →

@@ -2,6 +2,7 @@
 use Rattle.std.proofs.Common.{◌≡◌, ℕ, ◌-◌, ◌≤◌, ◌<ℤ◌, ◌≤ℤ◌, ◌≡◌, inl, inr, Bool, true, false}
 use Rattle.std.proofs.Common.{◌&&◌, ◌||◌, ◌==◌, nat_lt, int_lt, sym, ap, ◌∙◌, arith, eqb-true}
 use Rattle.std.proofs.lemmas.Bool.{and_parts, and_cases, or_cases, or_parts, cases_lt}
+use Rattle.std.proofs.lemmas.Bool.{false_from_ne_true}
 use Rattle.std.proofs.lemmas.Bool.{cases_order, lt-ltb, both_ways, true_from_ne_false}
 use Rattle.std.proofs.lemmas.Bool.Decides.{Decides-eqb, Decides-int_eq}
 use Rattle.std.proofs.lemmas.Int.{ints, by_lt_z}
@@ -10,7 +11,6 @@ use Rattle.osn_days.specs.declared.calendar.Calendar.{Calendar}
 use Rattle.osn_days.specs.declared.date.Date.{Date}
 use Rattle.osn_days.specs.Chain.{date_of}
 use Rattle.osn_days.proofs.ChainFacts.{IsSmall, key, chain_small, chain_rises, lt_of, not_lt_of}
-use Rattle.osn_days.proofs.ChainFacts.{not_true}
 use Rattle.osn_lands.specs.LabelOrder.{is_earlier}
 
 earlier_key : (m n : ℕ) (a b : Date) → IsSmall m a → IsSmall n b → is_earlier a b ≡ true →
@@ -84,8 +84,8 @@ earlier_day c d e low_d low_e =
           let back = not_earlier_key (d - 1) (e - 1) a b small_a small_b missed in
           omega (arith, ints, rises, back)))
       | inr from ↦
-          not_true (nat_lt d e) (λ less. omega (arith, from, lt_of d e less))
-          ∙ sym (not_true (is_earlier a b) (λ found.
+          false_from_ne_true (nat_lt d e) (λ less. omega (arith, from, lt_of d e less))
+          ∙ sym (false_from_ne_true (is_earlier a b) (λ found.
           let on = earlier_key (d - 1) (e - 1) a b small_a small_b found in
           elim (cases_lt e d) [
             | inl more ↦

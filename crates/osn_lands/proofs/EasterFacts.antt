@@ -1,12 +1,13 @@
 -- The Easters by both rules, each where its rule is in force, are those of the territory.
-use Rattle.std.proofs.Common.{◌≡◌, ℕ, zero, suc, nat_lt, ◌+◌, ◌<◌, ◌≤◌, inl, inr, Bool, true, false}
+use Rattle.std.proofs.Common.{◌≡◌, ℕ, nat_lt, ◌+◌, ◌<◌, ◌≤◌, inl, inr, Bool, true, false}
 use Rattle.std.proofs.Common.{◌==◌, ◌&&◌, ◌||◌, nat_le, [], ◌∷◌, ◌++◌, filter, Option, Some, None}
 use Rattle.std.proofs.Common.{if◌then◌else◌, refl, sym, ap, ◌∙◌, arith, eqb-true, IfSome}
 use Rattle.std.proofs.Math.Bool.{or-false}
 use Rattle.std.proofs.lemmas.Bool.{and_parts, and_from, cases_order, leb-true, leb-false, both_ways}
+use Rattle.std.proofs.lemmas.Bool.{false_from_ne_true}
 use Rattle.std.proofs.lemmas.Bool.Decides.{Decides-eqb}
 use denote.Enum.Bare.{sameb}
-use Rattle.std.specs.List.{range_with_len, list_any, find}
+use Rattle.std.specs.List.{range_with_len}
 use Rattle.std.specs.Option.{option_to_list, option_and_then}
 use Rattle.osn_computus.specs.declared.rule.Rule.{Rule}
 use Rattle.osn_computus.specs.declared.rule.Rule.TheVariants.{Julian, Gregorian}
@@ -14,14 +15,12 @@ use Rattle.osn_computus.specs.contracts.rule.Rule.{the_type}
 use Rattle.osn_computus.specs.Easter.{easter_of, first_sunday_after, paschal_moon}
 use Rattle.osn_days.specs.Profile.{Profile}
 use Rattle.osn_days.specs.Line.{line, IsDay, weekday}
-use Rattle.osn_days.proofs.ChainFacts.{not_true}
-use Rattle.osn_days.proofs.FilterFacts.{filter_none, filter_one, filter_is}
+use Rattle.osn_days.proofs.RangeFacts.{filter_none, filter_one, filter_is, filter_or, find_in}
+use Rattle.osn_days.proofs.RangeFacts.{passes_one, passes_none}
 use Rattle.osn_lands.specs.Territory.{TerritoryModel, regime_at}
 use Rattle.osn_lands.specs.Easters.{is_on, is_easter, easters_by_rule, unless_listed, easters}
 use Rattle.osn_lands.specs.Exceptions.{exception_of}
 use Rattle.osn_lands.specs.EasterSearch.{is_rule, easters_in_force, days_in_order}
-use Rattle.osn_lands.proofs.MemberFacts.{any_from}
-use Rattle.osn_lands.proofs.OrderFacts.{filter_or}
 
 -- the comparison of two rules
 pub same_rule : (a b : Rule) → is_rule a b ≡ sameb the_type a b
@@ -31,18 +30,6 @@ same_rule Gregorian Julian = refl
 same_rule Gregorian Gregorian = refl
 
 -- an Easter is a day of the line
-
-find_step : (here : Bool) (a n e : ℕ) (rest : Option ℕ) →
-    (rest ≡ Some e → (a + 1 ≤ e) × (e < a + 1 + n)) → (if here then Some a else rest) ≡ Some e →
-    (a ≤ e) × (e < a + suc n)
-find_step true a n e rest later found = let same : a ≡ e = cc in (omega arith, omega arith)
-find_step false a n e rest later found = let more = later found in
-    (omega (arith, more.0), omega (arith, more.1))
-
-find_in : (f : ℕ → Bool) (a n e : ℕ) → find f (range_with_len a n) ≡ Some e → (a ≤ e) × (e < a + n)
-find_in f a zero e found = absurd cc
-find_in f a (suc n) e found = find_step (f a) a n e (find f (range_with_len (a + 1) n))
-    (find_in f (a + 1) n e) found
 
 sunday_on_line : (p : Profile) (moon : Option ℕ) (e : ℕ) →
     option_and_then (first_sunday_after p) moon ≡ Some e → IsDay p e
@@ -81,7 +68,8 @@ in_force p t rule y e is held =
     (omega (arith, on.1))
     (and_from (is_rule (regime_at t e).rule rule) (is_easter p rule y e) held
     (is_that_day p rule y e e is ∙ (Decides-eqb e e).1 refl))
-    (λ d from until apart. not_true (is_rule (regime_at t d).rule rule && is_easter p rule y d)
+    (λ d from until apart.
+    false_from_ne_true (is_rule (regime_at t d).rule rule && is_easter p rule y d)
     (λ passes.
     let same : e ≡ d = eqb-true e d (sym (is_that_day p rule y e d is)
     ∙ (and_parts (is_rule (regime_at t d).rule rule) (is_easter p rule y d) passes).1) in
@@ -94,28 +82,12 @@ pub not_in_force : (p : Profile) (t : TerritoryModel) (rule : Rule) (y e : ℕ) 
 unfolding easters_in_force line
 not_in_force p t rule y e is off =
     sym (filter_none (λ d. is_rule (regime_at t d).rule rule && is_easter p rule y d) 1 p.high
-    (λ d from until. not_true (is_rule (regime_at t d).rule rule && is_easter p rule y d) (λ passes.
+    (λ d from until.
+    false_from_ne_true (is_rule (regime_at t d).rule rule && is_easter p rule y d) (λ passes.
     let parts = and_parts (is_rule (regime_at t d).rule rule) (is_easter p rule y d) passes in
     let same : e ≡ d = eqb-true e d (sym (is_that_day p rule y e d is) ∙ parts.1) in
     both_ways (is_rule (regime_at t d).rule rule)
     (ap (λ n. is_rule (regime_at t n).rule rule) (sym same) ∙ off) parts.0)))
-
--- a filter that passes one day passes no other
-passes_one : (f : ℕ → Bool) (n a d : ℕ) → a ∷ [] ≡ filter f (range_with_len 1 n) → 1 ≤ d →
-    d < 1 + n → f d ≡ true → a ≡ d
-passes_one f n a d only low high passes =
-    let found : list_any (λ e. e == d) (filter f (range_with_len 1 n)) ≡ true =
-    any_from (λ e. e == d) f 1 n d low high passes ((Decides-eqb d d).1 refl) in
-    let here : ((a == d) || false) ≡ true = ap (list_any (λ e. e == d)) only ∙ found in
-    eqb-true a d (sym (or-false (a == d)) ∙ here)
-
-passes_none : (f : ℕ → Bool) (n d : ℕ) → [] ≡ filter f (range_with_len 1 n) → 1 ≤ d → d < 1 + n →
-    f d ≡ true → ⊥
-passes_none f n d none low high passes =
-    let found : list_any (λ e. e == d) (filter f (range_with_len 1 n)) ≡ true =
-    any_from (λ e. e == d) f 1 n d low high passes ((Decides-eqb d d).1 refl) in
-    let nothing : false ≡ true = ap (list_any (λ e. e == d)) none ∙ found in
-    cc
 
 or_turned : (a b : Bool) → (a || b) ≡ (b || a)
 or_turned true true = refl
@@ -132,8 +104,8 @@ in_order f g h n a b either first second less =
     ∙ ap (λ l. filter f (range_with_len 1 n) ++ l) second
     ∙ sym (filter_or f g h 1 n (λ d low high. either d)
     (λ d e low_d high_d low_e high_e here there.
-    let one = passes_one f n a d first low_d high_d here in
-    let other = passes_one g n b e second low_e high_e there in
+    let one = passes_one f 1 n a d first low_d high_d here in
+    let other = passes_one g 1 n b e second low_e high_e there in
     omega (arith, less, one, other)))
 
 -- they are two where no day passes both tests
@@ -167,19 +139,19 @@ merged_is f g h n None None either apart first second =
     ∙ ap (λ l. filter f (range_with_len 1 n) ++ l) second
     ∙ sym (filter_or f g h 1 n (λ d low high. either d)
     (λ d e low_d high_d low_e high_e here there.
-    absurd (passes_none g n e second low_e high_e there)))
+    absurd (passes_none g 1 n e second low_e high_e there)))
 merged_is f g h n None (Some b) either apart first second =
     ap (λ l. l ++ b ∷ []) first
     ∙ ap (λ l. filter f (range_with_len 1 n) ++ l) second
     ∙ sym (filter_or f g h 1 n (λ d low high. either d)
     (λ d e low_d high_d low_e high_e here there.
-    absurd (passes_none f n d first low_d high_d here)))
+    absurd (passes_none f 1 n d first low_d high_d here)))
 merged_is f g h n (Some a) None either apart first second =
     ap (λ l. l ++ []) first
     ∙ ap (λ l. filter f (range_with_len 1 n) ++ l) second
     ∙ sym (filter_or f g h 1 n (λ d low high. either d)
     (λ d e low_d high_d low_e high_e here there.
-    absurd (passes_none g n e second low_e high_e there)))
+    absurd (passes_none g 1 n e second low_e high_e there)))
 merged_is f g h n (Some a) (Some b) either apart first second =
     merge_two f g h n a b (nat_le a b) either apart first second refl
 

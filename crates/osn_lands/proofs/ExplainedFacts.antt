@@ -9,6 +9,7 @@ use Rattle.std.proofs.lemmas.Bool.{le-leb, leb-true, lt-ltb, false_from_ne_true}
 use Rattle.std.specs.List.{list_any}
 use Rattle.osn_days.specs.Profile.{Profile}
 use Rattle.osn_days.specs.Line.{line}
+use Rattle.osn_days.proofs.RangeFacts.{any_in, any_from}
 use Rattle.osn_lands.specs.declared.regime.Regime.{Regime}
 use Rattle.osn_lands.specs.declared.label.Label.{Label}
 use Rattle.osn_lands.specs.declared.period.Period.{Period}
@@ -18,7 +19,7 @@ use Rattle.osn_lands.specs.Territory.{is_empty, is_skipped_at, skipped_after, sk
 use Rattle.osn_lands.specs.Territory.{skipped}
 use Rattle.osn_lands.specs.PeriodList.{start_of}
 use Rattle.osn_lands.specs.LabelSearch.{has_label}
-use Rattle.osn_lands.proofs.MemberFacts.{any_in, any_from, no_days_is, no_days_not, some_days_any}
+use Rattle.osn_lands.proofs.MemberFacts.{no_days_is, no_days_not, some_days_any}
 use Rattle.osn_lands.proofs.PeriodFacts.{periods_back}
 use Rattle.osn_lands.proofs.RegimeFacts.{Agrees, agrees}
 

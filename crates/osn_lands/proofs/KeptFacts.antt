@@ -1,8 +1,9 @@
 -- The days of the first rules keep their labels by the newest, so what is read on them is the same,
 -- and so are the Easters of their years.
-use Rattle.std.proofs.Common.{◌≡◌, ℕ, zero, suc, ◌<◌, ◌≤◌, ◌==◌, nat_le, Bool, false, filter}
+use Rattle.std.proofs.Common.{◌≡◌, ℕ, zero, suc, ◌<◌, ◌≤◌, ◌==◌, ◌&&◌, nat_le, Bool, false, filter}
 use Rattle.std.proofs.Common.{sym, ap, ◌∙◌, arith, ℤ, unsigned_abs}
-use Rattle.std.proofs.lemmas.Bool.{le-leb, lt-leb}
+use Rattle.std.proofs.Math.Bool.{and-true}
+use Rattle.std.proofs.lemmas.Bool.{and_right, le-leb, lt-leb}
 use Rattle.std.proofs.lemmas.Bool.Decides.{nat_tests}
 use Rattle.std.proofs.lemmas.Int.{ints}
 use Rattle.osn_computus.specs.declared.rule.Rule.{Rule}
@@ -12,6 +13,7 @@ use Rattle.osn_days.specs.Profile.{Profile, first_rules, newest_rules}
 use Rattle.osn_days.specs.Line.{line, IsDay, IsYear, IsYearNumber}
 use Rattle.osn_days.specs.Chain.{date_of}
 use Rattle.osn_days.proofs.KeptYears.{kept_year}
+use Rattle.osn_days.proofs.RangeFacts.{filter_both, filter_until}
 use Rattle.osn_lands.specs.declared.regime.Regime.{Regime}
 use Rattle.osn_lands.specs.declared.label.Label.{Label}
 use Rattle.osn_lands.specs.Style.{is_before, year_by, style_year}
@@ -21,7 +23,6 @@ use Rattle.osn_lands.specs.Territory.{TerritoryModel, regime_at, reading}
 use Rattle.osn_lands.specs.Exceptions.{exception_of}
 use Rattle.osn_lands.specs.Easters.{is_on, is_easter, easters_by_rule, unless_listed, easters}
 use Rattle.osn_lands.specs.Kept.{days_of_line, KeepsReading}
-use Rattle.osn_lands.proofs.OrderFacts.{filter_until, filter_ends, filter_same}
 
 -- a year of dates that the first rules have is one of their years
 pub plain_year : (y : ℤ) → IsYearNumber first_rules y → IsYear first_rules (unsigned_abs y)
@@ -63,9 +64,11 @@ within_line : (p q : Profile) (f g : ℕ → Bool) → p.high ≤ q.high
     → ((d : ℕ) → IsDay p d → f d ≡ g d) → days_of_line p (filter f (line q)) ≡ filter g (line p)
 unfolding line
 within_line p q f g longer same =
-    filter_until (λ d. nat_le d p.high) f p.high q.high longer (λ d until. le-leb d p.high until)
-    (λ d past. lt-leb d p.high past)
-    ∙ filter_same f g 1 p.high (λ d low high. same d (low, omega arith))
+    filter_both (λ d. nat_le d p.high) f (line q)
+    ∙ filter_until (λ d. f d && nat_le d p.high) g p.high q.high longer
+    (λ d low until. ap (λ b. f d && b) (le-leb d p.high until) ∙ and-true (f d)
+    ∙ same d (low, until))
+    (λ d past. and_right (f d) (nat_le d p.high) (lt-leb d p.high past))
 
 -- the days of the first rules that are read are those that they read
 pub kept_reading : (t : TerritoryModel) (label : Label)
@@ -83,8 +86,7 @@ same_on_line : (p q : Profile) (f g : ℕ → Bool) → p.high ≤ q.high
     → filter f (line q) ≡ filter g (line p)
 unfolding line
 same_on_line p q f g longer none same =
-    filter_ends f p.high q.high longer none
-    ∙ filter_same f g 1 p.high (λ d low high. same d (low, omega arith))
+    filter_until f g p.high q.high longer (λ d low until. same d (low, until)) none
 
 not_that_day : (e d : ℕ) → e < d → (e == d) ≡ false
 not_that_day e d less = grind (arith, nat_tests)

@@ -7,6 +7,7 @@ use Rattle.std.proofs.Common.{arith, ℤ, pos, ◌+ℤ◌, ◌-ℤ◌, ◌<ℤ�
 use Rattle.std.proofs.Common.{Option, Some, []}
 use Rattle.std.proofs.Common.{None, IfSome}
 use Rattle.std.proofs.lemmas.Bool.{and_parts, and_from, or_cases, cases_order}
+use Rattle.std.proofs.lemmas.Bool.{false_from_ne_true}
 use Rattle.std.proofs.lemmas.Bool.Decides.{Decides-and, Decides-eqb, Decides-int_eq}
 use Rattle.std.proofs.lemmas.Bool.Decides.{same_from_decides}
 use Rattle.std.proofs.lemmas.Int.{ints}
@@ -19,10 +20,10 @@ use Rattle.osn_computus.specs.Easter.{easter_of}
 use Rattle.osn_days.specs.Profile.{Profile, newest_rules}
 use Rattle.osn_days.specs.Line.{line, IsYearNumber}
 use Rattle.osn_days.specs.Chain.{date_of, same_date, days_with_date}
-use Rattle.osn_days.proofs.ChainFacts.{date_is, not_true, same_date_is, same_date_self, chain_rises}
+use Rattle.osn_days.proofs.ChainFacts.{date_is, same_date_is, same_date_self, chain_rises}
 use Rattle.osn_days.proofs.ChainFacts.{chain_small}
-use Rattle.osn_days.proofs.FilterFacts.{filter_none}
 use Rattle.osn_days.proofs.LineFacts.{date_of_line}
+use Rattle.osn_days.proofs.RangeFacts.{filter_none, filter_or, filter_same}
 use Rattle.osn_lands.specs.declared.style.Style.{Style}
 use Rattle.osn_lands.specs.declared.style.Style.TheVariants.{January, Annunciation, Nativity}
 use Rattle.osn_lands.specs.declared.style.Style.TheVariants.{September, Pisan, Easter}
@@ -35,7 +36,6 @@ use Rattle.osn_lands.specs.LabelSearch.{has_label, days_in_year, date_in, year_i
 use Rattle.osn_lands.specs.LabelOrder.{is_dated_before}
 use Rattle.osn_lands.proofs.EarlierFacts.{earlier_day}
 use Rattle.osn_lands.proofs.EasterFacts.{easter_on_line}
-use Rattle.osn_lands.proofs.OrderFacts.{filter_or, filter_same}
 
 -- the parts of two labels
 abbrev pub AreParts : Label → Label → Type 0
@@ -202,8 +202,8 @@ in_three_years p r l d has =
 abbrev pub in_year : Profile → Regime → Label → ℤ → ℕ → Bool
 in_year p r l y d = int_eq (date_of r.calendar d).year y && has_label p l r d
 
-pub in_year_year : (p : Profile) (r : Regime) (l : Label) (y : ℤ) (d : ℕ) → in_year p r l y d ≡ true →
-    (date_of r.calendar d).year ≡ y
+pub in_year_year : (p : Profile) (r : Regime) (l : Label) (y : ℤ) (d : ℕ) →
+    in_year p r l y d ≡ true → (date_of r.calendar d).year ≡ y
 in_year_year p r l y d is = (Decides-int_eq (date_of r.calendar d).year y).0
     (and_parts (int_eq (date_of r.calendar d).year y) (has_label p l r d) is).0
 
@@ -266,7 +266,8 @@ pub no_day_off_the_years : (r : Regime) (l : Label) (y z : ℤ) → z ≡ y →
     (IsYearNumber newest_rules z → false ≡ true) → [] ≡ days_in_year newest_rules r l y
 unfolding days_in_year line
 no_day_off_the_years r l y z same off =
-    sym (filter_none (in_year newest_rules r l y) 1 newest_rules.high (λ d low high. not_true
+    sym (filter_none (in_year newest_rules r l y) 1 newest_rules.high (λ d low high.
+    false_from_ne_true
     (in_year newest_rules r l y d) (λ is.
     let found = date_of_line r.calendar d (low, omega arith) in
     let year = in_year_year newest_rules r l y d is in
@@ -289,7 +290,8 @@ pub no_day_of_other_year : (p : Profile) (r : Regime) (l : Label) (y z : ℤ) �
     (year_in p r (date_in z l) ≡ l.year → ⊥) → [] ≡ days_in_year p r l y
 unfolding days_in_year line
 no_day_of_other_year p r l y z same other =
-    sym (filter_none (in_year p r l y) 1 p.high (λ d low high. not_true (in_year p r l y d) (λ is.
+    sym (filter_none (in_year p r l y) 1 p.high (λ d low high.
+    false_from_ne_true (in_year p r l y d) (λ is.
     let found = in_year_date p r l y d low is in
     other (ap (λ x. year_in p r (date_in x l)) same ∙ ap (year_in p r) (sym found.0)
     ∙ found.1))))

@@ -1,4 +1,3 @@
-pub mod OrderFacts
 pub mod EarlierFacts
 pub mod LabelFacts
 pub mod TwoDaysFacts

@@ -1,8 +1,9 @@
 -- What month and day a calendar has in any year, it has in 1712.
-use Rattle.std.proofs.Common.{◌≡◌, ℕ, ℤ, zero, suc, ◌+◌, ◌-◌, ◌<◌, ◌≤◌, inl, inr, Bool, true}
+use Rattle.std.proofs.Common.{◌≡◌, ℕ, ℤ, ◌+◌, ◌-◌, ◌≤◌, inl, inr, Bool, true}
 use Rattle.std.proofs.Common.{false, ◌==◌, ◌&&◌, ◌||◌, if◌then◌else◌, List, [], ◌∷◌, map, refl}
 use Rattle.std.proofs.Common.{sym, ap, ◌∙◌, arith, pos, Option, Some, None, is_some, eqb-true}
-use Rattle.std.proofs.lemmas.Bool.{and_parts, and_from, cases_lt, or_left, or_right}
+use Rattle.std.proofs.lemmas.Bool.{and_parts, and_from, cases_lt}
+use Rattle.std.proofs.lemmas.Bool.{false_from_ne_true}
 use Rattle.std.proofs.lemmas.Bool.Decides.{Decides-eqb}
 use Rattle.std.proofs.lemmas.Int.{ints}
 use Rattle.std.specs.List.{range_with_len, list_any}
@@ -13,13 +14,14 @@ use Rattle.osn_days.specs.declared.calendar.Calendar.TheVariants.{Julian, Gregor
 use Rattle.osn_days.specs.Profile.{newest_rules}
 use Rattle.osn_days.specs.Line.{line, IsDay}
 use Rattle.osn_days.specs.Chain.{is_leap, month_length, date_of, days_with_date}
-use Rattle.osn_days.proofs.ChainFacts.{julian_by_months, gregorian_by_months, not_true}
+use Rattle.osn_days.proofs.ChainFacts.{julian_by_months, gregorian_by_months}
 use Rattle.osn_days.proofs.ChainFacts.{month_length_bounds}
 use Rattle.osn_days.proofs.CountFacts.{IsReal, chain_real, on_chain, date_of_count}
 use Rattle.osn_days.proofs.GregorianFacts.{gregorian_count, gregorian_is, gregorian_first}
 use Rattle.osn_days.proofs.GregorianFacts.{gregorian_last}
 use Rattle.osn_days.proofs.JulianFacts.{julian_place, julian_count-early, julian_count-late}
 use Rattle.osn_days.proofs.LineFacts.{day_with_date, no_day_with_date}
+use Rattle.osn_days.proofs.RangeFacts.{some_in_row, none_in_row}
 use Rattle.osn_days.proofs.SwedishFacts.{swedish_cases, swedish_ahead, swedish_extra}
 use Rattle.osn_days.proofs.SwedishFacts.{swedish_after}
 use Rattle.osn_lands.specs.declared.regime.Regime.{Regime}
@@ -154,33 +156,13 @@ day_in_1712 Swedish n on =
     (λ here. (625000, (omega arith, omega arith), swedish_extra))
     (λ low. swedish_from_julian (date_of Julian n) (chain_real Julian (n - 1) julian_by_months))
 
--- a test of the days in a row that one of them passes, or none
-any_in_row : (test : ℕ → Bool) (a n d : ℕ) → a ≤ d → d < a + n → test d ≡ true →
-    list_any test (range_with_len a n) ≡ true
-any_in_row test a zero d low high is = absurd (omega arith)
-any_in_row test a (suc n) d low high is =
-    elim (cases_lt a d) [
-      | inl later ↦ or_right (test a) (list_any test (range_with_len (a + 1) n))
-          (any_in_row test (a + 1) n d (omega arith) (omega arith) is)
-      | inr until ↦
-          let same : d ≡ a = omega arith in
-          or_left (test a) (list_any test (range_with_len (a + 1) n)) (ap test (sym same) ∙ is)
-    ]
-
-none_in_row : (test : ℕ → Bool) (a n : ℕ) →
-    ((d : ℕ) → a ≤ d → d < a + n → test d ≡ false) → list_any test (range_with_len a n) ≡ false
-none_in_row test a zero none = refl
-none_in_row test a (suc n) none =
-    ap (λ b. b || list_any test (range_with_len (a + 1) n)) (none a (omega arith) (omega arith))
-    ∙ none_in_row test (a + 1) n (λ d low high. none d (omega arith) (omega arith))
-
 abbrev has : Calendar → ℕ → ℕ → ℕ → Bool
 has c m d n = ((date_of c n).month == m) && ((date_of c n).day == d)
 
 has_on : (c : Calendar) (m d n high : ℕ) → 1 ≤ n → n ≤ high → (date_of c n).month ≡ m →
     (date_of c n).day ≡ d → list_any (has c m d) (range_with_len 1 high) ≡ true
 has_on c m d n high low until month day =
-    any_in_row (has c m d) 1 high n low (omega arith)
+    some_in_row (has c m d) 1 high n low (omega arith)
     (and_from ((date_of c n).month == m) ((date_of c n).day == d)
     ((Decides-eqb (date_of c n).month m).1 month) ((Decides-eqb (date_of c n).day d).1 day))
 
@@ -195,7 +177,7 @@ found_in_1712 c m d (Some n) is =
     (ap (λ (x : Date). x.day) day.1))
 found_in_1712 c m d None is =
     sym (none_in_row (has c m d) 1 newest_rules.high (λ n low high.
-    not_true (has c m d n) (λ passes.
+    false_from_ne_true (has c m d n) (λ passes.
     let parts = and_parts ((date_of c n).month == m) ((date_of c n).day == d) passes in
     let month = eqb-true (date_of c n).month m parts.0 in
     let day = eqb-true (date_of c n).day d parts.1 in

@@ -9,6 +9,7 @@ use Rattle.std.proofs.lemmas.List.Elements.{filter-append}
 use Rattle.std.specs.List.{range_with_len, flat_map}
 use Rattle.osn_days.specs.Profile.{Profile}
 use Rattle.osn_days.specs.Line.{line}
+use Rattle.osn_days.proofs.RangeFacts.{range_join, filter_same, filter_within}
 use Rattle.osn_lands.specs.declared.regime.Regime.{Regime}
 use Rattle.osn_lands.specs.declared.label.Label.{Label}
 use Rattle.osn_lands.specs.declared.period.Period.{Period}
@@ -16,7 +17,6 @@ use Rattle.osn_lands.specs.Label.{days_with_label}
 use Rattle.osn_lands.specs.Territory.{TerritoryModel, Covers, regime_at, reading}
 use Rattle.osn_lands.specs.PeriodList.{start_of, is_held}
 use Rattle.osn_lands.specs.LabelSearch.{has_label, days_read}
-use Rattle.osn_lands.proofs.OrderFacts.{range_split, filter_same, filter_within}
 use Rattle.osn_lands.proofs.RegimeFacts.{Agrees, agrees}
 
 covers_until : (first last : ℕ) (ps : List Period) → Covers first last ps → first ≤ last + 1
@@ -29,13 +29,8 @@ days_join : (first last : ℕ) (p : Period) → p.last + 1 ≤ last + 1 → p.fi
     ++ range_with_len (p.last + 1) (last + 1 - (p.last + 1)) ≡ range_with_len first
     (last + 1 - first)
 days_join first last p until from full =
-    let next : p.first + (p.last + 1 - p.first) ≡ p.last + 1 = omega arith in
-    let all : (p.last + 1 - p.first) + (last + 1 - (p.last + 1)) ≡ last + 1 - first = omega arith in
-    ap (λ k. range_with_len p.first (p.last + 1 - p.first)
-    ++ range_with_len k (last + 1 - (p.last + 1))) (sym next)
-    ∙ sym (range_split p.first (p.last + 1 - p.first) (last + 1 - (p.last + 1)))
-    ∙ ap (range_with_len p.first) all
-    ∙ ap (λ k. range_with_len k (last + 1 - first)) from
+    sym (range_join p.first (p.last + 1) (last + 1) (omega arith) until)
+    ∙ ap (λ k. range_with_len k (last + 1 - k)) from
 
 -- period by period, or day by day
 in_periods : (p : Profile) (label : Label) (regime : ℕ → Regime) (first last : ℕ)

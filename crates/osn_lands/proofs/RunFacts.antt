@@ -1,17 +1,15 @@
 -- Runs: a filter that passes the days between two bounds, one run more, and what periods have in
 -- order, the line has.
-use Rattle.std.proofs.Common.{◌≡◌, ℕ, zero, suc, ◌+◌, ◌-◌, ◌<◌, ◌≤◌, Bool, true, false, List}
+use Rattle.std.proofs.Common.{◌≡◌, ℕ, ◌+◌, ◌-◌, ◌<◌, ◌≤◌, Bool, true, List}
 use Rattle.std.proofs.Common.{[], ◌∷◌, ◌++◌, filter, map, drop, length, refl, sym, ap, ◌∙◌, arith}
 use Rattle.std.proofs.Math.Bool.{and-true}
 use Rattle.std.specs.Ordering.{int_eq}
 use Rattle.std.proofs.Common.{ℤ, None, Some, ◌&&◌}
 use Rattle.std.proofs.lemmas.List.{append-nil, drop_all}
-use Rattle.std.proofs.lemmas.List.Elements.{filter-append}
-use Rattle.std.proofs.lemmas.Grind.{flat_map-append}
 use Rattle.std.specs.List.{range_with_len, flat_map}
 use Rattle.osn_days.specs.Profile.{Profile}
 use Rattle.osn_days.specs.Line.{line}
-use Rattle.osn_days.proofs.FilterFacts.{filter_none}
+use Rattle.osn_days.proofs.RangeFacts.{filter_same, filter_two}
 use Rattle.osn_lands.specs.declared.regime.Regime.{Regime}
 use Rattle.osn_lands.specs.declared.period.Period.{Period}
 use Rattle.osn_lands.specs.declared.runs.Run.{Run}
@@ -21,70 +19,8 @@ use Rattle.osn_lands.specs.PeriodList.{start_of}
 use Rattle.osn_lands.specs.Label.{local_label}
 use Rattle.osn_lands.specs.Runs.{days_in, AreRunsAfter, AreRuns, days_of_year, days_of_month}
 use Rattle.osn_lands.specs.RunKeys.{is_sought, sought_in, days_sought, LieBetween}
-use Rattle.osn_lands.proofs.OrderFacts.{range_split, filter_same}
 use Rattle.osn_lands.proofs.PeriodFacts.{starts_back}
 use Rattle.osn_lands.proofs.RegimeFacts.{Agrees, agrees}
-
-range_join : (a b e : ℕ) → a ≤ b → b ≤ e →
-    range_with_len a (e - a) ≡ range_with_len a (b - a) ++ range_with_len b (e - b)
-range_join a b e low high =
-    let all : e - a ≡ (b - a) + (e - b) = omega arith in
-    let next : a + (b - a) ≡ b = omega arith in
-    ap (range_with_len a) all ∙ range_split a (b - a) (e - b)
-    ∙ ap (λ k. range_with_len a (b - a) ++ range_with_len k (e - b)) next
-
-pub filter_all : (f : ℕ → Bool) (a n : ℕ) → ((d : ℕ) → a ≤ d → d < a + n → f d ≡ true) →
-    filter f (range_with_len a n) ≡ range_with_len a n
-filter_all f a zero all = refl
-filter_all f a (suc n) all =
-    rw (all a (omega arith) (omega arith))
-    (ap (λ l. a ∷ l) (filter_all f (a + 1) n (λ d low high. all d (omega arith) (omega arith))))
-
--- the days that pass are those from one bound to the day before another
-pub filter_run : (f : ℕ → Bool) (a b c e : ℕ) → a ≤ b → b ≤ c → c ≤ e →
-    ((d : ℕ) → a ≤ d → d < b → f d ≡ false) → ((d : ℕ) → b ≤ d → d < c → f d ≡ true) →
-    ((d : ℕ) → c ≤ d → d < e → f d ≡ false) →
-    filter f (range_with_len a (e - a)) ≡ range_with_len b (c - b)
-filter_run f a b c e first next last before inside after =
-    ap (filter f) (range_join a b e first (omega arith))
-    ∙ filter-append f (range_with_len a (b - a)) (range_with_len b (e - b))
-    ∙ ap (λ l. l ++ filter f (range_with_len b (e - b)))
-    (filter_none f a (b - a) (λ d low high. before d low (omega arith)))
-    ∙ ap (filter f) (range_join b c e next last)
-    ∙ filter-append f (range_with_len b (c - b)) (range_with_len c (e - c))
-    ∙ ap (λ l. l ++ filter f (range_with_len c (e - c)))
-    (filter_all f b (c - b) (λ d low high. inside d low (omega arith)))
-    ∙ ap (λ l. range_with_len b (c - b) ++ l)
-    (filter_none f c (e - c) (λ d low high. after d low (omega arith)))
-    ∙ append-nil (range_with_len b (c - b))
-
--- and so for two parts of the days
-pub filter_two : (f : ℕ → Bool) (a e : ℕ) (m : ℕ) (xs ys : List ℕ) → a ≤ m → m ≤ e →
-    filter f (range_with_len a (m - a)) ≡ xs → filter f (range_with_len m (e - m)) ≡ ys →
-    filter f (range_with_len a (e - a)) ≡ xs ++ ys
-filter_two f a e m xs ys low high first second =
-    ap (filter f) (range_join a m e low high)
-    ∙ filter-append f (range_with_len a (m - a)) (range_with_len m (e - m))
-    ∙ ap (λ l. l ++ filter f (range_with_len m (e - m))) first
-    ∙ ap (λ l. xs ++ l) second
-
--- of some days, those that pass lie between two bounds, and there another test says which
-pub filter_part : (f g : ℕ → Bool) (a b c e : ℕ) → a ≤ b → b ≤ c → c ≤ e →
-    ((d : ℕ) → a ≤ d → d < b → f d ≡ false) → ((d : ℕ) → b ≤ d → d < c → f d ≡ g d) →
-    ((d : ℕ) → c ≤ d → d < e → f d ≡ false) →
-    filter f (range_with_len a (e - a)) ≡ filter g (range_with_len b (c - b))
-filter_part f g a b c e first next last before inside after =
-    ap (filter f) (range_join a b e first (omega arith))
-    ∙ filter-append f (range_with_len a (b - a)) (range_with_len b (e - b))
-    ∙ ap (λ l. l ++ filter f (range_with_len b (e - b)))
-    (filter_none f a (b - a) (λ d low high. before d low (omega arith)))
-    ∙ ap (filter f) (range_join b c e next last)
-    ∙ filter-append f (range_with_len b (c - b)) (range_with_len c (e - c))
-    ∙ ap (λ l. l ++ filter f (range_with_len c (e - c)))
-    (filter_same f g b (c - b) (λ d low high. inside d low (omega arith)))
-    ∙ ap (λ l. filter g (range_with_len b (c - b)) ++ l)
-    (filter_none f c (e - c) (λ d low high. after d low (omega arith)))
-    ∙ append-nil (filter g (range_with_len b (c - b)))
 
 -- runs that end before a day end before a later one
 pub lie_until : (a b c : ℕ) (rs : List Run) → LieBetween a b rs → b ≤ c → LieBetween a c rs
@@ -104,14 +40,6 @@ runs_after a b (r ∷ rs) lie = (lie.0, lie.1, runs_after r.last b rs lie.2)
 
 pub are_runs : (b : ℕ) (rs : List Run) → LieBetween 0 b rs → AreRuns rs
 are_runs b rs lie = runs_after 0 b rs lie
-
-pub days_more : (rs : List Run) (r : Run) (first end : ℕ) → r.first ≡ first → r.last + 1 ≡ end →
-    days_in (rs ++ r ∷ []) ≡ days_in rs ++ range_with_len first (end - first)
-days_more rs r first end from until =
-    flat_map-append (λ (q : Run). range_with_len q.first (q.last + 1 - q.first)) rs (r ∷ [])
-    ∙ ap (λ l. days_in rs ++ l) (append-nil (range_with_len r.first (r.last + 1 - r.first))
-    ∙ ap (λ n. range_with_len r.first (n - r.first)) until
-    ∙ ap (λ n. range_with_len n (end - n)) from)
 
 pub no_days : (ds : List ℕ) (first end : ℕ) → end ≤ first →
     ds ≡ ds ++ range_with_len first (end - first)

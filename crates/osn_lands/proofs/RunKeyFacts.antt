@@ -4,6 +4,7 @@ use Rattle.std.proofs.Common.{◌==◌, ◌&&◌, if◌then◌else◌, refl, ap,
 use Rattle.std.proofs.Common.{arith, ℤ, pos, ◌+ℤ◌, ◌-ℤ◌, ◌*ℤ◌, ◌<ℤ◌, ◌≤ℤ◌, unsigned_abs}
 use Rattle.std.proofs.Common.{Option, None, Some, subst, filter, ◌++◌, eqb-true}
 use Rattle.std.proofs.lemmas.Bool.{cases_order}
+use Rattle.std.proofs.lemmas.Bool.{false_from_ne_true}
 use Rattle.std.proofs.lemmas.Bool.Decides.{nat_tests, Decides-int_eq, Decides-eqb}
 use Rattle.std.proofs.lemmas.Int.{ints, by_lt_z}
 use Rattle.std.specs.List.{range_with_len}
@@ -14,7 +15,8 @@ use Rattle.osn_days.specs.declared.date.Date.{Date}
 use Rattle.osn_days.specs.declared.calendar.Calendar.{Calendar}
 use Rattle.osn_days.specs.Profile.{Profile}
 use Rattle.osn_days.specs.Chain.{date_of}
-use Rattle.osn_days.proofs.ChainFacts.{IsSmall, key, chain_small, chain_rises, not_true}
+use Rattle.osn_days.proofs.ChainFacts.{IsSmall, key, chain_small, chain_rises}
+use Rattle.osn_days.proofs.RangeFacts.{filter_all, filter_run, filter_two, filter_part}
 use Rattle.osn_lands.specs.declared.style.Style.{Style}
 use Rattle.osn_lands.specs.declared.style.Style.TheVariants.{January, Annunciation, Nativity}
 use Rattle.osn_lands.specs.declared.style.Style.TheVariants.{September, Pisan, Easter}
@@ -27,7 +29,6 @@ use Rattle.osn_lands.specs.Style.{is_before_25_march, is_from_25_december, is_fr
 use Rattle.osn_lands.specs.Style.{is_before, is_before_easter, year_by, style_year}
 use Rattle.osn_lands.specs.RunKeys.{month_number, number_on, january_year}
 use Rattle.osn_lands.specs.RunKeys.{is_month, is_sought, sought_in}
-use Rattle.osn_lands.proofs.RunFacts.{filter_all, filter_run, filter_two, filter_part}
 
 -- an earlier date is in an earlier year, or in the same one and not later in it
 abbrev IsInOrder : Date → Date → Type 0
@@ -256,13 +257,13 @@ january_near p r y d is =
 
 other_year : (y z : ℤ) (rest : Bool) → (y ≡ z → ⊥) → (int_eq y z && rest) ≡ false
 other_year y z rest apart =
-    ap (λ b. b && rest) (not_true (int_eq y z) (λ is. apart ((Decides-int_eq y z).0 is)))
+    ap (λ b. b && rest) (false_from_ne_true (int_eq y z) (λ is. apart ((Decides-int_eq y z).0 is)))
 
 this_year : (y z : ℤ) (rest : Bool) → y ≡ z → (int_eq y z && rest) ≡ rest
 this_year y z rest same = ap (λ b. b && rest) ((Decides-int_eq y z).1 same)
 
 other_month : (a : Date) (m : ℕ) → (a.month ≡ m → ⊥) → (a.month == m) ≡ false
-other_month a m apart = not_true (a.month == m) (λ is. apart (eqb-true a.month m is))
+other_month a m apart = false_from_ne_true (a.month == m) (λ is. apart (eqb-true a.month m is))
 
 this_month : (c : Calendar) (d : ℕ) (y k : ℤ) (m : ℕ) → m < 256 → k ≡ y *ℤ pos 256 +ℤ pos m →
     month_number (date_of c d) ≡ k → ((date_of c d).month == m) ≡ true

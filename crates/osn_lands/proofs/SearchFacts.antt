@@ -2,16 +2,17 @@
 use Rattle.std.proofs.Common.{◌≡◌, ℕ, ◌+◌, ◌-◌, ◌*◌, ◌<◌, ◌≤◌, inl, inr, Bool, true, false, not}
 use Rattle.std.proofs.Common.{◌&&◌, ◌||◌, nat_le, nat_lt, List, [], ◌∷◌, Option, Some, None, sym}
 use Rattle.std.proofs.Common.{ap}
-use Rattle.std.proofs.Common.{arith, refl, subst, length, get_or, zero, suc, is_some, IsSome, ◌∙◌}
+use Rattle.std.proofs.Common.{arith, refl, subst, length, get_or, zero, suc, is_some, ◌∙◌}
 use Rattle.std.proofs.lemmas.Bool.{and_cases, and_left, and_right, and_from, or_from, leb-true}
+use Rattle.std.proofs.lemmas.Bool.{false_from_ne_true}
 use Rattle.std.proofs.lemmas.Bool.{le-leb, lt-ltb, both_ways, cases_lt, or_left, or_right}
 use Rattle.std.specs.List.{list_any}
 use Rattle.osn_days.specs.declared.calendar.Calendar.{Calendar}
 use Rattle.osn_days.specs.declared.calendar.Calendar.TheVariants.{Julian, Gregorian, Swedish}
 use Rattle.osn_days.specs.Profile.{Profile}
 use Rattle.osn_days.specs.Line.{line}
-use Rattle.osn_days.proofs.ChainFacts.{not_true, lt_of, not_lt_of}
-use Rattle.osn_days.proofs.FilterFacts.{filter_none}
+use Rattle.osn_days.proofs.ChainFacts.{lt_of, not_lt_of}
+use Rattle.osn_days.proofs.RangeFacts.{filter_none, any_in}
 use Rattle.osn_lands.specs.declared.label.Label.{Label}
 use Rattle.osn_lands.specs.declared.period.Period.{Period}
 use Rattle.osn_lands.specs.declared.label_table.LabelTable.{LabelTable}
@@ -20,10 +21,9 @@ use Rattle.osn_lands.specs.Label.{days_with_label}
 use Rattle.osn_lands.specs.Territory.{is_empty}
 use Rattle.osn_lands.specs.PeriodList.{is_held}
 use Rattle.osn_lands.specs.LabelSearch.{has_label, days_read, is_skipped_by_days}
-use Rattle.osn_lands.specs.LabelSearch.{AreBetween, AllOrNone, IsKnown, AreKnown, IsForFew, years_of}
+use Rattle.osn_lands.specs.LabelSearch.{AreBetween, AllOrNone, IsKnown, AreKnown, years_of}
 use Rattle.osn_lands.specs.LabelSearch.{most_for_one, most_tested, is_calendar, goes_by, is_used}
 use Rattle.osn_lands.specs.LabelSearch.{three_if}
-use Rattle.osn_lands.proofs.MemberFacts.{any_in}
 
 -- a period that none of the days can lie in reads none
 pub reads_none : (p : Profile) (l : Label) (q : Period) (table : Option LabelTable)
@@ -32,7 +32,7 @@ pub reads_none : (p : Profile) (l : Label) (q : Period) (table : Option LabelTab
     (nat_le first q.last && nat_le q.first last) ≡ false → [] ≡ days_read p l q
 reads_none p l q table first last known low some most between out =
     sym (filter_none (has_label p l q.regime) q.first (q.last + 1 - q.first) (λ d from until.
-    not_true (has_label p l q.regime d) (λ has.
+    false_from_ne_true (has_label p l q.regime d) (λ has.
     let inside = between q.regime d known (omega arith, omega arith) has in
     elim (and_cases (nat_le first q.last) (nat_le q.first last) out) [
       | inl before ↦ both_ways (nat_le first q.last) before
@@ -47,7 +47,7 @@ none_before_first : (p : Profile) (l : Label) (q : Period) (table : Option Label
     list_any (λ d. nat_lt d c) (days_with_label p q.regime l) ≡ false
 unfolding days_with_label line
 none_before_first p l q table first last c known between from =
-    not_true _ (λ found.
+    false_from_ne_true _ (λ found.
     let e = any_in (λ d. nat_lt d c) (has_label p l q.regime) 1 p.high found in
     let inside = between q.regime e.0 known (e.1.low, omega (arith, e.1.high)) e.1.passes in
     let less = lt_of e.0 c e.1.tested in
@@ -59,7 +59,7 @@ none_after_last : (p : Profile) (l : Label) (q : Period) (table : Option LabelTa
     list_any (λ d. nat_le c d) (days_with_label p q.regime l) ≡ false
 unfolding days_with_label line
 none_after_last p l q table first last c known between until =
-    not_true _ (λ found.
+    false_from_ne_true _ (λ found.
     let e = any_in (λ d. nat_le c d) (has_label p l q.regime) 1 p.high found in
     let inside = between q.regime e.0 known (e.1.low, omega (arith, e.1.high)) e.1.passes in
     let more = leb-true c e.0 e.1.tested in
@@ -153,12 +153,6 @@ known_at t (x ∷ ps) (suc i) q d known within at =
 pub all_without : (ps : List Period) → AreKnown None ps
 all_without [] = tt
 all_without (q ∷ qs) = (tt, all_without qs)
-
--- where there are two periods there is a table
-pub has_table : (t : Option LabelTable) (periods : ℕ) → IsForFew t periods → 1 < periods →
-    IsSome t
-has_table None periods few more = absurd (omega (arith, few, more))
-has_table (Some t) periods few more = refl
 
 -- three dates were tested for each calendar that is used, and no more calendars are than periods
 

@@ -9,6 +9,7 @@ use Rattle.std.proofs.lemmas.List.{append-nil, append_assoc, drop_more, length-d
 use Rattle.std.specs.List.{range_with_len, list_any}
 use Rattle.osn_days.specs.Profile.{Profile}
 use Rattle.osn_days.specs.Line.{line}
+use Rattle.osn_days.proofs.RangeFacts.{any_in, any_from}
 use Rattle.osn_lands.specs.declared.label.Label.{Label}
 use Rattle.osn_lands.specs.declared.period.Period.{Period}
 use Rattle.osn_lands.specs.Label.{days_with_label}
@@ -16,7 +17,6 @@ use Rattle.osn_lands.specs.Territory.{TerritoryModel, Covers, regime_at, reading
 use Rattle.osn_lands.specs.Territory.{is_skipped_at, skipped_after, skipped_among, skipped}
 use Rattle.osn_lands.specs.PeriodList.{start_of, is_held}
 use Rattle.osn_lands.specs.LabelSearch.{has_label, is_skipped_by_days}
-use Rattle.osn_lands.proofs.MemberFacts.{any_in, any_from}
 use Rattle.osn_lands.proofs.PeriodFacts.{periods_back}
 use Rattle.osn_lands.proofs.RegimeFacts.{Agrees, agrees}
 
@@ -80,14 +80,6 @@ read_there f g h n old new next some_old some_new in_old in_new =
 abbrev pub is_named_at : Profile → Label → Period → Period → Bool
 is_named_at p label old new = is_skipped_by_days old new (days_with_label p old.regime label)
     (days_with_label p new.regime label)
-
-pub named_at : (p : Profile) (label : Label) (old new : Period) (olds news : List ℕ)
-    (answer : Bool) → olds ≡ days_with_label p old.regime label →
-    news ≡ days_with_label p new.regime label → answer ≡ is_skipped_by_days old new olds news →
-    answer ≡ is_named_at p label old new
-named_at p label old new olds news answer is_olds is_news is =
-    is ∙ ap (λ ds. is_skipped_by_days old new ds news) is_olds
-    ∙ ap (is_skipped_by_days old new (days_with_label p old.regime label)) is_news
 
 is_named_skipped : (p : Profile) (t : TerritoryModel) (label : Label) (old new : Period) →
     new.first ≡ old.last + 1 → old.first ≤ old.last → new.first ≤ new.last →

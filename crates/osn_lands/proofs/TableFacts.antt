@@ -4,6 +4,7 @@ use Rattle.std.proofs.Common.{◌≡◌, ℕ, ◌≤◌, inl, inr, Bool, true, f
 use Rattle.std.proofs.Common.{[], ◌∷◌, ◌++◌, Option, Some, None, refl, sym, ap, ◌∙◌}
 use Rattle.std.proofs.Common.{arith, ℤ, pos, ◌+ℤ◌, ◌-ℤ◌, filter}
 use Rattle.std.proofs.lemmas.Bool.{and_parts, and_from}
+use Rattle.std.proofs.lemmas.Bool.{false_from_ne_true}
 use Rattle.std.proofs.lemmas.Int.{ints}
 use Rattle.std.specs.Prelude.{IsSome, IsSomeAnd, IfSome}
 use Rattle.std.specs.List.{list_any, range_with_len}
@@ -14,10 +15,9 @@ use Rattle.osn_days.specs.declared.calendar.Calendar.TheVariants.{Julian, Gregor
 use Rattle.osn_days.specs.Profile.{Profile, newest_rules}
 use Rattle.osn_days.specs.Line.{line, IsDay, IsYearNumber}
 use Rattle.osn_days.specs.Chain.{date_of, days_with_date}
-use Rattle.osn_days.proofs.ChainFacts.{not_true}
-use Rattle.osn_days.proofs.FilterFacts.{filter_none}
 use Rattle.osn_days.proofs.LineFacts.{year_of_line, no_day, no_day_with_date, day_with_date}
 use Rattle.osn_days.proofs.LineFacts.{date_of_injective}
+use Rattle.osn_days.proofs.RangeFacts.{filter_none, any_from}
 use Rattle.osn_lands.specs.declared.regime.Regime.{Regime}
 use Rattle.osn_lands.specs.declared.label.Label.{Label}
 use Rattle.osn_lands.specs.declared.three_days.ThreeDays.{ThreeDays}
@@ -25,12 +25,13 @@ use Rattle.osn_lands.specs.declared.label_table.LabelTable.{LabelTable}
 use Rattle.osn_lands.specs.Style.{is_from_easter}
 use Rattle.osn_lands.specs.Label.{local_label, days_with_label}
 use Rattle.osn_lands.specs.Territory.{is_empty}
-use Rattle.osn_lands.specs.LabelSearch.{has_label, days_in_year, date_in, years_of, are_none_in, year_in}
+use Rattle.osn_lands.specs.LabelSearch.{has_label, days_in_year, date_in, years_of, are_none_in}
+use Rattle.osn_lands.specs.LabelSearch.{year_in}
 use Rattle.osn_lands.specs.LabelSearch.{AreInYears, AreAllWithin, IsTable, AreBetween, AllOrNone}
 use Rattle.osn_lands.proofs.LabelFacts.{in_year, in_year_date, in_three_years, later_year}
 use Rattle.osn_lands.proofs.LabelFacts.{same_label_decides, three_years_found, some_year_counts}
 use Rattle.osn_lands.proofs.LabelFacts.{year_of_day}
-use Rattle.osn_lands.proofs.MemberFacts.{any_from, no_days_not}
+use Rattle.osn_lands.proofs.MemberFacts.{no_days_not}
 
 -- no date is in a year off the line
 pub no_date_off_the_years : (c : Calendar) (l : Label) (y z : ℤ) → z ≡ y →
@@ -49,7 +50,8 @@ pub none_counted : (p : Profile) (r : Regime) (l : Label) (y : ℤ) (found : Opt
 unfolding days_in_year line
 none_counted p r l y found is days =
     let none : [] ≡ days_with_date p r.calendar (date_in y l) = ap option_to_list (sym is) ∙ days in
-    sym (filter_none (in_year p r l y) 1 p.high (λ d low high. not_true (in_year p r l y d) (λ has.
+    sym (filter_none (in_year p r l y) 1 p.high (λ d low high.
+    false_from_ne_true (in_year p r l y d) (λ has.
     no_day_with_date p r.calendar (date_in y l) d none (low, omega (arith, high))
     (in_year_date p r l y d low has).0)))
 

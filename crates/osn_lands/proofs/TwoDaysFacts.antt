@@ -11,6 +11,7 @@ use Rattle.osn_days.specs.Profile.{Profile}
 use Rattle.osn_days.specs.Line.{line}
 use Rattle.osn_days.specs.Chain.{date_of}
 use Rattle.osn_days.proofs.ChainFacts.{chain_apart}
+use Rattle.osn_days.proofs.RangeFacts.{any_in, filter_single}
 use Rattle.osn_lands.specs.declared.style.Style.{Style}
 use Rattle.osn_lands.specs.declared.style.Style.TheVariants.{January, Annunciation, Nativity}
 use Rattle.osn_lands.specs.declared.style.Style.TheVariants.{September, Pisan, Easter}
@@ -21,8 +22,7 @@ use Rattle.osn_lands.specs.Style.{is_before_easter, year_by, style_year}
 use Rattle.osn_lands.specs.Label.{local_label, days_with_label}
 use Rattle.osn_lands.specs.Territory.{is_empty}
 use Rattle.osn_lands.specs.LabelSearch.{has_label, days_in_year}
-use Rattle.osn_lands.proofs.MemberFacts.{any_in, some_days_any}
-use Rattle.osn_lands.proofs.OrderFacts.{filter_single}
+use Rattle.osn_lands.proofs.MemberFacts.{some_days_any}
 use Rattle.osn_lands.proofs.LabelFacts.{in_year, in_year_year, in_year_date, three_years}
 use Rattle.osn_lands.proofs.LabelFacts.{same_label_decides}
 

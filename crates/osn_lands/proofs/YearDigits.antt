@@ -6,15 +6,15 @@ use Rattle.std.proofs.Common.{ap, ◌∙◌, arith, length-append}
 use Rattle.std.specs.Fmt.{decimal}
 use Rattle.std.proofs.lemmas.Fmt.{decimal_digit, decimal_step, decimal_nonempty, decimal_injective}
 use Rattle.std.proofs.lemmas.Bool.{cases_order}
+use Rattle.std.proofs.lemmas.Bool.{false_from_ne_true}
 use Rattle.std.proofs.lemmas.Bool.Decides.{Decides-eqb}
-use Rattle.osn_days.proofs.ChainFacts.{not_true}
 use Rattle.osn_lands.specs.Dual.{from_difference, later_digits}
 
 eq_self : (n : ℕ) → (n == n) ≡ true
 eq_self n = (Decides-eqb n n).1 refl
 
 not_eq : (m n : ℕ) → (m ≡ n → ⊥) → (m == n) ≡ false
-not_eq m n apart = not_true (m == n) (λ same. apart ((Decides-eqb m n).0 same))
+not_eq m n apart = false_from_ne_true (m == n) (λ same. apart ((Decides-eqb m n).0 same))
 
 eq_is : (m n : ℕ) → (m == n) ≡ true → m ≡ n
 eq_is m n h = (Decides-eqb m n).0 h

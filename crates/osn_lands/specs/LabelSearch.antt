@@ -125,8 +125,8 @@ IsSearchIn t s =
     IsSearch newest_rules s × AreKnown s.table (periods_of newest_rules t)
     × IsForFew s.table (length (periods_of newest_rules t))
 
--- how many dates are tested for one regime, and for the first periods of some number, at most: those of
--- a table were tested to begin with
+-- how many dates are tested at most for one regime, and for the first of all periods: those of a
+-- table were tested to begin with
 abbrev pub most_for_one : Option LabelTable → ℕ
 most_for_one None = 3
 most_for_one (Some t) = 0

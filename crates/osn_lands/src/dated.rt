@@ -45,8 +45,8 @@ pub fn dated_day(regime: Regime, day: Day) -> DatedDay
     }
 }
 
-/// The years of a dated day: that of its label, and after a `/` what is new in the year counted from
-/// 1 January where that is later: `1700`, `1731/2`.
+/// The years of a dated day: that of its label, and after a `/` what is new in the year counted
+/// from 1 January where that is later: `1700`, `1731/2`.
 #[derive(Clone, Copy, Debug, PartialEq, Eq)]
 pub struct DatedYears(pub DatedDay);
 

@@ -41,11 +41,8 @@ pub(crate) fn is_after(regime: Regime, label: Label, day: Day) -> bool
     ensures { result ≡ order.is_after newest_rules regime label day }
 {
     let date = date_of(regime.calendar, day);
-    let dated = i64::from(date.year);
     let year = counted_year(regime, label);
-    dated < year
-        || dated == year
-            && (date.month < label.month || date.month == label.month && date.day < label.day)
+    (i64::from(date.year), date.month, date.day) < (year, label.month, label.day)
 }
 
 /// Whether the label comes before the day's date under the regime.
@@ -53,9 +50,6 @@ pub(crate) fn is_before(regime: Regime, label: Label, day: Day) -> bool
     ensures { result ≡ order.is_before newest_rules regime label day }
 {
     let date = date_of(regime.calendar, day);
-    let dated = i64::from(date.year);
     let year = counted_year(regime, label);
-    year < dated
-        || year == dated
-            && (label.month < date.month || label.month == date.month && label.day < date.day)
+    (year, label.month, label.day) < (i64::from(date.year), date.month, date.day)
 }

@@ -33,20 +33,13 @@ pub(crate) fn is_from_september(month: u8) -> bool
     month >= 9
 }
 
-/// Whether a date is before another one.
-fn is_earlier(one: Date, other: Date) -> bool
-    ensures { result ≡ order.is_earlier one other }
-{
-    one < other
-}
-
 /// Whether a date of a calendar is before the Easter day of its year by the Julian rule.
 pub(crate) fn is_before_easter(calendar: Calendar, date: Date) -> bool
     requires { IsYearNumber newest_rules date.year }
     ensures { result ≡ order.is_dated_before_easter newest_rules calendar date }
 {
     let day = easter(Rule::Julian, Year::in_range(i64::from(date.year)));
-    is_earlier(date, date_of(calendar, day))
+    date < date_of(calendar, day)
 }
 
 /// The year of a date as the regime's style counts it.
