@@ -4,9 +4,10 @@ use Rattle.std.proofs.Common.{inr, Bool, true, false, nat_lt, if◌then◌else�
 use Rattle.std.proofs.Common.{arith, ℤ, pos, ◌+ℤ◌, ◌*ℤ◌, ◌<ℤ◌, ◌≤ℤ◌}
 use Rattle.std.proofs.lemmas.Bool.{cases_order}
 use Rattle.std.proofs.lemmas.Bool.{false_from_ne_true}
-use Rattle.std.proofs.lemmas.Bool.Decides.{nat_tests, Decides-and, Decides-eqb, Decides-int_eq}
+use Rattle.std.proofs.lemmas.Bool.Decides.{Decides-and, Decides-eqb, Decides-int_eq}
 use Rattle.std.proofs.lemmas.Int.{ints}
 use Rattle.std.specs.Bool.{Decides}
+use Rattle.std.proofs.lemmas.Bool.{ltb-true}
 use Rattle.osn_days.specs.declared.date.Date.{Date}
 use Rattle.osn_days.specs.declared.calendar.Calendar.{Calendar}
 use Rattle.osn_days.specs.declared.calendar.Calendar.TheVariants.{Julian, Gregorian, Swedish}
@@ -62,12 +63,6 @@ pub month_length_bounds : (c : Calendar) (y : ℤ) (m : ℕ)
     → (month_length c y m ≤ 31) × (28 ≤ month_length c y m)
 month_length_bounds c y m = grind arith
 
-pub lt_of : (m n : ℕ) → nat_lt m n ≡ true → m < n
-lt_of m n h = grind (arith, nat_tests)
-
-pub not_lt_of : (m n : ℕ) → nat_lt m n ≡ false → n ≤ m
-not_lt_of m n h = grind (arith, nat_tests)
-
 pub date_is : (a b : Date) → a.year ≡ b.year → a.month ≡ b.month → a.day ≡ b.day → a ≡ b
 date_is a b year month day =
     ap (λ (y : ℤ). let d : Date = record { year = y; month = a.month; day = a.day } in d) year
@@ -95,7 +90,7 @@ months_small c d n s =
       month = d.month + 1;
       day = 1;
     }) (record { year = d.year +ℤ pos 1; month = 1; day = 1 })
-    (λ lt. let day = lt_of _ _ lt in let bound = month_length_bounds c d.year d.month in
+    (λ lt. let day = ltb-true _ _ lt in let bound = month_length_bounds c d.year d.month in
     record {
       year_low = s.year_low;
       year_high = omega (arith, ints);
@@ -104,7 +99,7 @@ months_small c d n s =
       day_low = omega arith;
       day_high = omega arith;
     })
-    (λ _ lt. let month = lt_of _ _ lt in
+    (λ _ lt. let month = ltb-true _ _ lt in
     record {
       year_low = s.year_low;
       year_high = omega (arith, ints);

@@ -8,6 +8,7 @@ use Rattle.std.proofs.lemmas.Bool.{cases_order, false≢true}
 use Rattle.std.proofs.lemmas.Bool.{false_from_ne_true}
 use borrow.Author.Differences.{up}
 use Rattle.std.proofs.lemmas.Int.{ints, by_lt_z}
+use Rattle.std.proofs.lemmas.Bool.{ltb-true, ltb-false}
 use Rattle.osn_days.specs.declared.date.Date.{Date}
 use Rattle.osn_days.specs.declared.calendar.Calendar.{Calendar}
 use Rattle.osn_days.specs.declared.calendar.Calendar.TheVariants.{Julian, Gregorian, Swedish}
@@ -16,7 +17,7 @@ use Rattle.osn_days.specs.Line.{IsDay, IsOnLine}
 use Rattle.osn_days.specs.Chain.{month_length, next_by_months, first_date, chain, date_of}
 use Rattle.osn_days.specs.Chain.{same_date, days_with_date}
 use Rattle.osn_days.proofs.ChainFacts.{chain-zero, chain-suc, next_is, cases_of_three}
-use Rattle.osn_days.proofs.ChainFacts.{month_length_bounds, lt_of, not_lt_of, key, chain_rises}
+use Rattle.osn_days.proofs.ChainFacts.{month_length_bounds, key, chain_rises}
 use Rattle.osn_days.proofs.ChainFacts.{date_is, same_date_is, same_date_self, days_one}
 use Rattle.osn_days.proofs.ChainFacts.{days_none}
 
@@ -59,7 +60,7 @@ next_real c d s =
       month = d.month + 1;
       day = 1;
     }) (record { year = d.year +ℤ pos 1; month = 1; day = 1 })
-    (λ lt. let day = lt_of _ _ lt in
+    (λ lt. let day = ltb-true _ _ lt in
     record {
       year_low = s.year_low;
       month_low = s.month_low;
@@ -67,7 +68,7 @@ next_real c d s =
       day_low = omega arith;
       day_high = omega arith;
     })
-    (λ _ lt. let month = lt_of _ _ lt in let bound = month_length_bounds c d.year (d.month + 1) in
+    (λ _ lt. let month = ltb-true _ _ lt in let bound = month_length_bounds c d.year (d.month + 1) in
     record {
       year_low = s.year_low;
       month_low = omega arith;
@@ -118,9 +119,9 @@ next_least c e d r s lt =
       day = 1;
     }) (record { year = e.year +ℤ pos 1; month = 1; day = 1 })
     (λ _. omega (arith, ints))
-    (λ full _. let later = later_month c e d r s lt (not_lt_of _ _ full) in omega (arith, ints))
-    (λ full high. let later = later_month c e d r s lt (not_lt_of _ _ full) in
-    let december = not_lt_of _ _ high in
+    (λ full _. let later = later_month c e d r s lt (ltb-false _ _ full) in omega (arith, ints))
+    (λ full high. let later = later_month c e d r s lt (ltb-false _ _ full) in
+    let december = ltb-false _ _ high in
     let bound = month_length_bounds c d.year d.month in omega (arith, ints))
 
 -- real dates with one key are one

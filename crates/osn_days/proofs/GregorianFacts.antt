@@ -1,6 +1,7 @@
 -- The days of the Gregorian calendar are counted by `jiff_core`.
 use Rattle.std.proofs.Common.{◌≡◌, ℕ, suc, ◌+◌, ◌-◌, ◌≤◌, nat_lt, refl, ap, arith, pos, ◌+ℤ◌, ◌≤ℤ◌}
 use Rattle.std.proofs.lemmas.Int.{ints, by_lt_z}
+use Rattle.std.proofs.lemmas.Bool.{ltb-false}
 use Rattle.jiff_core.specs.Calendar.{day_count, IsCivilDate}
 use Rattle.jiff_core.specs.Date.{epoch_day}
 use Rattle.jiff_core.specs.declared.civil.date.Date.{Date as Made}
@@ -14,7 +15,6 @@ use Rattle.osn_days.specs.declared.date.Date.{Date}
 use Rattle.osn_days.specs.declared.calendar.Calendar.TheVariants.{Gregorian}
 use Rattle.osn_days.specs.Chain.{month_length, next, date_of}
 use Rattle.osn_days.proofs.ChainFacts.{gregorian_by_months, cases_of_three, month_length_bounds}
-use Rattle.osn_days.proofs.ChainFacts.{not_lt_of}
 use Rattle.osn_days.proofs.CountFacts.{IsReal, IsCount, count_chain}
 
 -- the days from 1 January of the year -10000 to a date
@@ -41,7 +41,7 @@ gregorian_steps d s =
       day = 1;
     }) (record { year = d.year +ℤ pos 1; month = 1; day = 1 })
     (λ _. omega (arith, day_count-day d.year d.month d.day (d.day + 1) s.day_low (omega arith)))
-    (λ full _. let last = not_lt_of _ _ full in
+    (λ full _. let last = ltb-false _ _ full in
     omega (
       arith,
       s.day_high,
@@ -49,7 +49,7 @@ gregorian_steps d s =
       day_count-day d.year
           d.month d.day 1 s.day_low (omega arith),
     ))
-    (λ full high. let last = not_lt_of _ _ full in let after = not_lt_of _ _ high in
+    (λ full high. let last = ltb-false _ _ full in let after = ltb-false _ _ high in
     let december : d.month ≡ 12 = omega arith in
     let day : d.day ≡ 31 = omega (arith, rw december at s.day_high, rw december at last) in
     rw (december, day) (omega (

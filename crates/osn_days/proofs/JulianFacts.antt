@@ -6,12 +6,13 @@ use Rattle.std.proofs.Common.{unsigned_abs}
 use Rattle.std.proofs.lemmas.Bool.{cases_order}
 use Rattle.std.proofs.lemmas.Bool.Decides.{nat_tests}
 use Rattle.std.proofs.lemmas.Int.{ints}
+use Rattle.std.proofs.lemmas.Bool.{ltb-true, ltb-false}
 use Rattle.osn_days.specs.Profile.{newest_rules}
 use Rattle.osn_days.specs.declared.date.Date.{Date}
 use Rattle.osn_days.specs.declared.calendar.Calendar.TheVariants.{Julian}
 use Rattle.osn_days.specs.Chain.{month_length, next, first_date, date_of}
-use Rattle.osn_days.proofs.ChainFacts.{julian_by_months, cases_of_three, month_length_bounds, lt_of}
-use Rattle.osn_days.proofs.ChainFacts.{not_lt_of, key}
+use Rattle.osn_days.proofs.ChainFacts.{julian_by_months, cases_of_three, month_length_bounds}
+use Rattle.osn_days.proofs.ChainFacts.{key}
 use Rattle.osn_days.proofs.CountFacts.{IsReal, IsCount, count_chain}
 
 -- the days up to a date, of a year that begins in March and has the months 3 to 14
@@ -95,9 +96,9 @@ julian_steps d s =
       day = 1;
     }) (record { year = d.year +ℤ pos 1; month = 1; day = 1 })
     (λ _. grind (arith, nat_tests))
-    (λ full lt. next_month d s (omega (arith, s.day_high, not_lt_of _ _ full)) (lt_of _ _ lt))
-    (λ full high. next_year d s (omega (arith, s.day_high, not_lt_of _ _ full))
-    (omega (arith, s.month_high, not_lt_of _ _ high)))
+    (λ full lt. next_month d s (omega (arith, s.day_high, ltb-false _ _ full)) (ltb-true _ _ lt))
+    (λ full high. next_year d s (omega (arith, s.day_high, ltb-false _ _ full))
+    (omega (arith, s.month_high, ltb-false _ _ high)))
 
 julian_early : (d : Date) → IsReal Julian d → key d <ℤ key (first_date Julian)
     → julian_count d < julian_count (first_date Julian)

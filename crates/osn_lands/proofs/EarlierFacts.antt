@@ -7,10 +7,11 @@ use Rattle.std.proofs.lemmas.Bool.{cases_order, lt-ltb, both_ways, true_from_ne_
 use Rattle.std.proofs.lemmas.Bool.Decides.{Decides-eqb, Decides-int_eq}
 use Rattle.std.proofs.lemmas.Int.{ints, by_lt_z}
 use Rattle.std.specs.Ordering.{int_eq}
+use Rattle.std.proofs.lemmas.Bool.{ltb-true, ltb-false}
 use Rattle.osn_days.specs.declared.calendar.Calendar.{Calendar}
 use Rattle.osn_days.specs.declared.date.Date.{Date}
 use Rattle.osn_days.specs.Chain.{date_of}
-use Rattle.osn_days.proofs.ChainFacts.{IsSmall, key, chain_small, chain_rises, lt_of, not_lt_of}
+use Rattle.osn_days.proofs.ChainFacts.{IsSmall, key, chain_small, chain_rises}
 use Rattle.osn_lands.specs.LabelOrder.{is_earlier}
 
 earlier_key : (m n : ℕ) (a b : Date) → IsSmall m a → IsSmall n b → is_earlier a b ≡ true →
@@ -25,12 +26,12 @@ earlier_key m n a b small_a small_b is =
           elim (or_cases (nat_lt a.month b.month) ((a.month == b.month) && nat_lt a.day b.day)
           parts.1) [
             | inl month ↦
-                let less = lt_of a.month b.month month in
+                let less = ltb-true a.month b.month month in
                 omega (arith, ints, year, less, small_a.day_high)
             | inr day ↦
                 let both = and_parts (a.month == b.month) (nat_lt a.day b.day) day in
                 let month = eqb-true a.month b.month both.0 in
-                let less = lt_of a.day b.day both.1 in
+                let less = ltb-true a.day b.day both.1 in
                 omega (arith, ints, year, month, less)
           ]
     ]
@@ -49,7 +50,7 @@ not_earlier_key m n a b small_a small_b is =
       | inr not_later ↦
           let months = or_parts (nat_lt a.month b.month)
           ((a.month == b.month) && nat_lt a.day b.day) not_later in
-          let month = not_lt_of a.month b.month months.0 in
+          let month = ltb-false a.month b.month months.0 in
           elim (and_cases (a.month == b.month) (nat_lt a.day b.day) months.1) [
             | inl other ↦ elim (cases_order a.month b.month) [
               | inl same ↦ absurd (both_ways (a.month == b.month) other
@@ -65,7 +66,7 @@ not_earlier_key m n a b small_a small_b is =
               )
             ]
             | inr not_less ↦
-                let day = not_lt_of a.day b.day not_less in
+                let day = ltb-false a.day b.day not_less in
                 omega (arith, ints, year, month, day, small_b.month_high, small_b.day_high)
           ]
     ]
@@ -84,7 +85,7 @@ earlier_day c d e low_d low_e =
           let back = not_earlier_key (d - 1) (e - 1) a b small_a small_b missed in
           omega (arith, ints, rises, back)))
       | inr from ↦
-          false_from_ne_true (nat_lt d e) (λ less. omega (arith, from, lt_of d e less))
+          false_from_ne_true (nat_lt d e) (λ less. omega (arith, from, ltb-true d e less))
           ∙ sym (false_from_ne_true (is_earlier a b) (λ found.
           let on = earlier_key (d - 1) (e - 1) a b small_a small_b found in
           elim (cases_lt e d) [

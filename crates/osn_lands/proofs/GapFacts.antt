@@ -3,7 +3,7 @@ use Rattle.std.proofs.Common.{ℕ, ◌-◌, ◌<◌, ◌&&◌, nat_lt, List, fil
 use Rattle.std.proofs.lemmas.Bool.{and_parts}
 use Rattle.std.proofs.lemmas.List.Elements.{filter_passes}
 use Rattle.std.specs.List.{All}
-use Rattle.osn_days.proofs.ChainFacts.{lt_of}
+use Rattle.std.proofs.lemmas.Bool.{ltb-true}
 use Rattle.osn_days.specs.Profile.{Profile}
 use Rattle.osn_lands.specs.declared.label.Label.{Label}
 use Rattle.osn_lands.specs.Territory.{TerritoryModel, regime_at}
@@ -14,5 +14,5 @@ pub later_gaps : (p : Profile) (t : TerritoryModel) (l : Label) (changes : List 
 later_gaps p t l changes k d within =
     let f = get_or (filter (is_in_gap p t l) changes) k d in
     let passes = filter_passes (is_in_gap p t l) changes k d within in
-    lt_of 1 f (and_parts (nat_lt 1 f)
+    ltb-true 1 f (and_parts (nat_lt 1 f)
     (is_after p (regime_at t (f - 1)) l (f - 1) && is_before p (regime_at t f) l f) passes).0

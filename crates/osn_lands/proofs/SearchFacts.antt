@@ -7,11 +7,11 @@ use Rattle.std.proofs.lemmas.Bool.{and_cases, and_left, and_right, and_from, or_
 use Rattle.std.proofs.lemmas.Bool.{false_from_ne_true}
 use Rattle.std.proofs.lemmas.Bool.{le-leb, lt-ltb, both_ways, cases_lt, or_left, or_right}
 use Rattle.std.specs.List.{list_any}
+use Rattle.std.proofs.lemmas.Bool.{ltb-true, ltb-false}
 use Rattle.osn_days.specs.declared.calendar.Calendar.{Calendar}
 use Rattle.osn_days.specs.declared.calendar.Calendar.TheVariants.{Julian, Gregorian, Swedish}
 use Rattle.osn_days.specs.Profile.{Profile}
 use Rattle.osn_days.specs.Line.{line}
-use Rattle.osn_days.proofs.ChainFacts.{lt_of, not_lt_of}
 use Rattle.osn_days.proofs.RangeFacts.{filter_none, any_in}
 use Rattle.osn_lands.specs.declared.label.Label.{Label}
 use Rattle.osn_lands.specs.declared.period.Period.{Period}
@@ -50,7 +50,7 @@ none_before_first p l q table first last c known between from =
     false_from_ne_true _ (λ found.
     let e = any_in (λ d. nat_lt d c) (has_label p l q.regime) 1 p.high found in
     let inside = between q.regime e.0 known (e.1.low, omega (arith, e.1.high)) e.1.passes in
-    let less = lt_of e.0 c e.1.tested in
+    let less = ltb-true e.0 c e.1.tested in
     omega (arith, inside.0, less, from))
 
 -- and none is after the last one
@@ -97,7 +97,7 @@ names_none p l old new table first last known_old known_new later most between
     elim (and_cases (nat_lt first change) (nat_le change last) out) [
       | inl before ↦ named_second late early both there (or_from _ _
           (none_before_first p l new table first last change known_new between
-          (not_lt_of first change before))
+          (ltb-false first change before))
           (some new.regime known_new fixed_new))
       | inr past ↦ elim (cases_lt last change) [
         | inl less ↦ named_first late early both there (or_from _ _

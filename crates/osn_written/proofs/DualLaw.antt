@@ -4,11 +4,11 @@ use Rattle.std.proofs.Common.{◌∷◌, ◌++◌, Some, None, refl, ap, ◌∙�
 use Rattle.std.proofs.Common.{◌<ℤ◌, int_lt, nat_lt, ◌+◌, ◌+ℤ◌, ◌-ℤ◌, sym, Ok}
 use Rattle.std.proofs.lemmas.Bool.{le-ltb}
 use Rattle.std.proofs.lemmas.Int.{ints}
+use Rattle.std.proofs.lemmas.Bool.{ltb-true}
 use Rattle.osn_days.specs.declared.date.Date.{Date}
 use Rattle.osn_days.specs.declared.weekday.Weekday.{Weekday}
 use Rattle.osn_days.specs.declared.weekday.Weekday.TheVariants.{Sunday, Monday, Tuesday, Wednesday}
 use Rattle.osn_days.specs.declared.weekday.Weekday.TheVariants.{Thursday, Friday, Saturday}
-use Rattle.osn_days.proofs.ChainFacts.{lt_of}
 use Rattle.osn_days.proofs.LineFacts.{date_of_line}
 use Rattle.osn_days.specs.Chain.{date_of}
 use Rattle.osn_days.specs.Line.{IsDay}
@@ -82,7 +82,7 @@ labelled : (y z : ℤ) (month day : ℕ) → pos 0 ≤ℤ y → y ≤ℤ pos 100
     (words day month (year_text y z))
 unfolding written_text
 labelled (pos n) (pos m) month day low high low_m high_m next some most first few =
-    let after : nat_lt n m ≡ true → m ≡ n + 1 = λ h. let less : n < m = lt_of n m h in
+    let after : nat_lt n m ≡ true → m ≡ n + 1 = λ h. let less : n < m = ltb-true n m h in
     let is : pos m ≡ pos n +ℤ pos 1 = next (omega (arith, ints, less)) in
     omega (arith, ints, is) in
     let years = year_text_read n m (omega (arith, ints, high)) (omega (arith, ints, high_m))
