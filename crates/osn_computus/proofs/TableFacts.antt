@@ -4,7 +4,7 @@ use Rattle.std.proofs.Common.{◌≡◌, ℕ, zero, suc, ◌+◌, ◌-◌, ◌*�
 use Rattle.std.proofs.Common.{inr, Bool, true, false, nat_lt, if◌then◌else◌, Option, Some, None}
 use Rattle.std.proofs.Common.{refl, ap, ◌∙◌, arith, ℤ, pos, negsuc, unsigned_abs}
 use Rattle.std.specs.Int.{int_rem_euclid}
-use Rattle.std.proofs.lemmas.Bool.{cases_order, false≢true}
+use Rattle.std.proofs.lemmas.Bool.{and_parts, cases_order, false≢true}
 use Rattle.std.proofs.lemmas.Bool.Decides.{Decides-and, Decides-eqb, Decides-ltb}
 use Rattle.osn_computus.specs.declared.epact.Epact.{Epact}
 use Rattle.osn_computus.specs.Figures.{golden_number, epact_number, gregorian_epact}
@@ -16,16 +16,12 @@ every : ℕ → (ℕ → Bool) → Bool
 every zero test = true
 every (suc n) test = test n && every n test
 
-both : (a b : Bool) → (a && b) ≡ true → (a ≡ true) × (b ≡ true)
-both true b h = (refl, h)
-both false b h = absurd (false≢true h)
-
 -- so at each of them
 every_at : (test : ℕ → Bool) (n k : ℕ) → every n test ≡ true → k < n → test k ≡ true
 unfolding every
 every_at test zero k h lt = absurd (omega arith)
 every_at test (suc n) k h lt =
-    let parts = both (test n) (every n test) h in
+    let parts = and_parts (test n) (every n test) h in
     elim (cases_order k n) [
       | inl same ↦ rw same parts.0
       | inr (inl below) ↦ every_at test n k parts.1 below
@@ -61,7 +57,7 @@ pub julian_row : (y : ℕ)
     (julian_days (y % 19) < 29)
 unfolding julian_agrees
 julian_row y =
-    let parts = both _ _ (every_at julian_agrees 19 (y % 19) julian_computed (omega arith)) in
+    let parts = and_parts _ _ (every_at julian_agrees 19 (y % 19) julian_computed (omega arith)) in
     (is_row_means _ _ parts.0, (Decides-ltb _ _).0 parts.1)
 
 -- the days from 21 March to the fourteenth day of the moon of an epact
@@ -80,9 +76,9 @@ gregorian_computed = refl
 
 epact_agrees : (n : ℕ) (b : Bool) → n < 30 → (b ≡ true → n ≡ 25)
     → gregorian_agrees (record { number = n; prime = b }) ≡ true
-epact_agrees n true low is = rw (is refl) ((both _ _ gregorian_computed).0)
+epact_agrees n true low is = rw (is refl) ((and_parts _ _ gregorian_computed).0)
 epact_agrees n false low is =
-    every_at (λ k. gregorian_agrees (plain k)) 30 n ((both _ _ gregorian_computed).1) low
+    every_at (λ k. gregorian_agrees (plain k)) 30 n ((and_parts _ _ gregorian_computed).1) low
 
 rem_below : (z : ℤ) → unsigned_abs (int_rem_euclid z (pos 30)) < 30
 rem_below (pos a) = omega arith
@@ -96,6 +92,6 @@ unfolding gregorian_agrees
 gregorian_row y =
     let agrees = epact_agrees (epact_number y)
     ((epact_number y == 25) && nat_lt 11 (golden_number y)) (rem_below _)
-    (λ h. (Decides-eqb _ _).0 (both _ _ h).0) in
-    let parts = both _ _ agrees in
+    (λ h. (Decides-eqb _ _).0 (and_parts _ _ h).0) in
+    let parts = and_parts _ _ agrees in
     (is_row_means _ _ parts.0, (Decides-ltb _ _).0 parts.1)

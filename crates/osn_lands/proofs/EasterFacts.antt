@@ -2,7 +2,7 @@
 use Rattle.std.proofs.Common.{◌≡◌, ℕ, nat_lt, ◌+◌, ◌<◌, ◌≤◌, inl, inr, Bool, true, false}
 use Rattle.std.proofs.Common.{◌==◌, ◌&&◌, ◌||◌, nat_le, [], ◌∷◌, ◌++◌, filter, Option, Some, None}
 use Rattle.std.proofs.Common.{if◌then◌else◌, refl, sym, ap, ◌∙◌, arith, eqb-true, IfSome}
-use Rattle.std.proofs.Math.Bool.{or-false}
+use Rattle.std.proofs.Math.Bool.{or-false, or_comm}
 use Rattle.std.proofs.lemmas.Bool.{and_parts, and_from, cases_order, leb-true, leb-false, both_ways}
 use Rattle.std.proofs.lemmas.Bool.{false_from_ne_true}
 use Rattle.std.proofs.lemmas.Bool.Decides.{Decides-eqb}
@@ -89,12 +89,6 @@ not_in_force p t rule y e is off =
     both_ways (is_rule (regime_at t d).rule rule)
     (ap (λ n. is_rule (regime_at t n).rule rule) (sym same) ∙ off) parts.0)))
 
-or_turned : (a b : Bool) → (a || b) ≡ (b || a)
-or_turned true true = refl
-or_turned true false = refl
-or_turned false true = refl
-or_turned false false = refl
-
 -- two days, in order
 in_order : (f g h : ℕ → Bool) (n a b : ℕ) → ((d : ℕ) → h d ≡ (f d || g d)) → a
     ∷ [] ≡ filter f (range_with_len 1 n) → b ∷ [] ≡ filter g (range_with_len 1 n) → a < b → a ∷ b
@@ -128,7 +122,7 @@ merge_two f g h n a b true either apart first second is =
       | inr (inr gt) ↦ absurd (omega (arith, le, gt))
     ]
 merge_two f g h n a b false either apart first second is =
-    in_order g f h n b a (λ d. either d ∙ or_turned (f d) (g d)) second first (leb-false a b is)
+    in_order g f h n b a (λ d. either d ∙ or_comm (f d) (g d)) second first (leb-false a b is)
 
 merged_is : (f g h : ℕ → Bool) (n : ℕ) (one other : Option ℕ) → ((d : ℕ) → h d ≡ (f d || g d)) →
     ((d : ℕ) → f d ≡ true → g d ≡ true → ⊥) → option_to_list one ≡ filter f (range_with_len 1 n) →

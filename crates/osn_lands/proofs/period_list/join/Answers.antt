@@ -1,8 +1,9 @@
 use Rattle.std.proofs.Common.{◌≡◌, ℕ, ◌+◌, ◌-◌, ◌<◌, ◌∷◌, ◌++◌, List, length, get_or, take, drop}
 use Rattle.std.proofs.Common.{set, map, refl, ap, sym, subst, ◌∙◌, arith}
 use Rattle.std.specs.List.{remove}
-use Rattle.std.proofs.lemmas.List.{length-take-le, get_or-map, map-set, set-get_or}
-use Rattle.std.proofs.lemmas.List.Edits.{get_or-remove_below, length-remove}
+use Rattle.std.proofs.Math.Seq.{map-set_same}
+use Rattle.std.proofs.lemmas.List.{length-take-le}
+use Rattle.std.proofs.lemmas.List.Edits.{get_or-remove_below}
 use Rattle.osn_days.specs.Profile.{newest_rules}
 use Rattle.osn_lands.specs.declared.period.Period.{Period}
 use Rattle.osn_lands.specs.Territory.{CoversLine}
@@ -26,15 +27,6 @@ left ps qs i j p q joined next within first second removed =
     ∙ ap (λ l. set (remove l j) i joined) (at_places ps i j p q next within first second)
     ∙ set-remove (take i ps) (drop (j + 1) ps) p q joined i j (length-take-le i ps (omega arith))
     next
-
--- a period with the same start changes no start
-same_starts : (qs : List Period) (i : ℕ) (p joined : Period) → i < length qs → p ≡ get_or qs i p →
-    start_of joined ≡ start_of p → map start_of (set qs i joined) ≡ map start_of qs
-same_starts qs i p joined within read same =
-    map-set start_of qs i joined
-    ∙ ap (λ s. set (map start_of qs) i s) (same ∙ ap start_of read
-    ∙ sym (get_or-map start_of qs i p (start_of p) within))
-    ∙ set-get_or (map start_of qs) i (start_of p)
 
 inside : (c : goal.After-periods-1) →
     c.place_of_start-place.result < length c.args.periods.now.items
@@ -73,13 +65,10 @@ returns-clause-starts c =
     let j = c.place_of_start-place.result in
     let p = c.index_mut-joined.result.now in
     let joined : Period = record p { last = c.remove-removed.result.last } in
-    let short = ap length c.remove-removed.ensures.items in
-    let fewer = length-remove ps j (inside c) in
     let on = read_at (λ r. r.first ≡ c.args.day) c.deref.result.now ps j
     c.remove-removed.result c.deref.ensures.value c.remove-removed.ensures.value
     c.place_of_start-place.ensures.starts in
-    same_starts qs (j - 1) p joined (omega (arith, short, fewer, later c, inside c))
-    c.index_mut-joined.ensures.value refl
+    map-set_same start_of qs (j - 1) joined p (ap start_of c.index_mut-joined.ensures.value)
     ∙ ap (map start_of) c.remove-removed.ensures.items
     ∙ without-at ps j 1 newest_rules.high c.args.day c.remove-removed.result (inside c)
     c.remove-removed.ensures.value c.requires.covers on
