@@ -2,7 +2,7 @@
 use Rattle.std.proofs.Common.{◌≡◌, ◌≢◌, ℕ, ◌+◌, ◌-◌, ◌%◌, ◌<◌, ◌≤◌, inl, inr, ◌==◌, ◌&&◌, Bool}
 use Rattle.std.proofs.Common.{true, false, nat_lt, Option, None, Some, List, [], ◌∷◌, refl, ap, ◌∙◌}
 use Rattle.std.proofs.Common.{arith, pos}
-use Rattle.std.proofs.lemmas.Bool.{cases_lt}
+use Rattle.std.proofs.lemmas.Bool.{cases_lt, false_from_ne_true}
 use Rattle.std.proofs.lemmas.Bool.Decides.{nat_tests, Decides-and, Decides-eqb, Decides-ltb}
 use Rattle.std.proofs.lemmas.Bool.Decides.{Decides-int_eq}
 use Rattle.std.specs.Option.{option_to_list}
@@ -23,10 +23,6 @@ use Rattle.osn_computus.specs.Easter.{first_sunday_after, IsEasterDate}
 use Rattle.osn_computus.proofs.WalkFacts.{date, lt_test, ge_test, on_in_month, to_next_month}
 use Rattle.osn_computus.proofs.WalkFacts.{march_1, march_on_chain, march_1-bound}
 use Rattle.osn_computus.proofs.TableFacts.{julian_days, julian_row, gregorian_days, gregorian_row}
-
-not_true : (b : Bool) → (b ≡ true → ⊥) → b ≡ false
-not_true true h = absurd (h refl)
-not_true false h = refl
 
 -- both rules' calendars go by the lengths of the months
 pub of_months : (rule : Rule) → calendar_of rule ≢ Swedish
@@ -173,7 +169,7 @@ sunday_is m h =
     (omega arith, omega arith)
     ((Decides-and _ _ (Decides-ltb m (m + 7 - m % 7)) (Decides-eqb (weekday (m + 7 - m % 7)) 0)).1
     (omega arith, omega arith))
-    (λ e low before. not_true _
+    (λ e low before. false_from_ne_true _
     (λ is. let parts = (Decides-and _ _ (Decides-ltb m e) (Decides-eqb (weekday e) 0)).0 is in
     omega (arith, parts.0, parts.1)))
 

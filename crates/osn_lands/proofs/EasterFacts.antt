@@ -1,5 +1,5 @@
 -- The Easters by both rules, each where its rule is in force, are those of the territory.
-use Rattle.std.proofs.Common.{◌≡◌, ℕ, nat_lt, ◌+◌, ◌<◌, ◌≤◌, inl, inr, Bool, true, false}
+use Rattle.std.proofs.Common.{◌≡◌, ℕ, nat_lt, ◌<◌, ◌≤◌, inl, inr, Bool, true, false}
 use Rattle.std.proofs.Common.{◌==◌, ◌&&◌, ◌||◌, nat_le, [], ◌∷◌, ◌++◌, filter, Option, Some, None}
 use Rattle.std.proofs.Common.{if◌then◌else◌, refl, sym, ap, ◌∙◌, arith, eqb-true, IfSome}
 use Rattle.std.proofs.Math.Bool.{or-false, or_comm}

@@ -1,5 +1,5 @@
 -- How the Easters of a territory are found, rule by rule.
-use Rattle.std.specs.Prelude.{ℕ, ◌-◌, ◌&&◌, nat_le, Bool, true}
+use Rattle.std.specs.Prelude.{ℕ, ◌&&◌, nat_le, Bool, true}
 use Rattle.std.specs.Prelude.{false, if◌then◌else◌, Option, Some, None, List, [], ◌∷◌}
 use Rattle.std.specs.Prelude.{filter}
 use Rattle.osn_computus.specs.declared.rule.Rule.{Rule}

@@ -1,5 +1,5 @@
 -- The list of periods that a territory keeps, and the starts that it stands for.
-use Rattle.std.specs.Prelude.{ℕ, ◌-◌, ◌≤◌, ◌==◌, ◌&&◌, nat_le, Bool}
+use Rattle.std.specs.Prelude.{ℕ, ◌≤◌, ◌==◌, ◌&&◌, nat_le, Bool}
 use Rattle.std.specs.Prelude.{not, if◌then◌else◌, List}
 use Rattle.std.specs.Prelude.{filter, map}
 use Rattle.std.specs.List.{list_any}
