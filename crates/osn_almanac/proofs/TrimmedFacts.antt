@@ -1,6 +1,6 @@
 -- No line of an almanac ends with a space.
 use Rattle.std.proofs.Common.{◌≡◌, ℕ, ℤ, pos, ◌+ℤ◌, negsuc, zero, suc, ◌+◌, ◌/◌, ◌%◌, ◌==◌, Bool}
-use Rattle.std.proofs.Common.{true, false}
+use Rattle.std.proofs.Common.{true, false, not, ◌&&◌}
 use Rattle.std.proofs.Common.{if◌then◌else◌, IsTrue, List, [], ◌∷◌, ◌++◌, length, map, codes}
 use Rattle.std.proofs.Common.{Option, Some, None}
 use Rattle.std.proofs.Common.{nat_lt, refl, sym, subst, arith}
@@ -44,54 +44,79 @@ use Rattle.osn_almanac.specs.Columns.{name_column, weekday_column, day_column, d
 use Rattle.osn_almanac.specs.Columns.{absent_line}
 use Rattle.osn_almanac.specs.Feast.{feast_name, days_after_easter, feasts}
 
-ends-cons : (c : ℕ) (ys : List ℕ) → IsTrue (is_trimmed ys) → IsTrue (is_trimmed (c ∷ ys))
+-- a last character is there, and is no space
+abbrev no_space_last : List ℕ → Bool
+no_space_last [] = false
+no_space_last (c ∷ []) = not (c == 32)
+no_space_last (c ∷ d ∷ rest) = no_space_last (d ∷ rest)
+
+ends-cons : (c : ℕ) (ys : List ℕ) → IsTrue (no_space_last ys) → IsTrue (no_space_last (c ∷ ys))
 ends-cons c [] h = absurd (cc)
 ends-cons c (d ∷ rest) h = h
 
-pub ends-append : (xs ys : List ℕ) → IsTrue (is_trimmed ys) → IsTrue (is_trimmed (xs ++ ys))
+pub ends-append : (xs ys : List ℕ) → IsTrue (no_space_last ys) → IsTrue (no_space_last (xs ++ ys))
 ends-append [] ys h = h
 ends-append (x ∷ xs) ys h = ends-cons x (xs ++ ys) (ends-append xs ys h)
 
 -- another character than a space
-ends-one : (c : ℕ) → (c == 32) ≡ false → IsTrue (is_trimmed (c ∷ []))
-ends-one c e = subst (λ b. IsTrue (if b then false else true)) (sym e) refl
+ends-one : (c : ℕ) → (c == 32) ≡ false → IsTrue (no_space_last (c ∷ []))
+ends-one c e = subst (λ b. IsTrue (not b)) (sym e) refl
 
-ends-digit : (d : ℕ) → IsTrue (is_trimmed (digit_glyph false d ∷ []))
+ends-digit : (d : ℕ) → IsTrue (no_space_last (digit_glyph false d ∷ []))
 ends-digit d =
-    elim (nat_lt d 10) as (λ b. IsTrue (is_trimmed ((if b then 48 + d else 87 + d) ∷ []))) [
+    elim (nat_lt d 10) as (λ b. IsTrue (no_space_last ((if b then 48 + d else 87 + d) ∷ []))) [
       | true ↦ ends-one (48 + d) (ne_eqb (48 + d) 32 (λ e. omega (arith, e)))
       | false ↦ ends-one (87 + d) (ne_eqb (87 + d) 32 (λ e. omega (arith, e)))
     ]
 
-ends-digits : (k n : ℕ) (acc : List ℕ) → IsTrue (is_trimmed acc)
-    → IsTrue (is_trimmed (digits_onto k 10 false n acc))
+ends-digits : (k n : ℕ) (acc : List ℕ) → IsTrue (no_space_last acc)
+    → IsTrue (no_space_last (digits_onto k 10 false n acc))
 ends-digits zero n acc h = h
 ends-digits (suc k) n acc h =
     let one = ends-cons (digit_glyph false (n % 10)) acc h in
-    elim (n / 10 == 0) as (λ b. IsTrue (is_trimmed (if b then digit_glyph false (n % 10) ∷ acc
+    elim (n / 10 == 0) as (λ b. IsTrue (no_space_last (if b then digit_glyph false (n % 10) ∷ acc
     else digits_onto k 10 false (n / 10) (digit_glyph false (n % 10) ∷ acc)))) [
       | true ↦ one
       | false ↦ ends-digits k (n / 10) (digit_glyph false (n % 10) ∷ acc) one
     ]
 
-ends-digits_of : (k n : ℕ) → IsTrue (is_trimmed (digits_onto (suc k) 10 false n []))
+ends-digits_of : (k n : ℕ) → IsTrue (no_space_last (digits_onto (suc k) 10 false n []))
 ends-digits_of k n =
     let one = ends-digit (n % 10) in
-    elim (n / 10 == 0) as (λ b. IsTrue (is_trimmed (if b then digit_glyph false (n % 10) ∷ []
+    elim (n / 10 == 0) as (λ b. IsTrue (no_space_last (if b then digit_glyph false (n % 10) ∷ []
     else digits_onto k 10 false (n / 10) (digit_glyph false (n % 10) ∷ [])))) [
       | true ↦ one
       | false ↦ ends-digits k (n / 10) (digit_glyph false (n % 10) ∷ []) one
     ]
 
-pub ends-decimal : (n : ℕ) → IsTrue (is_trimmed (decimal n))
+pub ends-decimal : (n : ℕ) → IsTrue (no_space_last (decimal n))
 unfolding digits
 ends-decimal n = ends-digits_of 63 n
 
-pub ends-signed : (z : ℤ) → IsTrue (is_trimmed (signed_decimal z))
+pub ends-signed : (z : ℤ) → IsTrue (no_space_last (signed_decimal z))
 ends-signed (pos n) = ends-decimal n
 ends-signed (negsuc n) = ends-cons 45 (decimal (suc n)) (ends-decimal (suc n))
 
 -- ---- lines
+
+line-cons : (c : ℕ) (ys : List ℕ) → IsTrue (is_trimmed ys) → IsTrue (is_trimmed (c ∷ ys))
+line-cons c [] h = absurd (cc)
+line-cons c (d ∷ []) h = absurd (cc)
+line-cons c (d ∷ e ∷ rest) h = h
+
+line-append : (xs ys : List ℕ) → IsTrue (is_trimmed ys) → IsTrue (is_trimmed (xs ++ ys))
+line-append [] ys h = h
+line-append (x ∷ xs) ys h = line-cons x (xs ++ ys) (line-append xs ys h)
+
+-- the line of a text
+line-of : (xs : List ℕ) → IsTrue (no_space_last xs) → IsTrue (is_trimmed (xs ++ codes "\n"))
+line-of [] h = absurd (cc)
+line-of (c ∷ []) h = feed (c == 32) h
+  where
+    feed : (b : Bool) → IsTrue (not b) → IsTrue (not b && true)
+    feed true h = h
+    feed false h = h
+line-of (c ∷ d ∷ rest) h = line-cons c (d ∷ rest ++ codes "\n") (line-of (d ∷ rest) h)
 
 pub AreTrimmed-append : (xs ys : List (List ℕ)) → AreTrimmed xs → AreTrimmed ys
     → AreTrimmed (xs ++ ys)
@@ -113,39 +138,39 @@ AreTrimmed-flat_map f h (x ∷ xs) =
 -- ---- texts of years, dates and letters
 
 -- what is left of a text that ends so does, or nothing is left
-ends-slash : (xs ys : List ℕ) → IsTrue (is_trimmed ys)
-    → IsTrue (is_trimmed (47 ∷ from_difference xs ys))
+ends-slash : (xs ys : List ℕ) → IsTrue (no_space_last ys)
+    → IsTrue (no_space_last (47 ∷ from_difference xs ys))
 ends-slash [] ys h = ends-cons 47 ys h
 ends-slash (x ∷ xs) [] h = refl
 ends-slash (x ∷ xs) (y ∷ []) h =
-    elim (x == y) as (λ b. IsTrue (is_trimmed
+    elim (x == y) as (λ b. IsTrue (no_space_last
     (47 ∷ (if b then from_difference xs [] else y ∷ [])))) [
       | true ↦ ends-nothing xs
       | false ↦ h
     ]
   where
-    ends-nothing : (zs : List ℕ) → IsTrue (is_trimmed (47 ∷ from_difference zs []))
+    ends-nothing : (zs : List ℕ) → IsTrue (no_space_last (47 ∷ from_difference zs []))
     ends-nothing [] = refl
     ends-nothing (z ∷ zs) = refl
 ends-slash (x ∷ xs) (y ∷ z ∷ ys) h =
-    elim (x == y) as (λ b. IsTrue (is_trimmed
+    elim (x == y) as (λ b. IsTrue (no_space_last
     (47 ∷ (if b then from_difference xs (z ∷ ys) else y ∷ z ∷ ys)))) [
       | true ↦ ends-slash xs (z ∷ ys) h
       | false ↦ h
     ]
 
-ends-later : (xs ys : List ℕ) → IsTrue (is_trimmed ys)
-    → IsTrue (is_trimmed (47 ∷ later_digits xs ys))
+ends-later : (xs ys : List ℕ) → IsTrue (no_space_last ys)
+    → IsTrue (no_space_last (47 ∷ later_digits xs ys))
 ends-later xs ys h =
-    elim (length xs == length ys) as (λ b. IsTrue (is_trimmed
+    elim (length xs == length ys) as (λ b. IsTrue (no_space_last
     (47 ∷ (if b then from_difference xs ys else ys)))) [
       | true ↦ ends-slash xs ys h
       | false ↦ ends-cons 47 ys h
     ]
 
-ends-year : (a b : ℤ) → IsTrue (is_trimmed (year_text a b))
+ends-year : (a b : ℤ) → IsTrue (no_space_last (year_text a b))
 ends-year a b =
-    elim (int_lt a b) as (λ c. IsTrue (is_trimmed (if c then signed_decimal a
+    elim (int_lt a b) as (λ c. IsTrue (no_space_last (if c then signed_decimal a
     ++ (codes "/" ++ later_digits (signed_decimal a) (signed_decimal b)) else signed_decimal a))) [
       | true ↦ ends-append (signed_decimal a)
           (47 ∷ later_digits (signed_decimal a) (signed_decimal b))
@@ -153,7 +178,7 @@ ends-year a b =
       | false ↦ ends-signed a
     ]
 
-pub ends-dual : (p : Profile) (r : Regime) (d : ℕ) → IsTrue (is_trimmed (dual_text p r d))
+pub ends-dual : (p : Profile) (r : Regime) (d : ℕ) → IsTrue (no_space_last (dual_text p r d))
 ends-dual p r d =
     let date = date_of r.calendar d in
     let year = year_text (style_year p r d) date.year in
@@ -162,7 +187,7 @@ ends-dual p r d =
     (ends-append (month_name date.month) (codes " " ++ year)
     (ends-append (codes " ") year (ends-year (style_year p r d) date.year))))
 
-pub ends-date : (date : Date) → IsTrue (is_trimmed (text_of_date date))
+pub ends-date : (date : Date) → IsTrue (no_space_last (text_of_date date))
 unfolding date_text
 ends-date date =
     let month = at_least 2 date.month in
@@ -174,7 +199,7 @@ ends-date date =
     (ends-append (replicate (2 - length (decimal date.day)) 48) (decimal date.day)
     (ends-decimal date.day)))))
 
-ends-letter : (l : Letter) → IsTrue (is_trimmed (letter_name l))
+ends-letter : (l : Letter) → IsTrue (no_space_last (letter_name l))
 ends-letter letter.A = refl
 ends-letter letter.B = refl
 ends-letter letter.C = refl
@@ -183,10 +208,10 @@ ends-letter letter.E = refl
 ends-letter letter.F = refl
 ends-letter letter.G = refl
 
-ends-letters : (l : Letters) → IsTrue (is_trimmed (letters_text l))
+ends-letters : (l : Letters) → IsTrue (no_space_last (letters_text l))
 unfolding letters_text
 ends-letters l =
-    elim (letter_number l.january == letter_number l.march) as (λ b. IsTrue (is_trimmed
+    elim (letter_number l.january == letter_number l.march) as (λ b. IsTrue (no_space_last
     (if b then letter_name l.january else letter_name l.january ++ letter_name l.march))) [
       | true ↦ ends-letter l.january
       | false ↦ ends-append (letter_name l.january) (letter_name l.march) (ends-letter l.march)
@@ -197,98 +222,105 @@ ends-letters l =
 ends-heading : (name code : List ℕ) (year : ℤ) → IsTrue (is_trimmed (heading name code year))
 unfolding heading
 ends-heading name code year =
-    let last = signed_decimal year in
-    ends-append (codes "Almanac of ") (name ++ (codes " (" ++ (code ++ (codes ") for " ++ last))))
-    (ends-append name (codes " (" ++ (code ++ (codes ") for " ++ last)))
-    (ends-append (codes " (") (code ++ (codes ") for " ++ last))
-    (ends-append code (codes ") for " ++ last)
-    (ends-append (codes ") for ") last (ends-signed year)))))
+    let last = signed_decimal year ++ codes "\n" in
+    line-append (codes "Almanac of ") (name ++ (codes " (" ++ (code ++ (codes ") for " ++ last))))
+    (line-append name (codes " (" ++ (code ++ (codes ") for " ++ last)))
+    (line-append (codes " (") (code ++ (codes ") for " ++ last))
+    (line-append code (codes ") for " ++ last)
+    (line-append (codes ") for ") last (line-of (signed_decimal year) (ends-signed year))))))
 
-bare-heading : (code : List ℕ) (year : ℤ) (lands : Answer)
+trimmed-heading : (code : List ℕ) (year : ℤ) (lands : Answer)
     → AreTrimmed (heading_lines code year lands)
-bare-heading code year lands = (ends-heading (name_in code lands) code year, tt)
+trimmed-heading code year lands = (ends-heading (name_in code lands) code year, tt)
 
-bare-figures : (a : Answer) → AreTrimmed (figures_lines a)
+trimmed-figures : (a : Answer) → AreTrimmed (figures_lines a)
 unfolding cycles_line julian_line gregorian_line
-bare-figures (answers.Figures y golden indiction jepact gepact jletters gletters je ge) =
-    let cycles = ends-append (codes "Golden number ")
-    (decimal golden ++ (codes ", indiction " ++ decimal indiction))
-    (ends-append (decimal golden) (codes ", indiction " ++ decimal indiction)
-    (ends-append (codes ", indiction ") (decimal indiction) (ends-decimal indiction))) in
-    let julian = ends-append (codes "Julian epact ")
-    (decimal jepact ++ (codes ", Sunday letter " ++ letters_text jletters))
-    (ends-append (decimal jepact) (codes ", Sunday letter " ++ letters_text jletters)
-    (ends-append (codes ", Sunday letter ") (letters_text jletters) (ends-letters jletters))) in
-    let gregorian = ends-append (codes "Gregorian epact ")
-    (epact_text gepact ++ (codes ", Sunday letter " ++ letters_text gletters))
-    (ends-append (epact_text gepact) (codes ", Sunday letter " ++ letters_text gletters)
-    (ends-append (codes ", Sunday letter ") (letters_text gletters) (ends-letters gletters))) in
+trimmed-figures (answers.Figures y golden indiction jepact gepact jletters gletters je ge) =
+    let feed = codes "\n" in
+    let cycles = line-append (codes "Golden number ")
+    (decimal golden ++ (codes ", indiction " ++ (decimal indiction ++ feed)))
+    (line-append (decimal golden) (codes ", indiction " ++ (decimal indiction ++ feed))
+    (line-append (codes ", indiction ") (decimal indiction ++ feed)
+    (line-of (decimal indiction) (ends-decimal indiction)))) in
+    let julian = line-append (codes "Julian epact ")
+    (decimal jepact ++ (codes ", Sunday letter " ++ (letters_text jletters ++ feed)))
+    (line-append (decimal jepact) (codes ", Sunday letter " ++ (letters_text jletters ++ feed))
+    (line-append (codes ", Sunday letter ") (letters_text jletters ++ feed)
+    (line-of (letters_text jletters) (ends-letters jletters)))) in
+    let gregorian = line-append (codes "Gregorian epact ")
+    (epact_text gepact ++ (codes ", Sunday letter " ++ (letters_text gletters ++ feed)))
+    (line-append (epact_text gepact) (codes ", Sunday letter " ++ (letters_text gletters ++ feed))
+    (line-append (codes ", Sunday letter ") (letters_text gletters ++ feed)
+    (line-of (letters_text gletters) (ends-letters gletters)))) in
     (cycles, (julian, (gregorian, tt)))
-bare-figures (answers.Reading found skipped) = tt
-bare-figures (answers.OnDay found period) = tt
-bare-figures (answers.Easters found is_listed) = tt
-bare-figures (answers.Lands lands) = tt
-bare-figures (answers.Periods periods) = tt
-bare-figures (answers.Refused f) = tt
+trimmed-figures (answers.Reading found skipped) = tt
+trimmed-figures (answers.OnDay found period) = tt
+trimmed-figures (answers.Easters found is_listed) = tt
+trimmed-figures (answers.Lands lands) = tt
+trimmed-figures (answers.Periods periods) = tt
+trimmed-figures (answers.Refused f) = tt
 
 ends-change : (dual : List ℕ) (day : ℕ) (calendar style rule : List ℕ)
     → IsTrue (is_trimmed (change_text dual day calendar style rule))
 unfolding change_text
 ends-change dual day calendar style rule =
-    let e = codes " rule" in
+    let e = codes " rule\n" in
     let d = codes " style, " ++ (rule ++ e) in
     let c = codes " calendar, " ++ (style ++ d) in
     let b = codes ": " ++ (calendar ++ c) in
     let a = codes ", day " ++ (decimal day ++ b) in
-    ends-append (codes "From ") (dual ++ a)
-    (ends-append dual a
-    (ends-append (codes ", day ") (decimal day ++ b)
-    (ends-append (decimal day) b
-    (ends-append (codes ": ") (calendar ++ c)
-    (ends-append calendar c
-    (ends-append (codes " calendar, ") (style ++ d)
-    (ends-append style d
-    (ends-append (codes " style, ") (rule ++ e)
-    (ends-append rule e refl)))))))))
+    line-append (codes "From ") (dual ++ a)
+    (line-append dual a
+    (line-append (codes ", day ") (decimal day ++ b)
+    (line-append (decimal day) b
+    (line-append (codes ": ") (calendar ++ c)
+    (line-append calendar c
+    (line-append (codes " calendar, ") (style ++ d)
+    (line-append style d
+    (line-append (codes " style, ") (rule ++ e)
+    (line-append rule e refl)))))))))
 
-bare-change_of : (p : Profile) (year : ℤ) (period : Period) → AreTrimmed (change_of p year period)
+trimmed-change_of : (p : Profile) (year : ℤ) (period : Period) → AreTrimmed (change_of p year period)
 unfolding change_of change_line
-bare-change_of p year period =
+trimmed-change_of p year period =
     elim (is_change_in year period) as (λ b. AreTrimmed
     (if b then change_line p period ∷ [] else [])) [
       | true ↦ (ends-change _ _ _ _ _, tt)
       | false ↦ tt
     ]
 
-bare-changes : (p : Profile) (year : ℤ) (a : Answer) → AreTrimmed (change_lines p year a)
-bare-changes p year (answers.Periods periods) =
-    AreTrimmed-flat_map (change_of p year) (bare-change_of p year) periods
-bare-changes p year (answers.Reading found skipped) = tt
-bare-changes p year (answers.OnDay found period) = tt
-bare-changes p year (answers.Easters found is_listed) = tt
-bare-changes p year (answers.Figures y golden indiction jepact gepact jletters gletters je ge) = tt
-bare-changes p year (answers.Lands lands) = tt
-bare-changes p year (answers.Refused f) = tt
+trimmed-changes : (p : Profile) (year : ℤ) (a : Answer) → AreTrimmed (change_lines p year a)
+trimmed-changes p year (answers.Periods periods) =
+    AreTrimmed-flat_map (change_of p year) (trimmed-change_of p year) periods
+trimmed-changes p year (answers.Reading found skipped) = tt
+trimmed-changes p year (answers.OnDay found period) = tt
+trimmed-changes p year (answers.Easters found is_listed) = tt
+trimmed-changes p year (answers.Figures y golden indiction jepact gepact jletters gletters je ge) = tt
+trimmed-changes p year (answers.Lands lands) = tt
+trimmed-changes p year (answers.Refused f) = tt
 
-ends-day_line : (name : List ℕ) (d : ℕ) (date : List ℕ) → IsTrue (is_trimmed date)
+ends-day_line : (name : List ℕ) (d : ℕ) (date : List ℕ) → IsTrue (no_space_last date)
     → IsTrue (is_trimmed (day_line name d date))
 unfolding day_line
 ends-day_line name d date h =
-    let c = codes " " ++ date in
+    let last = date ++ codes "\n" in
+    let c = codes " " ++ last in
     let b = codes " " ++ (day_column d ++ c) in
     let a = codes " " ++ (weekday_column d ++ b) in
-    ends-append (name_column name) a
-    (ends-append (codes " ") (weekday_column d ++ b)
-    (ends-append (weekday_column d) b
-    (ends-append (codes " ") (day_column d ++ c)
-    (ends-append (day_column d) c
-    (ends-append (codes " ") date h)))))
+    line-append (name_column name) a
+    (line-append (codes " ") (weekday_column d ++ b)
+    (line-append (weekday_column d) b
+    (line-append (codes " ") (day_column d ++ c)
+    (line-append (day_column d) c
+    (line-append (codes " ") last (line-of date h))))))
 
-ends-absent : (name remark : List ℕ) → IsTrue (is_trimmed remark)
+ends-absent : (name remark : List ℕ) → IsTrue (no_space_last remark)
     → IsTrue (is_trimmed (absent_line name remark))
 unfolding absent_line
 ends-absent name remark h =
-    ends-append (name_column name) (codes " " ++ remark) (ends-append (codes " ") remark h)
+    let last = remark ++ codes "\n" in
+    line-append (name_column name) (codes " " ++ last)
+    (line-append (codes " ") last (line-of remark h))
 
 ends-feast_on : (p : Profile) (feast : Feast) (period : Option Period) (r : Regime) (d : ℕ)
     → IsTrue (is_trimmed (feast_line_of feast (on_day period (found_under p r d))))
@@ -313,10 +345,9 @@ ends-feast p lands code easter feast =
       | Some f ↦ ends-absent (feast_name feast) (codes "off the line") refl
     ]
 
-bare-feasts : (p : Profile) (lands : List LandModel) (code : List ℕ) (easter : Found)
+trimmed-feasts : (p : Profile) (lands : List LandModel) (code : List ℕ) (easter : Found)
     → AreTrimmed (feast_lines p lands code easter)
-unfolding feast_lines
-bare-feasts p lands code easter =
+trimmed-feasts p lands code easter =
     AreTrimmed-map (feast_line p lands code easter.day) (ends-feast p lands code easter.day) feasts
 
 ends-easter_heading : (found : List Found) (is_listed : Bool)
@@ -325,19 +356,19 @@ ends-easter_heading [] is_listed = refl
 ends-easter_heading (found ∷ more) true = refl
 ends-easter_heading (found ∷ more) false = refl
 
-bare-easters : (p : Profile) (lands : List LandModel) (code : List ℕ) (a : Answer)
+trimmed-easters : (p : Profile) (lands : List LandModel) (code : List ℕ) (a : Answer)
     → AreTrimmed (easter_lines p lands code a)
-bare-easters p lands code (answers.Easters found is_listed) = (
+trimmed-easters p lands code (answers.Easters found is_listed) = (
   ends-easter_heading found is_listed,
-  AreTrimmed-flat_map (feast_lines p lands code) (bare-feasts p lands code) found,
+  AreTrimmed-flat_map (feast_lines p lands code) (trimmed-feasts p lands code) found,
 )
-bare-easters p lands code (answers.Reading found skipped) = tt
-bare-easters p lands code (answers.OnDay found period) = tt
-bare-easters p lands code
+trimmed-easters p lands code (answers.Reading found skipped) = tt
+trimmed-easters p lands code (answers.OnDay found period) = tt
+trimmed-easters p lands code
     (answers.Figures y golden indiction jepact gepact jletters gletters je ge) = tt
-bare-easters p lands code (answers.Lands others) = tt
-bare-easters p lands code (answers.Periods periods) = tt
-bare-easters p lands code (answers.Refused f) = tt
+trimmed-easters p lands code (answers.Lands others) = tt
+trimmed-easters p lands code (answers.Periods periods) = tt
+trimmed-easters p lands code (answers.Refused f) = tt
 
 ends-month_day : (month : ℕ) (found : Found) → IsTrue (is_trimmed (month_day_line month found))
 unfolding month_day_line
@@ -348,40 +379,40 @@ ends-month_day month found =
 none-in-month : (month : ℕ) → AreTrimmed (absent_line (month_name month) (codes "none") ∷ [])
 none-in-month month = (ends-absent (month_name month) (codes "none") refl, tt)
 
-bare-month : (month : ℕ) (a : Answer) → AreTrimmed (month_lines_of month a)
-bare-month month (answers.Reading [] skipped) = none-in-month month
-bare-month month (answers.Reading (found ∷ more) skipped) =
+trimmed-month : (month : ℕ) (a : Answer) → AreTrimmed (month_lines_of month a)
+trimmed-month month (answers.Reading [] skipped) = none-in-month month
+trimmed-month month (answers.Reading (found ∷ more) skipped) =
     AreTrimmed-map (month_day_line month) (ends-month_day month) (found ∷ more)
-bare-month month (answers.OnDay found period) = none-in-month month
-bare-month month (answers.Easters found is_listed) = none-in-month month
-bare-month month (answers.Figures y golden indiction jepact gepact jletters gletters je ge) =
+trimmed-month month (answers.OnDay found period) = none-in-month month
+trimmed-month month (answers.Easters found is_listed) = none-in-month month
+trimmed-month month (answers.Figures y golden indiction jepact gepact jletters gletters je ge) =
     none-in-month month
-bare-month month (answers.Lands lands) = none-in-month month
-bare-month month (answers.Periods periods) = none-in-month month
-bare-month month (answers.Refused f) = none-in-month month
+trimmed-month month (answers.Lands lands) = none-in-month month
+trimmed-month month (answers.Periods periods) = none-in-month month
+trimmed-month month (answers.Refused f) = none-in-month month
 
-bare-month_lines : (p : Profile) (lands : List LandModel) (code : List ℕ) (year : ℤ) (month : ℕ)
+trimmed-month_lines : (p : Profile) (lands : List LandModel) (code : List ℕ) (year : ℤ) (month : ℕ)
     → AreTrimmed (month_lines p lands code year month)
 unfolding month_lines
-bare-month_lines p lands code year month =
-    bare-month month (answer p lands (queries.Read code year (pos month) (pos 1)))
+trimmed-month_lines p lands code year month =
+    trimmed-month month (answer p lands (queries.Read code year (pos month) (pos 1)))
 
 -- the law
-pub almanac-bare : (p : Profile) (lands : List LandModel) (code : List ℕ) (year : ℤ)
+pub almanac-trimmed : (p : Profile) (lands : List LandModel) (code : List ℕ) (year : ℤ)
     → AreTrimmed (almanac_lines p lands code year)
-almanac-bare p lands code year =
+almanac-trimmed p lands code year =
     let months_of = flat_map (month_lines p lands code year) months in
     let easters = easter_lines p lands code (answer p lands (queries.Easter code year)) in
     let changes = change_lines p year (answer p lands (queries.Periods code)) in
     let figures = figures_lines (answer p lands (queries.YearFigures year)) in
     AreTrimmed-append (heading_lines code year (answer p lands queries.Lands))
     (figures ++ (changes ++ (easters ++ months_of)))
-    (bare-heading code year (answer p lands queries.Lands))
+    (trimmed-heading code year (answer p lands queries.Lands))
     (AreTrimmed-append figures (changes ++ (easters ++ months_of))
-    (bare-figures (answer p lands (queries.YearFigures year)))
+    (trimmed-figures (answer p lands (queries.YearFigures year)))
     (AreTrimmed-append changes (easters ++ months_of)
-    (bare-changes p year (answer p lands (queries.Periods code)))
+    (trimmed-changes p year (answer p lands (queries.Periods code)))
     (AreTrimmed-append easters months_of
-    (bare-easters p lands code (answer p lands (queries.Easter code year)))
-    (AreTrimmed-flat_map (month_lines p lands code year) (bare-month_lines p lands code year)
+    (trimmed-easters p lands code (answer p lands (queries.Easter code year)))
+    (AreTrimmed-flat_map (month_lines p lands code year) (trimmed-month_lines p lands code year)
     months))))

@@ -1,9 +1,9 @@
--- The almanac of a territory and year, line by line, from what the register answers: this project's
--- profile.
+-- The almanac of a territory and year from what the register answers, line by line, each with its
+-- line feed: this project's profile.
 use Rattle.std.specs.Prelude.{ℕ, Bool, ◌&&◌, nat_lt, if◌then◌else◌, ℤ, pos, ◌+ℤ◌, List, [], ◌∷◌}
 use Rattle.std.specs.Prelude.{◌++◌, map, Option, true, false, codes}
 use Rattle.std.specs.Fmt.{decimal, signed_decimal}
-use Rattle.std.specs.List.{flat_map}
+use Rattle.std.specs.List.{flat_map, concat}
 use Rattle.std.specs.Ordering.{int_eq}
 use Rattle.std.specs.Str.{bytes_eq}
 use Rattle.osn_computus.specs.declared.epact.Epact.{Epact}
@@ -32,16 +32,13 @@ use Rattle.osn_almanac.specs.declared.feast.Feast.{Feast}
 use Rattle.osn_almanac.specs.Columns.{day_line, absent_line}
 use Rattle.osn_almanac.specs.Feast.{feast_name, days_after_easter, feasts}
 
--- the text of lines, a line feed behind each
-unfoldable pub lines_text : List (List ℕ) → List ℕ
-lines_text lines = flat_map (λ line. line ++ 10 ∷ []) lines
-
 -- ---- the heading
 
 unfoldable pub heading : List ℕ → List ℕ → ℤ → List ℕ
 heading name code year =
     codes "Almanac of "
-    ++ (name ++ (codes " (" ++ (code ++ (codes ") for " ++ signed_decimal year))))
+    ++ (name
+    ++ (codes " (" ++ (code ++ (codes ") for " ++ (signed_decimal year ++ codes "\n")))))
 
 -- the name of the territory that has the code, of those that are listed, and no text where none has
 abbrev pub name_among : List ℕ → List Land → List ℕ
@@ -60,16 +57,18 @@ heading_lines code year lands = heading (name_in code lands) code year ∷ []
 
 unfoldable pub cycles_line : ℕ → ℕ → List ℕ
 cycles_line golden indiction =
-    codes "Golden number " ++ (decimal golden ++ (codes ", indiction " ++ decimal indiction))
+    codes "Golden number "
+    ++ (decimal golden ++ (codes ", indiction " ++ (decimal indiction ++ codes "\n")))
 
 unfoldable pub julian_line : ℕ → Letters → List ℕ
 julian_line epact letters =
-    codes "Julian epact " ++ (decimal epact ++ (codes ", Sunday letter " ++ letters_text letters))
+    codes "Julian epact "
+    ++ (decimal epact ++ (codes ", Sunday letter " ++ (letters_text letters ++ codes "\n")))
 
 unfoldable pub gregorian_line : Epact → Letters → List ℕ
 gregorian_line epact letters =
     codes "Gregorian epact "
-    ++ (epact_text epact ++ (codes ", Sunday letter " ++ letters_text letters))
+    ++ (epact_text epact ++ (codes ", Sunday letter " ++ (letters_text letters ++ codes "\n")))
 
 abbrev pub figures_lines : Answer → List (List ℕ)
 figures_lines
@@ -96,7 +95,7 @@ change_text dual day calendar style rule =
     ++ (decimal day
     ++ (codes ": "
     ++ (calendar
-    ++ (codes " calendar, " ++ (style ++ (codes " style, " ++ (rule ++ codes " rule")))))))))
+    ++ (codes " calendar, " ++ (style ++ (codes " style, " ++ (rule ++ codes " rule\n")))))))))
 
 -- the day as the new regime dates it, and how that regime reckons
 unfoldable pub change_line : Profile → Period → List ℕ
@@ -108,6 +107,9 @@ change_line p period =
 unfoldable pub change_of : Profile → ℤ → Period → List (List ℕ)
 change_of p year period = if is_change_in year period then change_line p period ∷ [] else []
 
+abbrev pub changes_text : Profile → ℤ → Period → List ℕ
+changes_text p year period = concat (change_of p year period)
+
 abbrev pub change_lines : Profile → ℤ → Answer → List (List ℕ)
 change_lines p year (answers.Periods periods) = flat_map (change_of p year) periods
 change_lines p year other = []
@@ -115,9 +117,9 @@ change_lines p year other = []
 -- ---- Easter and the feasts counted from it
 
 abbrev pub easter_heading : List Found → Bool → List ℕ
-easter_heading [] listed = codes "Easter never"
-easter_heading (found ∷ more) true = codes "Easter listed"
-easter_heading (found ∷ more) false = codes "Easter by rule"
+easter_heading [] listed = codes "Easter never\n"
+easter_heading (found ∷ more) true = codes "Easter listed\n"
+easter_heading (found ∷ more) false = codes "Easter by rule\n"
 
 -- a feast by what is answered to its day, where it is on the line
 abbrev pub feast_line_of : Feast → Answer → List ℕ
@@ -130,8 +132,11 @@ feast_line p lands code easter feast =
     feast_line_of feast
     (answer p lands (DayIn code (pos easter +ℤ days_after_easter feast)))
 
-unfoldable pub feast_lines : Profile → List LandModel → List ℕ → Found → List (List ℕ)
+abbrev pub feast_lines : Profile → List LandModel → List ℕ → Found → List (List ℕ)
 feast_lines p lands code easter = map (feast_line p lands code easter.day) feasts
+
+abbrev pub feasts_text : Profile → List LandModel → List ℕ → Found → List ℕ
+feasts_text p lands code easter = concat (feast_lines p lands code easter)
 
 abbrev pub easter_lines : Profile → List LandModel → List ℕ → Answer → List (List ℕ)
 easter_lines p lands code (answers.Easters found listed) =
@@ -155,6 +160,9 @@ unfoldable pub month_lines : Profile → List LandModel → List ℕ → ℤ →
 month_lines p lands code year month =
     month_lines_of month (answer p lands (Read code year (pos month) (pos 1)))
 
+abbrev pub month_text : Profile → List LandModel → List ℕ → ℤ → ℕ → List ℕ
+month_text p lands code year month = concat (month_lines p lands code year month)
+
 abbrev pub months : List ℕ
 months = 1 ∷ 2 ∷ 3 ∷ 4 ∷ 5 ∷ 6 ∷ 7 ∷ 8 ∷ 9 ∷ 10 ∷ 11 ∷ 12 ∷ []
 
@@ -169,7 +177,7 @@ almanac_lines p lands code year =
     ++ flat_map (month_lines p lands code year) months)))
 
 unfoldable pub almanac : Profile → List LandModel → List ℕ → ℤ → List ℕ
-almanac p lands code year = lines_text (almanac_lines p lands code year)
+almanac p lands code year = concat (almanac_lines p lands code year)
 
 -- why there is no almanac: what refuses a query of the territory's Easters
 abbrev pub almanac_refusal : Profile → List LandModel → List ℕ → ℤ → Option Refusal

@@ -25,8 +25,10 @@ day_column = right_in 7
 unfoldable pub day_line : List ℕ → ℕ → List ℕ → List ℕ
 day_line name d date =
     name_column name
-    ++ (codes " " ++ (weekday_column d ++ (codes " " ++ (day_column d ++ (codes " " ++ date)))))
+    ++ (codes " "
+    ++ (weekday_column d
+    ++ (codes " " ++ (day_column d ++ (codes " " ++ (date ++ codes "\n"))))))
 
 -- the line of a name that no day has, with what is said of it
 unfoldable pub absent_line : List ℕ → List ℕ → List ℕ
-absent_line name remark = name_column name ++ (codes " " ++ remark)
+absent_line name remark = name_column name ++ (codes " " ++ (remark ++ codes "\n"))

@@ -1,11 +1,12 @@
 -- Lines that do not end with a space.
-use Rattle.std.specs.Prelude.{ℕ, Bool, true, false, ◌==◌, if◌then◌else◌, IsTrue, List, [], ◌∷◌}
+use Rattle.std.specs.Prelude.{ℕ, Bool, false, not, ◌&&◌, ◌==◌, IsTrue, List, [], ◌∷◌}
 
--- a last character is there, and is no space
+-- at the end stand a character that is no space, and a line feed
 abbrev pub is_trimmed : List ℕ → Bool
 is_trimmed [] = false
-is_trimmed (c ∷ []) = if c == 32 then false else true
-is_trimmed (c ∷ d ∷ rest) = is_trimmed (d ∷ rest)
+is_trimmed (c ∷ []) = false
+is_trimmed (c ∷ d ∷ []) = not (c == 32) && d == 10
+is_trimmed (c ∷ d ∷ e ∷ rest) = is_trimmed (d ∷ e ∷ rest)
 
 -- each line ends so
 abbrev pub AreTrimmed : List (List ℕ) → Type 0

@@ -1,3 +1,4 @@
+//! The almanac of a territory and year, part by part.
 ghost use Rattle.std.specs.Prelude.{◌≡◌, None, IfOk, IfErr, OnOk, string_bytes};
 ghost use Rattle.osn_days.specs.Profile.{newest_rules};
 ghost use Rattle.osn_register.specs.Refusal.{IsRefusalOrNoMemory};
@@ -26,10 +27,10 @@ fn text_of_year(
         (λ s. string_bytes s ≡ spec.almanac newest_rules register.now.lands code.now year) }
 {
     let mut text = String::with_capacity(alloc, ROOM)?;
-    push_heading(alloc, &mut text, register, code, year)?;
+    push_heading(&mut text, register, code, year)?;
     push_figures(alloc, &mut text, register, year)?;
     push_changes(alloc, &mut text, register, code, year)?;
-    push_easters(alloc, &mut text, register, code, year)?;
+    push_easters(&mut text, register, code, year)?;
     push_months(alloc, &mut text, register, code, year)?;
     Ok(text)
 }
@@ -60,8 +61,5 @@ pub fn almanac_text(
         (AreTrimmed (spec.almanac_lines newest_rules register.now.lands code.now year)) }
 {
     register.check_easter(code, year)?;
-    match text_of_year(alloc, register, code, year) {
-        Ok(text) => Ok(text),
-        Err(_) => Err(Refusal::NoMemory),
-    }
+    Ok(text_of_year(alloc, register, code, year)?)
 }

@@ -1,15 +1,16 @@
-ghost use Rattle.std.specs.Prelude.{◌≡◌, [], ◌∷◌, ◌++◌, OnOk, string_bytes};
-ghost use Rattle.std.specs.List.{flat_map};
+//! The changes that fall in the year.
+ghost use Rattle.std.specs.Prelude.{◌≡◌, ◌++◌, OnOk, string_bytes};
+ghost use Rattle.std.specs.List.{flat_map, concat};
 ghost use Rattle.osn_days.specs.Profile.{newest_rules};
 ghost use Rattle.osn_register.specs.Answer.{answer};
 ghost use Rattle.osn_register.specs.declared.query.Query.TheVariants.{Periods};
 ghost use Rattle.osn_almanac.specs.Almanac as spec;
 
-use crate::columns::push_line;
 use osn_days::{Calendar, Day, Keyword, date_of};
 use osn_lands::{Period, dual_text};
-use osn_register::{Answer, Query, Register, Text};
+use osn_register::{Answer, BorrowedQuery, Register};
 use std::alloc::{AllocError, Global};
+use std::fmt::Write;
 
 /// Whether the period begins with a change, on a day that has a Gregorian date in the year.
 fn is_change_in(year: i64, period: &Period) -> bool
@@ -19,8 +20,8 @@ fn is_change_in(year: i64, period: &Period) -> bool
 }
 
 /// Appends the line of a change, in these words.
+#[tactic(auto, unfolding(crate::specs::Almanac::change_text))]
 fn push_change_text(
-    alloc: Global,
     out: &mut String,
     dual: &str,
     day: u32,
@@ -28,26 +29,25 @@ fn push_change_text(
     style: &str,
     rule: &str,
 ) -> Result<(), AllocError>
-    ensures { OnOk result (string_bytes out.new ≡ string_bytes out.old ++ spec.lines_text
-        (spec.change_text dual.now day calendar.now style.now rule.now ∷ [])) }
+    ensures { OnOk result (string_bytes out.new ≡ string_bytes out.old
+        ++ spec.change_text dual.now day calendar.now style.now rule.now) }
 {
-    let line = format!(in alloc;
+    writeln!(
+        out,
         "From {}, day {}: {} calendar, {} style, {} rule",
         dual, day, calendar, style, rule
-    )?;
-    push_line(out, line.as_str())
+    )
 }
 
 /// Appends the line of a change: the day as the new regime dates it, and how that regime reckons.
 #[tactic(auto, unfolding(crate::specs::Almanac::change_line))]
 fn push_change(alloc: Global, out: &mut String, period: &Period) -> Result<(), AllocError>
     ensures { OnOk result (string_bytes out.new
-        ≡ string_bytes out.old ++ spec.lines_text (spec.change_line newest_rules period.now ∷ [])) }
+        ≡ string_bytes out.old ++ spec.change_line newest_rules period.now) }
 {
     let regime = period.regime;
     let dual = dual_text(alloc, regime, period.first)?;
     push_change_text(
-        alloc,
         out,
         dual.as_str(),
         period.first.number(),
@@ -58,15 +58,15 @@ fn push_change(alloc: Global, out: &mut String, period: &Period) -> Result<(), A
 }
 
 /// Appends the line of a change, where it is one of the year.
-#[tactic(auto, using(crate::proofs::Text::push_none), unfolding(crate::specs::Almanac::change_of))]
+#[tactic(auto, unfolding(crate::specs::Almanac::change_of))]
 fn push_change_of(
     alloc: Global,
     out: &mut String,
     year: i64,
     period: &Period,
 ) -> Result<(), AllocError>
-    ensures { OnOk result (string_bytes out.new ≡ string_bytes out.old
-        ++ spec.lines_text (spec.change_of newest_rules year period.now)) }
+    ensures { OnOk result (string_bytes out.new
+        ≡ string_bytes out.old ++ spec.changes_text newest_rules year period.now) }
 {
     if is_change_in(year, period) {
         push_change(alloc, out, period)?;
@@ -82,7 +82,7 @@ fn push_changes_among(
     periods: &[Period],
 ) -> Result<(), AllocError>
     ensures { OnOk result (string_bytes out.new ≡ string_bytes out.old
-        ++ spec.lines_text (flat_map (spec.change_of newest_rules year) periods.now)) }
+        ++ flat_map (spec.changes_text newest_rules year) periods.now) }
 {
     for period in periods {
         push_change_of(alloc, out, year, period)?;
@@ -91,6 +91,7 @@ fn push_changes_among(
 }
 
 /// Appends the changes of the year, by what is answered.
+#[tactic(auto, using(crate::proofs::Text::concat_each))]
 fn push_changes_in(
     alloc: Global,
     out: &mut String,
@@ -98,7 +99,7 @@ fn push_changes_in(
     periods: &Answer,
 ) -> Result<(), AllocError>
     ensures { OnOk result (string_bytes out.new ≡ string_bytes out.old
-        ++ spec.lines_text (spec.change_lines newest_rules year periods.now)) }
+        ++ concat (spec.change_lines newest_rules year periods.now)) }
 {
     match periods {
         Answer::Periods(periods) => push_changes_among(alloc, out, year, periods.as_slice()),
@@ -114,11 +115,10 @@ pub(crate) fn push_changes(
     code: &str,
     year: i64,
 ) -> Result<(), AllocError>
-    ensures { OnOk result (string_bytes out.new ≡ string_bytes out.old ++ spec.lines_text
+    ensures { OnOk result (string_bytes out.new ≡ string_bytes out.old ++ concat
         (spec.change_lines newest_rules year (answer newest_rules register.now.lands
         (Periods code.now)))) }
 {
-    let code = Text::from_str(alloc, code)?;
-    let periods = register.answer(&Query::Periods { code })?;
+    let periods = register.answer_borrowed(BorrowedQuery::Periods(code))?;
     push_changes_in(alloc, out, year, &periods)
 }

@@ -1,45 +1,41 @@
-ghost use Rattle.std.specs.Prelude.{◌≡◌, [], ◌∷◌, ◌++◌, OnOk, map, pos, ◌+ℤ◌, string_bytes};
-ghost use Rattle.std.specs.List.{flat_map};
+//! The Easters of the year, and the feasts that are counted from them.
+ghost use Rattle.std.specs.Prelude.{◌≡◌, ◌++◌, OnOk, pos, ◌+ℤ◌, string_bytes};
+ghost use Rattle.std.specs.List.{flat_map, concat};
 ghost use Rattle.osn_days.specs.Profile.{newest_rules};
 ghost use Rattle.osn_register.specs.Answer.{answer};
 ghost use Rattle.osn_register.specs.declared.query.Query.TheVariants.{Easter};
 ghost use Rattle.osn_almanac.specs.Almanac as spec;
 ghost use Rattle.osn_almanac.specs.Feast.{days_after_easter};
 
-use crate::columns::{push_absent, push_day, push_line};
+use crate::columns::{push_absent, push_day};
 use crate::feast::{FEASTS, Feast};
 use osn_days::Day;
-use osn_register::{Answer, Found, Query, Register, Text};
-use std::alloc::{AllocError, Global};
+use osn_register::{Answer, BorrowedQuery, Found, Register};
+use std::alloc::AllocError;
 
-/// Whether the territory had an Easter in the year, and by what.
+/// The line that says whether the territory had an Easter in the year, and by what.
 fn easter_heading(found: &[Found], listed: bool) -> &'static str
     ensures { result.now ≡ spec.easter_heading found.now listed }
 {
     if found.is_empty() {
-        "Easter never"
+        "Easter never\n"
     } else if listed {
-        "Easter listed"
+        "Easter listed\n"
     } else {
-        "Easter by rule"
+        "Easter by rule\n"
     }
 }
 
 /// Appends the line of a feast, by what is answered to its day.
-fn push_feast_in(
-    alloc: Global,
-    out: &mut String,
-    feast: Feast,
-    on_day: &Answer,
-) -> Result<(), AllocError>
-    ensures { OnOk result (string_bytes out.new ≡ string_bytes out.old
-        ++ spec.lines_text (spec.feast_line_of feast on_day.now ∷ [])) }
+fn push_feast_in(out: &mut String, feast: Feast, on_day: &Answer) -> Result<(), AllocError>
+    ensures { OnOk result (string_bytes out.new
+        ≡ string_bytes out.old ++ spec.feast_line_of feast on_day.now) }
 {
     match on_day {
         Answer::OnDay { found, .. } => {
-            push_day(alloc, out, feast.name(), found.day, found.dual.as_str())
+            push_day(out, feast.name(), found.day, found.dual.as_str())
         }
-        _ => push_absent(alloc, out, feast.name(), "off the line"),
+        _ => push_absent(out, feast.name(), "off the line"),
     }
 }
 
@@ -53,110 +49,96 @@ fn feast_day(easter: Day, feast: Feast) -> i64
 /// Appends the line of a feast of a year with that Easter.
 #[tactic(auto, unfolding(crate::specs::Almanac::feast_line))]
 fn push_feast(
-    alloc: Global,
     out: &mut String,
     register: &Register,
     code: &str,
     easter: Day,
     feast: Feast,
 ) -> Result<(), AllocError>
-    ensures { OnOk result (string_bytes out.new ≡ string_bytes out.old ++ spec.lines_text
-        (spec.feast_line newest_rules register.now.lands code.now easter feast ∷ [])) }
+    ensures { OnOk result (string_bytes out.new ≡ string_bytes out.old
+        ++ spec.feast_line newest_rules register.now.lands code.now easter feast) }
 {
-    let query = Query::DayIn {
-        code: Text::from_str(alloc, code)?,
-        day: feast_day(easter, feast),
-    };
-    let on_day = register.answer(&query)?;
-    push_feast_in(alloc, out, feast, &on_day)
+    let on_day = register.answer_borrowed(BorrowedQuery::DayIn(code, feast_day(easter, feast)))?;
+    push_feast_in(out, feast, &on_day)
 }
 
 /// Appends the lines of feasts of a year with that Easter.
 fn push_feasts(
-    alloc: Global,
     out: &mut String,
     register: &Register,
     code: &str,
     easter: Day,
     feasts: &[Feast],
 ) -> Result<(), AllocError>
-    ensures { OnOk result (string_bytes out.new ≡ string_bytes out.old ++ spec.lines_text
-        (map (spec.feast_line newest_rules register.now.lands code.now easter) feasts.now)) }
+    ensures { OnOk result (string_bytes out.new ≡ string_bytes out.old
+        ++ flat_map (spec.feast_line newest_rules register.now.lands code.now easter) feasts.now) }
 {
     for feast in feasts {
-        push_feast(alloc, out, register, code, easter, *feast)?;
+        push_feast(out, register, code, easter, *feast)?;
     }
     Ok(())
 }
 
 /// Appends the feasts of an Easter.
-#[tactic(auto, unfolding(crate::specs::Almanac::feast_lines))]
+#[tactic(auto, using(crate::proofs::Text::concat_map))]
 fn push_feasts_of(
-    alloc: Global,
     out: &mut String,
     register: &Register,
     code: &str,
     easter: &Found,
 ) -> Result<(), AllocError>
-    ensures { OnOk result (string_bytes out.new ≡ string_bytes out.old ++ spec.lines_text
-        (spec.feast_lines newest_rules register.now.lands code.now easter.now)) }
+    ensures { OnOk result (string_bytes out.new ≡ string_bytes out.old
+        ++ spec.feasts_text newest_rules register.now.lands code.now easter.now) }
 {
-    push_feasts(alloc, out, register, code, easter.day, &FEASTS)
+    push_feasts(out, register, code, easter.day, &FEASTS)
 }
 
 /// Appends the feasts of each Easter.
 fn push_each(
-    alloc: Global,
     out: &mut String,
     register: &Register,
     code: &str,
     easters: &[Found],
 ) -> Result<(), AllocError>
-    ensures { OnOk result (string_bytes out.new ≡ string_bytes out.old ++ spec.lines_text
-        (flat_map (spec.feast_lines newest_rules register.now.lands code.now) easters.now)) }
+    ensures { OnOk result (string_bytes out.new ≡ string_bytes out.old
+        ++ flat_map (spec.feasts_text newest_rules register.now.lands code.now) easters.now) }
 {
     for easter in easters {
-        push_feasts_of(alloc, out, register, code, easter)?;
+        push_feasts_of(out, register, code, easter)?;
     }
     Ok(())
 }
 
-/// Appends what is said of the Easters, and their feasts, by what is answered.
+/// Appends a line on the Easters, and their feasts, by what is answered.
 fn push_easters_in(
-    alloc: Global,
     out: &mut String,
     register: &Register,
     code: &str,
     easters: &Answer,
 ) -> Result<(), AllocError>
-    ensures { OnOk result (string_bytes out.new ≡ string_bytes out.old ++ spec.lines_text
+    ensures { OnOk result (string_bytes out.new ≡ string_bytes out.old ++ concat
         (spec.easter_lines newest_rules register.now.lands code.now easters.now)) }
 {
     match easters {
         Answer::Easters { found, listed } => {
-            push_line(out, easter_heading(found.as_slice(), *listed))?;
-            push_each(alloc, out, register, code, found.as_slice())
+            out.push_str(easter_heading(found.as_slice(), *listed))?;
+            push_each(out, register, code, found.as_slice())
         }
         _ => Ok(()),
     }
 }
 
-/// Appends what is said of the Easters of the year, and their feasts.
+/// Appends a line on the Easters of the year, and their feasts.
 pub(crate) fn push_easters(
-    alloc: Global,
     out: &mut String,
     register: &Register,
     code: &str,
     year: i64,
 ) -> Result<(), AllocError>
-    ensures { OnOk result (string_bytes out.new ≡ string_bytes out.old ++ spec.lines_text
+    ensures { OnOk result (string_bytes out.new ≡ string_bytes out.old ++ concat
         (spec.easter_lines newest_rules register.now.lands code.now
         (answer newest_rules register.now.lands (Easter code.now year)))) }
 {
-    let query = Query::Easter {
-        code: Text::from_str(alloc, code)?,
-        year,
-    };
-    let easters = register.answer(&query)?;
-    push_easters_in(alloc, out, register, code, &easters)
+    let easters = register.answer_borrowed(BorrowedQuery::Easter(code, year))?;
+    push_easters_in(out, register, code, &easters)
 }

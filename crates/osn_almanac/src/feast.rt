@@ -1,3 +1,4 @@
+//! The feasts that are counted from Easter.
 ghost use Rattle.std.specs.Prelude.{◌≡◌};
 ghost use Rattle.osn_almanac.specs.Feast as spec;
 
@@ -37,7 +38,7 @@ impl Feast {
         }
     }
 
-    /// How many days it is after Easter, and less than none before.
+    /// How many days it is after Easter, a number below 0 where it is before.
     pub(crate) fn days_after_easter(self) -> i8
         ensures { result ≡ spec.days_after_easter self }
     {

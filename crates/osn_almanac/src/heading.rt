@@ -1,14 +1,16 @@
-ghost use Rattle.std.specs.Prelude.{◌≡◌, [], ◌∷◌, ◌++◌, OnOk, string_bytes};
+//! The heading of an almanac.
+ghost use Rattle.std.specs.Prelude.{◌≡◌, ◌++◌, OnOk, string_bytes};
+ghost use Rattle.std.specs.List.{concat};
 ghost use Rattle.osn_days.specs.Profile.{newest_rules};
 ghost use Rattle.osn_register.specs.Answer.{answer};
 ghost use Rattle.osn_register.specs.declared.query.Query.TheVariants.{Lands};
 ghost use Rattle.osn_almanac.specs.Almanac as spec;
 
-use crate::columns::push_line;
-use osn_register::{Answer, Land, Query, Register};
-use std::alloc::{AllocError, Global};
+use osn_register::{Answer, BorrowedQuery, Land, Register};
+use std::alloc::AllocError;
+use std::fmt::Write;
 
-/// The name of the territory that has the code, of these.
+/// The name of the territory that has the code, of these, or no text where none has it.
 fn name_among<'a>(lands: &'a [Land], code: &str) -> &'a str
     ensures { result.now ≡ spec.name_among code.now lands.now }
 {
@@ -20,9 +22,8 @@ fn name_among<'a>(lands: &'a [Land], code: &str) -> &'a str
     ""
 }
 
-/// The name of the territory that has the code, by what is answered to `Query::Lands`. It is no
-/// text where none has the code.
-pub fn name_in<'a>(lands: &'a Answer, code: &str) -> &'a str
+/// The name of the territory that has the code, by what is answered to `Query::Lands`.
+fn name_in<'a>(lands: &'a Answer, code: &str) -> &'a str
     ensures { result.now ≡ spec.name_in code.now lands.now }
 {
     match lands {
@@ -32,31 +33,24 @@ pub fn name_in<'a>(lands: &'a Answer, code: &str) -> &'a str
 }
 
 /// Appends the heading of a territory.
-fn push_heading_line(
-    alloc: Global,
-    out: &mut String,
-    name: &str,
-    code: &str,
-    year: i64,
-) -> Result<(), AllocError>
+#[tactic(auto, unfolding(crate::specs::Almanac::heading))]
+fn push_heading_line(out: &mut String, name: &str, code: &str, year: i64) -> Result<(), AllocError>
     ensures { OnOk result (string_bytes out.new
-        ≡ string_bytes out.old ++ spec.lines_text (spec.heading name.now code.now year ∷ [])) }
+        ≡ string_bytes out.old ++ spec.heading name.now code.now year) }
 {
-    let line = format!(in alloc; "Almanac of {} ({}) for {}", name, code, year)?;
-    push_line(out, line.as_str())
+    writeln!(out, "Almanac of {} ({}) for {}", name, code, year)
 }
 
 /// Appends the heading, with the name of the territory.
 pub(crate) fn push_heading(
-    alloc: Global,
     out: &mut String,
     register: &Register,
     code: &str,
     year: i64,
 ) -> Result<(), AllocError>
-    ensures { OnOk result (string_bytes out.new ≡ string_bytes out.old ++ spec.lines_text
+    ensures { OnOk result (string_bytes out.new ≡ string_bytes out.old ++ concat
         (spec.heading_lines code.now year (answer newest_rules register.now.lands Lands))) }
 {
-    let lands = register.answer(&Query::Lands)?;
-    push_heading_line(alloc, out, name_in(&lands, code), code, year)
+    let lands = register.answer_borrowed(BorrowedQuery::Lands)?;
+    push_heading_line(out, name_in(&lands, code), code, year)
 }

@@ -13,5 +13,3 @@ mod heading;
 mod months;
 
 pub use almanac::almanac_text;
-pub use columns::push_line;
-pub use heading::name_in;

@@ -1,5 +1,6 @@
-ghost use Rattle.std.specs.Prelude.{◌≡◌, [], ◌∷◌, ◌++◌, IfOk, OnOk, map, string_bytes};
-ghost use Rattle.std.specs.List.{flat_map};
+//! The first days of the months.
+ghost use Rattle.std.specs.Prelude.{◌≡◌, ◌++◌, IfOk, OnOk, string_bytes};
+ghost use Rattle.std.specs.List.{flat_map, concat};
 ghost use Rattle.osn_days.specs.Profile.{newest_rules};
 ghost use Rattle.osn_days.specs.declared.calendar.Calendar.TheVariants.{Gregorian};
 ghost use Rattle.osn_days.specs.Chain as chain;
@@ -8,7 +9,7 @@ ghost use Rattle.osn_almanac.specs.Almanac as spec;
 
 use crate::columns::{push_absent, push_day};
 use osn_days::{Calendar, Day, date_of, date_text, month_name};
-use osn_register::{Answer, Found, Query, Register, Text};
+use osn_register::{Answer, BorrowedQuery, Found, Register};
 use std::alloc::{AllocError, Global};
 
 /// The months of a year.
@@ -30,17 +31,17 @@ fn push_month_day(
     month: u8,
     found: &Found,
 ) -> Result<(), AllocError>
-    ensures { OnOk result (string_bytes out.new ≡ string_bytes out.old
-        ++ spec.lines_text (spec.month_day_line month found.now ∷ [])) }
+    ensures { OnOk result (string_bytes out.new
+        ≡ string_bytes out.old ++ spec.month_day_line month found.now) }
 {
     let date = gregorian_text(alloc, found.day)?;
-    push_day(alloc, out, month_name(month), found.day, date.as_str())
+    push_day(out, month_name(month), found.day, date.as_str())
 }
 
 /// Appends the line of each day that is the first of the month.
 fn push_days(alloc: Global, out: &mut String, month: u8, days: &[Found]) -> Result<(), AllocError>
     ensures { OnOk result (string_bytes out.new ≡ string_bytes out.old
-        ++ spec.lines_text (map (spec.month_day_line month) days.now)) }
+        ++ flat_map (spec.month_day_line month) days.now) }
 {
     for found in days {
         push_month_day(alloc, out, month, found)?;
@@ -49,6 +50,7 @@ fn push_days(alloc: Global, out: &mut String, month: u8, days: &[Found]) -> Resu
 }
 
 /// Appends the lines of a month, by what is answered to its first day.
+#[tactic(auto, using(crate::proofs::Text::concat_map))]
 fn push_month_in(
     alloc: Global,
     out: &mut String,
@@ -56,13 +58,13 @@ fn push_month_in(
     reading: &Answer,
 ) -> Result<(), AllocError>
     ensures { OnOk result (string_bytes out.new ≡ string_bytes out.old
-        ++ spec.lines_text (spec.month_lines_of month reading.now)) }
+        ++ concat (spec.month_lines_of month reading.now)) }
 {
     match reading {
         Answer::Reading { found, .. } if !found.as_slice().is_empty() => {
             push_days(alloc, out, month, found.as_slice())
         }
-        _ => push_absent(alloc, out, month_name(month), "none"),
+        _ => push_absent(out, month_name(month), "none"),
     }
 }
 
@@ -76,16 +78,11 @@ fn push_month(
     year: i64,
     month: u8,
 ) -> Result<(), AllocError>
-    ensures { OnOk result (string_bytes out.new ≡ string_bytes out.old ++ spec.lines_text
-        (spec.month_lines newest_rules register.now.lands code.now year month)) }
+    ensures { OnOk result (string_bytes out.new ≡ string_bytes out.old
+        ++ spec.month_text newest_rules register.now.lands code.now year month) }
 {
-    let query = Query::Read {
-        code: Text::from_str(alloc, code)?,
-        year,
-        month: i64::from(month),
-        day: 1,
-    };
-    let reading = register.answer(&query)?;
+    let query = BorrowedQuery::Read(code, year, i64::from(month), 1);
+    let reading = register.answer_borrowed(query)?;
     push_month_in(alloc, out, month, &reading)
 }
 
@@ -98,8 +95,8 @@ fn push_each(
     year: i64,
     months: &[u8],
 ) -> Result<(), AllocError>
-    ensures { OnOk result (string_bytes out.new ≡ string_bytes out.old ++ spec.lines_text
-        (flat_map (spec.month_lines newest_rules register.now.lands code.now year) months.now)) }
+    ensures { OnOk result (string_bytes out.new ≡ string_bytes out.old
+        ++ flat_map (spec.month_text newest_rules register.now.lands code.now year) months.now) }
 {
     for month in months {
         push_month(alloc, out, register, code, year, *month)?;
@@ -115,7 +112,7 @@ pub(crate) fn push_months(
     code: &str,
     year: i64,
 ) -> Result<(), AllocError>
-    ensures { OnOk result (string_bytes out.new ≡ string_bytes out.old ++ spec.lines_text
+    ensures { OnOk result (string_bytes out.new ≡ string_bytes out.old ++ concat
         (flat_map (spec.month_lines newest_rules register.now.lands code.now year) spec.months)) }
 {
     push_each(alloc, out, register, code, year, &MONTHS)

@@ -1,7 +1,7 @@
 //! Dates as people write them, and what is wrong with a text that is none.
 use crate::compare::same;
-use osn_days::Weekday;
-use osn_written::{DateFault, WrittenDate, month_named, number_of, parts_at, weekday_named};
+use osn_days::{Weekday, month_named};
+use osn_written::{DateFault, WrittenDate, number_of, parts_at, weekday_named};
 use std::test::Fail;
 
 /// A date that a text is: year, month, day, whether it is a double one, and its weekday.

@@ -4,6 +4,7 @@ use Rattle.std.specs.Prelude.{Option, Some, None, Result, Ok, Err}
 use Rattle.std.specs.Option.{ok_or}
 use Rattle.std.specs.Str.{bytes_eq}
 use Rattle.osn_days.specs.CalendarWords.{calendar_named}
+use Rattle.osn_days.specs.Month.{month_named}
 use Rattle.osn_days.specs.Profile.{Profile}
 use Rattle.osn_days.specs.Weekday.{weekday_name}
 use Rattle.osn_days.specs.declared.calendar.Calendar.{Calendar}
@@ -13,7 +14,7 @@ use Rattle.osn_register.specs.Plain.{is_off_line}
 use Rattle.osn_pages.specs.Conversion.{days_of_written}
 use Rattle.osn_pages.specs.declared.page.Page.{Page}
 use Rattle.osn_pages.specs.declared.page.Page.TheVariants as pages
-use Rattle.osn_written.specs.WrittenDate.{written_date, number_of, month_named, weekday_named}
+use Rattle.osn_written.specs.WrittenDate.{written_date, number_of, weekday_named}
 use Rattle.osn_written.specs.declared.written_date.DateFault.{DateFault}
 use Rattle.osn_written.specs.declared.written_date.DateFault.TheVariants as faults
 use Rattle.osn_written.specs.declared.written_date.WrittenDate.{WrittenDate}

@@ -6,10 +6,10 @@ ghost use Rattle.osn_written.specs.WrittenDate.{number_of as number_in};
 ghost use Rattle.osn_commands.specs.Asked as spec;
 
 use crate::misuse::Misuse;
-use osn_days::{Calendar, Day, Keyword, Weekday};
+use osn_days::{Calendar, Day, Keyword, Weekday, month_named};
 use osn_invocation::PageWords;
 use osn_pages::{Page, day_of_written};
-use osn_written::{DateFault, WrittenDate, month_named, number_of, weekday_named};
+use osn_written::{DateFault, WrittenDate, number_of, weekday_named};
 
 /// What a command prints a page on.
 #[derive(Clone, Copy, Debug, PartialEq, Eq)]

@@ -19,6 +19,6 @@ pub use calendar::{Calendar, date_of, day_of};
 pub use date::{Date, date_digits, date_text};
 pub use day::{Day, HIGH};
 pub use keyword::Keyword;
-pub use month::month_name;
+pub use month::{month_name, month_named};
 pub use weekday::Weekday;
 pub use year::Year;

@@ -21,3 +21,17 @@ pub fn month_name(month: u8) -> &'static str
         _ => "December",
     }
 }
+
+/// Whether the month has the English name, whose letters may be capital or small.
+fn has_name(name: &str, month: u8) -> bool
+    ensures { result ≡ spec.has_name name.now month }
+{
+    month_name(month).eq_ignore_ascii_case(name)
+}
+
+/// The month of an English name, 1 to 12. Its letters may be capital or small.
+pub fn month_named(name: &str) -> Option<u8>
+    ensures { result ≡ spec.month_named name.now }
+{
+    (1..13).find(|month| has_name(name, *month))
+}

@@ -1,5 +1,5 @@
--- The words of year styles, in a line and in a reply, and which of them the rules have: this
--- project's profile.
+-- The words of year styles, in a line and in a reply, which of them the rules have, and when the
+-- years of a style begin: this project's profile.
 use Rattle.std.specs.Prelude.{ℕ, Bool, if◌then◌else◌, List, [], ◌∷◌, codes}
 use Rattle.std.specs.Prelude.{Option, Some, None, option_and_then}
 use Rattle.std.specs.List.{list_any}
@@ -17,6 +17,15 @@ style_word Nativity = codes "nativity"
 style_word September = codes "september"
 style_word Pisan = codes "pisan"
 style_word Easter = codes "easter"
+
+-- when the years of a style begin
+unfoldable pub beginning_of_year : Style → List ℕ
+beginning_of_year January = codes "years from 1 January"
+beginning_of_year Annunciation = codes "years from 25 March"
+beginning_of_year Nativity = codes "years from 25 December"
+beginning_of_year September = codes "years from 1 September"
+beginning_of_year Pisan = codes "years from the 25 March before"
+beginning_of_year Easter = codes "years from Easter"
 
 -- the style that is written by a word, whatever the rules
 abbrev pub style_written : List ℕ → Option Style

@@ -37,6 +37,21 @@ impl Style {
             | Style::Pisan => false,
         }
     }
+
+    /// When its years begin, in English words.
+    #[tactic(auto, unfolding(crate::specs::StyleWords::beginning_of_year))]
+    pub fn beginning_of_year(self) -> &'static str
+        ensures { result.now ≡ words.beginning_of_year self }
+    {
+        match self {
+            Style::January => "years from 1 January",
+            Style::Annunciation => "years from 25 March",
+            Style::Nativity => "years from 25 December",
+            Style::September => "years from 1 September",
+            Style::Pisan => "years from the 25 March before",
+            Style::Easter => "years from Easter",
+        }
+    }
 }
 
 impl Keyword for Style {

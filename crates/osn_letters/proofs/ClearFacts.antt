@@ -24,12 +24,12 @@ is_clear s = is_between s
 
 pub record IsClear (r : Reading) : Type 0 where
   pub clear : is_clear r.state ≡ true → (r.fields ≡ []) × (r.field ≡ [])
-  pub between : is_between r.state ≡ true → (r.size ≡ 0) × (r.begun ≡ r.line)
+  pub between : is_between r.state ≡ true → (r.size ≡ 0) × (r.first_line ≡ r.line)
 
 pub clear_start : (named : Option Separator) → IsClear (at_start named)
 clear_start named = record { clear = λ _. (refl, refl); between = λ _. (refl, refl) }
 
--- what is between two records behind a byte has ended one, or was between two
+-- what is between two records after a byte has ended one, or was between two
 abbrev Clears : Bool → State × Action → Type 0
 Clears was s =
     is_clear s.0 ≡ true → (s.1 ≡ act.EndRecord) ⊎ ((s.1 ≡ act.Skip) × (was ≡ true))
@@ -119,7 +119,7 @@ IsClear-moved r b s h clears = record {
       (clears clear);
   between = λ between. (
     ap (λ t. if t then 0 else r.size + 1) between,
-    ap (λ t. if t then next_line r.returned r.line b else r.begun) between,
+    ap (λ t. if t then next_line r.returned r.line b else r.first_line) between,
   );
 }
 
@@ -129,7 +129,7 @@ IsClear-behind r (b ∷ bytes) h =
     IsClear-behind (after r b) bytes
     (IsClear-moved r b (read_byte r.separator r.state b) h (step_clears r.separator r.state b))
 
--- behind a carriage return a byte is read as at the beginning
+-- after a carriage return a byte is read as at the beginning
 return_step : (return feed : Bool) (s : State × Action)
     → (if feed then (st.StartRecord, act.Skip)
     else if return || feed then (st.StartRecord, act.Skip) else s)
@@ -180,7 +180,7 @@ between_clear st.AfterQuote h = h
 between_clear st.InEscape h = h
 between_clear st.InComment h = refl
 
--- ---- the records of bytes and of more behind them
+-- ---- the records of bytes and of more after them
 
 pick_behind : (full stray ends : Bool) (f g : LettersFault) (r : Reading) (x : PlacedRecord)
     (xs all ys : List PlacedRecord) → (AreSound xs → all ≡ xs ++ ys)
@@ -206,7 +206,7 @@ records_behind r [] ys between sound =
     sym (ap (λ l. l ++ records_from r ys) (between_last r between))
 records_behind r (b ∷ xs) ys between sound =
     let s = read_byte r.separator r.state b in
-    pick_behind (is_full r s.0) (is_stray r.state s.0) (is_end s.1) (TooLong r.begun)
-    (TextAfterQuote r.begun) r (ended r s.1) (records_from (after r b) xs)
+    pick_behind (is_full r s.0) (is_stray r.state s.0) (is_end s.1) (TooLong r.first_line)
+    (TextAfterQuote r.first_line) r (ended r s.1) (records_from (after r b) xs)
     (records_from (after r b) (xs ++ ys)) (records_from (reading_after (after r b) xs) ys)
     (λ k. records_behind (after r b) xs ys between k) sound

@@ -56,6 +56,6 @@ pub record_found : (r : Reading) (bytes : List ℕ)
 record_found r [] between sound some = absurd (some (between_last r between))
 record_found r (b ∷ bytes) between sound some =
     let s = read_byte r.separator r.state b in
-    found_by r b bytes s.0 s.1 (is_full r s.0) (is_stray r.state s.0) (TooLong r.begun)
-    (TextAfterQuote r.begun) (records_from (after r b) bytes)
+    found_by r b bytes s.0 s.1 (is_full r s.0) (is_stray r.state s.0) (TooLong r.first_line)
+    (TextAfterQuote r.first_line) (records_from (after r b) bytes)
     (record_found (after r b) bytes between) sound some

@@ -19,7 +19,7 @@ use Rattle.osn_letters.proofs.LaterFacts.{later_fields, later_record}
 abbrev pub with_text : List ℕ → Option LettersFault → Written
 with_text text fault = record { text = text; fault = fault }
 
--- the same, with a fault so many lines further on
+-- the same, with a fault as many lines further on
 abbrev pub later : ℕ → Written → Written
 later n w = with_text w.text (option_map (later_fault n) w.fault)
 
@@ -50,7 +50,7 @@ rows_later s heading n (r ∷ rest) =
     ap (row_by s heading (r.line + n) (later_fields n r.fields)) (rows_later s heading n rest)
     ∙ fields_later s heading n r.line r.fields (rows_written s heading rest)
 
--- a table goes on behind one that has no fault
+-- a table goes on after one that has no fault
 abbrev GoesOn : Written → Written → Written → Type 0
 GoesOn first more all = first.fault ≡ None → all ≡ behind first.text more
 
@@ -103,7 +103,7 @@ rows_sound s heading (r ∷ xs) whole =
     let h = fields_sound s heading r.line r.fields (rows_written s heading xs) whole in
     (h.0, rows_sound s heading xs h.1)
 
--- ---- a table without a fault has a header, behind which its rows go on
+-- ---- a table without a fault has a header, after which its rows go on
 
 pub record GoesBy (s : TableBasis) (written : List PlacedRecord → Written) (xs : List PlacedRecord)
     : Type 0 where

@@ -26,11 +26,11 @@ abbrev pub later_fields : ℕ → Result (List (List ℕ)) LettersFault
 later_fields n (Ok fields) = Ok fields
 later_fields n (Err fault) = Err (later_fault n fault)
 
--- the same record so many lines further on
+-- the same record as many lines further on
 abbrev pub later_record : ℕ → PlacedRecord → PlacedRecord
 later_record n r = placed (r.line + n) r.separator (later_fields n r.fields)
 
--- ---- one reading and another that stands so many lines further on
+-- ---- one reading and another that stands as many lines further on
 
 -- every byte is read alike, and the records at hand are the same
 pub record IsLater (n : ℕ) (r q : Reading) : Type 0 where
@@ -44,7 +44,7 @@ pub record IsLater (n : ℕ) (r q : Reading) : Type 0 where
   pub size : q.size ≡ r.size
   pub line : q.line ≡ r.line + n
   pub returned : q.returned ≡ r.returned
-  pub begun : q.begun ≡ r.begun + n
+  pub first_line : q.first_line ≡ r.first_line + n
 
 later_line : (n k m : ℕ) (t : Bool) → k ≡ m + n
     → (if t then k + 1 else k) ≡ (if t then m + 1 else m) + n
@@ -76,8 +76,8 @@ IsLater-moved n r q b s h =
       size = ap (λ k. if is_between s.0 then 0 else k + 1) h.size;
       line = line;
       returned = refl;
-      begun = later_begun n (next_line q.returned q.line b) (next_line r.returned r.line b) q.begun
-          r.begun (is_between s.0) line h.begun;
+      first_line = later_begun n (next_line q.returned q.line b) (next_line r.returned r.line b)
+          q.first_line r.first_line (is_between s.0) line h.first_line;
     }
 
 IsLater-after : (n : ℕ) (r q : Reading) (b : ℕ) → IsLater n r q
@@ -128,34 +128,37 @@ pick_later n false false false a b c d e f more x y z = refl
 -- the record at hand
 fault_later : (n : ℕ) (r q : Reading) (f : ℕ → LettersFault)
     → ((line : ℕ) → f (line + n) ≡ later_fault n (f line)) → IsLater n r q
-    → faulty q (f q.begun) ≡ later_record n (faulty r (f r.begun))
+    → faulty q (f q.first_line) ≡ later_record n (faulty r (f r.first_line))
 fault_later n r q f later h =
-    ap (λ k. placed k (or_comma q.separator) (Err (f k))) h.begun
-    ∙ ap (λ x. placed (r.begun + n) (or_comma x) (Err (f (r.begun + n)))) h.separator
-    ∙ ap (λ x. placed (r.begun + n) (or_comma r.separator) (Err x)) (later r.begun)
+    ap (λ k. placed k (or_comma q.separator) (Err (f k))) h.first_line
+    ∙ ap (λ x. placed (r.first_line + n) (or_comma x) (Err (f (r.first_line + n)))) h.separator
+    ∙ ap (λ x. placed (r.first_line + n) (or_comma r.separator) (Err x)) (later r.first_line)
 
 ended_later : (n : ℕ) (r q : Reading) (a : Action) → IsLater n r q
     → ended q a ≡ later_record n (ended r a)
 ended_later n r q a h =
-    ap (λ k. placed k (or_comma q.separator) (Ok (fields_after a q.fields q.field))) h.begun
-    ∙ ap (λ x. placed (r.begun + n) (or_comma x) (Ok (fields_after a q.fields q.field))) h.separator
-    ∙ ap (λ x. placed (r.begun + n) (or_comma r.separator) (Ok (fields_after a x q.field))) h.fields
-    ∙ ap (λ x. placed (r.begun + n) (or_comma r.separator) (Ok (fields_after a r.fields x))) h.field
+    ap (λ k. placed k (or_comma q.separator) (Ok (fields_after a q.fields q.field))) h.first_line
+    ∙ ap (λ x. placed (r.first_line + n) (or_comma x) (Ok (fields_after a q.fields q.field)))
+    h.separator
+    ∙ ap (λ x. placed (r.first_line + n) (or_comma r.separator) (Ok (fields_after a x q.field)))
+    h.fields
+    ∙ ap (λ x. placed (r.first_line + n) (or_comma r.separator) (Ok (fields_after a r.fields x)))
+    h.field
 
 by_later : (n : ℕ) (r q : Reading) (s : State × Action) (more : List PlacedRecord)
     → IsLater n r q
     → records_by q s (map (later_record n) more) ≡ map (later_record n) (records_by r s more)
 by_later n r q s more h =
     let next = map (later_record n) more in
-    let stray = faulty q (TextAfterQuote q.begun) ∷ [] in
+    let stray = faulty q (TextAfterQuote q.first_line) ∷ [] in
     let last : List PlacedRecord = if is_end s.1 then ended q s.1 ∷ next else next in
     ap (λ k. if (not (is_between s.0) && not (nat_lt k longest_record)) then
-    faulty q (TooLong q.begun) ∷ [] else if is_stray q.state s.0 then stray else last) h.size
-    ∙ (ap (λ t. if is_full r s.0 then faulty q (TooLong q.begun) ∷ [] else if t then stray
+    faulty q (TooLong q.first_line) ∷ [] else if is_stray q.state s.0 then stray else last) h.size
+    ∙ (ap (λ t. if is_full r s.0 then faulty q (TooLong q.first_line) ∷ [] else if t then stray
     else last) (h.strays s.0)
     ∙ pick_later n (is_full r s.0) (is_stray r.state s.0) (is_end s.1)
-    (faulty r (TooLong r.begun)) (faulty r (TextAfterQuote r.begun)) (ended r s.1)
-    (faulty q (TooLong q.begun)) (faulty q (TextAfterQuote q.begun)) (ended q s.1) more
+    (faulty r (TooLong r.first_line)) (faulty r (TextAfterQuote r.first_line)) (ended r s.1)
+    (faulty q (TooLong q.first_line)) (faulty q (TextAfterQuote q.first_line)) (ended q s.1) more
     (fault_later n r q TooLong (λ line. refl) h)
     (fault_later n r q TextAfterQuote (λ line. refl) h) (ended_later n r q s.1 h))
 
@@ -163,13 +166,13 @@ pub records_later : (n : ℕ) (r q : Reading) (bytes : List ℕ) → IsLater n r
     → records_from q bytes ≡ map (later_record n) (records_from r bytes)
 records_later n r q [] h =
     let last = ended q act.EndRecord in
-    ap (λ t. if t then faulty q (OpenQuote q.begun) ∷ []
+    ap (λ t. if t then faulty q (OpenQuote q.first_line) ∷ []
     else if ends_at_end q.state then last ∷ [] else []) h.opened
-    ∙ ap (λ t. if is_open r.state then faulty q (OpenQuote q.begun) ∷ []
+    ∙ ap (λ t. if is_open r.state then faulty q (OpenQuote q.first_line) ∷ []
     else if t then last ∷ [] else [])
     (between_ends q.state ∙ ap not h.between ∙ sym (between_ends r.state))
-    ∙ last_later n (is_open r.state) (ends_at_end r.state) (faulty r (OpenQuote r.begun))
-    (ended r act.EndRecord) (faulty q (OpenQuote q.begun)) last
+    ∙ last_later n (is_open r.state) (ends_at_end r.state) (faulty r (OpenQuote r.first_line))
+    (ended r act.EndRecord) (faulty q (OpenQuote q.first_line)) last
     (fault_later n r q OpenQuote (λ line. refl) h) (ended_later n r q act.EndRecord h)
 records_later n r q (b ∷ bytes) h =
     ap (λ s. records_by q s (records_from (after q b) bytes)) (h.steps b)

@@ -91,7 +91,8 @@ records_read : (final : Separator) (r : Reading) (bytes : List ℕ)
     → Reads (config_by final) r bytes (all_fields (records_from r bytes))
 unfolding next_record
 records_read final r [] is sound =
-    end_read (config_by final) r (OpenQuote r.begun) (is_open r.state) (ends_at_end r.state) sound
+    end_read (config_by final) r (OpenQuote r.first_line) (is_open r.state) (ends_at_end r.state)
+    sound
 records_read final r (b ∷ bytes) is sound =
     let c = config_by final in
     let s = read_byte r.separator r.state b in
@@ -100,8 +101,8 @@ records_read final r (b ∷ bytes) is sound =
     (λ x found. is ∙ ap or_comma (found_stays (after r b) bytes x found)) in
     subst (λ o. ReadsRows c o (all_fields (records_from r (b ∷ bytes))))
     (sym (next_behind c r b bytes ∙ ap (next_by c r b bytes) (sym same)))
-    (byte_read c r b bytes s.0 s.1 (is_full r s.0) (is_stray r.state s.0) (TooLong r.begun)
-    (TextAfterQuote r.begun) (records_from (after r b) bytes)
+    (byte_read c r b bytes s.0 s.1 (is_full r s.0) (is_stray r.state s.0) (TooLong r.first_line)
+    (TextAfterQuote r.first_line) (records_from (after r b) bytes)
     (records_read final (after r b) bytes is) sound)
 
 -- the law

@@ -123,7 +123,7 @@ record_refused s table q b line separator fault same takes refused more =
     let why = refuses.1 other in
     (why.0, ap (written_of s.table) (takes.0 rest) ∙ why.1 rest))
 
--- bytes behind bytes, behind the beginning
+-- bytes after bytes, after the beginning
 pub behind_then : (s t u : Letters) (xs ys : List ℕ) → TakesBehind s t xs → TakesBehind t u ys
     → TakesBehind s u (xs ++ ys)
 behind_then s t u xs ys x y more =
@@ -193,7 +193,7 @@ end_stops_held s t fault x =
     subst (λ bytes. Stops (waiting s.table.out) (waiting t.table.out) (text_behind s bytes) fault)
     (sym (unmarked_end s.start)) (x [])
 
--- bytes behind bytes
+-- bytes after bytes
 pub bytes_then : (s t u : Letters) (xs ys : List ℕ) → TakesBytes s t xs → TakesBytes t u ys
     → TakesBytes s u (xs ++ ys)
 bytes_then s t u xs ys x y more =
@@ -263,7 +263,7 @@ end_waits s t (Ok x) none takes stops =
 end_waits s t (Err fault) none takes stops =
     subst (λ a. Stops a (waiting t.table.out) (text_from s []) fault) none stops
 
--- where it is known what waits, there is a rest behind it
+-- where it is known what waits, there is a rest after it
 known_waits : {T : Type 0} (out : List ℕ) (r : Result T LettersFault) (w : Written)
     → is_known r ≡ true → Waits out r w → (rest : Written) × Wrote [] out w rest
 known_waits out (Ok x) w known waits = waits

@@ -93,7 +93,7 @@ header_part s header part h k = record {
   whole = sym (ap (λ w. w.fault) (h.goes part)) ∙ k.whole;
 }
 
--- one part, from a reading so many lines further on, and what is written after it
+-- one part, from a reading as many lines further on, and what is written after it
 part_goes : (s : TableBasis) (heading : Heading) (r q : Reading) (n : ℕ) (part more : List ℕ)
     → IsLater n r q → IsPart s heading r part
     → part_written s heading q (part ++ more)
@@ -146,7 +146,7 @@ seam_between x r q (b ∷ bytes) h k past ends =
     let on = seam_later x r q b h k past in
     (IsLater-behind on.more (after r b) (after q b) bytes on.later).between ∙ ends
 
--- what is written of bytes that stand so many lines further on in a whole
+-- what is written of bytes that stand as many lines further on in a whole
 record IsWrittenLater (s : TableBasis) (heading : Heading) (r q : Reading) (text : List ℕ)
     (all last : List ℕ) : Type 0 where
   more : ℕ

@@ -69,9 +69,9 @@ quiet_step : (t : TableBasis) (heading : Option Heading) (r : Reading) (b : ℕ)
 quiet_step t heading r b s inside going true false is clear more quiet =
     rw (inside, is, clear, going) (quiet refl (rw inside refl))
 quiet_step t heading r b s inside going true true is clear more quiet =
-    rw (inside, is, clear) (fault_quiet t heading r (TextAfterQuote r.begun))
+    rw (inside, is, clear) (fault_quiet t heading r (TextAfterQuote r.first_line))
 quiet_step t heading r b s inside going false stray is clear more quiet =
-    rw (inside, is) (fault_quiet t heading r (TooLong r.begun))
+    rw (inside, is) (fault_quiet t heading r (TooLong r.first_line))
 
 quiet : (t : TableBasis) (heading : Option Heading) (r : Reading) (bytes : List ℕ) → ArePlain bytes
     → 65536 - r.size < length bytes → (written_from t heading (records_from r bytes)).text ≡ []
@@ -100,7 +100,7 @@ unfolding run
 run_long zero = refl
 run_long (suc n) = rw (run_long n) refl
 
--- behind what is held back as well
+-- after what is held back as well
 held_quiet : (s : Letters) (bytes : List ℕ) → ArePlain bytes → 65536 < length bytes
     → (start : Start) → (text_behind s (held start ++ bytes)).text ≡ []
 held_quiet s bytes plain long Nothing =

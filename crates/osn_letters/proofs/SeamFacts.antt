@@ -129,8 +129,8 @@ pub first_records : (r : Reading) (b : ℕ) (bytes : List ℕ) → IsClear r
     → records_from r (b ∷ bytes) ≡ records_from (after r b) bytes
 first_records r b bytes clear between =
     let s = read_byte r.separator r.state b in
-    pick_none (is_full r s.0) (is_stray r.state s.0) (is_end s.1) (faulty r (TooLong r.begun))
-    (faulty r (TextAfterQuote r.begun)) (ended r s.1) (records_from (after r b) bytes)
+    pick_none (is_full r s.0) (is_stray r.state s.0) (is_end s.1) (faulty r (TooLong r.first_line))
+    (faulty r (TextAfterQuote r.first_line)) (ended r s.1) (records_from (after r b) bytes)
     (ap (λ k. not (is_between s.0) && not (nat_lt k longest_record)) (clear.between between).0
     ∙ and_false (not (is_between s.0)))
     (between_stray r.state between s.0)
@@ -156,7 +156,7 @@ pub record Stands (x : Separator) (r : Reading) : Type 0 where
   pub between : is_between r.state ≡ true
   pub found : r.separator ≡ Some x
 
--- from the first byte on one is so many lines further on
+-- from the first byte on one is as many lines further on
 first_later : (x : Separator) (r q : Reading) (b n : ℕ) → Stands x r → Stands x q
     → (after q b).line ≡ (after r b).line + n → IsLater n (after r b) (after q b)
 first_later x r q b n h k line =
@@ -189,7 +189,8 @@ first_later x r q b n h k line =
       size = ap (λ y. if is_between s.0 then 0 else y + 1) (there.0 ∙ sym here.0);
       line = line;
       returned = refl;
-      begun = begun_later n q.line r.line q.begun r.begun (is_between s.0) (b == 13) (b == 10)
+      first_line = begun_later n q.line r.line q.first_line r.first_line (is_between s.0)
+          (b == 13) (b == 10)
           q.returned r.returned lines line there.1 here.1;
     })
 

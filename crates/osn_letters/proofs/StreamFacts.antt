@@ -15,7 +15,7 @@ use Rattle.osn_letters.specs.Table.{Written, EndsEarly, IsWhole, IsLong}
 use Rattle.osn_letters.specs.Faults.{is_of_table, is_read_fault, EndsStream}
 use Rattle.osn_letters.proofs.LetterFacts.{passes_then, passes_early, passes_whole, passes_ends}
 
--- a part of what is written of the input stands written: of what was read, whatever comes behind it
+-- a part of what is written of the input stands written: of what was read, whatever comes after it
 abbrev pub PassesRead : (List ℕ → Written) → (List ℕ → Written) → Option (List ℕ)
     → Option (List ℕ) → List ℕ → Type 0
 PassesRead all rest c d read = (more : List ℕ) → Passes c d (all (read ++ more)) (rest more)

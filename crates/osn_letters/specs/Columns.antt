@@ -1,8 +1,8 @@
 -- Where the columns that are read stand in a header: this project's profile.
-use Rattle.std.specs.Prelude.{ℕ, ◌+◌, Bool, true, false, ◌&&◌, if◌then◌else◌, List, [], ◌∷◌}
-use Rattle.std.specs.Prelude.{◌++◌, Option, Some, None, option_map, is_none, is_some, Result, Ok}
-use Rattle.std.specs.Prelude.{Err, codes}
-use Rattle.std.specs.List.{find, flat_map}
+use Rattle.std.specs.Prelude.{ℕ, Bool, true, false, ◌&&◌, if◌then◌else◌, List, [], ◌∷◌}
+use Rattle.std.specs.Prelude.{◌++◌, length, get_or, Option, Some, None, is_none, is_some, Result}
+use Rattle.std.specs.Prelude.{Ok, Err, codes}
+use Rattle.std.specs.List.{find, flat_map, range_with_len}
 use Rattle.std.specs.Str.{bytes_eq}
 use Rattle.std.specs.Str.Lossy.{utf8_lossy}
 use Rattle.osn_letters.specs.declared.added_column.AddedColumn.{AddedColumn}
@@ -17,9 +17,9 @@ use Rattle.osn_letters.specs.declared.fault.LettersFault.TheVariants.{LacksColum
 use Rattle.osn_letters.specs.AddedColumns.{added_columns, added_name}
 
 -- the name of the column of the weekdays, and whether it has to be there
-abbrev pub weekday_text : WeekdayName → List ℕ
-weekday_text (Required name) = name.now
-weekday_text (Optional name) = name.now
+abbrev pub weekday_name : WeekdayName → List ℕ
+weekday_name (Required name) = name.now
+weekday_name (Optional name) = name.now
 
 abbrev pub is_required : WeekdayName → Bool
 is_required (Required name) = true
@@ -36,15 +36,17 @@ abbrev pub names_of : ColumnNames → NameTexts
 names_of n = record {
   place = n.place.now;
   date = n.date.now;
-  weekday = weekday_text n.weekday;
+  weekday = weekday_name n.weekday;
   needs_weekday = is_required n.weekday;
 }
 
+-- the field of the index is the name
+abbrev pub is_at : List ℕ → List (List ℕ) → ℕ → Bool
+is_at name fields index = bytes_eq (get_or fields index []) name
+
 -- where the first field stands that is the name
-abbrev pub place_of : List ℕ → List (List ℕ) → Option ℕ
-place_of name [] = None
-place_of name (field ∷ fields) =
-    if bytes_eq field name then Some 0 else option_map (λ n. n + 1) (place_of name fields)
+abbrev pub index_of : List ℕ → List (List ℕ) → Option ℕ
+index_of name fields = find (is_at name fields) (range_with_len 0 (length fields))
 
 -- the names of a header, with a comma and a space between two
 abbrev pub after_comma : List ℕ → List ℕ
@@ -70,7 +72,7 @@ columns_at missing needs_weekday (Some place) (Some date) weekday =
 
 -- a header has a column of that name
 abbrev pub has_column : List (List ℕ) → AddedColumn → Bool
-has_column header column = is_some (place_of (added_name column) header)
+has_column header column = is_some (index_of (added_name column) header)
 
 -- the columns, unless the header on that line has one of those that are added
 abbrev pub columns_without : ℕ → Option AddedColumn → Result Columns LettersFault
@@ -82,5 +84,5 @@ columns_without line (Some column) columns = Err (HasColumn line column)
 abbrev pub columns_of : NameTexts → ℕ → List (List ℕ) → Result Columns LettersFault
 columns_of names line header =
     columns_without line (find (has_column header) added_columns)
-    (columns_at (lacks line header) names.needs_weekday (place_of names.place header)
-    (place_of names.date header) (place_of names.weekday header))
+    (columns_at (lacks line header) names.needs_weekday (index_of names.place header)
+    (index_of names.date header) (index_of names.weekday header))

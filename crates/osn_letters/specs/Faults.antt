@@ -39,7 +39,7 @@ abbrev pub EndsStream : Bool → Bool → Bool → Type 0 → Type 0
 EndsStream true old new Long = (new ≡ true) ⊎ Long
 EndsStream false old new Long = new ≡ old
 
--- the same fault so many lines further on
+-- the same fault as many lines further on
 abbrev pub later_fault : ℕ → LettersFault → LettersFault
 later_fault n (BadRecord line) = BadRecord (line + n)
 later_fault n (TooLong line) = TooLong (line + n)

@@ -127,7 +127,7 @@ remark_text remarks = join_by remark_words (codes "; ") (those_that_apply remark
 abbrev pub is_weekday_given : WrittenDate → Option Weekday → Bool
 is_weekday_given w given = is_some w.weekday || is_some given
 
--- a weekday is given, and so many of the days have it
+-- a weekday is given, and that many of the days have it
 abbrev pub are_on_weekday : ℕ → WrittenDate → Option Weekday → List DatedDay → Bool
 are_on_weekday count w given days =
     is_weekday_given w given && count_by (has_weekday w given) days == count

@@ -19,7 +19,7 @@ pub record IsReady (s : Letters) : Type 0 where
   pub partial : partial_of s.parser.fields ≡ []
   pub between : IsBetweenRows s.table.out
 
--- what is written of further bytes behind the beginning, up to the end of the text
+-- what is written of further bytes after the beginning, up to the end of the text
 abbrev pub text_behind : Letters → List ℕ → Written
 text_behind s bytes = written_of s.table (records_from (reading_of s.parser) bytes)
 
@@ -40,7 +40,7 @@ TakesBytes old new bytes = (more : List ℕ) →
     Wrote (waiting old.table.out) (waiting new.table.out)
     (text_from old (bytes ++ more)) (text_from new more)
 
--- the same of bytes behind the beginning
+-- the same of bytes after the beginning
 abbrev pub TakesBehind : Letters → Letters → List ℕ → Type 0
 TakesBehind old new bytes = (more : List ℕ) →
     Wrote (waiting old.table.out) (waiting new.table.out)
@@ -57,7 +57,7 @@ abbrev pub StopsAt : Letters → Letters → List ℕ → LettersFault → Type 
 StopsAt old new bytes fault = (more : List ℕ) →
     Stops (waiting old.table.out) (waiting new.table.out) (text_from old (bytes ++ more)) fault
 
--- the same of bytes behind the beginning
+-- the same of bytes after the beginning
 abbrev pub StopsBehind : Letters → Letters → List ℕ → LettersFault → Type 0
 StopsBehind old new bytes fault = (more : List ℕ) →
     Stops (waiting old.table.out) (waiting new.table.out) (text_behind old (bytes ++ more)) fault

@@ -1,5 +1,5 @@
--- A table may be cut between its records and written in parts, each behind the same header: one
--- part behind another is then the whole.
+-- A table may be cut between its records and written in parts, each after the same header: one
+-- part after another is then the whole.
 use Rattle.std.specs.Prelude.{◌≡◌, ◌+◌, ℕ, true, false, List, ◌++◌, None, option_map, length, drop}
 use Rattle.std.specs.List.{All, concat, flat_map}
 use Rattle.csv.specs.Reading.{strip_bom}
@@ -17,7 +17,7 @@ pub record IsWholeTable (s : TableBasis) (text : List ℕ) : Type 0 where
   pub ends : EndsBetweenRecords s text
   pub whole : (letters_written s text).fault ≡ None
 
--- what is written of a part behind the header, without what is written of the header
+-- what is written of a part after the header, without what is written of the header
 abbrev pub rows_text : TableBasis → List ℕ → List ℕ → List ℕ
 rows_text s header part =
     drop (length (letters_written s header).text) (letters_written s (header ++ part)).text

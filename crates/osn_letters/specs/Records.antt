@@ -38,7 +38,7 @@ pub record Reading : Type 0 where
   pub size : ℕ
   pub line : ℕ
   pub returned : Bool
-  pub begun : ℕ
+  pub first_line : ℕ
 
 -- at the beginning of a text, with the separator that was named, if any
 abbrev pub at_start : Option Separator → Reading
@@ -50,7 +50,7 @@ at_start named = record {
   size = 0;
   line = 1;
   returned = false;
-  begun = 1;
+  first_line = 1;
 }
 
 -- how a byte is read
@@ -76,7 +76,7 @@ ends_line returned b = (b == carriage_return) || ((b == line_feed) && not return
 abbrev pub next_line : Bool → ℕ → ℕ → ℕ
 next_line returned line b = if ends_line returned b then line + 1 else line
 
--- the same reading behind a byte, by how it is read
+-- the same reading after a byte, by how it is read
 abbrev pub moved : Reading → ℕ → State × Action → Reading
 moved r b s = record {
   state = s.0;
@@ -86,7 +86,7 @@ moved r b s = record {
   size = if is_between s.0 then 0 else r.size + 1;
   line = next_line r.returned r.line b;
   returned = b == carriage_return;
-  begun = if is_between s.0 then next_line r.returned r.line b else r.begun;
+  first_line = if is_between s.0 then next_line r.returned r.line b else r.first_line;
 }
 
 abbrev pub after : Reading → ℕ → Reading
@@ -113,7 +113,7 @@ is_open other = false
 -- the record at hand, ended
 abbrev pub ended : Reading → Action → PlacedRecord
 ended r a = record {
-  line = r.begun;
+  line = r.first_line;
   separator = or_comma r.separator;
   fields = Ok (fields_after a r.fields r.field);
 }
@@ -121,7 +121,7 @@ ended r a = record {
 -- the record at hand, which has a fault
 abbrev pub faulty : Reading → LettersFault → PlacedRecord
 faulty r fault = record {
-  line = r.begun;
+  line = r.first_line;
   separator = or_comma r.separator;
   fields = Err fault;
 }
@@ -130,19 +130,19 @@ faulty r fault = record {
 -- record that has a fault
 abbrev pub records_by : Reading → State × Action → List PlacedRecord → List PlacedRecord
 records_by r s more =
-    if is_full r s.0 then faulty r (TooLong r.begun) ∷ []
-    else if is_stray r.state s.0 then faulty r (TextAfterQuote r.begun) ∷ []
+    if is_full r s.0 then faulty r (TooLong r.first_line) ∷ []
+    else if is_stray r.state s.0 then faulty r (TextAfterQuote r.first_line) ∷ []
     else if is_end s.1 then ended r s.1 ∷ more
     else more
 
 -- the record that the end of the text ends, if any
 abbrev pub last_record : Reading → List PlacedRecord
 last_record r =
-    if is_open r.state then faulty r (OpenQuote r.begun) ∷ []
+    if is_open r.state then faulty r (OpenQuote r.first_line) ∷ []
     else if ends_at_end r.state then ended r act.EndRecord ∷ []
     else []
 
--- the records that end in these bytes, and in the end of the text behind them
+-- the records that end in these bytes, and in the end of the text after them
 abbrev pub records_from : Reading → List ℕ → List PlacedRecord
 records_from r [] = last_record r
 records_from r (b ∷ bytes) =

@@ -5,10 +5,10 @@ use Rattle.csv.specs.declared.parser.State.TheVariants as st
 use Rattle.csv.specs.declared.parser.Action.{Action}
 use Rattle.csv.specs.declared.parser.Action.TheVariants as act
 use Rattle.csv.specs.Records.{fields_of}
-use Rattle.osn_letters.specs.declared.place.Place.{Place}
-use Rattle.osn_letters.specs.declared.place.Place.TheVariants as place
-use Rattle.osn_letters.specs.declared.place.Effect.{Effect}
-use Rattle.osn_letters.specs.declared.place.Effect.TheVariants as effect
+use Rattle.osn_letters.specs.declared.parser_state.ParserState.{ParserState}
+use Rattle.osn_letters.specs.declared.parser_state.ParserState.TheVariants as states
+use Rattle.osn_letters.specs.declared.parser_state.Effect.{Effect}
+use Rattle.osn_letters.specs.declared.parser_state.Effect.TheVariants as effect
 use Rattle.osn_letters.specs.declared.parser.RecordParser.{RecordParser}
 use Rattle.osn_letters.specs.declared.fault.LettersFault.{LettersFault}
 use Rattle.osn_letters.specs.declared.fault.LettersFault.TheVariants.{NoMemory}
@@ -18,13 +18,13 @@ use Rattle.osn_letters.specs.Records.{last_record}
 use Rattle.osn_letters.specs.Separators.{or_comma}
 
 -- the kit's state and action
-abbrev pub state_of : Place → State
-state_of place.StartRecord = st.StartRecord
-state_of place.StartField = st.StartField
-state_of place.InField = st.InField
-state_of place.InQuoted = st.InQuoted
-state_of place.AfterQuote = st.AfterQuote
-state_of place.AfterReturn = st.AfterCr
+abbrev pub state_of : ParserState → State
+state_of states.StartRecord = st.StartRecord
+state_of states.StartField = st.StartField
+state_of states.InField = st.InField
+state_of states.InQuoted = st.InQuoted
+state_of states.AfterQuote = st.AfterQuote
+state_of states.AfterReturn = st.AfterCr
 
 abbrev pub action_of : Effect → Action
 action_of effect.Skip = act.Skip
@@ -35,14 +35,14 @@ action_of effect.EndRecord = act.EndRecord
 -- where the reading of a parser stands
 abbrev pub reading_of : RecordParser → Reading
 reading_of p = record {
-  state = state_of p.place;
+  state = state_of p.state;
   separator = p.separator;
   fields = fields_of p.fields;
   field = p.field.items;
   size = p.size;
   line = p.line;
   returned = p.returned;
-  begun = p.begun;
+  first_line = p.first_line;
 }
 
 -- the same, once the record that ended is taken
@@ -64,7 +64,7 @@ records_given p (Some line) = record_in p line ∷ []
 
 -- how a parser reads a byte
 abbrev pub read_by : RecordParser → ℕ → State × Action
-read_by p b = read_byte p.separator (state_of p.place) b
+read_by p b = read_byte p.separator (state_of p.state) b
 
 -- a byte was taken, and ended no record, or one that begins on the line
 abbrev pub Takes : RecordParser → RecordParser → ℕ → Option ℕ → Type 0

@@ -18,7 +18,7 @@ unmarked OneByte bytes = strip_bom (0xEF ∷ bytes)
 unmarked TwoBytes bytes = strip_bom (0xEF ∷ 0xBB ∷ bytes)
 unmarked Past bytes = bytes
 
--- behind the next byte of a mark
+-- after the next byte of a mark
 abbrev pub next_start : Start → ℕ → Option Start
 next_start Nothing b = if b == 0xEF then Some OneByte else None
 next_start OneByte b = if b == 0xBB then Some TwoBytes else None

@@ -1,4 +1,4 @@
--- The table that is written: the header and each record that came, with nine fields behind it. This
+-- The table that is written: the header and each record that came, with nine fields after it. This
 -- project's profile.
 use Rattle.std.specs.Prelude.{◌≡◌, ◌≤◌, ℕ, true, ◌==◌, List, [], ◌∷◌, ◌++◌, length, get_or}
 use Rattle.std.specs.Prelude.{if◌then◌else◌}
@@ -78,7 +78,7 @@ unfoldable pub letter_text : TableBasis → Separator → Columns → List (List
 letter_text s separator columns record_fields =
     row_text (writer_by separator) (record_fields ++ fields_behind s columns record_fields)
 
--- what is written of a record that is no header, and then what is written of those behind it
+-- what is written of a record that is no header, and then what is written of those after it
 abbrev pub row_by : TableBasis → Heading → ℕ → Result (List (List ℕ)) LettersFault → Written
     → Written
 row_by s heading line (Err fault) more = ended_by fault
@@ -87,12 +87,12 @@ row_by s heading line (Ok record_fields) more =
     behind (letter_text s heading.separator heading.columns record_fields) more
     else ended_by (BadRecord line)
 
--- what is written of the records behind the header
+-- what is written of the records after the header
 abbrev pub rows_written : TableBasis → Heading → List PlacedRecord → Written
 rows_written s heading [] = whole
 rows_written s heading (r ∷ rest) = row_by s heading r.line r.fields (rows_written s heading rest)
 
--- what is written of a header whose columns stand there, and of the records behind it
+-- what is written of a header whose columns stand there, and of the records after it
 abbrev pub header_at : TableBasis → Result Columns LettersFault → Separator → List (List ℕ)
     → List PlacedRecord → Written
 header_at s (Err fault) separator header rest = ended_by fault
@@ -101,7 +101,7 @@ header_at s (Ok columns) separator header rest =
     (rows_written s (record { columns = columns; width = length header; separator = separator })
     rest)
 
--- what is written of the first record, which is the header, and of those behind it
+-- what is written of the first record, which is the header, and of those after it
 abbrev pub header_by : TableBasis → ℕ → Separator → Result (List (List ℕ)) LettersFault
     → List PlacedRecord → Written
 header_by s line separator (Err fault) rest = ended_by fault
@@ -117,7 +117,7 @@ table_written s (r ∷ rest) = header_by s r.line r.separator r.fields rest
 abbrev pub letters_written : TableBasis → List ℕ → Written
 letters_written s text = table_written s (records_of s.separator text)
 
--- what is written of further records, before the header or behind it
+-- what is written of further records, before the header or after it
 abbrev pub written_from : TableBasis → Option Heading → List PlacedRecord → Written
 written_from s None records = table_written s records
 written_from s (Some heading) records = rows_written s heading records
@@ -135,7 +135,7 @@ pub record EndsEarly (old new : Option (List ℕ)) (written : Written) (fault : 
   pub begins : written ≡ behind text rest
   pub ended : is_of_table fault ≡ true → rest ≡ ended_by fault
 
--- of what was read, with some bytes behind it, all was written
+-- of what was read, with some bytes after it, all was written
 pub record EndsRead (input left old new : Option (List ℕ)) (all : List ℕ → Written) : Type 0 where
   pub read : List ℕ
   pub more : List ℕ

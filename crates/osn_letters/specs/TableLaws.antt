@@ -5,5 +5,5 @@ use Rattle.osn_letters.specs.Parts.{MayEachTableBeCut}
 pub record AreTableLaws : Type 0 where
   -- its records are those that the kit reads, where none has a fault
   pub kit : AreKitRecords
-  -- it may be cut between its records and written in parts, each behind the header
+  -- it may be cut between its records and written in parts, each after the header
   pub cut : MayEachTableBeCut

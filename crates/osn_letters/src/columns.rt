@@ -38,32 +38,34 @@ pub struct Columns {
     pub weekday: Option<usize>,
 }
 
-/// The field at a place. One that the record lacks is empty.
-pub(crate) fn field_at(row: &ByteRecord, place: usize) -> &[u8]
-    ensures { result.now ≡ get_or (fields_of row.now) place [] }
+/// The field of an index. One that the record lacks is empty.
+pub(crate) fn field_at(row: &ByteRecord, index: usize) -> &[u8]
+    ensures { result.now ≡ get_or (fields_of row.now) index [] }
 {
-    match row.get(place) {
+    match row.get(index) {
         Some(field) => field,
         None => &[],
     }
 }
 
-/// Where the first field stands that is the name.
-fn place_of(header: &ByteRecord, name: &str) -> Option<usize>
-    ensures { result ≡ spec.place_of name.now (fields_of header.now) }
+/// Whether the field of the index is the name.
+fn is_at(header: &ByteRecord, name: &str, index: usize) -> bool
+    ensures { result ≡ spec.is_at name.now (fields_of header.now) index }
 {
-    for place in 0..header.len() {
-        if field_at(header, place) == name.as_bytes() {
-            return Some(place);
-        }
-    }
-    None
+    field_at(header, index) == name.as_bytes()
+}
+
+/// Where the first field stands that is the name.
+fn index_of(header: &ByteRecord, name: &str) -> Option<usize>
+    ensures { result ≡ spec.index_of name.now (fields_of header.now) }
+{
+    (0..header.len()).find(|index| is_at(header, name, *index))
 }
 
 impl<'a> WeekdayName<'a> {
     /// The name.
-    fn text(self) -> &'a str
-        ensures { result.now ≡ spec.weekday_text self.entry }
+    fn name(self) -> &'a str
+        ensures { result.now ≡ spec.weekday_name self.entry }
     {
         match self {
             WeekdayName::Required(name) | WeekdayName::Optional(name) => name,
@@ -84,14 +86,14 @@ fn names_text(alloc: Global, header: &ByteRecord) -> Result<Vec<u8>, AllocError>
 {
     let mut names = Vec::new(alloc);
     names.extend_from_slice(field_at(header, 0))?;
-    for place in 1..header.len() {
+    for index in 1..header.len() {
         names.extend_from_slice(b", ")?;
-        names.extend_from_slice(field_at(header, place))?;
+        names.extend_from_slice(field_at(header, index))?;
     }
     Ok(names)
 }
 
-/// The same as a text. Bytes that are none of UTF-8 are replaced.
+/// The same as a text. Bytes that aren't UTF-8 are replaced.
 fn names_found(alloc: Global, header: &ByteRecord) -> Result<Text, AllocError>
     ensures { IfOk result (λ found. found ≡ utf8_lossy (spec.names_text (fields_of header.now))) }
 {
@@ -99,31 +101,37 @@ fn names_found(alloc: Global, header: &ByteRecord) -> Result<Text, AllocError>
     Ok(Text::new(String::from_utf8_lossy(alloc, &names)?))
 }
 
-/// The fault of a header that lacks a column, or want of memory.
-fn lacks(alloc: Global, header: &ByteRecord, line: u64, column: Column) -> LettersFault
-    ensures fault { (result ≢ NoMemory) → result ≡ spec.lacks line (fields_of header.now) column }
-    ensures inner { is_of_stream result ≡ false }
+/// The fault of a header that lacks a column.
+fn lacks(
+    alloc: Global,
+    header: &ByteRecord,
+    line: u64,
+    column: Column,
+) -> Result<LettersFault, AllocError>
+    ensures { IfOk result (λ fault. fault ≡ spec.lacks line (fields_of header.now) column) }
 {
-    match names_found(alloc, header) {
-        Ok(found) => LettersFault::LacksColumn {
-            column,
-            line,
-            found,
-        },
-        Err(_) => LettersFault::NoMemory,
-    }
+    Ok(LettersFault::LacksColumn {
+        column,
+        line,
+        found: names_found(alloc, header)?,
+    })
+}
+
+/// Whether a header has the column.
+fn has_column(header: &ByteRecord, column: AddedColumn) -> bool
+    ensures { result ≡ spec.has_column (fields_of header.now) column }
+{
+    index_of(header, column.name()).is_some()
 }
 
 /// The first of these columns that a header has.
 fn column_had(header: &ByteRecord, columns: &[AddedColumn]) -> Option<AddedColumn>
     ensures { result ≡ find (spec.has_column (fields_of header.now)) columns.now }
 {
-    for column in columns {
-        if place_of(header, column.name()).is_some() {
-            return Some(*column);
-        }
-    }
-    None
+    columns
+        .iter()
+        .copied()
+        .find(|column| has_column(header, *column))
 }
 
 /// Where the columns of these names stand in a header, which begins on the line. The first column
@@ -150,15 +158,15 @@ pub fn find_columns(
     if let Some(column) = column_had(header, &ADDED_COLUMNS) {
         return Err(LettersFault::HasColumn { line, column });
     }
-    let Some(place) = place_of(header, names.place) else {
-        return Err(lacks(alloc, header, line, Column::Place));
+    let Some(place) = index_of(header, names.place) else {
+        return Err(lacks(alloc, header, line, Column::Place)?);
     };
-    let Some(date) = place_of(header, names.date) else {
-        return Err(lacks(alloc, header, line, Column::Date));
+    let Some(date) = index_of(header, names.date) else {
+        return Err(lacks(alloc, header, line, Column::Date)?);
     };
-    let weekday = place_of(header, names.weekday.text());
+    let weekday = index_of(header, names.weekday.name());
     if names.weekday.is_required() && weekday.is_none() {
-        return Err(lacks(alloc, header, line, Column::Weekday));
+        return Err(lacks(alloc, header, line, Column::Weekday)?);
     }
     Ok(Columns {
         place,

@@ -90,8 +90,8 @@ pub(crate) fn push_fields(row: &mut ByteRecord, fields: &ByteRecord) -> Result<(
         (fields_of row.new ≡ fields_of row.old ++ fields_of fields.now) }
     ensures partial { OnOk result (partial_of row.new ≡ []) }
 {
-    for place in 0..fields.len() {
-        row.push_field(field_at(fields, place))?;
+    for index in 0..fields.len() {
+        row.push_field(field_at(fields, index))?;
     }
     Ok(())
 }

@@ -1,9 +1,11 @@
 //! How a table of letters ends early.
 ghost use Rattle.std.specs.Prelude.{◌≡◌};
 ghost use Rattle.osn_letters.specs.Faults as spec;
+ghost use Rattle.osn_letters.specs.declared.fault.LettersFault.TheVariants as faults;
 
 use crate::added_column::AddedColumn;
 use osn_register::Text;
+use std::alloc::AllocError;
 
 /// A column that a table of letters has to have.
 #[derive(Clone, Copy, Debug, PartialEq, Eq)]
@@ -77,5 +79,13 @@ impl LettersFault {
             | LettersFault::TextAfterQuote { .. } => true,
             LettersFault::ReadFault | LettersFault::WriteFault | LettersFault::NoMemory => false,
         }
+    }
+}
+
+impl From<AllocError> for LettersFault {
+    ghost from_gives = { λ _ fault. fault ≡ faults.NoMemory };
+
+    fn from(_refused: AllocError) -> LettersFault {
+        LettersFault::NoMemory
     }
 }

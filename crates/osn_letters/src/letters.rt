@@ -58,7 +58,7 @@ impl<'a> Letters<'a> {
 }
 
 impl Letters<'_> {
-    /// Takes the next byte behind the beginning of the text.
+    /// Takes the next byte after the beginning of the text.
     fn take_behind(&mut self, byte: u8) -> Result<(), LettersFault>
         requires ready { inside.IsReady self.old }
         requires line { self.old.parser.line + 1 < 2 ^ 64 }

@@ -1,7 +1,7 @@
 //! Letters: a table in CSV, each row of which is told which days its date means in its place. What
 //! the crate promises to those above: `write_letters` writes the table of the definition and
 //! nothing else, in whatever pieces the bytes come, and says where it ended early and why; the
-//! fields behind a row are those of `letter_fields`, by which days its date means in the territory.
+//! fields after a row are those of `letter_fields`, by which days its date means in the territory.
 #![tactic(auto)]
 
 mod added_column;
@@ -12,7 +12,7 @@ mod fault;
 mod letter;
 mod letters;
 mod parser;
-mod place;
+mod parser_state;
 mod progress;
 mod remark;
 mod separator;

@@ -9,7 +9,7 @@ ghost use Rattle.osn_letters.specs.RecordsInside.{state_of, action_of, reading_o
 ghost use Rattle.osn_letters.specs.Separators as separators;
 
 use crate::fault::LettersFault;
-use crate::place::{Effect, Place, Step};
+use crate::parser_state::{Effect, ParserState, Step};
 use crate::separator::{Separator, or_comma, separator_after};
 use csv::ByteRecord;
 use std::alloc::{AllocError, Global};
@@ -20,14 +20,14 @@ const LONGEST_RECORD: usize = 65_536;
 /// Where the reading of a text stands, and what has come of the record at hand.
 #[derive(Drop)]
 pub(crate) struct RecordParser {
-    pub(crate) place: Place,
+    pub(crate) state: ParserState,
     pub(crate) separator: Option<Separator>,
     pub(crate) fields: ByteRecord,
     pub(crate) field: Vec<u8>,
     pub(crate) size: usize,
     pub(crate) line: u64,
     pub(crate) returned: bool,
-    pub(crate) begun: u64,
+    pub(crate) first_line: u64,
 }
 
 impl RecordParser {
@@ -37,14 +37,14 @@ impl RecordParser {
         ensures partial { partial_of result.fields ≡ [] }
     {
         RecordParser {
-            place: Place::StartRecord,
+            state: ParserState::StartRecord,
             separator: named,
             fields: ByteRecord::new(alloc),
             field: Vec::new(alloc),
             size: 0,
             line: 1,
             returned: false,
-            begun: 1,
+            first_line: 1,
         }
     }
 
@@ -55,12 +55,12 @@ impl RecordParser {
             (fields_of self.new.fields ≡ fields_of self.old.fields ++ self.old.field.items ∷ []) }
         ensures partial { OnOk result (partial_of self.new.fields ≡ []) }
         ensures field { OnOk result (self.new.field.items ≡ []) }
-        ensures place { self.new.place ≡ self.old.place }
+        ensures state { self.new.state ≡ self.old.state }
         ensures separator { self.new.separator ≡ self.old.separator }
         ensures size { self.new.size ≡ self.old.size }
         ensures line { self.new.line ≡ self.old.line }
         ensures returned { self.new.returned ≡ self.old.returned }
-        ensures begun { self.new.begun ≡ self.old.begun }
+        ensures first_line { self.new.first_line ≡ self.old.first_line }
     {
         self.fields.push_field(&self.field)?;
         self.field.clear();
@@ -75,12 +75,12 @@ impl RecordParser {
         ensures partial { OnOk result (partial_of self.new.fields ≡ []) }
         ensures field { OnOk result (self.new.field.items
             ≡ field_after (action_of effect) byte self.old.field.items) }
-        ensures place { self.new.place ≡ self.old.place }
+        ensures state { self.new.state ≡ self.old.state }
         ensures separator { self.new.separator ≡ self.old.separator }
         ensures size { self.new.size ≡ self.old.size }
         ensures line { self.new.line ≡ self.old.line }
         ensures returned { self.new.returned ≡ self.old.returned }
-        ensures begun { self.new.begun ≡ self.old.begun }
+        ensures first_line { self.new.first_line ≡ self.old.first_line }
     {
         match effect {
             Effect::Skip => Ok(()),
@@ -89,12 +89,11 @@ impl RecordParser {
         }
     }
 
-    /// Whether the record at hand has no room for a byte, behind which the reading stands at a
-    /// place.
-    fn is_full(&self, place: Place) -> bool
-        ensures { result ≡ spec.is_full (reading_of self.now) (state_of place) }
+    /// Whether the record at hand has no room for a byte that leads to a state.
+    fn is_full(&self, state: ParserState) -> bool
+        ensures { result ≡ spec.is_full (reading_of self.now) (state_of state) }
     {
-        !place.is_between() && self.size >= LONGEST_RECORD
+        !state.is_between() && self.size >= LONGEST_RECORD
     }
 
     /// Whether a byte ends a line.
@@ -104,24 +103,24 @@ impl RecordParser {
         byte == b'\r' || (byte == b'\n' && !self.returned)
     }
 
-    /// Whether a byte is a text after a closing quote, where it leads to a place.
-    fn is_stray(&self, place: Place) -> bool
-        ensures { result ≡ spec.is_stray (state_of self.now.place) (state_of place) }
+    /// Whether a byte is a text after a closing quote, where it leads to that state.
+    fn is_stray(&self, state: ParserState) -> bool
+        ensures { result ≡ spec.is_stray (state_of self.now.state) (state_of state) }
     {
-        self.place == Place::AfterQuote && place == Place::InField
+        self.state == ParserState::AfterQuote && state == ParserState::InField
     }
 
-    /// Counts a byte behind which the reading stands at a place.
-    fn advance(&mut self, place: Place, byte: u8)
+    /// Counts a byte that leads to a state.
+    fn advance(&mut self, state: ParserState, byte: u8)
         requires line { self.old.line + 1 < 2 ^ 64 }
-        requires room { spec.is_full (reading_of self.old) (state_of place) ≡ false }
-        ensures place { self.new.place ≡ place }
+        requires room { spec.is_full (reading_of self.old) (state_of state) ≡ false }
+        ensures state { self.new.state ≡ state }
         ensures line { self.new.line ≡ spec.next_line self.old.returned self.old.line byte }
         ensures returned { self.new.returned ≡ (byte == carriage_return) }
         ensures size { self.new.size
-            ≡ (if spec.is_between (state_of place) then 0 else self.old.size + 1) }
-        ensures begun { self.new.begun ≡ (if spec.is_between (state_of place) then
-            spec.next_line self.old.returned self.old.line byte else self.old.begun) }
+            ≡ (if spec.is_between (state_of state) then 0 else self.old.size + 1) }
+        ensures first_line { self.new.first_line ≡ (if spec.is_between (state_of state) then
+            spec.next_line self.old.returned self.old.line byte else self.old.first_line) }
         ensures separator { self.new.separator ≡ self.old.separator }
         ensures fields { self.new.fields ≡ self.old.fields }
         ensures field { self.new.field ≡ self.old.field }
@@ -130,10 +129,10 @@ impl RecordParser {
             self.line += 1;
         }
         self.returned = byte == b'\r';
-        self.place = place;
-        if place.is_between() {
+        self.state = state;
+        if state.is_between() {
             self.size = 0;
-            self.begun = self.line;
+            self.first_line = self.line;
         } else {
             self.size += 1;
         }
@@ -162,21 +161,23 @@ impl RecordParser {
         ensures takes { IfOk result (inside.Takes self.old self.new byte) }
         ensures fault { IfErr result (inside.RefusesByte self.old byte) }
     {
-        let Step { place, effect } = self.place.read_byte(self.separator, byte);
-        if self.is_full(place) {
-            return Err(LettersFault::TooLong { line: self.begun });
+        let Step { state, effect } = self.state.read_byte(self.separator, byte);
+        if self.is_full(state) {
+            return Err(LettersFault::TooLong {
+                line: self.first_line,
+            });
         }
-        if self.is_stray(place) {
-            return Err(LettersFault::TextAfterQuote { line: self.begun });
+        if self.is_stray(state) {
+            return Err(LettersFault::TextAfterQuote {
+                line: self.first_line,
+            });
         }
-        let begun = self.begun;
-        if self.apply(effect, byte).is_err() {
-            return Err(LettersFault::NoMemory);
-        }
-        self.advance(place, byte);
+        let first_line = self.first_line;
+        self.apply(effect, byte)?;
+        self.advance(state, byte);
         self.separator = separator_after(self.separator, byte, effect);
         if effect == Effect::EndRecord {
-            return Ok(Some(begun));
+            return Ok(Some(first_line));
         }
         Ok(None)
     }
@@ -202,15 +203,15 @@ impl RecordParser {
         ensures partial { OnOk result (partial_of self.new.fields ≡ []) }
         ensures fault { IfErr result (inside.RefusesEnd self.old) }
     {
-        if self.place.is_between() {
+        if self.state.is_between() {
             return Ok(None);
         }
-        if self.place == Place::InQuoted {
-            return Err(LettersFault::OpenQuote { line: self.begun });
+        if self.state == ParserState::InQuoted {
+            return Err(LettersFault::OpenQuote {
+                line: self.first_line,
+            });
         }
-        match self.end_field() {
-            Ok(()) => Ok(Some(self.begun)),
-            Err(_) => Err(LettersFault::NoMemory),
-        }
+        self.end_field()?;
+        Ok(Some(self.first_line))
     }
 }

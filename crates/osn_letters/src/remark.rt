@@ -102,7 +102,7 @@ fn count_on_weekday(date: WrittenDate, given: Option<Weekday>, days: &[DatedDay]
         .count()
 }
 
-/// Whether a weekday is given, and so many of the days have it.
+/// Whether a weekday is given, and `count` of the days have it.
 fn are_on_weekday(
     count: usize,
     date: WrittenDate,

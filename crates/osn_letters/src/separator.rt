@@ -3,7 +3,7 @@ ghost use Rattle.std.specs.Prelude.{◌≡◌};
 ghost use Rattle.osn_letters.specs.Separators as spec;
 ghost use Rattle.osn_letters.specs.RecordsInside.{action_of};
 
-use crate::place::Effect;
+use crate::parser_state::Effect;
 
 /// What separates the fields of a record.
 #[derive(Clone, Copy, Debug, PartialEq, Eq)]
@@ -42,20 +42,14 @@ impl Separator {
 pub(crate) fn or_comma(found: Option<Separator>) -> Separator
     ensures { result ≡ spec.or_comma found }
 {
-    match found {
-        Some(separator) => separator,
-        None => Separator::Comma,
-    }
+    found.unwrap_or(Separator::Comma)
 }
 
 /// The separator by which a byte is read: the one that was found, or the byte while none was.
 pub(crate) fn separator_at(found: Option<Separator>, byte: u8) -> Separator
     ensures { result ≡ spec.separator_at found byte }
 {
-    match found {
-        Some(separator) => separator,
-        None => or_comma(Separator::of(byte)),
-    }
+    or_comma(found.or(Separator::of(byte)))
 }
 
 /// The separator that was found after a byte that does that to the record at hand.

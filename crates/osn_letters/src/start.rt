@@ -19,7 +19,7 @@ pub(crate) enum Start {
 }
 
 impl Start {
-    /// Behind the next byte, where it goes on with the mark.
+    /// How much there is after the next byte, where that goes on with the mark.
     pub(crate) fn next(self, byte: u8) -> Option<Start>
         ensures { result ≡ spec.next_start self byte }
     {

@@ -104,8 +104,8 @@ fn finish_and_write<W: Sink>(letters: &mut Letters<'_>, sink: &mut W) -> Result<
     write_out(letters.table.alloc, sink, &mut letters.table.out, finished)
 }
 
-/// Writes a table of letters in CSV from one in CSV: the header with nine names behind those that
-/// came, and each record with the nine fields of `letter_fields` behind its own, by the register of
+/// Writes a table of letters in CSV from one in CSV: the header with nine names after those that
+/// came, and each record with the nine fields of `letter_fields` after its own, by the register of
 /// that edition. Which columns hold the places, the dates and the weekdays is told by their names.
 /// The fields are separated by what the settings name, or else by the first comma, semicolon or
 /// tab of the header that stands in no quotes, or else by commas; so are those that are written. A
@@ -115,8 +115,8 @@ fn finish_and_write<W: Sink>(letters: &mut Letters<'_>, sink: &mut W) -> Result<
 /// at most 65,536 bytes, what is written of them, and of a record that hasn't ended yet at most
 /// 65,536 bytes. `progress` is told of each read that gave bytes.
 ///
-/// A table may be cut between its records and written in parts, each behind the same header: the
-/// rows of each part, one behind another, are those of the whole.
+/// A table may be cut between its records and written in parts, each after the same header: the
+/// rows of each part, one after another, are those of the whole.
 ///
 /// # Errors
 ///

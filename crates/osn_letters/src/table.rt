@@ -18,7 +18,7 @@ use csv::ByteRecord;
 use osn_register::Register;
 use std::alloc::{AllocError, Global};
 
-/// What the header says of the records behind it.
+/// What the header says of the records after it.
 #[derive(Clone, Copy, Debug, PartialEq, Eq)]
 pub(crate) struct Rows {
     /// Where the columns that are read stand.
@@ -39,14 +39,11 @@ pub(crate) struct Table<'a> {
 }
 
 /// The weekday of a record, where there is such a column.
-fn weekday_at(row: &ByteRecord, place: Option<usize>) -> Option<&[u8]>
+fn weekday_at(row: &ByteRecord, column: Option<usize>) -> Option<&[u8]>
     ensures { option_map (λ w. w.now) result
-        ≡ option_map (λ n. get_or (fields_of row.now) n []) place }
+        ≡ option_map (λ n. get_or (fields_of row.now) n []) column }
 {
-    match place {
-        Some(place) => Some(field_at(row, place)),
-        None => None,
-    }
+    column.map(|index| field_at(row, index))
 }
 
 impl Table<'_> {
@@ -89,9 +86,7 @@ impl Table<'_> {
     {
         let columns = find_columns(self.alloc, header, self.settings.names, line)?;
         let width = header.len();
-        if self.push_header(header, separator).is_err() {
-            return Err(LettersFault::NoMemory);
-        }
+        self.push_header(header, separator)?;
         self.rows = Some(Rows { columns, width });
         Ok(())
     }
@@ -120,7 +115,7 @@ impl Table<'_> {
         self.out.write_row(row)
     }
 
-    /// Takes a record behind the header.
+    /// Takes a record after the header.
     fn take_row(&mut self, rows: Rows, row: &mut ByteRecord, line: u64) -> Result<(), LettersFault>
         requires partial { partial_of row.old ≡ [] }
         requires between { IsBetweenRows self.old.out }
@@ -133,17 +128,14 @@ impl Table<'_> {
         if row.len() != rows.width {
             return Err(LettersFault::BadRecord { line });
         }
-        match self.push_row(rows.columns, row) {
-            Ok(()) => Ok(()),
-            Err(_) => Err(LettersFault::NoMemory),
-        }
+        Ok(self.push_row(rows.columns, row)?)
     }
 
     /// Takes the next record, which begins on the line and has that separator.
     ///
     /// # Errors
     ///
-    /// `LacksColumn` of a header, `BadRecord` of a record behind it, and `NoMemory`.
+    /// `LacksColumn` of a header, `BadRecord` of a record after it, and `NoMemory`.
     pub(crate) fn take(
         &mut self,
         row: &mut ByteRecord,

@@ -108,7 +108,8 @@ week_of_first (x ∷ days) first some is =
     ++ (spec.cell x ++ (flat_map spec.next_cell ds ++ 10 ∷ []))) others
 
 -- what `{:>2}` writes of a number
-pub two_right : (n : ℕ) → styled_decimal (format_spec 32 3 0 2 (2 ^ 64 - 1)) n ≡ spec.in_two_places n
+pub two_right : (n : ℕ)
+    → styled_decimal (format_spec 32 3 0 2 (2 ^ 64 - 1)) n ≡ spec.in_two_places n
 two_right n =
     padded_integral_right (format_spec 32 3 0 2 (2 ^ 64 - 1)) (decimal n) refl
     refl (λ e. omega (arith, e)) (λ e. omega (arith, e)) (lit< tt)

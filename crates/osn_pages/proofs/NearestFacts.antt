@@ -12,7 +12,8 @@ abbrev left : (ℕ → List ℕ) → ℕ → ℕ → List ℕ
 left f y most = spec.first_with_days (map f (range_with_len y (most + 1 - y)))
 
 one_more : (f : ℕ → List ℕ) (y most : ℕ) → y < most + 1
-    → left f y most ≡ spec.first_with_days (f y ∷ map f (range_with_len (y + 1) (most + 1 - (y + 1))))
+    → left f y most
+    ≡ spec.first_with_days (f y ∷ map f (range_with_len (y + 1) (most + 1 - (y + 1))))
 one_more f y most low =
     let count : most + 1 - y ≡ suc (most + 1 - (y + 1)) = omega (arith, low) in
     ap (λ n. spec.first_with_days (map f (range_with_len y n))) count

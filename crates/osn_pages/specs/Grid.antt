@@ -87,7 +87,7 @@ weekdays_line = codes "Su Mo Tu We Th Fr Sa\n"
 unfoldable pub grid : List DatedDay → List ℕ
 grid run = title_line run ++ (weekdays_line ++ flat_map week_line (weeks_of run))
 
--- a grid for each run of days, and where there is no day that there is none
+-- a grid for each run of days, or that there is no such month where there is no day
 abbrev pub grids : List DatedDay → List ℕ
 grids [] = codes "no such month\n"
 grids (day ∷ days) = flat_map grid (runs_of (day ∷ days))

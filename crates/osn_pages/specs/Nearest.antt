@@ -23,7 +23,7 @@ first_with_days [] = []
 first_with_days ([] ∷ rest) = first_with_days rest
 first_with_days ((d ∷ ds) ∷ rest) = d ∷ ds
 
--- those in the nearest years that have some, of so many years before and after
+-- those in the nearest years that have some, at most as many years before or after
 unfoldable pub nearest_within : Profile → TerritoryModel → WrittenDate → ℕ → List ℕ
 nearest_within p t w most = first_with_days (map (days_apart p t w) (range_with_len 1 most))
 

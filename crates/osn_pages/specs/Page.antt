@@ -1,4 +1,4 @@
--- The pages: which there are, the text of each, and why there is none.
+-- The pages: which there are, the text of each, and why a page is refused.
 use Rattle.std.specs.Prelude.{◌≡◌, ℕ, ⊤, pos, List, [], ◌∷◌, ◌++◌, map, Option, Some, None, codes}
 use Rattle.std.specs.Fmt.{decimal}
 use Rattle.std.specs.List.{flat_map}

@@ -5,11 +5,8 @@ use Rattle.osn_computus.specs.RuleWords.{rule_word}
 use Rattle.osn_days.specs.CalendarWords.{calendar_word}
 use Rattle.osn_days.specs.Profile.{Profile}
 use Rattle.osn_lands.specs.declared.period.Period.{Period}
-use Rattle.osn_lands.specs.declared.style.Style.{Style}
-use Rattle.osn_lands.specs.declared.style.Style.TheVariants.{January, Annunciation, Nativity}
-use Rattle.osn_lands.specs.declared.style.Style.TheVariants.{September, Pisan, Easter}
 use Rattle.osn_lands.specs.Dated.{dated_day}
-use Rattle.osn_lands.specs.StyleWords.{style_word}
+use Rattle.osn_lands.specs.StyleWords.{style_word, beginning_of_year}
 use Rattle.osn_pages.specs.Words.{numbered_day}
 
 -- ---- the days
@@ -36,15 +33,6 @@ span p period =
     (numbered_day (dated_day p period.regime period.last))
 
 -- ---- how a regime reckons
-
--- when the years of a style begin
-unfoldable pub beginning_of_year : Style → List ℕ
-beginning_of_year January = codes "years from 1 January"
-beginning_of_year Annunciation = codes "years from 25 March"
-beginning_of_year Nativity = codes "years from 25 December"
-beginning_of_year September = codes "years from 1 September"
-beginning_of_year Pisan = codes "years from the 25 March before"
-beginning_of_year Easter = codes "years from Easter"
 
 -- the line of a period
 unfoldable pub period_line : Profile → Period → List ℕ

@@ -1,8 +1,9 @@
 -- The lines of the days that a written date means. This project's profile.
-use Rattle.std.specs.Prelude.{ℕ, Bool, true, false, ◌||◌, if◌then◌else◌, is_some, List, [], ◌∷◌, ◌++◌}
-use Rattle.std.specs.Prelude.{Option, Some, None, codes}
+use Rattle.std.specs.Prelude.{ℕ, Bool, true, false, ◌||◌, if◌then◌else◌, is_some, List, [], ◌∷◌}
+use Rattle.std.specs.Prelude.{◌++◌, Option, Some, None, codes}
 use Rattle.std.specs.Fmt.{decimal}
 use Rattle.std.specs.List.{flat_map}
+use Rattle.std.specs.Option.{option_or}
 use Rattle.osn_days.specs.declared.calendar.Calendar.TheVariants.{Gregorian, Julian}
 use Rattle.osn_days.specs.declared.weekday.Weekday.{Weekday}
 use Rattle.osn_days.specs.Line.{julian_day}
@@ -20,11 +21,6 @@ abbrev pub other_weekday : Option Weekday → ℕ → Option Weekday
 other_weekday None d = None
 other_weekday (Some given) d = if is_on (Some given) d then None else Some given
 
--- one weekday, or the other where there is none
-abbrev pub or_weekday : Option Weekday → Option Weekday → Option Weekday
-or_weekday (Some weekday) other = Some weekday
-or_weekday None other = other
-
 -- that the day is of the weekday, or of which it is not
 abbrev pub said_of_weekday : Option Weekday → List ℕ
 said_of_weekday None = codes " ok"
@@ -34,7 +30,7 @@ said_of_weekday (Some given) = codes " not " ++ weekday_name given
 unfoldable pub verdict : Option Weekday → Option Weekday → ℕ → List ℕ
 verdict written given d =
     if is_some written || is_some given then
-    said_of_weekday (or_weekday (other_weekday written d) (other_weekday given d))
+    said_of_weekday (option_or (other_weekday written d) (other_weekday given d))
     else []
 
 -- ---- the lines
@@ -42,7 +38,7 @@ verdict written given d =
 -- a day by its weekday and as the territory dated it, by two calendars and by its numbers, and what
 -- is said of its weekday
 unfoldable pub day_line : List ℕ → DatedDay → List ℕ
-day_line said x =
+day_line remark x =
     named_day x
     ++ (codes "    "
     ++ (calendar_words Gregorian x.day
@@ -50,7 +46,7 @@ day_line said x =
     ++ (calendar_words Julian x.day
     ++ (codes " Julian    day "
     ++ (decimal x.day
-    ++ (codes "    JDN " ++ (decimal (julian_day x.day) ++ (said ++ codes "\n")))))))))
+    ++ (codes "    JDN " ++ (decimal (julian_day x.day) ++ (remark ++ codes "\n")))))))))
 
 -- the same of a day of which no weekday is asked
 abbrev pub plain_day_line : DatedDay → List ℕ

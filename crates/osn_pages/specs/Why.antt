@@ -1,5 +1,6 @@
 -- The lines that say why a written date means no day. This project's profile.
-use Rattle.std.specs.Prelude.{ℕ, Bool, not, ◌-◌, if◌then◌else◌, List, [], ◌∷◌, ◌++◌, map, pos, codes}
+use Rattle.std.specs.Prelude.{ℕ, Bool, not, ◌-◌, if◌then◌else◌, List, [], ◌∷◌, ◌++◌, map, pos}
+use Rattle.std.specs.Prelude.{codes}
 use Rattle.std.specs.Fmt.{decimal}
 use Rattle.std.specs.List.{flat_map}
 use Rattle.std.specs.Str.{bytes_eq}
@@ -9,7 +10,7 @@ use Rattle.osn_lands.specs.declared.style.Style.{Style}
 use Rattle.osn_lands.specs.Dated.{dated_on}
 use Rattle.osn_lands.specs.LabelOrder.{gaps}
 use Rattle.osn_lands.specs.Runs.{days_of_year}
-use Rattle.osn_lands.specs.StyleWords.{style_word}
+use Rattle.osn_lands.specs.StyleWords.{style_word, beginning_of_year}
 use Rattle.osn_lands.specs.Territory.{TerritoryModel, regime_at, reading}
 use Rattle.osn_written.specs.declared.absence.Absence.{Absence}
 use Rattle.osn_written.specs.declared.absence.Absence.TheVariants as why
@@ -17,7 +18,6 @@ use Rattle.osn_written.specs.declared.written_date.WrittenDate.{WrittenDate}
 use Rattle.osn_written.specs.Absence.{absence}
 use Rattle.osn_written.specs.Meaning.{label_of}
 use Rattle.osn_pages.specs.Nearest.{nearest}
-use Rattle.osn_pages.specs.Periods.{beginning_of_year}
 use Rattle.osn_pages.specs.Words.{named_day, numbered_day}
 
 -- ---- a line about a day

@@ -192,7 +192,7 @@ fn push_all_grids(alloc: Global, out: &mut String, days: &[DatedDay]) -> Result<
     Ok(())
 }
 
-/// Appends the grids of days in order, and where there is no day that there is none.
+/// Appends the grids of days in order, or that there is no such month where there is no day.
 pub(crate) fn push_grids(
     alloc: Global,
     out: &mut String,

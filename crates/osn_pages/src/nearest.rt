@@ -36,7 +36,7 @@ fn days_apart(territory: &Territory, date: WrittenDate, years: u16) -> Result<Ve
     Ok(days)
 }
 
-/// Those in the nearest years that have some, of so many years before and after.
+/// Those in the nearest years that have some, at most as many years before or after.
 fn nearest_within(
     alloc: Global,
     territory: &Territory,

@@ -5,7 +5,7 @@ ghost use Rattle.osn_pages.specs.Periods as spec;
 
 use crate::words::NumberedDay;
 use osn_days::{Day, Keyword};
-use osn_lands::{Period, Style, dated_day};
+use osn_lands::{Period, dated_day};
 use std::alloc::AllocError;
 use std::fmt::Write;
 
@@ -33,21 +33,6 @@ fn push_span(out: &mut String, period: &Period) -> Result<(), AllocError>
     }
 }
 
-/// When the years of a style begin.
-#[tactic(auto, unfolding(crate::specs::Periods::beginning_of_year))]
-pub(crate) fn beginning_of_year(style: Style) -> &'static str
-    ensures { result.now ≡ spec.beginning_of_year style }
-{
-    match style {
-        Style::January => "years from 1 January",
-        Style::Annunciation => "years from 25 March",
-        Style::Nativity => "years from 25 December",
-        Style::September => "years from 1 September",
-        Style::Pisan => "years from the 25 March before",
-        Style::Easter => "years from Easter",
-    }
-}
-
 /// Appends the line of a period.
 #[tactic(auto, unfolding(crate::specs::Periods::period_line))]
 pub(crate) fn push_period(out: &mut String, period: &Period) -> Result<(), AllocError>
@@ -61,7 +46,7 @@ pub(crate) fn push_period(out: &mut String, period: &Period) -> Result<(), Alloc
         ": {} calendar, {} style ({}), {} rule",
         regime.calendar.word(),
         regime.style.word(),
-        beginning_of_year(regime.style),
+        regime.style.beginning_of_year(),
         regime.rule.word()
     )
 }

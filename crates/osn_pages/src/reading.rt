@@ -47,9 +47,9 @@ impl fmt::Display for Verdict {
 
 /// Appends the line of a day, and what is said of its weekday.
 #[tactic(auto, unfolding(crate::specs::Reading::day_line))]
-fn push_day_line(out: &mut String, said: Verdict, dated: DatedDay) -> Result<(), AllocError>
+fn push_day_line(out: &mut String, verdict: Verdict, dated: DatedDay) -> Result<(), AllocError>
     ensures { OnOk result (string_bytes out.new ≡ string_bytes out.old
-        ++ spec.day_line (spec.verdict said.written said.given said.day) dated) }
+        ++ spec.day_line (spec.verdict verdict.written verdict.given verdict.day) dated) }
 {
     let day = dated.day;
     writeln!(
@@ -66,7 +66,7 @@ fn push_day_line(out: &mut String, said: Verdict, dated: DatedDay) -> Result<(),
         },
         day.number(),
         day.julian_day_number(),
-        said
+        verdict
     )
 }
 
@@ -76,12 +76,12 @@ pub(crate) fn push_day(out: &mut String, dated: DatedDay) -> Result<(), AllocErr
     ensures { OnOk result (string_bytes out.new
         ≡ string_bytes out.old ++ spec.plain_day_line dated) }
 {
-    let said = Verdict {
+    let verdict = Verdict {
         written: None,
         given: None,
         day: dated.day,
     };
-    push_day_line(out, said, dated)
+    push_day_line(out, verdict, dated)
 }
 
 /// Appends that the territory counted from 1 January, and what it wrote.
@@ -104,12 +104,12 @@ fn push_meant(
     ensures { OnOk result (string_bytes out.new
         ≡ string_bytes out.old ++ spec.meant_lines date given dated) }
 {
-    let said = Verdict {
+    let verdict = Verdict {
         written: date.weekday,
         given,
         day: dated.day,
     };
-    push_day_line(out, said, dated)?;
+    push_day_line(out, verdict, dated)?;
     if is_not_counted_double(date, &dated) {
         push_not_double(out, dated)?;
     }

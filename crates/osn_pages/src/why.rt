@@ -9,7 +9,6 @@ ghost use Rattle.osn_pages.specs.Nearest.{nearest_days as days_nearest};
 ghost use Rattle.osn_pages.specs.Why as spec;
 
 use crate::nearest::nearest_days;
-use crate::periods::beginning_of_year;
 use crate::words::{NamedDay, NumberedDay};
 use osn_days::{Day, Keyword};
 use osn_lands::{DatedDay, Run, Style, Territory};
@@ -142,7 +141,7 @@ fn push_beginning(
     if is_style(old, new) {
         return Ok(());
     }
-    push_beginning_text(out, beginning_of_year(old), beginning_of_year(new))?;
+    push_beginning_text(out, old.beginning_of_year(), new.beginning_of_year())?;
     push_nearest(alloc, out, territory, date)
 }
 

@@ -1,3 +1,4 @@
+//! What the register answers.
 use crate::listing::{DayList, Listing};
 use crate::refusal::Refusal;
 use crate::text::Text;

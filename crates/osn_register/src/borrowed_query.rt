@@ -1,3 +1,4 @@
+//! A query whose code is borrowed.
 ghost use Rattle.std.specs.Prelude.{◌≡◌, true, IfOk, OnErr};
 ghost use Rattle.osn_register.specs.Query.{names_land};
 ghost use Rattle.osn_register.specs.BorrowedQuery.{as_query};

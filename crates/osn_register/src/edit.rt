@@ -1,3 +1,4 @@
+//! The edits of a register.
 ghost use Rattle.std.specs.Prelude.{◌≡◌, IfOk};
 
 use crate::text::Text;

@@ -8,7 +8,7 @@ ghost use Rattle.osn_register.specs.Plain.{drop_change_refusal, add_exception_re
 ghost use Rattle.osn_register.specs.Plain.{drop_exception_refusal, is_style_refused};
 
 use crate::limits::Limits;
-use crate::range::{day_on_line, year_in_range};
+use crate::numbers::{day_on_line, year_in_range};
 use crate::refusal::Refusal;
 use osn_days::Day;
 use osn_lands::{Regime, Territory};

@@ -1,3 +1,4 @@
+//! The most that a register holds.
 ghost use Rattle.std.specs.Prelude.{◌≡◌};
 ghost use Rattle.osn_register.specs.Limits.{standard_limits};
 

@@ -1,3 +1,4 @@
+//! The items of an answer, as contracts see them.
 ghost use Rattle.std.specs.Prelude.{◌≡◌};
 
 use osn_days::Day;

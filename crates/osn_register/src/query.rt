@@ -1,3 +1,4 @@
+//! The queries of a register.
 ghost use Rattle.std.specs.Prelude.{◌≡◌, true, IfOk, OnErr};
 ghost use Rattle.osn_register.specs.Query.{names_land};
 ghost use Rattle.osn_register.specs.BorrowedQuery.{as_query};

@@ -1,3 +1,4 @@
+//! Why an edit, a query or a publish is refused.
 ghost use Rattle.std.specs.Prelude.{◌≡◌};
 ghost use Rattle.osn_register.specs.Refusal.{refusal_number, refusal_name};
 

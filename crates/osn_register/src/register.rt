@@ -1,3 +1,4 @@
+//! The register: its edits, and why one is refused.
 ghost use Rattle.std.specs.Prelude.{◌≡◌, ◌++◌, [], ◌∷◌, true, Some, None, IfOk, IfErr, OnOk, OnErr};
 ghost use Rattle.std.specs.Prelude.{◌<◌, length, is_some, option_copied, string_bytes};
 ghost use Rattle.osn_days.specs.Profile.{newest_rules};

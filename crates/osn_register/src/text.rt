@@ -1,3 +1,4 @@
+//! A text that an edit, a query or an answer owns.
 ghost use Rattle.std.specs.Prelude.{◌≡◌, string_bytes, IfOk, IsUtf8};
 
 use std::alloc::{AllocError, Global};

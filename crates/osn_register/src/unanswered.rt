@@ -1,3 +1,4 @@
+//! Why a query has no answer of its own.
 ghost use Rattle.std.specs.Prelude.{◌≡◌};
 ghost use Rattle.osn_register.specs.declared.unanswered.Unanswered.TheVariants as unanswered;
 

@@ -58,10 +58,10 @@ next_by September d before = next_if_more (is_from_september d.month) d.year
 next_by Pisan d before = next_unless_more (is_before_25_march d.month d.day) d.year
 next_by Easter d before = next_if_less before d.year
 
-year_again : (n m : ℕ) (t : Bool) → nat_lt n m ≡ t → (t ≡ true → m ≡ n + 1)
+year_written : (n m : ℕ) (t : Bool) → nat_lt n m ≡ t → (t ≡ true → m ≡ n + 1)
     → year_text (pos n) (pos (if t then n + 1 else n)) ≡ year_text (pos n) (pos m)
-year_again n m true is next = ap (λ k. year_text (pos n) (pos k)) (sym (next refl))
-year_again n m false is next = rw (is, le-ltb n n (omega arith)) refl
+year_written n m true is next = ap (λ k. year_text (pos n) (pos k)) (sym (next refl))
+year_written n m false is next = rw (is, le-ltb n n (omega arith)) refl
 
 -- ---- dates
 
@@ -70,7 +70,7 @@ record IsPlain (dated : Label) (january_year : ℤ) (text : List ℕ) : Type 0 w
   pub date : WrittenDate
   pub is : plain_date text ≡ Ok date
   pub first : written_date text ≡ plain_date text
-  pub again : written_text date ≡ text
+  pub written : written_text date ≡ text
   pub label : label_of date ≡ dated
   pub double : date.is_double ≡ int_lt dated.year january_year
   pub later : date.is_double ≡ true → pos (date.year + 1) ≡ january_year
@@ -98,7 +98,7 @@ labelled (pos n) (pos m) month day low high low_m high_m next some most first fe
       is = words_read day month n (nat_lt n m) (year_text (pos n) (pos m))
           (omega (arith, ints, high)) some most first few years;
       first = date_read day month (year_text (pos n) (pos m)) (omega (arith, few));
-      again = ap (words day month) (year_again n m (nat_lt n m) refl after);
+      written = ap (words day month) (year_written n m (nat_lt n m) refl after);
       label = refl;
       double = refl;
       later = λ h. ap pos (sym (after h));
@@ -133,7 +133,7 @@ dual_texts_written r d on =
     record {
       date = read.date;
       is = read.first ∙ read.is;
-      again = read.again;
+      written = read.written;
       label = read.label;
       double = read.double;
       later = read.later;
@@ -172,7 +172,7 @@ named_days_written r d on =
     record {
       date = record read.date { weekday = Some w };
       is = named_read w (dual_text newest_rules r d) ∙ ap (on_weekday w) read.is;
-      again = read.again;
+      written = read.written;
       label = read.label;
       double = read.double;
       later = read.later;

@@ -15,11 +15,11 @@ use Rattle.std.proofs.lemmas.Bool.Decides.{Decides-eqb}
 use Rattle.std.proofs.lemmas.Fmt.{decimal_is_IsNumeral, decimal_nonempty, decimal_digit}
 use Rattle.std.proofs.lemmas.Fmt.{length-decimal-le, decimal_step}
 use Rattle.std.proofs.lemmas.Str.Parse.{numerals_by_value, tells_all_ascii_digits}
-use Rattle.osn_days.specs.Month.{month_name}
+use Rattle.osn_days.specs.Month.{month_name, month_named}
 use Rattle.osn_days.specs.Weekday.{weekday_numbered}
 use Rattle.osn_lands.specs.Dual.{later_digits}
 use Rattle.osn_lands.proofs.YearDigits.{last_digit_differs, earlier_digit_differs}
-use Rattle.osn_written.specs.WrittenDate.{parts_at, with_first, number_of, month_named, years_of}
+use Rattle.osn_written.specs.WrittenDate.{parts_at, with_first, number_of, years_of}
 use Rattle.osn_written.specs.WrittenDate.{weekday_named, in_words, plain_date, date_of_numbers}
 use Rattle.osn_written.specs.WrittenDate.{written_date, plain_date_in, date_in, date_after}
 use Rattle.osn_written.proofs.Grammar.{number_is}

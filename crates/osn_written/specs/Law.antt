@@ -25,7 +25,7 @@ pub record IsWritten (dated : Label) (january_year : ℤ) (named : Option Weekda
     (text : List ℕ) : Type 0 where
   pub date : WrittenDate
   pub is : written_date text ≡ Ok date
-  pub again : written_text date ≡ dual
+  pub written : written_text date ≡ dual
   pub label : label_of date ≡ dated
   pub double : date.is_double ≡ int_lt dated.year january_year
   pub later : date.is_double ≡ true → pos (date.year + 1) ≡ january_year

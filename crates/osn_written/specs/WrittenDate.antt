@@ -8,7 +8,7 @@ use Rattle.std.specs.Option.{ok_or}
 use Rattle.std.specs.Str.{all_ascii_digits, str_eq_ignore_ascii_case}
 use Rattle.std.specs.Str.Parse.{digits_value}
 use Rattle.osn_days.specs.declared.weekday.Weekday.{Weekday}
-use Rattle.osn_days.specs.Month.{month_name}
+use Rattle.osn_days.specs.Month.{month_named}
 use Rattle.osn_days.specs.Weekday.{weekday_name, weekday_numbered}
 use Rattle.osn_written.specs.declared.written_date.WrittenDate.{WrittenDate}
 use Rattle.osn_written.specs.declared.written_date.DateFault.{DateFault}
@@ -40,17 +40,9 @@ number_of part =
     Some (digits_value 10 part)
     else None
 
--- the two texts are one, but for capitals of ASCII
-abbrev pub is_same_word : List ℕ → List ℕ → Bool
-is_same_word a b = str_eq_ignore_ascii_case a b
-
--- the month of a name, 1 to 12
-abbrev pub month_named : List ℕ → Option ℕ
-month_named name = find (λ m. is_same_word (month_name m) name) (range_with_len 1 12)
-
 -- the weekday has the name
 abbrev pub has_name : List ℕ → Weekday → Bool
-has_name name weekday = is_same_word (weekday_name weekday) name
+has_name name weekday = str_eq_ignore_ascii_case (weekday_name weekday) name
 
 -- the weekday of a name
 abbrev pub weekday_named : List ℕ → Option Weekday
@@ -134,7 +126,7 @@ on_weekday weekday date = do
   w ← date
   Ok (record w { weekday = Some weekday })
 
--- a date whose first word is a weekday, or is none
+-- a date that may begin with a weekday: the text, what stands after its first word, and the weekday
 abbrev pub date_after : List ℕ → List ℕ → Option Weekday → Result WrittenDate DateFault
 date_after text rest None = plain_date text
 date_after text rest (Some weekday) = on_weekday weekday (plain_date rest)

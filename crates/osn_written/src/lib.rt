@@ -9,4 +9,4 @@ mod written_text;
 
 pub use absence::{Absence, absence_of};
 pub use meaning::{days_meant, has_weekday, is_not_counted_double, is_on};
-pub use written_date::{DateFault, WrittenDate, month_named, number_of, parts_at, weekday_named};
+pub use written_date::{DateFault, WrittenDate, number_of, parts_at, weekday_named};

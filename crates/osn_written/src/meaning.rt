@@ -29,8 +29,7 @@ impl WrittenDate {
     {
         Label {
             year: i32::from(self.year) + 1,
-            month: self.month,
-            day: self.day,
+            ..self.label()
         }
     }
 

@@ -5,7 +5,7 @@ ghost use Rattle.osn_days.specs.Profile.{newest_rules};
 ghost use Rattle.osn_written.specs.Law.{AreDualTextsWritten, AreNamedDaysWritten};
 ghost use Rattle.osn_written.specs.WrittenDate as spec;
 
-use osn_days::{Weekday, month_name};
+use osn_days::{Weekday, month_named};
 
 /// A date as people write it: a year, a month and a day, whether it is a double date as
 /// `11 February 1731/2`, whose year is the first one, and the weekday before it, if there is one.
@@ -90,20 +90,6 @@ pub fn number_of(part: &str) -> Option<u32>
     part.parse::<u32>().ok()
 }
 
-/// Whether two texts are one, but for capital letters of ASCII.
-fn is_same_word(a: &str, b: &str) -> bool
-    ensures { result ≡ spec.is_same_word a.now b.now }
-{
-    a.eq_ignore_ascii_case(b)
-}
-
-/// The month of an English name, 1 to 12. Its letters may be capital or small.
-pub fn month_named(name: &str) -> Option<u8>
-    ensures { result ≡ spec.month_named name.now }
-{
-    (1..13).find(|month| is_same_word(month_name(*month), name))
-}
-
 /// The seven weekdays.
 const WEEKDAYS: [Weekday; 7] = [
     Weekday::Sunday,
@@ -115,6 +101,13 @@ const WEEKDAYS: [Weekday; 7] = [
     Weekday::Saturday,
 ];
 
+/// Whether a weekday has the name, whose letters may be capital or small.
+fn has_name(name: &str, weekday: Weekday) -> bool
+    ensures { result ≡ spec.has_name name.now weekday }
+{
+    weekday.name().eq_ignore_ascii_case(name)
+}
+
 /// The first weekday, of these, that has the name.
 fn first_named(weekdays: &[Weekday], name: &str) -> Option<Weekday>
     ensures { result ≡ find (spec.has_name name.now) weekdays.now }
@@ -122,7 +115,7 @@ fn first_named(weekdays: &[Weekday], name: &str) -> Option<Weekday>
     weekdays
         .iter()
         .copied()
-        .find(|weekday| is_same_word(weekday.name(), name))
+        .find(|weekday| has_name(name, *weekday))
 }
 
 /// The weekday of an English name. Its letters may be capital or small.
@@ -213,7 +206,7 @@ fn plain_date(text: &str) -> Result<WrittenDate, DateFault>
     }
 }
 
-/// A date whose first word is a weekday, or is none.
+/// A date that may begin with a weekday: the whole text, and what stands after its first word.
 fn date_after(text: &str, rest: &str, weekday: Option<Weekday>) -> Result<WrittenDate, DateFault>
     ensures { result ≡ spec.date_after text.now rest.now weekday }
 {

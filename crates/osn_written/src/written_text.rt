@@ -22,7 +22,6 @@ impl WrittenDate {
 }
 
 /// A dated day with the text of a date. Which day it is makes no difference to its text.
-#[tactic(auto, unfolding(osn_lands::specs::Dated::dated_text, osn_lands::specs::Dated::years_text, crate::specs::Text::written_text))]
 fn dated(date: WrittenDate) -> DatedDay
     ensures { dated_text result ≡ spec.written_text date }
 {

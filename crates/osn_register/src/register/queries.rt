@@ -12,8 +12,8 @@ use crate::answer::{Answer, Land};
 use crate::borrowed_query::BorrowedQuery;
 use crate::figures::figures;
 use crate::listing::Listing;
+use crate::numbers::{asked_label, day_on_line, year_in_range};
 use crate::query::Query;
-use crate::range::{asked_label, day_on_line, year_in_range};
 use crate::refusal::Refusal;
 use crate::register::Register;
 use crate::territory_answer::{easters, on_day, periods, reading};
@@ -83,20 +83,6 @@ impl Register {
     {
         self.known_territory(code)?;
         year_in_range(year)?;
-        Ok(())
-    }
-
-    /// Whether a reading may be asked of a territory. It takes no query and no memory.
-    ///
-    /// # Errors
-    ///
-    /// The first refusal that applies.
-    pub fn check_read(&self, code: &str, year: i64, month: i64, day: i64) -> Result<(), Refusal>
-        ensures { IsTestOf
-            (spec.read_refusal newest_rules self.now.lands code.now year month day) result }
-    {
-        self.known_territory(code)?;
-        asked_label(year, month, day)?;
         Ok(())
     }
 

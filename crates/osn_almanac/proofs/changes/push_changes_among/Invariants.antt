@@ -8,5 +8,4 @@ use Rattle.osn_almanac.proofs.changes.push_changes_among.Given as goal
 abbrev pub invariant-loop-period : goal.invariant-loop-period
 invariant-loop-period l =
     string_bytes l.out ≡ string_bytes l.initial.out
-    ++ spec.lines_text (flat_map (spec.change_of newest_rules l.year)
-    (take l.period-index l.periods))
+    ++ flat_map (spec.changes_text newest_rules l.year) (take l.period-index l.periods)

@@ -7,6 +7,6 @@ use Rattle.osn_almanac.proofs.easters.push_each.Given as goal
 -- the feasts of each Easter so far
 abbrev pub invariant-loop-easter : goal.invariant-loop-easter
 invariant-loop-easter l =
-    string_bytes l.out ≡ string_bytes l.initial.out ++ spec.lines_text
-    (flat_map (spec.feast_lines newest_rules l.register.lands l.code)
-    (take l.easter-index l.easters))
+    string_bytes l.out ≡ string_bytes l.initial.out
+    ++ flat_map (spec.feasts_text newest_rules l.register.lands l.code)
+    (take l.easter-index l.easters)

@@ -1,4 +1,5 @@
-use Rattle.std.proofs.Common.{◌≡◌, ◌++◌, map, take, string_bytes}
+use Rattle.std.proofs.Common.{◌≡◌, ◌++◌, take, string_bytes}
+use Rattle.std.specs.List.{flat_map}
 use Rattle.osn_days.specs.Profile.{newest_rules}
 use Rattle.osn_almanac.specs.Almanac as spec
 use Rattle.osn_almanac.proofs.easters.push_feasts.Given as goal
@@ -6,6 +7,6 @@ use Rattle.osn_almanac.proofs.easters.push_feasts.Given as goal
 -- the feasts so far
 abbrev pub invariant-loop-feast : goal.invariant-loop-feast
 invariant-loop-feast l =
-    string_bytes l.out ≡ string_bytes l.initial.out ++ spec.lines_text
-    (map (spec.feast_line newest_rules l.register.lands l.code l.easter)
-    (take l.feast-index l.feasts))
+    string_bytes l.out ≡ string_bytes l.initial.out
+    ++ flat_map (spec.feast_line newest_rules l.register.lands l.code l.easter)
+    (take l.feast-index l.feasts)

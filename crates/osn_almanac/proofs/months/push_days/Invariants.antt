@@ -1,4 +1,5 @@
-use Rattle.std.proofs.Common.{◌≡◌, ◌++◌, map, take, string_bytes}
+use Rattle.std.proofs.Common.{◌≡◌, ◌++◌, take, string_bytes}
+use Rattle.std.specs.List.{flat_map}
 use Rattle.osn_almanac.specs.Almanac as spec
 use Rattle.osn_almanac.proofs.months.push_days.Given as goal
 
@@ -6,4 +7,4 @@ use Rattle.osn_almanac.proofs.months.push_days.Given as goal
 abbrev pub invariant-loop-found : goal.invariant-loop-found
 invariant-loop-found l =
     string_bytes l.out ≡ string_bytes l.initial.out
-    ++ spec.lines_text (map (spec.month_day_line l.month) (take l.found-index l.days))
+    ++ flat_map (spec.month_day_line l.month) (take l.found-index l.days)

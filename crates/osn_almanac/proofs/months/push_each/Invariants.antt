@@ -7,6 +7,6 @@ use Rattle.osn_almanac.proofs.months.push_each.Given as goal
 -- the months so far
 abbrev pub invariant-loop-month : goal.invariant-loop-month
 invariant-loop-month l =
-    string_bytes l.out ≡ string_bytes l.initial.out ++ spec.lines_text
-    (flat_map (spec.month_lines newest_rules l.register.lands l.code l.year)
-    (take l.month-index l.months))
+    string_bytes l.out ≡ string_bytes l.initial.out
+    ++ flat_map (spec.month_text newest_rules l.register.lands l.code l.year)
+    (take l.month-index l.months)

@@ -4,6 +4,6 @@ use Rattle.osn_letters.specs.Columns.{names_text}
 use Rattle.osn_letters.proofs.columns.names_text.Given as goal
 
 -- the names so far
-abbrev pub invariant-loop-place : goal.invariant-loop-place
-invariant-loop-place l =
-    l.names.items ≡ names_text (take l.place (fields_of l.header))
+abbrev pub invariant-loop-index : goal.invariant-loop-index
+invariant-loop-index l =
+    l.names.items ≡ names_text (take l.index (fields_of l.header))

@@ -10,5 +10,6 @@ returns c = IfOk-weaker c.fields_of_days-2.result _ _ (λ fields same.
     let count : length c.in_ok-days.days.items ≡ 0 = ap length none in search rules in
     same ∙ fields_are newest_rules c.args.edition c.args.territory.now c.args.date _ _ _
     c.in_ok-days.days.items _ _ _ c.weekday_in-given.ensures
-    c.is_malformed_weekday-is_malformed.ensures c.in_ok-days.ensures.value some c.deref.ensures.value
+    c.is_malformed_weekday-is_malformed.ensures c.in_ok-days.ensures.value some
+    c.deref.ensures.value
     c.deref-2.ensures.value c.remarks_on_days-remarks.ensures) c.fields_of_days-2.ensures

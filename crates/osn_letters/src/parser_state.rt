@@ -9,7 +9,7 @@ use crate::separator::{Separator, separator_at};
 
 /// Where a reading of CSV stands.
 #[derive(Clone, Copy, Debug, PartialEq, Eq)]
-pub(crate) enum Place {
+pub(crate) enum ParserState {
     /// Before a record.
     StartRecord,
     /// Before a field of a record.
@@ -18,9 +18,9 @@ pub(crate) enum Place {
     InField,
     /// In a field, between its quotes.
     InQuoted,
-    /// Behind a quote that ends a field or is the first of two.
+    /// After a quote that ends a field or is the first of two.
     AfterQuote,
-    /// Behind a carriage return that ended a record.
+    /// After a carriage return that ended a record.
     AfterReturn,
 }
 
@@ -37,73 +37,73 @@ pub(crate) enum Effect {
     EndRecord,
 }
 
-/// Where the reading stands behind a byte, and what the byte does.
+/// Where the reading stands after a byte, and what the byte does.
 #[derive(Clone, Copy, Debug)]
 pub(crate) struct Step {
-    pub(crate) place: Place,
+    pub(crate) state: ParserState,
     pub(crate) effect: Effect,
 }
 
-fn to(place: Place, effect: Effect) -> Step
-    ensures place { result.place ≡ place }
+fn to(state: ParserState, effect: Effect) -> Step
+    ensures state { result.state ≡ state }
     ensures effect { result.effect ≡ effect }
 {
-    Step { place, effect }
+    Step { state, effect }
 }
 
 /// How a byte is read in a field without quotes.
 fn in_field(separator: Separator, byte: u8) -> Step
-    ensures { (state_of result.place, action_of result.effect)
+    ensures { (state_of result.state, action_of result.effect)
         ≡ machine.in_field (config_by separator) byte }
 {
     if byte == separator.byte() {
-        return to(Place::StartField, Effect::EndField);
+        return to(ParserState::StartField, Effect::EndField);
     }
     match byte {
-        b'\r' => to(Place::AfterReturn, Effect::EndRecord),
-        b'\n' => to(Place::StartRecord, Effect::EndRecord),
-        _ => to(Place::InField, Effect::Copy),
+        b'\r' => to(ParserState::AfterReturn, Effect::EndRecord),
+        b'\n' => to(ParserState::StartRecord, Effect::EndRecord),
+        _ => to(ParserState::InField, Effect::Copy),
     }
 }
 
 /// How a byte is read before a field.
 fn start_field(separator: Separator, byte: u8) -> Step
-    ensures { (state_of result.place, action_of result.effect)
+    ensures { (state_of result.state, action_of result.effect)
         ≡ machine.start_field (config_by separator) byte }
 {
     match byte {
-        b'"' => to(Place::InQuoted, Effect::Skip),
+        b'"' => to(ParserState::InQuoted, Effect::Skip),
         _ => in_field(separator, byte),
     }
 }
 
 /// How a byte is read before a record.
 fn start_record(separator: Separator, byte: u8) -> Step
-    ensures { (state_of result.place, action_of result.effect)
+    ensures { (state_of result.state, action_of result.effect)
         ≡ machine.start_record (config_by separator) byte }
 {
     match byte {
-        b'\r' | b'\n' => to(Place::StartRecord, Effect::Skip),
+        b'\r' | b'\n' => to(ParserState::StartRecord, Effect::Skip),
         _ => start_field(separator, byte),
     }
 }
 
-impl Place {
+impl ParserState {
     /// How the next byte is read, where that separator was found.
     #[tactic(auto, unfolding(crate::specs::Records::read_byte))]
     pub(crate) fn read_byte(self, found: Option<Separator>, byte: u8) -> Step
-        ensures { (state_of result.place, action_of result.effect)
+        ensures { (state_of result.state, action_of result.effect)
             ≡ spec.read_byte found (state_of self) byte }
     {
         let separator = separator_at(found, byte);
         match self {
-            Place::StartRecord | Place::AfterReturn => start_record(separator, byte),
-            Place::StartField => start_field(separator, byte),
-            Place::InField => in_field(separator, byte),
-            Place::InQuoted if byte == b'"' => to(Place::AfterQuote, Effect::Skip),
-            Place::InQuoted => to(Place::InQuoted, Effect::Copy),
-            Place::AfterQuote if byte == b'"' => to(Place::InQuoted, Effect::Copy),
-            Place::AfterQuote => in_field(separator, byte),
+            ParserState::StartRecord | ParserState::AfterReturn => start_record(separator, byte),
+            ParserState::StartField => start_field(separator, byte),
+            ParserState::InField => in_field(separator, byte),
+            ParserState::InQuoted if byte == b'"' => to(ParserState::AfterQuote, Effect::Skip),
+            ParserState::InQuoted => to(ParserState::InQuoted, Effect::Copy),
+            ParserState::AfterQuote if byte == b'"' => to(ParserState::InQuoted, Effect::Copy),
+            ParserState::AfterQuote => in_field(separator, byte),
         }
     }
 
@@ -111,6 +111,6 @@ impl Place {
     pub(crate) fn is_between(self) -> bool
         ensures { result ≡ spec.is_between (state_of self) }
     {
-        self == Place::StartRecord || self == Place::AfterReturn
+        self == ParserState::StartRecord || self == ParserState::AfterReturn
     }
 }

@@ -1,5 +1,5 @@
 use Rattle.std.proofs.Common.{rules}
-use Rattle.osn_register.proofs.range.year_in_range.Goals as goal
+use Rattle.osn_register.proofs.numbers.year_in_range.Goals as goal
 
 pub returns : goal.returns
 returns c = search rules

@@ -1,9 +1,0 @@
-use Rattle.std.proofs.Common.{rules}
-use Rattle.osn_almanac.proofs.Text.{push_none, push_more}
-use Rattle.osn_almanac.proofs.figures.push_figures_in.Goals as goal
-
-pub returns-in_ok-push_julian-in-Figures : goal.returns-in_ok-push_julian-in-Figures
-returns-in_ok-push_julian-in-Figures c = search (rules, push_more)
-
-pub returns-in_default : goal.returns-in_default
-returns-in_default c = search (rules, push_none)
