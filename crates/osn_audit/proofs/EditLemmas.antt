@@ -16,7 +16,7 @@ pub left_from : {A : Type 0} (xs : List A) (i : ℕ) (x : A) → i < length xs �
     → drop i xs ≡ x ∷ drop (i + 1) xs
 left_from xs i x within is = drop_more xs i x within ∙ ap (λ y. y ∷ drop (i + 1) xs) (sym is)
 
--- of lawful edits the next one is lawful, and those behind it are so behind its effect
+-- of lawful edits the next one is lawful, and those after it are so after its effect
 pub next_lawful : (limits : Limits) (old : List LandModel) (es : List Edit) (i : ℕ) (e : Edit)
     → i < length es → e ≡ get_or es i e → AreLawful newest_rules limits old (drop i es)
     → (refusal newest_rules limits old e ≡ None)
@@ -36,7 +36,7 @@ edit_more limits old new all es i e within is one lawful so_far =
     (next_lawful limits old es i e within is lawful).0))
     ∙ (sym (ap (applied_all newest_rules limits old) (left_from es i e within is)) ∙ so_far)
 
--- of lawful batches the next one is lawful, and those behind it are so behind its edits
+-- of lawful batches the next one is lawful, and those after it are so after its edits
 pub next_batch_lawful : (limits : Limits) (old : List LandModel) (bs : List (List Edit)) (i : ℕ)
     (b : List Edit) → i < length bs → b ≡ get_or bs i b
     → AreLawful newest_rules limits old (joined (drop i bs))
@@ -95,7 +95,7 @@ lands_on limits bs from to old new order was one =
     (sym (joined-append (take from bs) (slice_range bs from to))
     ∙ ap joined (parts bs from to order))))
 
--- of lawful batches those between two are lawful behind the first ones
+-- of lawful batches those between two are lawful after the first ones
 pub lawful_between : (limits : Limits) (bs : List (List Edit)) (from to : ℕ)
     (old : List LandModel) → from ≤ to
     → old ≡ applied_all newest_rules limits [] (joined (take from bs))

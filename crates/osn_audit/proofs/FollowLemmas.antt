@@ -1,17 +1,27 @@
 -- The registers that replies are held against, one for each reader.
-use Rattle.std.proofs.Common.{◌≡◌, ℕ, zero, suc, List, [], ◌∷◌, length, map, set, replicate}
+use Rattle.std.proofs.Common.{◌≡◌, ℕ, zero, suc, ◌<◌, ◌≤◌, Bool, true, false, List, [], ◌∷◌}
+use Rattle.std.proofs.Common.{length, get_or, map, set, replicate, Ok, Err}
 use Rattle.std.proofs.Common.{refl, sym, ap, ap₂, subst, ◌∙◌, arith}
 use Rattle.std.specs.List.{All}
-use Rattle.std.specs.Prelude.{take}
-use Rattle.std.proofs.lemmas.List.{map-set, set-set}
+use Rattle.std.specs.Prelude.{take, nat_lt, if◌then◌else◌}
+use Rattle.std.proofs.lemmas.Bool.{ltb-false}
+use Rattle.std.proofs.lemmas.List.{length-map, length-take-le, get_or-set_same, map-set}
 use Rattle.osn_days.specs.Profile.{newest_rules}
 use Rattle.osn_register.specs.declared.edit.Edit.{Edit}
 use Rattle.osn_register.specs.declared.limits.Limits.{Limits}
+use Rattle.osn_register.specs.declared.answer.Answer.{Answer}
+use Rattle.osn_register.specs.declared.query.Query.{Query}
 use Rattle.osn_register.specs.Plain.{folded}
-use Rattle.osn_core.specs.Sequential.{ObjectState, lands_of, joined, AreLawful, IsSound}
+use Rattle.osn_core.specs.declared.step.Reply.{Reply}
+use Rattle.osn_core.specs.Sequential.{ObjectState, lands_of, joined, reply_at, AreLawful, IsSound}
 use Rattle.osn_core.proofs.Lawful.{AreLawful-front}
+use Rattle.osn_format.specs.declared.wire_fault.WireFault.TheVariants.{UnknownEdition, EditionFell}
+use Rattle.osn_audit.specs.Audit.{known_edition}
+use Rattle.osn_audit.specs.Standing.{Standing}
 use Rattle.osn_audit.specs.declared.follower.Follower.{Follower}
+use Rattle.osn_audit.specs.declared.followers.Place.{Place}
 use Rattle.osn_audit.specs.InsideFollower.{IsAt}
+use Rattle.osn_audit.specs.InsideFollowers.{IsPlace}
 
 -- the empty register is at edition 0
 pub IsAt-first : (limits given : Limits) (batches : List (List Edit)) (f : Follower)
@@ -25,12 +35,6 @@ IsAt-first limits given batches f same edition register = record {
       ∙ sym (ap (λ n. lands_of newest_rules limits (take n batches)) edition);
 }
 
--- a register goes on under the batches that it was given
-pub goes_on : (limits own : Limits) (given batches : List (List Edit)) (f : Follower)
-    → own ≡ limits → given ≡ batches → IsAt own given f → IsAt limits batches f
-goes_on limits own given batches f same are is =
-    subst (λ bs. IsAt limits bs f) are (subst (λ l. IsAt l given f) same is)
-
 -- the batches of a sound object are lawful
 pub batches_lawful : (s : ObjectState) (own : Limits) (given : List (List Edit))
     → IsSound newest_rules s → own ≡ s.limits → given ≡ s.batches
@@ -40,25 +44,59 @@ batches_lawful s own given sound same are =
     (subst (λ l. AreLawful newest_rules l [] (joined s.batches)) (sym same)
     (AreLawful-front newest_rules s.limits [] (joined s.batches) s.pending sound.lawful))
 
--- an edition is the last one of its place
-pub last_set : (fs : List Follower) (i : ℕ) (x y : Follower)
-    → map (λ f. f.edition) (set (set fs i x) i y)
-    ≡ set (map (λ f. f.edition) fs) i y.edition
-last_set fs i x y =
-    ap (map (λ f. f.edition)) (set-set fs i x y) ∙ map-set (λ f. f.edition) fs i y
+-- a place where no reply was given
+pub IsPlace-first : (limits given : Limits) (batches : List (List Edit)) (p : Place)
+    → given ≡ limits → p.last ≡ 0 → p.own.edition ≡ 0 → p.own.register ≡ folded newest_rules given []
+    → IsPlace limits batches p
+IsPlace-first limits given batches p same last edition register = record {
+  there = omega (arith, last);
+  at = IsAt-first limits given batches p.own same edition register;
+  from = omega (arith, edition);
+}
 
--- where each is at edition 0, no reader has a reply
-pub none_replied : (fs : List Follower) (n : ℕ) → length fs ≡ n → All (λ f. f.edition ≡ 0) fs
-    → map (λ f. f.edition) fs ≡ replicate n 0
-none_replied fs n count each = zeros fs each ∙ ap (λ k. replicate k 0) count
+-- where each reader's last edition is 0, no reader has a reply
+pub none_replied : (ps : List Place) (n : ℕ) → length ps ≡ n → All (λ p. p.last ≡ 0) ps
+    → map (λ p. p.last) ps ≡ replicate n 0
+none_replied ps n count each = zeros ps each ∙ ap (λ k. replicate k 0) count
   where
-    zeros : (gs : List Follower) → All (λ f. f.edition ≡ 0) gs
-        → map (λ f. f.edition) gs ≡ replicate (length gs) 0
+    zeros : (qs : List Place) → All (λ p. p.last ≡ 0) qs
+        → map (λ p. p.last) qs ≡ replicate (length qs) 0
     zeros [] h = refl
-    zeros (g ∷ gs) h =
-        ap₂ (λ x xs. x ∷ xs) (h 0 g (omega arith))
-        (zeros gs (λ k d within. h (suc k) d (omega (arith, within))))
+    zeros (q ∷ qs) h =
+        ap₂ (λ x xs. x ∷ xs) (h 0 q (omega arith))
+        (zeros qs (λ k d within. h (suc k) d (omega (arith, within))))
 
-pub All-one : (P : Follower → Type 0) (f : Follower) → P f → All P (f ∷ [])
-All-one P f h zero d within = h
-All-one P f h (suc k) d within = absurd (omega (arith, within))
+pub All-one : (P : Place → Type 0) (p : Place) → P p → All P (p ∷ [])
+All-one P p h zero d within = h
+All-one P p h (suc k) d within = absurd (omega (arith, within))
+
+-- an edition that is known is one of so many
+there_by : (editions edition : ℕ) (a b : Bool) → nat_lt editions edition ≡ a
+    → (if a then Err UnknownEdition else (if b then Err EditionFell else Ok edition)) ≡ Ok edition
+    → edition ≤ editions
+there_by editions edition true b is h = absurd (cc)
+there_by editions edition false b is h = ltb-false editions edition is
+
+abbrev pub standing : ObjectState → List ℕ → Standing
+standing object last = record { object = object; last = last }
+
+abbrev reply : ℕ → Answer → Reply
+reply edition answer = record { edition = edition; answer = answer }
+
+-- what is answered under a reader's last edition, once that is set, is the reply under it
+pub reply_set : (s o : ObjectState) (ps : List Place) (i last edition : ℕ) (q : Query) (p : Place)
+    (a : Answer) → o ≡ s → p.last ≡ edition → i < length ps
+    → known_edition (length s.batches) last edition ≡ Ok edition
+    → a ≡ (reply_at newest_rules o.limits
+    (take (get_or (map (λ r. r.last) (set ps i p)) i 0) o.batches) q).answer
+    → reply edition a ≡ reply_at newest_rules s.limits (take edition s.batches) q
+reply_set s o ps i last edition q p a same is within known answered =
+    let lasts = map (λ (r : Place). r.last) ps in
+    let count : i < length lasts = subst (λ n. i < n) (sym (length-map ps (λ r. r.last))) within in
+    let set_is : get_or (map (λ (r : Place). r.last) (set ps i p)) i 0 ≡ edition =
+    ap (λ l. get_or l i 0) (map-set (λ (r : Place). r.last) ps i p)
+    ∙ (get_or-set_same lasts i p.last 0 count ∙ is) in
+    ap₂ reply (sym (length-take-le edition s.batches (there_by (length s.batches) edition _ _ refl known)))
+    (answered
+    ∙ (ap (λ n. (reply_at newest_rules o.limits (take n o.batches) q).answer) set_is
+    ∙ ap (λ t. (reply_at newest_rules t.limits (take edition t.batches) q).answer) same))

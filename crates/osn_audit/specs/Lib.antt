@@ -5,4 +5,3 @@ pub mod Standing
 pub mod Inside
 pub mod InsideFollower
 pub mod InsideFollowers
-pub mod Tokens

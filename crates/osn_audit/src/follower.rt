@@ -1,13 +1,14 @@
 //! A register that goes on from edition to edition.
-ghost use Rattle.std.specs.Prelude.{◌≡◌, ◌≤◌, [], IfOk, OnOk, length};
+ghost use Rattle.std.specs.Prelude.{◌≡◌, ◌≤◌, [], IfOk, OnOk, length, take};
 ghost use Rattle.osn_days.specs.Profile.{newest_rules};
 ghost use Rattle.osn_register.specs.Plain.{applied_all, folded};
-ghost use Rattle.osn_core.specs.Sequential.{AreLawful, joined};
+ghost use Rattle.osn_core.specs.Sequential.{AreLawful, joined, reply_at};
 ghost use Rattle.osn_audit.specs.InsideFollower.{IsAt};
 
-use osn_core::Batch;
-use osn_register::{Edit, Limits, Register};
+use osn_core::{Batch, Object};
+use osn_register::{Answer, Edit, Limits, Query, Register};
 use std::alloc::{AllocError, Global};
+use std::mem;
 
 /// Applies edits that are lawful, each in its turn, with no further check.
 fn admit_edits(register: &mut Register, edits: &[Edit]) -> Result<(), AllocError>
@@ -55,7 +56,7 @@ impl Follower {
     }
 
     /// The same at an edition that is not before its own.
-    pub(crate) fn at(self, batches: &[Batch], edition: u32) -> Result<Follower, AllocError>
+    fn at(self, batches: &[Batch], edition: u32) -> Result<Follower, AllocError>
         requires at { IsAt self.register.limits batches.now self }
         requires lawful { AreLawful newest_rules self.register.limits [] (joined batches.now) }
         requires from { self.edition ≤ edition }
@@ -69,5 +70,30 @@ impl Follower {
             &batches[self.edition as usize..edition as usize],
         )?;
         Ok(Follower { edition, register })
+    }
+
+    /// The answer to a query under an edition of the object that is not before its own, to which it
+    /// goes on. Where memory runs out it is at edition 0.
+    pub(crate) fn ask(
+        &mut self,
+        alloc: Global,
+        object: &Object,
+        edition: u32,
+        query: &Query,
+    ) -> Result<Answer, AllocError>
+        requires at { IsAt object.now.limits object.now.batches self.old }
+        requires from { self.old.edition ≤ edition }
+        requires there { edition ≤ length object.now.batches }
+        ensures answer { IfOk result (λ a. a ≡ (reply_at newest_rules object.now.limits
+            (take edition object.now.batches) query.now).answer) }
+        ensures edition { self.new.edition ≤ edition }
+        ensures at { IsAt object.now.limits object.now.batches self.new }
+    {
+        let none = Follower::new(alloc, object.register().limits());
+        let before = mem::replace(self, none);
+        let after = before.at(object.batches(), edition)?;
+        let answer = after.register.answer(query)?;
+        *self = after;
+        Ok(answer)
     }
 }

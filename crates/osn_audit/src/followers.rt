@@ -1,6 +1,5 @@
-//! The registers that replies are held against: one for each reader, at the edition of the reader's
-//! last reply. It goes on from there, so that an audit applies each edit once for each reader at
-//! most, and once more where a register was taken back.
+//! The registers that replies are held against: one of the greatest edition that a reply named, and
+//! one for each reader who was told an edition before that.
 ghost use Rattle.std.specs.Prelude.{◌≡◌, ◌<◌, ◌≤◌, ◌-◌, Ok, Err, IfOk, OnOk, MatchResult, length};
 ghost use Rattle.std.specs.Prelude.{take, slice_set};
 ghost use Rattle.osn_days.specs.Profile.{newest_rules};
@@ -10,17 +9,28 @@ ghost use Rattle.osn_audit.specs.Audit.{known_edition, last_of, no_replies};
 use crate::follower::Follower;
 use osn_core::{MOST_READERS, Object, Reply};
 use osn_format::WireFault;
-use osn_register::Query;
+use osn_register::{Answer, Query};
 use std::alloc::{AllocError, Global};
 use std::marker::Model;
-use std::mem;
 
-/// The object of a journal, and a register of it for each reader.
+/// What is known of a reader.
+#[derive(Drop)]
+struct Place {
+    /// The edition of the reader's last reply.
+    last: u32,
+    /// The register of an edition that is not after that.
+    own: Follower,
+}
+
+/// The object of a journal, and registers of it. Each only goes on from edition to edition, so an
+/// audit applies each edit once, and once more for each reader at most.
 #[derive(Drop)]
 pub(crate) struct Followers {
     alloc: Global,
     object: Object,
-    places: Vec<Follower>,
+    /// The register of the greatest edition that a reply named.
+    latest: Follower,
+    places: Vec<Place>,
 }
 
 impl Model for Followers {
@@ -44,11 +54,14 @@ impl Followers {
         let limits = object.register().limits();
         let mut places = Vec::with_capacity(alloc, MOST_READERS as usize)?;
         for _ in 0..MOST_READERS {
-            places.push(Follower::new(alloc, limits))?;
+            let own = Follower::new(alloc, limits);
+            places.push(Place { last: 0, own })?;
         }
+        let latest = Follower::new(alloc, limits);
         Ok(Followers {
             alloc,
             object,
+            latest,
             places,
         })
     }
@@ -66,35 +79,27 @@ impl Followers {
         if edition as usize > self.object.batches().len() {
             return Err(WireFault::UnknownEdition);
         }
-        if edition < self.places[(reader - 1) as usize].edition {
+        if edition < self.places[(reader - 1) as usize].last {
             return Err(WireFault::EditionFell);
         }
         Ok(())
     }
 
-    /// The edition of a reader's last reply.
-    pub(crate) fn last(&self, reader: u32) -> u32
+    /// The answer to a query under the edition of a reader's last reply, by the latest register
+    /// where that is not after it, else by the reader's own.
+    fn answer(&mut self, reader: u32, query: &Query) -> Result<Answer, AllocError>
         requires counted { 0 < reader }
         requires known { reader ≤ MOST_READERS }
-        ensures value { result ≡ last_of self.now.last reader }
-        ensures there { result ≤ length self.now.object.batches }
+        ensures answer { IfOk result (λ a. a ≡ (reply_at newest_rules self.old.object.limits
+            (take (last_of self.old.last reader) self.old.object.batches) query.now).answer) }
+        ensures same { self.new ≡ self.old }
     {
-        self.places[(reader - 1) as usize].edition
-    }
-
-    /// Makes an edition a reader's last one, whichever that was. The register is made anew.
-    pub(crate) fn go_back(&mut self, reader: u32, edition: u32) -> Result<(), AllocError>
-        requires counted { 0 < reader }
-        requires known { reader ≤ MOST_READERS }
-        requires there { edition ≤ length self.old.object.batches }
-        ensures last { OnOk result
-            (self.new.last ≡ slice_set self.old.last (reader - 1) edition) }
-        ensures object { self.new.object ≡ self.old.object }
-    {
-        let empty = Follower::new(self.alloc, self.object.register().limits());
-        let follower = empty.at(self.object.batches(), edition)?;
-        self.places[(reader - 1) as usize] = follower;
-        Ok(())
+        let place = &mut self.places[(reader - 1) as usize];
+        if self.latest.edition <= place.last {
+            self.latest.ask(self.alloc, &self.object, place.last, query)
+        } else {
+            place.own.ask(self.alloc, &self.object, place.last, query)
+        }
     }
 
     /// The reply to a query of a reader under an edition that `check` has let in, which is the
@@ -115,12 +120,8 @@ impl Followers {
             (self.new.last ≡ slice_set self.old.last (reader - 1) edition) }
         ensures object { self.new.object ≡ self.old.object }
     {
-        let place = (reader - 1) as usize;
-        let none = Follower::new(self.alloc, self.object.register().limits());
-        let before = mem::replace(&mut self.places[place], none);
-        let follower = before.at(self.object.batches(), edition)?;
-        let answer = follower.register.answer(query)?;
-        self.places[place] = follower;
+        self.places[(reader - 1) as usize].last = edition;
+        let answer = self.answer(reader, query)?;
         Ok(Reply { edition, answer })
     }
 }

@@ -8,7 +8,6 @@ mod auditor;
 mod float;
 mod follower;
 mod followers;
-mod tokens;
 mod transcript;
 mod transcript_line;
 

@@ -42,15 +42,16 @@ fn audit_lines<S: Source>(
 /// space, the reply line to the query under that edition. Edits that the journal leaves pending
 /// are in no edition.
 ///
-/// Besides the object there is a register for each reader that the transcript names, which goes on
-/// from edition to edition, what `take_lines` has, and the text of the reply that is due to one
-/// line, or the value of the line.
+/// Besides the object there is a register of the greatest edition that a reply named, one for each
+/// reader who was told an edition before that, what `take_lines` has, the value of one line, and
+/// the texts of its reply and of the one that is due.
 ///
 /// # Errors
 ///
 /// `BadLine` for the first line that is refused, with its file: the journal is loaded first, as by
 /// `load_journal`, and nothing of the transcript is read where that fails. `ReadFault` where a
-/// source failed, or gave no end within 4,294,967,295 reads; `NoMemory`.
+/// source failed, or gave no end within 4,294,967,295 reads; `NoMemory` where a growth of memory
+/// was refused, which leaves open whether the line that was being read has a fault.
 pub fn audit<R: Source, S: Source>(
     alloc: Global,
     limits: Limits,
