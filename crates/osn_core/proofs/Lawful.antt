@@ -38,7 +38,7 @@ AreLawful-front p limits lands [] fs lawful = tt
 AreLawful-front p limits lands (e ∷ es) fs lawful =
     (lawful.0, AreLawful-front p limits (effect lands e) es fs lawful.1)
 
--- and so are those behind them
+-- and so are those after them
 pub AreLawful-behind : (p : Profile) (limits : Limits) (lands : List LandModel) (es fs : List Edit) →
     AreLawful p limits lands (es ++ fs) → AreLawful p limits (applied_all p limits lands es) fs
 AreLawful-behind p limits lands [] fs lawful = lawful
@@ -47,7 +47,7 @@ AreLawful-behind p limits lands (e ∷ es) fs lawful =
     (subst (λ ls. AreLawful p limits ls (es ++ fs)) (sym (applied-lawful p limits lands e lawful.0))
     lawful.1)
 
--- the edit at a place is lawful behind those before it
+-- the edit at a place is lawful after those before it
 pub lawful_at : (p : Profile) (limits : Limits) (lands : List LandModel) (es : List Edit) (i : ℕ)
     (e : Edit) → i < length es → get_or es i e ≡ e → AreLawful p limits lands es →
     refusal p limits (applied_all p limits lands (take i es)) e ≡ None

@@ -1,6 +1,6 @@
 pub mod Batches
 pub mod Lawful
-pub mod Draft
+pub mod DraftFacts
 pub mod InStep
 pub mod Standing
 pub mod Placed

@@ -1,4 +1,6 @@
 pub mod Sequential
+pub mod Draft
+pub mod DraftInside
 pub mod Script
 pub mod Control
 pub mod Machine

@@ -1,3 +1,4 @@
+//! The edits that were published together.
 ghost use Rattle.std.specs.Prelude.{◌≡◌};
 
 use osn_register::Edit;

@@ -1,3 +1,4 @@
+//! What an editor is told to do.
 ghost use Rattle.std.specs.Prelude.{◌≡◌, true, IfOk, OnErr};
 ghost use Rattle.osn_core.specs.Script.{copy_takes_memory};
 

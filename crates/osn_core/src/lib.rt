@@ -5,6 +5,7 @@
 
 mod batch;
 mod command;
+mod draft;
 mod live_and_standby;
 mod machine;
 mod object;
@@ -16,6 +17,7 @@ mod step;
 
 pub use batch::Batch;
 pub use command::Command;
+pub use draft::Draft;
 pub use machine::{Core, MOST_READERS};
 pub use object::Object;
 pub use run::replay;

@@ -1,14 +1,14 @@
-ghost use Rattle.std.specs.Prelude.{◌≡◌, ◌<◌, ◌≤◌, ◌+◌, ◌-◌, length, get_or, true, None, IfOk};
-ghost use Rattle.std.specs.Prelude.{OnOk, OnErr};
+//! The sequential object over two registers, which a publish exchanges.
+ghost use Rattle.std.specs.Prelude.{◌≡◌, ◌<◌, ◌≤◌, ◌+◌, ◌-◌, length, get_or, None, IfOk, OnOk};
+ghost use Rattle.std.specs.Prelude.{OnErr};
 ghost use Rattle.osn_days.specs.Profile.{newest_rules};
-ghost use Rattle.osn_register.specs.Plain.{refusal};
 ghost use Rattle.osn_register.specs.Refusal.{IsTestOf};
 ghost use Rattle.osn_core.specs.Sequential.{with_pending, with_edition, stage_refusal};
-ghost use Rattle.osn_core.specs.Sequential.{publish_refusal, lands_of, draft_lands, last_batch};
-ghost use Rattle.osn_core.specs.Sequential.{IsSound};
+ghost use Rattle.osn_core.specs.Sequential.{publish_refusal, lands_of, last_batch, IsSound};
 ghost use Rattle.osn_core.specs.LiveAndStandbyInside.{first_copies, lagging_lands};
 
 use crate::batch::Batch;
+use crate::draft::Draft;
 use osn_register::{Edit, Limits, Refusal, Register};
 use std::alloc::{AllocError, Global};
 use std::marker::Model;
@@ -16,18 +16,16 @@ use std::marker::Model;
 /// The batches and the pending edits, and two registers of them: the live one has the batches, and
 /// the standby all edits but the last ones of the last batch, which it lacks for a while.
 ///
-/// A publish exchanges the two, so it costs the same however large the register is.
+/// While edits are pending the draft's register is the standby, and else it is the live one. So a
+/// publish exchanges the two, and costs the same however large the register is.
 #[derive(Drop)]
 pub struct LiveAndStandby {
-    alloc: Global,
-    limits: Limits,
-    live: Register,
-    standby: Register,
+    draft: Draft,
+    /// The one that is not the draft's.
+    other: Register,
     /// How many edits of the last batch the standby lacks.
     lag: usize,
     batches: Vec<Batch>,
-    pending: Vec<Edit>,
-    edits: u32,
 }
 
 impl Model for LiveAndStandby {
@@ -46,14 +44,10 @@ impl LiveAndStandby {
         ensures { result ≡ first_copies limits }
     {
         LiveAndStandby {
-            alloc,
-            limits,
-            live: Register::new(alloc, limits),
-            standby: Register::new(alloc, limits),
+            draft: Draft::new(alloc, limits),
+            other: Register::new(alloc, limits),
             lag: 0,
             batches: Vec::new(alloc),
-            pending: Vec::new(alloc),
-            edits: 0,
         }
     }
 
@@ -63,7 +57,11 @@ impl LiveAndStandby {
             ≡ lands_of newest_rules self.now.object.limits self.now.object.batches }
         ensures limits { result.now.limits ≡ self.now.object.limits }
     {
-        &self.live
+        if self.draft.pending().is_empty() {
+            self.draft.register()
+        } else {
+            &self.other
+        }
     }
 
     /// The register of all edits but those that it lacks.
@@ -71,7 +69,11 @@ impl LiveAndStandby {
         ensures lands { result.now.lands ≡ lagging_lands newest_rules self.now }
         ensures limits { result.now.limits ≡ self.now.object.limits }
     {
-        &self.standby
+        if self.draft.pending().is_empty() {
+            &self.other
+        } else {
+            self.draft.register()
+        }
     }
 
     /// How many edits of the last batch the standby lacks.
@@ -93,16 +95,14 @@ impl LiveAndStandby {
     pub fn pending(&self) -> &[Edit]
         ensures { result.now ≡ self.now.object.pending }
     {
-        self.pending.as_slice()
+        self.draft.pending().as_slice()
     }
 
     /// The number of batches.
     pub fn edition(&self) -> u32
         ensures { result ≡ length self.now.object.batches }
     {
-        // The batches are at most this many, so their number fits.
-        let _most = self.limits.editions;
-        self.batches.len() as u32
+        self.draft.edition()
     }
 
     /// How many edits would be pending if this one were staged now, or the first refusal.
@@ -110,23 +110,7 @@ impl LiveAndStandby {
         ensures test { IsTestOf (stage_refusal newest_rules self.now.object edit.now) result }
         ensures count { IfOk result (λ n. n ≡ length self.now.object.pending + 1) }
     {
-        self.latest().check(edit)?;
-        if self.edits >= self.limits.edits {
-            return Err(Refusal::JournalFull);
-        }
-        Ok(self.pending.len() as u32 + 1)
-    }
-
-    /// The register of all edits: the standby may lack some where nothing is pending.
-    fn latest(&self) -> &Register
-        ensures lands { result.now.lands ≡ draft_lands newest_rules self.now.object }
-        ensures limits { result.now.limits ≡ self.now.object.limits }
-    {
-        if self.pending.is_empty() {
-            &self.live
-        } else {
-            &self.standby
-        }
+        self.draft.check(edit)
     }
 
     /// Stages an edit that `check` has let in, in a standby that lacks nothing, and answers how
@@ -143,11 +127,18 @@ impl LiveAndStandby {
         ensures count { IfOk result (λ n. n ≡ length self.new.object.pending) }
         ensures err { OnErr result (self.new ≡ self.old) }
     {
-        self.pending.reserve(1)?;
-        self.standby.admit(&edit)?;
-        self.pending.push_reserved(edit);
-        self.edits += 1;
-        Ok(self.pending.len() as u32)
+        self.take_standby();
+        Ok(self.draft.admit(edit)?)
+    }
+
+    /// Makes the standby the draft's register. Where that is the live one still, both are equal.
+    fn take_standby(&mut self)
+        requires { self.old.lag ≡ 0 }
+        ensures { self.new ≡ self.old }
+    {
+        if self.draft.pending().is_empty() {
+            self.draft.exchange(&mut self.other);
+        }
     }
 
     /// The edition that a publish would make now, or the first refusal.
@@ -155,13 +146,7 @@ impl LiveAndStandby {
         ensures test { IsTestOf (publish_refusal self.now.object) result }
         ensures edition { IfOk result (λ n. n ≡ length self.now.object.batches + 1) }
     {
-        if self.pending.is_empty() {
-            return Err(Refusal::NothingPending);
-        }
-        if self.batches.len() >= self.limits.editions as usize {
-            return Err(Refusal::EditionsFull);
-        }
-        Ok(self.batches.len() as u32 + 1)
+        self.draft.check_publish()
     }
 
     /// Makes the standby the live register, with the pending edits as the next batch, which the
@@ -180,12 +165,11 @@ impl LiveAndStandby {
         ensures err { OnErr result (self.new ≡ self.old) }
     {
         self.batches.reserve(1)?;
-        let lag = self.pending.len();
-        let pending = std::mem::replace(&mut self.pending, Vec::new(self.alloc));
-        self.batches.push_reserved(Batch::new(pending));
-        std::mem::swap(&mut self.live, &mut self.standby);
+        let lag = self.draft.pending().len();
+        let batch = self.draft.make_edition();
+        self.batches.push_reserved(batch);
         self.lag = lag;
-        Ok(self.edition())
+        Ok(self.draft.edition())
     }
 
     /// Applies to the standby the next edit that it lacks.
@@ -198,7 +182,7 @@ impl LiveAndStandby {
         ensures ok { OnOk result (self.new ≡ record self.old { lag = self.old.lag - 1 }) }
         ensures err { OnErr result (self.new ≡ self.old) }
     {
-        self.standby.admit(next_edit(&self.batches, self.lag))?;
+        self.other.admit(next_edit(&self.batches, self.lag))?;
         self.lag -= 1;
         Ok(())
     }
@@ -219,7 +203,7 @@ impl LiveAndStandby {
     }
 }
 
-/// The edit of the last batch with which the last so many begin.
+/// The edit of the last batch with which the last ones begin, as many as the lag.
 fn next_edit(batches: &[Batch], lag: usize) -> &Edit
     requires some { 0 < lag }
     requires of_last { lag ≤ length (last_batch batches.now) }

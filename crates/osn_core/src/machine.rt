@@ -1,3 +1,4 @@
+//! One editor and its readers over two copies of the register, a step at a time.
 ghost use Rattle.std.specs.Prelude.{◌≡◌, ◌<◌, ℕ, true, None, IfOk, IfErr, OnOk, OnErr};
 ghost use Rattle.osn_register.specs.Refusal.{IsRefusalOrNoMemory};
 ghost use Rattle.osn_days.specs.Profile.{newest_rules};

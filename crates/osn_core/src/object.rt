@@ -1,3 +1,4 @@
+//! The sequential object: the published batches with their register, and the pending edits.
 ghost use Rattle.std.specs.Prelude.{◌≡◌, ◌+◌, true, length, None, IfOk, IfErr, OnOk, OnErr};
 ghost use Rattle.osn_days.specs.Profile.{newest_rules};
 ghost use Rattle.osn_register.specs.Refusal.{IsTestOf, IsRefusalOrNoMemory};

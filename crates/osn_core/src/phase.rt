@@ -1,4 +1,6 @@
-/// How far the standby is behind the live side.
+//! How far the standby is with the last batch.
+
+/// How far the standby is with the last batch.
 #[derive(Drop, Clone, Copy)]
 pub enum Phase {
     /// It has all edits, published and pending.

@@ -1,3 +1,4 @@
+//! Where a reader stands, and how its steps move it.
 ghost use Rattle.std.specs.Prelude.{◌≡◌, ◌==◌, true, IfOk, OnOk, OnErr};
 ghost use Rattle.osn_register.specs.Query.{names_land};
 ghost use Rattle.osn_core.specs.Control.{look, pin, entering, check, leave, marks};
@@ -76,7 +77,7 @@ impl ReaderState {
         }
     }
 
-    /// A check, under a live side that has so many editions.
+    /// A check, under a live side that has that many editions.
     pub fn check(&mut self, live: u8, edition: u32) -> Out
         ensures out { result ≡ (check live edition self.old).out }
         ensures after { self.new ≡ (check live edition self.old).at }

@@ -1,3 +1,4 @@
+//! Where all readers of a core stand.
 ghost use Rattle.std.specs.Prelude.{◌≡◌, ◌+◌, ◌<◌, ◌≤◌, length, true, None, IfOk, OnOk, OnErr};
 ghost use Rattle.std.specs.Prelude.{MatchOption, option_map};
 ghost use Rattle.osn_core.specs.Control.{all_idle, reader_at, look, pin, check, leave, out_at};
@@ -101,7 +102,7 @@ impl Readers {
         }
     }
 
-    /// A check of a reader, while this side is live and has so many editions.
+    /// A check of a reader, while this side is live and has that many editions.
     pub fn check(&mut self, reader: u32, live: u8, edition: u32) -> Out
         ensures out { result ≡ out_at (check live edition) (reader_at self.old reader) }
         ensures after { self.new

@@ -1,3 +1,4 @@
+//! A list of steps, taken from the first state.
 ghost use Rattle.std.specs.Prelude.{◌≡◌, ℕ, [], ◌∷◌, ◌++◌, None, IfOk, IfErr, OnOk};
 ghost use Rattle.osn_register.specs.Refusal.{IsRefusalOrNoMemory};
 ghost use Rattle.osn_register.specs.declared.refusal.Refusal.TheVariants.{NoMemory};

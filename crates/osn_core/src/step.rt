@@ -1,3 +1,4 @@
+//! The steps of the editor and of the readers, and what each gives.
 use osn_register::{Answer, Edit, Query, Refusal};
 
 /// What a query is told: the edition that was read, and its answer.
@@ -44,7 +45,7 @@ pub enum Out {
     Entered,
     /// The standby lacks nothing more.
     Ready,
-    /// The edit was staged; so many are pending now.
+    /// The edit was staged; this many are pending now.
     Staged { pending: u32 },
     /// The pending edits became this edition.
     Published { edition: u32 },

@@ -11,7 +11,7 @@ use Rattle.osn_register.specs.declared.edit.Edit.{Edit}
 use Rattle.osn_register.specs.declared.query.Query.{Query}
 use Rattle.osn_core.specs.declared.step.Reply.{Reply}
 use Rattle.osn_core.specs.Sequential.{reply_at}
-use Rattle.osn_live.specs.declared.faults.DeskFault.{DeskFault}
+use Rattle.osn_live.specs.declared.work_fault.WorkFault.{WorkFault}
 use Rattle.osn_live.specs.Batches.{Begins, IsLater}
 use Rattle.osn_live.specs.Desk.{AreReplies}
 
@@ -66,7 +66,7 @@ later_first xs ys zs (inr h) le =
     record { rest = []; is = append-nil xs ∙ sym h.0.is ∙ ap (λ r. ys ++ r) none ∙ append-nil ys }
 
 pub replies_settled : (p : Profile) (l : Limits) (xs ys : List (List Edit)) (qs : List Query)
-    (r : Result (Vec Reply Global) DeskFault) → Begins xs ys →
+    (r : Result (Vec Reply Global) WorkFault) → Begins xs ys →
     IfOk r (λ rs. AreReplies p l xs 0 qs rs.items) → IfOk r (λ rs. AreReplies p l ys 0 qs rs.items)
 replies_settled p l xs ys qs (Ok rs) b h = replies_later p l xs ys 0 qs rs.items b h
 replies_settled p l xs ys qs (Err f) b h = tt

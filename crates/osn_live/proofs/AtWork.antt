@@ -17,11 +17,17 @@ use Rattle.osn_core.specs.declared.step.Reply.{Reply}
 use Rattle.osn_live.specs.declared.protocol.Origin.{Origin}
 use Rattle.osn_live.specs.declared.work.Worked.{Worked}
 use Rattle.osn_live.specs.declared.work.Works.{Works}
+use Rattle.osn_live.specs.declared.work_fault.WorkFault.{WorkFault}
+use Rattle.osn_live.specs.declared.work_fault.WorkFault.TheVariants as Work
+use Rattle.osn_live.specs.declared.faults.AskFault.{AskFault}
+use Rattle.osn_live.specs.declared.faults.AskFault.TheVariants as Ask
+use Rattle.osn_live.specs.declared.faults.OpenFault.{OpenFault}
+use Rattle.osn_live.specs.declared.faults.OpenFault.TheVariants as Open
 use Rattle.osn_live.specs.declared.faults.DeskFault.{DeskFault}
-use Rattle.osn_live.specs.declared.faults.DeskFault.TheVariants as Desk
-use Rattle.osn_live.specs.Faults.{IsOfGate}
+use Rattle.osn_live.specs.Faults.{IsBadCount, IsDeskFault, IsOfGate}
 use Rattle.osn_live.specs.InsideDesk.{AreStarted, IsFaultAt, IsFaultOf}
-use Rattle.osn_live.specs.InsideWork.{IsPlain}
+use Rattle.osn_live.specs.InsideFaults.{by_ask, by_work, by_open}
+use Rattle.osn_live.specs.InsideWork.{IsOfPassing}
 
 -- ---- lists, and beside them as many values of a vector
 module _ {A B Z : Type 0} where
@@ -97,24 +103,38 @@ module _ {G : Type 0} where
   started_count o (h ∷ hs) [] a = absurd a
 
 -- ---- what is told of a reader that has worked
-plain_at : (lists published : ℕ) (f : DeskFault) → IsPlain f → IsFaultAt lists published f
-plain_at lists published Desk.NoMemory plain = tt
-plain_at lists published (Desk.HistoryBroken reader last editions) plain = absurd plain
-plain_at lists published Desk.BadCount plain = absurd plain
-plain_at lists published Desk.NoPlace plain = tt
-plain_at lists published Desk.GateClosed plain = tt
+pub work_at : (lists published : ℕ) (f : WorkFault) → IsFaultAt lists published (by_work f)
+work_at lists published Work.NoMemory = tt
+work_at lists published Work.NoPlace = tt
+work_at lists published Work.GateClosed = tt
 
-pub fault_at : (who seen published lists : ℕ) (replies : Result (Vec Reply Global) DeskFault)
-    (f : DeskFault) → 1 ≤ who → who ≤ lists → IfErr replies IsPlain →
-    IsFaultOf who seen published replies f → IsFaultAt lists published f
-fault_at who seen published lists replies f one few plain (inl e) =
-    plain_at lists published f (subst (λ r. IfErr r IsPlain) e plain)
-fault_at who seen published lists replies f one few plain (inr e) =
+pub fault_at : (who seen published lists : ℕ) (replies : Result (Vec Reply Global) WorkFault)
+    (f : DeskFault) → 1 ≤ who → who ≤ lists → IsFaultOf who seen published replies f →
+    IsFaultAt lists published f
+fault_at who seen published lists replies f one few (inl e) =
+    subst (IsFaultAt lists published) (sym e.2) (work_at lists published e.0)
+fault_at who seen published lists replies f one few (inr e) =
     subst (IsFaultAt lists published) (sym e.0) (one, few, refl, e.1)
 
 pub gate_at : (passes : Bool) (who seen published : ℕ)
-    (replies : Result (Vec Reply Global) DeskFault) (f : DeskFault) →
-    IfErr replies (IsOfGate passes) → IsFaultOf who seen published replies f → IsOfGate passes f
+    (replies : Result (Vec Reply Global) WorkFault) (f : DeskFault) →
+    IfErr replies (IsOfPassing passes) → IsFaultOf who seen published replies f → IsOfGate passes f
 gate_at passes who seen published replies f told (inl e) =
-    subst (λ r. IfErr r (IsOfGate passes)) e told
+    subst (IsOfGate passes) (sym e.2) (subst (λ r. IfErr r (IsOfPassing passes)) e.1 told)
 gate_at passes who seen published replies f told (inr e) = subst (IsOfGate passes) (sym e.0) tt
+
+-- a reader that finds no place or no memory was turned away by no gate
+pub asked_at : (passes : Bool) (f : AskFault) → IsOfPassing passes (by_ask f)
+asked_at passes Ask.NoMemory = tt
+asked_at passes Ask.NoPlace = tt
+
+pub open_at : (lists published : ℕ) (f : OpenFault) → (f ≡ Open.BadCount → IsBadCount lists) →
+    IsDeskFault lists published (by_open f)
+open_at lists published Open.NoMemory bad = tt
+open_at lists published Open.BadCount bad = bad refl
+open_at lists published Open.NoPlace bad = tt
+
+pub opened_at : (passes : Bool) (f : OpenFault) → IsOfGate passes (by_open f)
+opened_at passes Open.NoMemory = tt
+opened_at passes Open.BadCount = tt
+opened_at passes Open.NoPlace = tt

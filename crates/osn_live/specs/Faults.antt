@@ -31,7 +31,7 @@ desk_fault_name Desk.BadCount = codes "BadCount"
 desk_fault_name Desk.NoPlace = codes "NoPlace"
 desk_fault_name Desk.GateClosed = codes "GateClosed"
 
--- what a fault shows where there are so many lists of questions, and so many editions in the end
+-- what a fault shows, of how many lists of questions and of how many editions in the end
 abbrev pub IsDeskFault : ℕ → ℕ → DeskFault → Type 0
 IsDeskFault lists published Desk.NoMemory = Unit {0}
 IsDeskFault lists published (Desk.HistoryBroken reader last editions) =

@@ -9,11 +9,12 @@ use Rattle.osn_live.specs.declared.faults.DeskFault.{DeskFault}
 use Rattle.osn_live.specs.declared.faults.DeskFault.TheVariants as Desk
 use Rattle.osn_live.specs.declared.protocol.Origin.{Origin}
 use Rattle.osn_live.specs.Faults.{IsOfGate}
+use Rattle.osn_live.specs.InsideFaults.{by_work}
 use Rattle.osn_live.specs.declared.work.Worked.{Worked}
 use Rattle.osn_live.specs.declared.work.Works.{Works}
+use Rattle.osn_live.specs.declared.work_fault.WorkFault.{WorkFault}
 
--- once the count of lists was found good: one of so many readers has another history than that of
--- so many editions
+-- what a fault shows once the count of lists was found good, as IsDeskFault has it
 abbrev pub IsFaultAt : ℕ → ℕ → DeskFault → Type 0
 IsFaultAt lists published Desk.NoMemory = Unit {0}
 IsFaultAt lists published (Desk.HistoryBroken reader last editions) =
@@ -24,9 +25,9 @@ IsFaultAt lists published Desk.GateClosed = Unit {0}
 
 -- what is told of a reader that has worked: its own fault, or its last edition is above those that
 -- were published
-abbrev pub IsFaultOf : ℕ → ℕ → ℕ → Result (Vec Reply Global) DeskFault → DeskFault → Type 0
+abbrev pub IsFaultOf : ℕ → ℕ → ℕ → Result (Vec Reply Global) WorkFault → DeskFault → Type 0
 IsFaultOf who seen published replies fault =
-    (replies ≡ Err fault)
+    ((own : WorkFault) × (replies ≡ Err own) × (fault ≡ by_work own))
     ⊎ ((fault ≡ Desk.HistoryBroken who seen published) × (published < seen))
 
 -- a reader of this origin at work on this list

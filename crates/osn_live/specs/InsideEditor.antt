@@ -1,27 +1,23 @@
 -- How the editor keeps what it stands for.
 use Rattle.std.specs.Prelude.{◌≡◌, Some}
 use Rattle.left_right.specs.Sides.{view}
-use Rattle.osn_days.specs.Profile.{newest_rules}
-use Rattle.osn_core.specs.Sequential.{ObjectState, draft_lands, edits_in}
+use Rattle.osn_core.specs.Draft.{object_of, IsDraftOf}
 use Rattle.osn_live.specs.declared.editor.Editor.TheInside.{Inside}
-use Rattle.osn_live.specs.Running.{EditorState, edition_of, origin_of}
+use Rattle.osn_live.specs.Running.{EditionState, EditorState, edition_of, origin_of}
 
-abbrev pub object_in : Inside → ObjectState
-object_in e = record {
-  limits = e.limits;
-  batches = e.certificate.batches;
-  pending = e.pending.items;
-}
+-- the edition that was published last
+abbrev pub last_edition : Inside → EditionState
+last_edition e = edition_of e.draft.register.limits e.certificate
 
 abbrev pub editor_in : Inside → EditorState
-editor_in e =
-    record { origin = origin_of (edition_of e.limits e.certificate); object = object_in e }
+editor_in e = record {
+  origin = origin_of (last_edition e);
+  object = object_of e.draft e.certificate.batches;
+}
 
--- what readers are shown is what the editor stands for; the draft is the register of all edits
+-- readers are shown the last edition, and the draft is that of its batches
 pub record IsEditing (e : Inside) : Type 0 where
-  pub shown : e.copies.desk.shown.value ≡ edition_of e.limits e.certificate
-  pub known : view e.copies.desk.place ≡ Some (origin_of (edition_of e.limits e.certificate))
+  pub shown : e.copies.desk.shown.value ≡ last_edition e
+  pub known : view e.copies.desk.place ≡ Some (origin_of (last_edition e))
   pub book : e.certificate.book ≡ e.history
-  pub draft : e.draft ≡
-      record { limits = e.limits; lands = draft_lands newest_rules (object_in e) }
-  pub counted : e.edits ≡ edits_in (object_in e)
+  pub draft : IsDraftOf e.draft e.certificate.batches

@@ -2,7 +2,7 @@
 use Rattle.std.specs.Prelude.{◌≡◌, ℕ}
 use Rattle.osn_live.specs.declared.turns.Turns.{Turns}
 
--- of so many items, each ahead of it and then behind it, in order, by the same one
+-- of that many items, each before it and then after it, in order, by the same one
 pub record HasTold {G : Type 0} (old new : Turns G) (items : ℕ) : Type 0 where
   pub gate : new.gate ≡ old.gate
   pub who : new.who ≡ old.who

@@ -10,5 +10,6 @@ pub mod InsideEdition
 pub mod InsideReader
 pub mod InsideEditor
 pub mod InsideTurns
+pub mod InsideFaults
 pub mod InsideWork
 pub mod InsideDesk

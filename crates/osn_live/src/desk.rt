@@ -8,17 +8,18 @@ ghost use Rattle.osn_live.specs.Desk.{AreReplies, AreAll};
 ghost use Rattle.osn_live.specs.Faults.{IsBadCount, IsDeskFault, IsOfGate};
 ghost use Rattle.osn_live.specs.InsideDesk.{IsFaultAt, IsFaultOf, IsOfTheirGate, AreStarted, AreAt};
 ghost use Rattle.osn_live.specs.InsideTurns.{HasTold};
-ghost use Rattle.osn_live.specs.InsideWork.{IsPlain};
+ghost use Rattle.osn_live.specs.InsideWork.{IsOfPassing};
 ghost use Rattle.osn_live.specs.Running.{IsNew};
 
 use crate::editor::Editor;
-use crate::faults::{DeskFault, OpenFault};
+use crate::faults::DeskFault;
 use crate::gate::Gate;
 use crate::note::Note;
 use crate::opening::open;
 use crate::reader::Reader;
 use crate::turns::Turns;
 use crate::work::{Worked, Works, work};
+use crate::work_fault::WorkFault;
 use osn_core::{Command, Reply};
 use osn_register::{Limits, Query};
 use std::alloc::Global;
@@ -35,14 +36,13 @@ fn start_all<'s, E, G: Gate + Sync>(
     gate: &'s G,
     readers: Vec<Reader>,
     lists: &'s [Vec<Query>],
-) -> Result<Vec<Handle<G>>, DeskFault>
+) -> Result<Vec<Handle<G>>, WorkFault>
     requires few { length lists.now ≤ 64 }
     requires count { vec_len readers ≡ length lists.now }
     ensures started { IfOk result (λ hs. (o : Origin) → All (λ r. r.origin ≡ o) readers.items →
         AreStarted o hs.items lists.now) }
     ensures at { IfOk result (λ hs. AreAt gate.now hs.items) }
-    ensures fault { IfErr result IsPlain }
-    ensures gate { IfErr result (IsOfGate (G.is_open gate.now)) }
+    ensures gate { IfErr result (IsOfPassing (G.is_open gate.now)) }
 {
     let mut handles = Vec::new(alloc);
     let mut who = 0u32;
@@ -52,11 +52,9 @@ fn start_all<'s, E, G: Gate + Sync>(
         let Ok(handle) = scope.spawn_with(promise, move || {
             work(alloc, gate, who, reader, list.as_slice())
         }) else {
-            return Err(DeskFault::NoPlace);
+            return Err(WorkFault::NoPlace);
         };
-        let Ok(()) = handles.push(handle) else {
-            return Err(DeskFault::NoMemory);
-        };
+        handles.push(handle)?;
     }
     Ok(handles)
 }
@@ -68,21 +66,18 @@ fn edit_all<R: Wait, G: Gate>(
     turns: &mut Turns<'_, G>,
     editor: &mut Editor,
     commands: &[Command],
-) -> Result<(), DeskFault>
+) -> Result<(), WorkFault>
     requires begun { turns.old.begun ≡ 0 }
     requires ended { turns.old.ended ≡ 0 }
     ensures told { OnOk result (HasTold turns.old turns.new (length commands.now)) }
     ensures origin { editor.new.origin ≡ editor.old.origin }
     ensures ok { OnOk result
         (editor.new.object ≡ script_after newest_rules editor.old.object commands.now) }
-    ensures fault { IfErr result IsPlain }
-    ensures gate { IfErr result (IsOfGate (G.is_open turns.old.gate.now)) }
+    ensures gate { IfErr result (IsOfPassing (G.is_open turns.old.gate.now)) }
 {
     for command in commands {
         turns.begin()?;
-        let Ok(()) = editor.execute(rt, command) else {
-            return Err(DeskFault::NoMemory);
-        };
+        editor.execute(rt, command)?;
         turns.end();
     }
     Ok(())
@@ -114,7 +109,7 @@ fn check_against_note(
         });
     }
     reader.learn(note);
-    replies
+    Ok(replies?)
 }
 
 /// What all readers were told, once each has ended.
@@ -139,14 +134,13 @@ fn collect<R: Threads, G: Gate>(
         who += 1;
         let worked = handle.join(rt);
         let replies = check_against_note(worked, editor.note(), who, list.as_slice())?;
-        let Ok(()) = all.push(replies) else {
-            return Err(DeskFault::NoMemory);
-        };
+        all.push(replies)?;
     }
     Ok(all)
 }
 
 /// The readers, each in its thread, and the editor in this one.
+#[tactic(auto, using(crate::proofs::AtWork::work_at))]
 fn at_desk<'s, E, R: Threads + Wait, G: Gate + Sync>(
     rt: &R,
     scope: &Scope<'s, E>,
@@ -183,6 +177,7 @@ fn at_desk<'s, E, R: Threads + Wait, G: Gate + Sync>(
 /// `BadCount` where the lists are not 1 to 64. Else `NoMemory` where none is found, `NoPlace` where
 /// a reader finds no place or no thread, `GateClosed` where the gate answered false, and
 /// `HistoryBroken` only with the numbers that show it. All threads have ended then.
+#[tactic(auto, using(crate::proofs::AtWork::open_at, crate::proofs::AtWork::opened_at))]
 pub fn run_desk<R: Threads + Wait, G: Gate + Sync>(
     rt: &R,
     alloc: Global,
@@ -202,12 +197,7 @@ pub fn run_desk<R: Threads + Wait, G: Gate + Sync>(
     let Ok(count) = u32::try_from(lists.len()) else {
         return Err(DeskFault::BadCount);
     };
-    let (mut editor, readers) = match open(rt, alloc, limits, count) {
-        Ok(opened) => opened,
-        Err(OpenFault::BadCount) => return Err(DeskFault::BadCount),
-        Err(OpenFault::NoPlace) => return Err(DeskFault::NoPlace),
-        Err(OpenFault::NoMemory) => return Err(DeskFault::NoMemory),
-    };
+    let (mut editor, readers) = open(rt, alloc, limits, count)?;
     let held = &mut editor;
     let all = thread::scope(
         thread::scope_env(),

@@ -1,11 +1,12 @@
+//! The one editor of a running register: it stages edits, and shows readers the editions that it
+//! makes of them.
 ghost use Rattle.std.specs.Prelude.{◌≡◌, ◌+◌, ◌<◌, [], length, drop, IfOk, IfErr, OnOk, OnErr};
 ghost use Rattle.std.specs.Prelude.{MatchResult, Some, None};
 ghost use Rattle.left_right.specs.Sides.{view};
 ghost use Rattle.osn_days.specs.Profile.{newest_rules};
 ghost use Rattle.osn_register.specs.Refusal.{IsTestOf, IsRefusalOrNoMemory};
 ghost use Rattle.osn_core.specs.Sequential.{opened, with_pending, with_edition, stage_refusal};
-ghost use Rattle.osn_core.specs.Sequential.{publish_refusal, draft_lands, stage_after};
-ghost use Rattle.osn_core.specs.Sequential.{publish_after};
+ghost use Rattle.osn_core.specs.Sequential.{publish_refusal, stage_after, publish_after};
 ghost use Rattle.osn_core.specs.Script.{command_after};
 ghost use Rattle.osn_live.specs.Certificate.{none_of};
 ghost use Rattle.osn_live.specs.Faults.{refusal_of};
@@ -19,8 +20,8 @@ use crate::protocol::{FindOrigin, OneOrigin, ShareOrigin, View};
 use crate::reader::Reader;
 use core::mem::replace_with;
 use left_right::writer::Writer;
-use osn_core::Command;
-use osn_register::{Edit, Limits, Refusal, Register};
+use osn_core::{Command, Draft};
+use osn_register::{Edit, Limits, Refusal};
 use std::alloc::{AllocError, Global};
 use std::marker::Model;
 use std::sync::{Arc, Wait};
@@ -36,14 +37,11 @@ pub type Turned = (EditionWriter, Result<(), AllocError>);
 /// It is not `Drop`: end it by `close`.
 pub struct Editor {
     alloc: Global,
-    limits: Limits,
     copies: EditionWriter,
     history: History,
     certificate: Certificate,
-    /// The register of all published and pending edits.
-    draft: Register,
-    pending: Vec<Edit>,
-    edits: u32,
+    /// All edits, published and pending.
+    draft: Draft,
 }
 
 impl Model for Editor {
@@ -108,13 +106,10 @@ impl Editor {
     {
         Editor {
             alloc,
-            limits,
             copies,
             history,
             certificate,
-            draft: Register::new(alloc, limits),
-            pending: Vec::new(alloc),
-            edits: 0,
+            draft: Draft::new(alloc, limits),
         }
     }
 
@@ -126,7 +121,7 @@ impl Editor {
     {
         let mut place = self.copies.factory().reader()?;
         place.learn::<ShareOrigin>(self.copies.tell::<ShareOrigin>());
-        Ok(Reader::new(self.limits, place, self.certificate.again()))
+        Ok(Reader::new(self.draft.limits(), place, self.certificate.again()))
     }
 
     /// A note of what is published.
@@ -134,20 +129,17 @@ impl Editor {
         ensures batches { result.batches ≡ self.now.object.batches }
         ensures origin { result.origin ≡ self.now.origin }
     {
-        Note::new(self.limits, self.certificate.again())
+        Note::new(self.draft.limits(), self.certificate.again())
     }
 
     /// Waits for the readers that are reading, and ends. Readers are told nothing from then on.
     pub fn close<R: Wait>(self, rt: &R) {
         let Editor {
             alloc: _,
-            limits: _,
             copies,
             history: _,
             certificate: _,
             draft: _,
-            pending: _,
-            edits: _,
         } = self;
         copies.take(rt);
     }
@@ -174,22 +166,10 @@ impl Editor {
     }
 
     /// Whether an edit may be staged now.
-    fn check(&self, edit: &Edit) -> Result<(), Refusal>
+    fn check(&self, edit: &Edit) -> Result<u32, Refusal>
         ensures { IsTestOf (stage_refusal newest_rules self.now.object edit.now) result }
     {
-        self.latest().check(edit)?;
-        if self.edits >= self.limits.edits {
-            return Err(Refusal::JournalFull);
-        }
-        Ok(())
-    }
-
-    /// The register of all published and pending edits.
-    fn latest(&self) -> &Register
-        ensures lands { result.now.lands ≡ draft_lands newest_rules self.now.object }
-        ensures limits { result.now.limits ≡ self.now.object.limits }
-    {
-        &self.draft
+        self.draft.check(edit)
     }
 
     /// Stages an edit that `check` has let in.
@@ -200,11 +180,7 @@ impl Editor {
         ensures count { IfOk result (λ n. n ≡ length self.new.object.pending) }
         ensures err { OnErr result (self.new ≡ self.old) }
     {
-        self.pending.reserve(1)?;
-        self.draft.admit(&edit)?;
-        self.pending.push_reserved(edit);
-        self.edits += 1;
-        Ok(self.pending.len() as u32)
+        Ok(self.draft.admit(edit)?)
     }
 }
 
@@ -239,10 +215,10 @@ impl Editor {
             (λ _. publish_refusal self.now.object ≡ None)
             (λ f. publish_refusal self.now.object ≡ Some (refusal_of f)) }
     {
-        if self.pending.is_empty() {
+        if self.draft.pending().is_empty() {
             return Err(PublishFault::NothingPending);
         }
-        if self.certificate.len() >= self.limits.editions {
+        if self.draft.edition() >= self.draft.limits().editions {
             return Err(PublishFault::EditionsFull);
         }
         Ok(())
@@ -257,14 +233,14 @@ impl Editor {
             (self.new ≡ record self.old { object = with_edition self.old.object }) }
         ensures err { OnErr result (self.new ≡ self.old) }
     {
-        let draft = self.draft.copy()?;
-        let Ok(register) = Arc::new(self.alloc, draft) else {
+        let published = self.draft.register().copy()?;
+        let Ok(register) = Arc::new(self.alloc, published) else {
             return Err(AllocError);
         };
-        let Some(certificate) = self.history.add(&self.certificate, &self.pending) else {
+        let Some(certificate) = self.history.add(&self.certificate, self.draft.pending()) else {
             return Err(AllocError);
         };
-        let next = Edition::new(self.limits, register, certificate.again());
+        let next = Edition::new(self.draft.limits(), register, certificate.again());
         let turned = replace_with(
             &mut self.copies,
             (next, rt),
@@ -274,7 +250,7 @@ impl Editor {
         );
         turned?;
         self.certificate = certificate;
-        self.pending = Vec::new(self.alloc);
+        let _published = self.draft.make_edition();
         Ok(())
     }
 }
@@ -302,7 +278,7 @@ impl Editor {
         ensures err { OnErr result (self.new ≡ self.old) }
     {
         match self.check(edit) {
-            Ok(()) => {
+            Ok(_) => {
                 self.admit(edit.copy()?)?;
                 Ok(())
             }

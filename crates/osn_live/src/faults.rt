@@ -1,7 +1,11 @@
 //! How the calls of the running register fail.
 ghost use Rattle.std.specs.Prelude.{◌≡◌};
 ghost use Rattle.osn_live.specs.Faults.{desk_fault_number, desk_fault_name};
+ghost use Rattle.osn_live.specs.InsideFaults.{by_open};
+ghost use Rattle.osn_live.specs.declared.faults.DeskFault.{DeskFault};
+ghost use Rattle.osn_live.specs.declared.faults.OpenFault.{OpenFault};
 
+use std::alloc::{AllocError, AllocFailed};
 use thiserror::Error;
 
 /// Why no register was opened.
@@ -16,6 +20,22 @@ pub enum OpenFault {
     /// A reader found no place.
     #[error("a reader found no place; nothing was opened")]
     NoPlace,
+}
+
+impl From<AllocError> for OpenFault {
+    ghost from_gives = { λ _ given. given ≡ OpenFault.NoMemory };
+
+    fn from(_error: AllocError) -> OpenFault {
+        OpenFault::NoMemory
+    }
+}
+
+impl<T: Drop> From<AllocFailed<T>> for OpenFault {
+    ghost from_gives = { λ _ given. given ≡ OpenFault.NoMemory };
+
+    fn from(_failed: AllocFailed<T>) -> OpenFault {
+        OpenFault::NoMemory
+    }
 }
 
 /// Why nothing was published. What is pending stands.
@@ -96,5 +116,25 @@ impl DeskFault {
             DeskFault::NoPlace => "NoPlace",
             DeskFault::GateClosed => "GateClosed",
         }
+    }
+}
+
+impl From<OpenFault> for DeskFault {
+    ghost from_gives = { λ fault given. given ≡ by_open fault };
+
+    fn from(fault: OpenFault) -> DeskFault {
+        match fault {
+            OpenFault::NoMemory => DeskFault::NoMemory,
+            OpenFault::BadCount => DeskFault::BadCount,
+            OpenFault::NoPlace => DeskFault::NoPlace,
+        }
+    }
+}
+
+impl<T: Drop> From<AllocFailed<T>> for DeskFault {
+    ghost from_gives = { λ _ given. given ≡ DeskFault.NoMemory };
+
+    fn from(_failed: AllocFailed<T>) -> DeskFault {
+        DeskFault::NoMemory
     }
 }

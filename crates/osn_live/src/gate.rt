@@ -1,3 +1,4 @@
+//! What the threads of a desk call around each item.
 ghost use Rattle.std.specs.Prelude.{◌≡◌, Bool, true, false};
 
 /// What the threads of a desk call around each item. `who` is 0 for the editor and 1 upward for the
@@ -6,11 +7,11 @@ pub trait Gate {
     // Whether it is known to let every item pass.
     ghost is_open: { Self → Bool } = { λ _. false };
 
-    /// Called ahead of an item. If it answers false, the desk ends.
+    /// Called before an item. If it answers false, the desk ends.
     fn before(&self, who: u32, index: usize) -> bool
         ensures { is_open self.now ≡ true → result ≡ true };
 
-    /// Called behind an item.
+    /// Called after an item.
     fn after(&self, who: u32, index: usize);
 }
 

@@ -110,7 +110,7 @@ pub fn begin() -> (History, Certificate)
 }
 
 impl History {
-    /// Adds a batch behind those of the certificate, unless there are more of them.
+    /// Adds a batch after those of the certificate, unless the history has more of them.
     pub fn add(&self, known: &Certificate, batch: &Vec<Edit>) -> Option<Certificate>
         requires book { known.now.book ≡ self.now }
         requires room { length known.now.batches + 1 < 2 ^ 32 }

@@ -15,6 +15,7 @@ mod protocol;
 mod reader;
 mod turns;
 mod work;
+mod work_fault;
 
 pub use desk::run_desk;
 pub use editor::Editor;

@@ -1,3 +1,4 @@
+//! What an editor tells a reader of what is published.
 ghost use Rattle.std.specs.Prelude.{◌≡◌, length};
 ghost use Rattle.osn_live.specs.Running.{note_of};
 

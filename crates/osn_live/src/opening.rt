@@ -1,3 +1,4 @@
+//! How a running register is opened: its editor, and a place for each reader.
 ghost use Rattle.std.specs.Prelude.{◌≡◌, ◌<◌, ◌≤◌, [], vec_len, IfOk, IfErr, OnOk, Err};
 ghost use Rattle.std.specs.List.{All};
 ghost use Rattle.osn_core.specs.Sequential.{opened};
@@ -21,9 +22,7 @@ fn start<R: Wait>(rt: &R, alloc: Global, limits: Limits, readers: u32) -> Result
     ensures limits { IfOk result (λ e. e.origin.limits ≡ limits) }
 {
     let (history, certificate) = begin();
-    let Ok(register) = Arc::new(alloc, Register::new(alloc, limits)) else {
-        return Err(AllocError);
-    };
+    let register = Arc::new(alloc, Register::new(alloc, limits))?;
     let first = Edition::new(limits, register, certificate.again());
     let second = first.share()?;
     let third = first.share()?;
@@ -50,9 +49,7 @@ fn places(alloc: Global, editor: &mut Editor, readers: u32) -> Result<Vec<Reader
         let Ok(reader) = editor.reader() else {
             return Err(OpenFault::NoPlace);
         };
-        let Ok(()) = all.push(reader) else {
-            return Err(OpenFault::NoMemory);
-        };
+        all.push(reader)?;
     }
     Ok(all)
 }
@@ -81,9 +78,7 @@ pub fn open<R: Wait>(
     if readers == 0 || readers > MOST_READERS {
         return Err(OpenFault::BadCount);
     }
-    let Ok(mut editor) = start(rt, alloc, limits, readers) else {
-        return Err(OpenFault::NoMemory);
-    };
+    let mut editor = start(rt, alloc, limits, readers)?;
     match places(alloc, &mut editor, readers) {
         Ok(readers) => Ok((editor, readers)),
         Err(fault) => {

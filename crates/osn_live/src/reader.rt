@@ -1,3 +1,4 @@
+//! A reader of a running register: it answers at once, and never from less than it has seen.
 ghost use Rattle.std.specs.Prelude.{◌≡◌, true, length, IfOk, IfErr, OnErr, Some};
 ghost use Rattle.left_right.specs.Sides.{view};
 ghost use Rattle.osn_days.specs.Profile.{newest_rules};

@@ -1,13 +1,12 @@
 //! The calls of a gate around the items of one list.
 ghost use Rattle.std.specs.Prelude.{◌≡◌, ◌+◌, ◌^◌, ◌<◌, IfErr, OnOk};
-ghost use Rattle.osn_live.specs.Faults.{IsOfGate};
-ghost use Rattle.osn_live.specs.InsideWork.{IsPlain};
+ghost use Rattle.osn_live.specs.InsideWork.{IsOfPassing};
 
-use crate::faults::DeskFault;
 use crate::gate::Gate;
+use crate::work_fault::WorkFault;
 
 /// How far one who works through a list is with telling a gate of it: how many items it was told of
-/// ahead of them, and how many behind them.
+/// before them, and how many after them.
 #[derive(Drop)]
 pub struct Turns<'a, G> {
     pub gate: &'a G,
@@ -32,23 +31,22 @@ impl<'a, G: Gate> Turns<'a, G> {
         }
     }
 
-    /// Tells the gate of the next item, ahead of it.
-    pub fn begin(&mut self) -> Result<(), DeskFault>
+    /// Tells the gate of the next item, before it.
+    pub fn begin(&mut self) -> Result<(), WorkFault>
         requires between { self.old.begun ≡ self.old.ended }
         requires few { self.old.begun + 1 < 2 ^ 64 }
         ensures ok { OnOk result
             (self.new ≡ record self.old { begun = self.old.begun + 1 }) }
-        ensures fault { IfErr result IsPlain }
-        ensures gate { IfErr result (IsOfGate (G.is_open self.old.gate.now)) }
+        ensures gate { IfErr result (IsOfPassing (G.is_open self.old.gate.now)) }
     {
         if !self.gate.before(self.who, self.begun) {
-            return Err(DeskFault::GateClosed);
+            return Err(WorkFault::GateClosed);
         }
         self.begun += 1;
         Ok(())
     }
 
-    /// Tells the gate of the item that was begun, behind it.
+    /// Tells the gate of the item that was begun, after it.
     pub fn end(&mut self)
         requires { self.old.begun ≡ self.old.ended + 1 }
         ensures { self.new ≡ record self.old { ended = self.old.ended + 1 } }

@@ -1,17 +1,14 @@
 //! A reader at work through a list of questions.
-ghost use Rattle.std.specs.Prelude.{◌≡◌, Bool, length, IfOk, IfErr, OnOk};
+ghost use Rattle.std.specs.Prelude.{◌≡◌, length, IfOk, IfErr, OnOk};
 ghost use Rattle.osn_days.specs.Profile.{newest_rules};
-ghost use Rattle.osn_core.specs.Sequential.{reply_at};
-ghost use Rattle.osn_live.specs.Batches.{Begins};
 ghost use Rattle.osn_live.specs.Desk.{AreReplies};
-ghost use Rattle.osn_live.specs.Faults.{IsOfGate};
-ghost use Rattle.osn_live.specs.InsideWork.{IsPlain, IsWork};
+ghost use Rattle.osn_live.specs.InsideWork.{IsOfPassing, IsWork};
 ghost use Rattle.osn_live.specs.InsideTurns.{HasTold};
 
-use crate::faults::{AskFault, DeskFault};
 use crate::gate::Gate;
 use crate::reader::Reader;
 use crate::turns::Turns;
+use crate::work_fault::WorkFault;
 use osn_core::Reply;
 use osn_register::Query;
 use std::alloc::Global;
@@ -22,7 +19,7 @@ use std::thread::Promise;
 #[derive(Drop)]
 pub struct Worked {
     pub reader: Reader,
-    pub replies: Result<Vec<Reply>, DeskFault>,
+    pub replies: Result<Vec<Reply>, WorkFault>,
 }
 
 /// What a reader is started with, in proofs alone: what it gives back is its work on that.
@@ -49,44 +46,26 @@ impl<G> Works<G> {
     }
 }
 
-fn answer_one(reader: &mut Reader, question: &Query) -> Result<Reply, DeskFault>
-    ensures origin { reader.new.origin ≡ reader.old.origin }
-    ensures seen { Begins reader.old.seen reader.new.seen }
-    ensures value { IfOk result
-        (λ r. r ≡ reply_at newest_rules reader.new.origin.limits reader.new.seen question.now) }
-    ensures fault { IfErr result IsPlain }
-    ensures gate { IfErr result (λ f. (passes : Bool) → IsOfGate passes f) }
-{
-    match reader.ask(question) {
-        Ok(reply) => Ok(reply),
-        Err(AskFault::NoMemory) => Err(DeskFault::NoMemory),
-        Err(AskFault::NoPlace) => Err(DeskFault::NoPlace),
-    }
-}
-
 /// Asks all questions in order, each between the two calls of its turn.
 fn answer_all<G: Gate>(
     alloc: Global,
     turns: &mut Turns<'_, G>,
     reader: &mut Reader,
     questions: &[Query],
-) -> Result<Vec<Reply>, DeskFault>
+) -> Result<Vec<Reply>, WorkFault>
     requires begun { turns.old.begun ≡ 0 }
     requires ended { turns.old.ended ≡ 0 }
     ensures told { OnOk result (HasTold turns.old turns.new (length questions.now)) }
     ensures origin { reader.new.origin ≡ reader.old.origin }
     ensures replies { IfOk result (λ rs.
         AreReplies newest_rules reader.old.origin.limits reader.new.seen 0 questions.now rs.items) }
-    ensures fault { IfErr result IsPlain }
-    ensures gate { IfErr result (IsOfGate (G.is_open turns.old.gate.now)) }
+    ensures gate { IfErr result (IsOfPassing (G.is_open turns.old.gate.now)) }
 {
     let mut replies = Vec::new(alloc);
     for question in questions {
         turns.begin()?;
-        let reply = answer_one(reader, question)?;
-        let Ok(()) = replies.push(reply) else {
-            return Err(DeskFault::NoMemory);
-        };
+        let reply = reader.ask(question)?;
+        replies.push(reply)?;
         turns.end();
     }
     Ok(replies)

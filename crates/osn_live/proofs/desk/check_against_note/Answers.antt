@@ -1,4 +1,4 @@
-use Rattle.std.proofs.Common.{◌≤◌, length, arith}
+use Rattle.std.proofs.Common.{◌≤◌, length, arith, rules}
 use Rattle.osn_days.specs.Profile.{newest_rules}
 use Rattle.osn_live.proofs.Answered.{later_first, replies_settled}
 use Rattle.osn_live.proofs.desk.check_against_note.Goals as goal
@@ -14,5 +14,6 @@ returns-clause-replies c =
       c.edition-editions.ensures,
       c.if-last-editions.false,
     ) in
-    replies_settled newest_rules c.args.note.origin.limits xs ys c.args.questions.now
-    c.args.worked.replies (later_first xs ys _ c.learn.ensures.later le) c.requires.replies
+    let settled = replies_settled newest_rules c.args.note.origin.limits xs ys c.args.questions.now
+    c.args.worked.replies (later_first xs ys _ c.learn.ensures.later le) c.requires.replies in
+    search (rules, settled)

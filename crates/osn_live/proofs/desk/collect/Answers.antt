@@ -1,6 +1,6 @@
 use Rattle.std.proofs.Common.{◌≡◌, length, rules, arith, subst, IfErr}
 use Rattle.std.proofs.lemmas.List.Elements.{All-head, All-tail}
-use Rattle.osn_live.specs.Faults.{IsOfGate}
+use Rattle.osn_live.specs.InsideWork.{IsOfPassing}
 use Rattle.osn_live.specs.InsideDesk.{AreAt, IsOfTheirGate}
 use Rattle.osn_days.specs.Profile.{newest_rules}
 use Rattle.osn_live.specs.Desk.{AreReplies, AreAll}
@@ -35,7 +35,7 @@ loop-list-preserved g c =
           (subst (AreAt gate) step.1 (loop.invariant.gates gate all));
       started = started_rest origin _ _ _ _ c.in-Some.handle list.now step.1 step.0
           loop.invariant.started;
-      replies = rw c.in-Ok.ensures.items (one_done (AreAll newest_rules origin.limits batches)
+      replies = rw c.in_ok-push.ensures.items (one_done (AreAll newest_rules origin.limits batches)
           c.args.lists.now _ _ list.now loop.all.items told step.0 (λ more rest. (one, rest))
           loop.invariant.replies);
     }
@@ -56,7 +56,7 @@ returns-in_err-replies-clause-fault g c =
     c.in-Some.is c.next.ensures.steps in
     let few = is_one_of loop.who _ list.now _ _ step.0 loop.invariant.lists in
     let told = fault_at _ _ _ (length c.args.lists.now) _ _ (omega arith) few
-    c.join-worked.ensures.fault c.in_err-replies.ensures.fault in
+    c.in_err-replies.ensures.fault in
     search (rules, told)
 
 pub returns-in_err-replies-clause-gate : goal.returns-in_err-replies-clause-gate
@@ -71,7 +71,7 @@ returns-in_err-replies-clause-gate g c =
           let at = All-head (λ h. h.promise.2.value ≡ gate) handle _
           (subst (AreAt gate) step.1 (loop.invariant.gates gate all)) in
           gate_at (g.G.Gate.is_open gate) _ _ _ _ _
-          (subst (λ x. IfErr c.join-worked.result.replies (IsOfGate (g.G.Gate.is_open x))) at
+          (subst (λ x. IfErr c.join-worked.result.replies (IsOfPassing (g.G.Gate.is_open x))) at
           c.join-worked.ensures.gate) c.in_err-replies.ensures.fault;
     } in
     search (rules, told)

@@ -29,11 +29,11 @@ loop-list-preserved g c =
                 ∙ c.of-promise.ensures.questions;
           } in (
             All-tail P reader _ left,
-            rw c.in-Ok-push.ensures.items (one_done (λ ls hs. AreStarted o hs ls) c.args.lists.now
+            rw c.in_ok-push.ensures.items (one_done (λ ls hs. AreStarted o hs ls) c.args.lists.now
                 _ _ list.now loop.handles.items c.in-Ok.handle step.0 (λ hs rest. (one, rest))
                 inv.1),
           );
-      gates = rw c.in-Ok-push.ensures.items (All-push (λ h. h.promise.2.value ≡ c.args.gate.now)
+      gates = rw c.in_ok-push.ensures.items (All-push (λ h. h.promise.2.value ≡ c.args.gate.now)
           loop.handles.items c.in-Ok.handle loop.invariant.gates
           (ap (λ (p : Works g.row.G.Denot). p.2.value) c.in-Ok.ensures.ok
           ∙ c.of-promise.ensures.gate));

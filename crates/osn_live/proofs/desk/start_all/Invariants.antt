@@ -10,7 +10,7 @@ use Rattle.osn_live.specs.declared.work.Works.{Works}
 use Rattle.osn_live.specs.InsideDesk.{AreStarted, AreAt}
 use Rattle.osn_live.proofs.desk.start_all.Given as goal
 
--- those that are started, and behind them those for the lists that are left
+-- those that are started, and after them those for the lists that are left
 abbrev pub invariant-loop-list : goal.invariant-loop-list
 invariant-loop-list g l = record {
   few : l.who + length (iter_rest (zip_first l.list-iterator)) ≤ 64;

@@ -2,37 +2,36 @@ use Rattle.std.proofs.Common.{rules, ◌≡◌, [], ◌∷◌, ◌++◌, List, a
 use Rattle.osn_days.specs.Profile.{newest_rules}
 use Rattle.osn_register.specs.declared.edit.Edit.{Edit}
 use Rattle.osn_register.specs.Plain.{LandModel}
-use Rattle.osn_core.specs.Sequential.{ObjectState, lands_of, draft_lands, edits_in, with_edition}
-use Rattle.osn_core.proofs.Draft.{draft_shown, draft_published, edits_published}
+use Rattle.osn_core.specs.Draft.{object_of, IsDraftOf}
+use Rattle.osn_core.proofs.DraftFacts.{draft_shown, edition_made}
 use Rattle.osn_live.specs.Certificate.{CertificateState}
-use Rattle.osn_live.specs.InsideEditor.{object_in}
 use Rattle.osn_live.proofs.editor.Editor.make_edition.Goals as goal
 
 pub new-next-requires : goal.new-next-requires
 new-next-requires g c =
-    let limits = c.self.inside.limits in
-    let lands = draft_shown newest_rules (object_in c.self.inside)
-    ∙ ap (λ (k : CertificateState). lands_of newest_rules limits k.batches)
-    (sym (c.again.ensures ∙ c.in-Some.ensures)) in
-    c.in-Ok.ensures.ok ∙ c.in_ok-draft.ensures.value ∙ c.self.invariant.draft
-    ∙ ap (λ (ls : List LandModel). record { limits = limits; lands = ls }) lands
+    let d = c.self.inside.draft in
+    let batches = c.self.inside.certificate.batches in
+    let now : c.in-Some.certificate.batches ≡ batches ++ d.pending ∷ [] =
+    ap (λ (k : CertificateState). k.batches) c.in-Some.ensures
+    ∙ ap (λ (es : List Edit). batches ++ es ∷ []) c.pending.ensures in
+    rw (c.limits.ensures, c.again.ensures, now) (c.in-Ok.ensures.ok
+    ∙ c.in_ok-published.ensures.value
+    ∙ c.register.ensures
+    ∙ ap (λ (ls : List LandModel). record { limits = d.register.limits; lands = ls })
+    (c.self.invariant.draft.lands ∙ draft_shown newest_rules (object_of d batches)))
 
 pub invariant_of-self-2 : goal.invariant_of-self-2
 invariant_of-self-2 g c =
-    let limits = c.self.inside.limits in
-    let old = object_in c.self.inside in
-    let object : List (List Edit) → List Edit → ObjectState =
-    λ bs es. record { limits = limits; batches = bs; pending = es } in
-    let now : object c.in-Some.certificate.batches c.new-2.result.items ≡ with_edition old =
-    ap (λ bs. object bs c.new-2.result.items)
-    (ap (λ (k : CertificateState). k.batches) c.in-Some.ensures)
-    ∙ ap (object (old.batches ++ old.pending ∷ [])) c.new-2.ensures.items in
+    let d = c.self.inside.draft in
+    let batches = c.self.inside.certificate.batches in
+    let now : c.in-Some.certificate.batches ≡ batches ++ d.pending ∷ [] =
+    ap (λ (k : CertificateState). k.batches) c.in-Some.ensures
+    ∙ ap (λ (es : List Edit). batches ++ es ∷ []) c.pending.ensures in
+    let draft : IsDraftOf c.make_edition-published.new.self c.in-Some.certificate.batches =
+    rw (c.make_edition-published.ensures.after, now) (edition_made d batches c.self.invariant.draft) in
     record {
       shown = search rules;
       known = search rules;
       book = search rules;
-      draft = c.self.invariant.draft
-          ∙ ap (λ (ls : List LandModel). record { limits = limits; lands = ls })
-          (draft_published newest_rules old ∙ ap (draft_lands newest_rules) (sym now));
-      counted = c.self.invariant.counted ∙ edits_published old ∙ ap edits_in (sym now);
+      draft = draft;
     }
