@@ -1,7 +1,7 @@
 //! The command `letters`.
 ghost use Rattle.std.specs.Prelude.{◌≡◌, Err, IfErr, IfOk, is_some, option_map, string_bytes};
 ghost use Rattle.osn_days.specs.Profile.{newest_rules};
-ghost use Rattle.osn_letters.specs.Columns.{names_of, weekday_text, is_required};
+ghost use Rattle.osn_letters.specs.Columns.{names_of, weekday_name, is_required};
 ghost use Rattle.osn_commands.specs.Letters as spec;
 ghost use Rattle.osn_commands.specs.Streams.{input_of, output_of};
 ghost use Rattle.osn_commands.specs.Told.{TellsLine};
@@ -35,7 +35,7 @@ fn asked_separator(word: Option<&str>) -> Result<Option<Separator>, Misuse>
 
 /// The name of the column of weekdays: one that is named has to be there.
 fn weekday_column<'a>(name: Option<&'a str>) -> WeekdayName<'a>
-    ensures text { weekday_text result
+    ensures text { weekday_name result
         ≡ spec.weekday_column (option_map (λ name. name.now) name.entry) }
     ensures required { is_required result ≡ is_some name.entry }
 {
