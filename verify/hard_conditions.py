@@ -99,8 +99,7 @@ def try_outputs():
 
 
 def try_input():
-    """Standard input that fails: nothing is saved. Where it is closed, the first file that is
-    opened takes its number, and once that is read the input has ended."""
+    """Standard input that fails, or is closed: nothing is saved."""
     for words in ["", SAVING]:
         with filled() as folder:
             before = held(folder)
@@ -113,9 +112,7 @@ def try_input():
         told = run(folder, "", stdin=None, preexec_fn=lambda: os.close(0))
         hold("input closed", "", (told, held(folder)), (READ_FAULT, before))
         told = run(folder, SAVING, stdin=None, preexec_fn=lambda: os.close(0))
-        closed = held(folder)
-        empty = run(folder, SAVING, stdin=subprocess.DEVNULL)
-        hold("input closed", SAVING, (told, closed), (empty, held(folder)))
+        hold("input closed", SAVING, (told, held(folder)), (READ_FAULT, before))
 
 
 # ---- files

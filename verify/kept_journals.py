@@ -163,7 +163,7 @@ def try_stop(path, number, known, rest):
         hold(f"stop {number}: {compact(request)} is told {reply}", is_taken == ("ok" in reply))
     hold(f"stop {number}: {errors!r} is told", errors == "" or rest and errors == cut_line(known))
     hold(f"stop {number}: {rest!r} is not told", errors != "" or not rest or not replies)
-    lines = held_after(path, number, known, accepted, told)
+    lines = held_after(path, number, (known, rest), accepted, told)
     return (*cut_anywhere(path, chance, lines), len(replies))
 
 
@@ -178,8 +178,10 @@ def editor_of(known, seed):
     return editor
 
 
-def held_after(path, number, known, accepted, told):
-    """The lines that the file holds after a stop, held against what was told."""
+def held_after(path, number, before, accepted, told):
+    """The lines that the file holds after a stop, held against what it held before and what was
+    told. A run that is stopped at once has not cut off what was not finished before it."""
+    known = before[0]
     if not os.path.exists(path):
         hold(f"stop {number}: {told} were told, and there is no file", told == 0)
         return known
@@ -188,7 +190,8 @@ def held_after(path, number, known, accepted, told):
     hold(f"stop {number}: {told} told, {more} held", told <= more <= len(accepted) or not lines)
     wanted = (known or [HEAD]) + accepted
     hold(f"stop {number}: other lines", lines == wanted[:len(lines)])
-    hold(f"stop {number}: {rest!r} is no front of the next line", is_front(rest, wanted, lines))
+    hold(f"stop {number}: {rest!r} is no front of the next line",
+         is_front(rest, wanted, lines) or (lines, rest) == before)
     hold(f"stop {number}: its lines are not loaded", not lines or is_loaded(path, lines))
     return lines
 

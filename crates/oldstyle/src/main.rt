@@ -4,17 +4,32 @@
 use osn_commands::{run, tell_no_words};
 use osn_folder::Disk;
 use osn_lines::Plain;
+use std::fs::{File, OpenOptions};
 use std::io::IsTerminal;
+use std::os::fd::{AsRawFd, RawFd};
 use std::process::ExitCode;
 use std::rt::Env;
-use std::{env, io};
+use std::{env, fs, io};
 
 /// The arguments of the command line, of which the first is the program's name.
 fn given_args(rt: &(impl Env + AllocGlobal)) -> io::Result<Vec<String>> {
     Ok(env::args(rt)?.collect(rt.alloc())?)
 }
 
+/// A file that was opened in the place of a closed standard stream: it has that stream's number.
+fn in_place(opened: io::Result<File>, number: RawFd) -> Option<File> {
+    match opened {
+        Ok(file) if file.as_raw_fd() == number => Some(file),
+        _ => None,
+    }
+}
+
 fn main(rt: HostRuntime) -> ExitCode {
+    // A file takes the first number that is free. Where a standard stream is closed, one stands in
+    // its place that can't be read, or not be written, so that no reply goes to a journal.
+    let _input = in_place(OpenOptions::new().write(true).open(&rt, "/dev/null"), 0);
+    let _output = in_place(fs::open(&rt, "/dev/null"), 1);
+    let _errors = in_place(fs::open(&rt, "/dev/null"), 2);
     let mut input = Plain::new(rt.reader());
     let mut output = Plain::new(io::writer(&rt));
     let mut errors = Plain::new(rt.stderr());

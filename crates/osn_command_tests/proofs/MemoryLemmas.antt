@@ -28,9 +28,14 @@ module _ {Z : Type 0} (old new : List (String Z × Option (String Z))) (name : S
   pub becomes : (opened : List (String Z)) (path : List ℕ) → string_bytes name ≡ path →
       Becomes path (option_map string_bytes text) (known_of old opened) (known_of new opened)
   becomes opened path same = (
-    refl,
+    (
+      refl,
+      refl,
+      λ other apart. last other
+          ∙ ap (λ b. cond b (option_map string_bytes text) (holds old other))
+          (differ (string_bytes name) other (λ e. apart (e ∙ same))),
+    ),
     last path ∙ ap (λ b. cond b (option_map string_bytes text) (holds old path))
         ((bytes_eq-Decides (string_bytes name) path).1 same),
-    λ other apart. last other ∙ ap (λ b. cond b (option_map string_bytes text) (holds old other))
-        (differ (string_bytes name) other (λ e. apart (e ∙ same))),
+    refl,
   )

@@ -1,7 +1,7 @@
 -- What a folder in memory holds.
 use Rattle.std.specs.Prelude.{ℕ, false, List, map, fold, bytes_eq, string_bytes, if◌then◌else◌}
 use Rattle.std.specs.Prelude.{Option, None, option_map, String}
-use Rattle.osn_folder.specs.Folder.{Known}
+use Rattle.osn_folder.specs.Folder.{Known, Paths}
 
 -- what a path was left with by a change, and by changes in turn: a text, or nothing
 abbrev pub left_by : {Z : Type 0} → List ℕ → Option (List ℕ) → String Z × Option (String Z)
@@ -12,11 +12,20 @@ left_by path left change =
 abbrev pub holds : {Z : Type 0} → List (String Z × Option (String Z)) → List ℕ → Option (List ℕ)
 holds changes path = fold (left_by path) None changes
 
--- what is known of a folder with no links and no pipes, after these changes and openings
+-- the paths of a folder with no links and no pipes, which no one else changes
+abbrev pub plain_paths : Paths
+plain_paths = record {
+  place = λ path. path;
+  is_stream = λ _. false;
+  is_held = λ _. false;
+  is_changed = λ _. false;
+}
+
+-- what is known of such a folder, after these changes and openings
 abbrev pub known_of : {Z : Type 0} → List (String Z × Option (String Z)) → List (String Z) → Known
 known_of changes opened = record {
   at = holds changes;
   opened = map string_bytes opened;
-  place = λ path. path;
-  is_stream = λ _. false;
+  paths = plain_paths;
+  has_failed = false;
 }

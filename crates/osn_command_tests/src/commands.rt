@@ -6,6 +6,7 @@ use osn_commands::{ServeResult, Status, run, serve_command, tell_no_words};
 use osn_folder::{Disk, Folder};
 use osn_lines::Plain;
 use osn_register::Limits;
+use osn_service::ServeRules;
 use osn_test_texts::joined;
 use std::alloc::Global;
 use std::io::{ErrorKind, Read, Write};
@@ -93,7 +94,7 @@ fn served(alloc: Global, journal: Option<&str>, requests: &str) -> (Left, Option
         alloc,
         Limits::standard(),
         &mut source,
-        8,
+        ServeRules::editing(8),
         true,
         &mut input,
         &mut output,
@@ -168,7 +169,7 @@ fn streams_that_fail(rt: HostRuntime) -> Result<(), Fail> {
         alloc,
         Limits::standard(),
         &mut failing,
-        8,
+        ServeRules::editing(8),
         true,
         &mut input,
         &mut sink(alloc),
@@ -188,7 +189,7 @@ fn streams_that_fail(rt: HostRuntime) -> Result<(), Fail> {
         alloc,
         Limits::standard(),
         &mut none,
-        8,
+        ServeRules::editing(8),
         true,
         &mut input,
         &mut output,

@@ -31,9 +31,9 @@ const NOTHING: &str = "{\"op\":\"publish\"}\n";
 
 const REFUSED: &str = "{\"fault\":15,\"name\":\"NothingPending\"}\n";
 
-/// What takes no journal: a full device, a folder, a path in no folder, one whose unfinished file
-/// can't be made. And a service that ends early saves nothing.
-const UNSAVED: [RunRow; 5] = [
+/// What takes no journal: a full device, a folder, a path in no folder. And a service that ends
+/// early saves nothing.
+const UNSAVED: [RunRow; 4] = [
     (
         "oldstyle serve --save /dev/full",
         NOTHING,
@@ -50,11 +50,6 @@ const UNSAVED: [RunRow; 5] = [
         (3, REFUSED, "oldstyle: write fault\n"),
     ),
     (
-        "oldstyle serve --journal a.journal --save kept.journal",
-        NOTHING,
-        (3, REFUSED, "oldstyle: write fault\n"),
-    ),
-    (
         "oldstyle serve --journal gone.journal --save a.journal",
         NOTHING,
         (3, "", "oldstyle: read fault\n"),
@@ -65,11 +60,9 @@ const UNSAVED: [RunRow; 5] = [
 fn what_cannot_be_saved(rt: HostRuntime) -> Result<(), Fail> {
     let folder = entered(&rt, "unsaved", &HELD)?;
     fs::create_dir(&rt, "folder")?;
-    fs::create_dir(&rt, "kept.journal.unfinished")?;
     are_run(&rt, &UNSAVED)?;
     has_text(&rt, "a.journal", OLD)?;
-    same(&rt, fs::read_to_string(&rt, "kept.journal")?.as_str(), OLD);
-    same(&rt, fs::read_dir(&rt, ".")?.count(), 4);
+    same(&rt, fs::read_dir(&rt, ".")?.count(), 3);
     fs::remove_dir_all(&rt, folder.as_path())?;
     Ok(())
 }
@@ -88,12 +81,12 @@ const ASTRAY: [RunRow; 2] = [
     (
         "oldstyle serve --save astray.journal",
         "",
-        (3, "", "oldstyle: write fault\n"),
+        (3, "", "oldstyle: read fault\n"),
     ),
     (
         "oldstyle serve --save round.journal",
         "",
-        (3, "", "oldstyle: write fault\n"),
+        (3, "", "oldstyle: read fault\n"),
     ),
 ];
 

@@ -170,20 +170,23 @@ Answers request lines on standard input, as the program does without a command
 Usage: oldstyle serve [OPTIONS]
 
 Options:
-      --journal <FILE>   The journal to begin with; without it there are no territories
-      --save <FILE>      Where the journal is saved at the end of the input, unless a fault ended \
-the run
-      --keep <FILE>      The journal to begin with, to which each change is appended while the \
+      --journal <FILE>      The journal to begin with; without it there are no territories
+      --save <FILE>         Where the journal is saved at the end of the input, unless a fault \
+ended the run
+      --keep <FILE>         The journal to begin with, to which each change is appended while the \
 service runs
-      --readers <N>      How many readers ask, 1 to 64 [default: 8]
-      --limits <LIMITS>  The most that the register holds, as lands=5000,changes=200
-  -h, --help             Print help
+      --readers <N>         How many readers ask, 1 to 64 [default: 8]
+      --read-only...        Refuses each edit and each publish by 45 ReadOnly
+      --stop-at-refusal...  Ends after the first line that is refused, and saves nothing then
+      --limits <LIMITS>     The most that the register holds, as lands=5000,changes=200
+  -h, --help                Print help
 
 Example:
   ./oldstyle serve --journal examples/samples.journal --save new.journal < examples/added.jsonl
 
 Requests and replies are JSON lines. With --save, the journal is saved only if all lines were
-answered. With --keep, each change is in the journal before its reply is written.
+answered. With --keep, each change is in the journal before its reply is written. With
+--stop-at-refusal, a batch of edits is published whole or not at all.
 ";
 
 const REPLAY: &str = "Takes the steps of one editor and of readers, and prints what each gives

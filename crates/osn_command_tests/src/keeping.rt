@@ -3,7 +3,7 @@
 use crate::commands::{RunRow, are_run};
 use crate::compare::same;
 use crate::files::{File, SAVED, entered};
-use osn_folder::{Disk, Folder};
+use osn_folder::{Disk, Folder, KeptFile, KeptFileFault, SaveFault, save_file};
 use osn_test_texts::joined;
 use std::fs;
 use std::process::Abort;
@@ -13,7 +13,7 @@ use std::test::Fail;
 use std::thread::Threads;
 
 /// A run that keeps the file of a path, and what the file holds then.
-type Row = (RunRow, &'static str, &'static str);
+pub type Row = (RunRow, &'static str, &'static str);
 
 const HEAD: &str = "{\"journal\":2}\n";
 
@@ -239,7 +239,7 @@ const NOWHERE: [RunRow; 2] = [
     ),
 ];
 
-fn are_kept<R: Files<File = fs::File> + Threads + Wait + AllocGlobal + Abort>(
+pub fn are_kept<R: Files<File = fs::File> + Threads + Wait + AllocGlobal + Abort>(
     rt: &R,
     rows: &[Row],
 ) -> Result<(), Fail> {
@@ -271,9 +271,18 @@ fn what_is_not_kept_is_left_as_it_was(rt: HostRuntime) -> Result<(), Fail> {
 }
 
 /// While a run keeps the journal.
-const HELD: [RunRow; 2] = [
+const HELD: [RunRow; 3] = [
     (
         "oldstyle serve --keep rome.journal",
+        ADDED,
+        (
+            3,
+            "",
+            "oldstyle: another run of the program keeps that journal\n",
+        ),
+    ),
+    (
+        "oldstyle serve --journal rome.journal --save rome.journal",
         ADDED,
         (
             3,
@@ -294,6 +303,41 @@ fn one_run_keeps_a_journal_and_any_reads_it(rt: HostRuntime) -> Result<(), Fail>
     let kept = Disk::new(&rt).keep("rome.journal");
     are_run(&rt, &HELD)?;
     assert!(&rt; kept.is_ok());
+    drop(kept);
+    fs::remove_dir_all(&rt, folder.as_path())?;
+    Ok(())
+}
+
+/// That a file holds this text.
+fn is_held<R: Files<File = fs::File> + AllocGlobal + Abort>(
+    rt: &R,
+    path: &str,
+    text: &str,
+) -> Result<(), Fail> {
+    same(rt, fs::read_to_string(rt, path)?.as_str(), text);
+    Ok(())
+}
+
+#[test]
+fn what_another_program_did_is_told(rt: HostRuntime) -> Result<(), Fail> {
+    let folder = entered(&rt, "disturbed", &FILES)?;
+    let mut disk = Disk::new(&rt);
+    let (mut kept, _) = disk.keep("rome.journal").expect(&rt, "nobody keeps it");
+    let lock = disk
+        .lock_to_save("new.journal")
+        .expect(&rt, "nobody saves to it");
+    fs::rename(&rt, "rome.journal", "moved.journal")?;
+    fs::write(&rt, "new.journal", LETTER)?;
+    fs::write(&rt, "new.journal.unfinished", LETTER)?;
+    same(&rt, kept.append(HEAD.as_bytes()), Ok(()));
+    same(&rt, kept.sync(), Err(KeptFileFault::Replaced));
+    let saved = save_file(&mut disk, rt.alloc(), lock, "new.journal", None, KEPT);
+    let place = fs::canonicalize(&rt, "new.journal")?.into_string();
+    let beside = format!(in rt.alloc(); "{place}.unfinished-2")?;
+    same(&rt, saved, Err(SaveFault::Changed(beside)));
+    is_held(&rt, "new.journal", LETTER)?;
+    is_held(&rt, "new.journal.unfinished", LETTER)?;
+    is_held(&rt, "new.journal.unfinished-2", KEPT)?;
     drop(kept);
     fs::remove_dir_all(&rt, folder.as_path())?;
     Ok(())

@@ -1,12 +1,13 @@
 //! A journal that is kept while lines are served, in a file in memory.
-ghost use Rattle.std.specs.Prelude.{◌≡◌, IfOk, Some};
+ghost use Rattle.std.specs.Prelude.{◌≡◌, Err, IfOk, Some};
 
 use crate::compare::same;
 use osn_core::Object;
-use osn_folder::{ChangeFailed, KeptFile};
+use osn_folder::{KeptFile, KeptFileFault};
+use osn_journal::serve_kept;
 use osn_lines::{Interrupted, Plain};
 use osn_register::Limits;
-use osn_service::{KeptFault, serve_kept};
+use osn_service::{ServeRules, ServiceFault};
 use osn_test_texts::joined;
 use osn_wire::head_line;
 use std::alloc::{AllocError, Global};
@@ -21,6 +22,7 @@ pub struct MemoryFile {
     pub contents: Vec<u8>,
     pub synced: Vec<u8>,
     pub appends: u32,
+    pub fault: Option<KeptFileFault>,
 }
 
 /// The same bytes.
@@ -32,34 +34,49 @@ fn copy(alloc: Global, bytes: &[u8]) -> Result<Vec<u8>, AllocError>
     Ok(copy)
 }
 
+impl MemoryFile {
+    /// Remembers that a change failed, for this reason.
+    fn fail(&mut self, fault: KeptFileFault) -> Result<(), KeptFileFault>
+        ensures told { result ≡ Err fault }
+        ensures fault { self.new.fault ≡ Some fault }
+        ensures contents { self.new.contents ≡ self.old.contents }
+        ensures synced { self.new.synced ≡ self.old.synced }
+    {
+        self.fault = Some(fault);
+        Err(fault)
+    }
+}
+
 impl KeptFile for MemoryFile {
     ghost contents = { λ f. Some f.contents.items };
 
     ghost synced = { λ f. Some f.synced.items };
 
-    fn append(&mut self, bytes: &[u8]) -> Result<(), ChangeFailed> {
+    ghost fault = { λ f. f.fault };
+
+    fn append(&mut self, bytes: &[u8]) -> Result<(), KeptFileFault> {
         if self.appends == 0 {
-            return Err(ChangeFailed);
+            return self.fail(KeptFileFault::ChangeFailed);
         }
         self.appends -= 1;
         match self.contents.extend_from_slice(bytes) {
             Ok(()) => Ok(()),
-            Err(_) => Err(ChangeFailed),
+            Err(_) => self.fail(KeptFileFault::ChangeFailed),
         }
     }
 
-    fn cut(&mut self, length: u64) -> Result<(), ChangeFailed> {
+    fn cut(&mut self, length: u64) -> Result<(), KeptFileFault> {
         self.contents.truncate(length as usize);
         Ok(())
     }
 
-    fn sync(&mut self) -> Result<(), ChangeFailed> {
+    fn sync(&mut self) -> Result<(), KeptFileFault> {
         match copy(self.alloc, &self.contents) {
             Ok(synced) => {
                 self.synced = synced;
                 Ok(())
             }
-            Err(_) => Err(ChangeFailed),
+            Err(_) => self.fail(KeptFileFault::ChangeFailed),
         }
     }
 }
@@ -86,14 +103,22 @@ const KEPT: [&str; 4] = [
     "{\"code\":\"RM\",\"day\":547610,\"op\":\"add_exception\",\"year\":1500}\n",
 ];
 
+const FAILED: ServiceFault<KeptFileFault> = ServiceFault::NotKept(KeptFileFault::ChangeFailed);
+
 /// A file that takes so many appends: what comes of the lines; so many replies are written, and the
 /// file holds so many lines, of which so many are on the disk.
-type Row = (u32, Result<u64, (u64, KeptFault)>, usize, usize, usize);
+type Row = (
+    u32,
+    Result<u64, (u64, ServiceFault<KeptFileFault>)>,
+    usize,
+    usize,
+    usize,
+);
 
 const ROWS: [Row; 3] = [
     (9, Ok(4), 4, 4, 3),
-    (2, Err((3, KeptFault::KeepFault)), 3, 3, 3),
-    (0, Err((0, KeptFault::KeepFault)), 0, 1, 1),
+    (2, Err((3, FAILED)), 3, 3, 3),
+    (0, Err((0, FAILED)), 0, 1, 1),
 ];
 
 /// That bytes are these texts, one after another.
@@ -116,12 +141,23 @@ fn a_journal_is_kept(rt: HostRuntime) -> Result<(), Fail> {
             contents: head_line(alloc, 64)?,
             synced: head_line(alloc, 64)?,
             appends,
+            fault: None,
         };
         let mut object = Object::new(alloc, Limits::standard());
         let mut output = Plain::new(Vec::new(alloc));
         let mut input = Plain::new(lines.as_bytes());
-        let served = serve_kept(alloc, &mut object, 8, &mut input, &mut output, &mut file);
-        let served = served.map_err(|Interrupted { lines, cause }| (lines, cause));
+        let rules = ServeRules::editing(8);
+        let served = serve_kept(
+            alloc,
+            &mut object,
+            rules,
+            &mut input,
+            &mut output,
+            &mut file,
+        );
+        let served = served
+            .map(|done| done.lines)
+            .map_err(|Interrupted { lines, cause }| (lines, cause));
         same(&rt, served, wanted);
         are_texts(&rt, alloc, &output.into_inner(), &REPLIES[..replies])?;
         are_texts(&rt, alloc, &file.contents, &KEPT[..held])?;

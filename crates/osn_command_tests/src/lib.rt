@@ -39,6 +39,8 @@ mod printed;
 #[cfg(test)]
 mod readings;
 #[cfg(test)]
+mod refusals;
+#[cfg(test)]
 mod territory_pages;
 #[cfg(test)]
 mod written_dates;

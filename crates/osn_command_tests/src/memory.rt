@@ -9,7 +9,7 @@ use crate::compare::same;
 use crate::files::{ADDED, File, NAMED, NOTED, RUNS, SAVED};
 use crate::kept::MemoryFile;
 use crate::printed::is_left;
-use osn_folder::{ChangeFailed, Folder, KeepFault, OpenFailed, SaveFault};
+use osn_folder::{ChangeFailed, Folder, KeepFault, MoveFault, OpenFailed, SaveFault};
 use osn_lines::Plain;
 use osn_test_texts::joined;
 use std::alloc::{AllocError, Global};
@@ -83,10 +83,16 @@ impl<'a, R: Abort + AllocGlobal> MemoryFolder<'a, R> {
     }
 }
 
+/// The lock of a file in memory, which no one else has.
+#[derive(Drop)]
+pub struct MemoryLock;
+
 impl<R: Abort + AllocGlobal> Folder for MemoryFolder<'_, R> {
     type File = Plain<Cursor<String>>;
 
     type Kept = MemoryFile;
+
+    type Lock = MemoryLock;
 
     ghost known = { λ f. Some (known_of f.changes.items f.opened.items) };
 
@@ -99,20 +105,27 @@ impl<R: Abort + AllocGlobal> Folder for MemoryFolder<'_, R> {
         }
     }
 
-    fn keep(&mut self, path: &str) -> Result<MemoryFile, KeepFault> {
+    fn keep(&mut self, path: &str) -> Result<(MemoryFile, Plain<Cursor<String>>), KeepFault> {
         let held = self
             .copy(path)
             .unwrap_or_else(|| String::new(self.rt.alloc()));
         self.leave(path, Some(owned(self.rt, held.as_str())));
-        Ok(MemoryFile {
+        let given = owned(self.rt, held.as_str());
+        let kept = MemoryFile {
             alloc: self.rt.alloc(),
             contents: held.into_bytes(),
             synced: Vec::new(self.rt.alloc()),
             appends: u32::MAX,
-        })
+            fault: None,
+        };
+        Ok((kept, Plain::new(Cursor::new(given))))
     }
 
-    fn place(&self, alloc: Global, path: &str) -> Result<String, SaveFault> {
+    fn lock_to_save(&mut self, _path: &str) -> Result<MemoryLock, KeepFault> {
+        Ok(MemoryLock)
+    }
+
+    fn place(&mut self, alloc: Global, path: &str) -> Result<String, SaveFault> {
         Ok(String::from_str(alloc, path)?)
     }
 
@@ -121,20 +134,44 @@ impl<R: Abort + AllocGlobal> Folder for MemoryFolder<'_, R> {
     }
 
     fn write_stream(&mut self, path: &str, text: &str) -> Result<(), ChangeFailed> {
-        self.write(path, path, text)
-    }
-
-    fn write(&mut self, path: &str, _other: &str, text: &str) -> Result<(), ChangeFailed> {
         self.leave(path, Some(owned(self.rt, text)));
         Ok(())
     }
 
-    fn rename(&mut self, from: &str, to: &str) -> Result<(), ChangeFailed> {
-        let Some(text) = self.copy(from) else {
-            return Err(ChangeFailed);
-        };
+    fn write_beside(
+        &mut self,
+        alloc: Global,
+        place: &str,
+        text: &str,
+    ) -> Result<String, SaveFault> {
+        let path = format!(in alloc; "{place}.unfinished")?;
+        if self.text(path.as_str()).is_some() {
+            self.rt.panic("a file is beside the place");
+        }
+        self.leave(path.as_str(), Some(owned(self.rt, text)));
+        Ok(path)
+    }
+
+    fn holds(
+        &mut self,
+        _lock: &MemoryLock,
+        place: &str,
+        bytes: &[u8],
+    ) -> Result<bool, ChangeFailed> {
+        match self.text(place) {
+            Some(text) => Ok(text.as_bytes() == bytes),
+            None => Ok(false),
+        }
+    }
+
+    fn replace(&mut self, _lock: MemoryLock, from: &str, place: &str) -> Result<(), MoveFault> {
+        let text = self.copy(from);
         self.leave(from, None);
-        self.leave(to, Some(text));
+        self.leave(place, text);
+        Ok(())
+    }
+
+    fn sync_name(&mut self, _path: &str) -> Result<(), ChangeFailed> {
         Ok(())
     }
 

@@ -1,5 +1,6 @@
 -- What a command makes of a file is what the file's reader says.
-use Rattle.std.proofs.Common.{◌≡◌, ℕ, Bool, List, Option, Result, Err, IfErr, subst, sym}
+use Rattle.std.proofs.Common.{◌≡◌, ℕ, Bool, List, Option, Some, None, Result, Err, IfErr, IfSome}
+use Rattle.std.proofs.Common.{refl, subst, sym}
 use Rattle.std.specs.Result.{IsErrAnd}
 use Rattle.std.proofs.lemmas.Result.{err_from_is_err_and}
 use Rattle.osn_files.specs.Files.{ReadsFile}
@@ -41,3 +42,20 @@ made_fault {role = role} {rule = rule} {remaining = remaining} {has_failed = has
     if_err_made r made (λ e is.
     subst (IsFileFault role rule (input_of remaining has_failed old new)) (sym is)
     (file_fault fault h))
+
+-- a fact of bytes that are known
+pub known_bytes : (bytes : Option (List ℕ)) (held : List ℕ) (P : List ℕ → Type 0)
+    → bytes ≡ Some held → IfSome bytes P → P held
+known_bytes bytes held P known h = subst (λ (x : Option (List ℕ)). IfSome x P) known h
+
+-- a fact of bytes that may be known, of those that were read
+pub read_bytes : (bytes : Option (List ℕ)) (read : List ℕ) (P : List ℕ → Type 0)
+    → IfSome bytes (λ held. read ≡ held) → P read → IfSome bytes P
+read_bytes None read P is h = tt
+read_bytes (Some held) read P is h = subst P is h
+
+-- a fact of bytes that may be known, of any
+pub any_bytes : (bytes : Option (List ℕ)) (P : List ℕ → Type 0)
+    → ((held : List ℕ) → bytes ≡ Some held → P held) → IfSome bytes P
+any_bytes None P h = tt
+any_bytes (Some held) P h = h held refl

@@ -8,4 +8,5 @@ pub mod RunLemmas
 pub mod LimitsLemmas
 pub mod KeptFileLemmas
 pub mod KeepingLemmas
+pub mod ServingLemmas
 pub mod PageLemmas

@@ -1,13 +1,11 @@
 -- A command whose refusal was told as want of memory did what its contract says of that.
 use Rattle.std.proofs.Common.{◌≡◌, ℕ, Bool, List, Option, Some, None, Result, Ok, Err}
 use Rattle.std.proofs.Common.{codes, ◌++◌, IfOk, OnErr, IfSome, refl, sym, subst, ◌∙◌, inl, inr}
-use Rattle.osn_days.specs.Profile.{Profile}
-use Rattle.osn_folder.specs.declared.fault.SaveFault.{SaveFault}
-use Rattle.osn_folder.specs.declared.fault.SaveFault.TheVariants as save_faults
+use Rattle.osn_days.specs.Profile.{Profile, newest_rules}
 use Rattle.osn_register.specs.declared.limits.Limits.{Limits}
-use Rattle.osn_commands.specs.Fault.{fault_status, fault_line, refusal_end, by_save}
+use Rattle.osn_service.specs.declared.rules.ServeRules.{ServeRules}
+use Rattle.osn_commands.specs.Fault.{fault_status, fault_line, refusal_end}
 use Rattle.osn_commands.specs.Journal.{HasNoObject}
-use Rattle.osn_commands.specs.Run.{Finishes}
 use Rattle.osn_commands.specs.Serving.{Serves}
 use Rattle.osn_commands.specs.Streams.{Output}
 use Rattle.osn_commands.specs.Told.{IsToldAs, WritesLine, EndsBy, Tells}
@@ -17,6 +15,7 @@ use Rattle.osn_commands.specs.declared.fault.CommandFault.TheVariants.{ReadFault
 use Rattle.osn_commands.specs.declared.fault.CommandFault.TheVariants.{NoMemory}
 use Rattle.osn_commands.specs.declared.fault.CommandFault.TheVariants.{KeptWithOther}
 use Rattle.osn_commands.specs.declared.fault.CommandFault.TheVariants.{KeptElsewhere, OlderVersion}
+use Rattle.osn_commands.specs.declared.fault.CommandFault.TheVariants.{KeptReplaced, RefusedLine}
 use Rattle.osn_commands.specs.declared.status.Status.{Status}
 use Rattle.osn_commands.specs.declared.status.Status.TheVariants as statuses
 
@@ -62,49 +61,45 @@ no_object_told : (p : Profile) (limits : Limits) (begun : Option (Option (List �
 no_object_told p limits None failed fault h = h
 no_object_told p limits (Some journal) failed fault h = tt
 
--- that a journal could not be saved was told as itself, or as want of memory
-pub finishes_told : (e : Output) (status : Status) (fault : SaveFault)
-    → Tells e (by_save fault) status → Finishes e status
-finishes_told e status fault (told, inl is, h) =
-    (fault, subst (λ f. EndsBy e (Some f) status) is h)
-finishes_told e status fault (told, inr k, h) =
-    (save_faults.NoMemory, subst (λ f. EndsBy e (Some f) status) k.1 h)
-
--- the service of a journal that was refused
-pub serves_told : (p : Profile) (limits : Limits) (readers : ℕ) (begun : Option (Option (List ℕ)))
+-- the service of a journal that was refused, or that ended at a refused line
+pub serves_told : (limits : Limits) (rules : ServeRules) (begun : Option (Option (List ℕ)))
     (failed saves : Bool) (o : Output) (input : List ℕ) (unread : Bool)
     (journal : Option (List ℕ)) (fault told : CommandFault)
     → IsToldAs fault told
-    → Serves p limits readers begun failed saves o input unread journal (Some fault)
-    → Serves p limits readers begun failed saves o input unread journal (Some told)
-serves_told p l n b u v o input r j fault told (inl e) h =
-    subst (λ f. Serves p l n b u v o input r j (Some f)) (sym e) h
-serves_told p l n b u v o input r j fault told (inr k) (none, inl h) =
-    subst (λ f. Serves p l n b u v o input r j (Some f)) (sym k.1)
-    (none, inl (no_object_told p l b u fault h.0, h.1))
-serves_told p l n b u v o input r j (BadLine role line why) told (inr k) (none, inr h) =
+    → Serves limits rules begun failed saves o input unread journal (Some fault)
+    → Serves limits rules begun failed saves o input unread journal (Some told)
+serves_told l n b u v o input r j fault told (inl e) h =
+    subst (λ f. Serves l n b u v o input r j (Some f)) (sym e) h
+serves_told l n b u v o input r j fault told (inr k) (none, inl h) =
+    subst (λ f. Serves l n b u v o input r j (Some f)) (sym k.1)
+    (none, inl (no_object_told newest_rules l b u fault h.0, h.1))
+serves_told l n b u v o input r j (BadLine role line why) told (inr k) (none, inr h) =
     absurd h.2
-serves_told p l n b u v o input r j (Refused refusal) told (inr k) (none, inr h) = absurd h.2
-serves_told p l n b u v o input r j (Desk desk) told (inr k) (none, inr h) = absurd h.2
-serves_told p l n b u v o input r j KeptWithOther told (inr k) (none, inr h) = absurd h.2
-serves_told p l n b u v o input r j KeptElsewhere told (inr k) (none, inr h) = absurd h.2
-serves_told p l n b u v o input r j (OlderVersion version) told (inr k) (none, inr h) = absurd h.2
-serves_told p l n b u v o input r j ReadFault told (inr k) (none, inr h) =
+serves_told l n b u v o input r j (Refused refusal) told (inr k) (none, inr h) = absurd h.2
+serves_told l n b u v o input r j (Desk desk) told (inr k) (none, inr h) = absurd h.2
+serves_told l n b u v o input r j KeptWithOther told (inr k) (none, inr h) = absurd h.2
+serves_told l n b u v o input r j KeptElsewhere told (inr k) (none, inr h) = absurd h.2
+serves_told l n b u v o input r j KeptReplaced told (inr k) (none, inr h) = absurd h.2
+serves_told l n b u v o input r j (OlderVersion version) told (inr k) (none, inr h) = absurd h.2
+serves_told l n b u v o input r j (RefusedLine line) told (inr k) (none, inr (s, begins, h)) =
+    subst (λ f. Serves l n b u v o input r j (Some f)) (sym k.1)
+    (none, inr (s, begins, (line, h.0, λ asked. inr h.1.1)))
+serves_told l n b u v o input r j ReadFault told (inr k) (none, inr h) =
     absurd (read_is_no_refusal k.0)
-serves_told p l n b u v o input r j WriteFault told (inr k) (none, inr h) =
+serves_told l n b u v o input r j WriteFault told (inr k) (none, inr h) =
     absurd (write_is_no_refusal k.0)
-serves_told p l n b u v o input r j NoMemory told (inr k) (none, inr h) =
+serves_told l n b u v o input r j NoMemory told (inr k) (none, inr h) =
     absurd (memory_is_no_refusal k.0)
 
 -- the same for an input that may be known
-pub serves_known : (p : Profile) (limits : Limits) (readers : ℕ) (begun : Option (Option (List ℕ)))
+pub serves_known : (limits : Limits) (rules : ServeRules) (begun : Option (Option (List ℕ)))
     (failed saves : Bool) (o : Output) (input : Option (List ℕ)) (unread : Bool)
     (journal : Option (List ℕ)) (fault told : CommandFault)
     → IsToldAs fault told
     → IfSome input (λ bytes.
-    Serves p limits readers begun failed saves o bytes unread journal (Some fault))
+    Serves limits rules begun failed saves o bytes unread journal (Some fault))
     → IfSome input (λ bytes.
-    Serves p limits readers begun failed saves o bytes unread journal (Some told))
-serves_known p limits readers begun failed saves o None r journal fault told k h = tt
-serves_known p limits readers begun failed saves o (Some bytes) r journal fault told k h =
-    serves_told p limits readers begun failed saves o bytes r journal fault told k h
+    Serves limits rules begun failed saves o bytes unread journal (Some told))
+serves_known limits rules begun failed saves o None r journal fault told k h = tt
+serves_known limits rules begun failed saves o (Some bytes) r journal fault told k h =
+    serves_told limits rules begun failed saves o bytes r journal fault told k h

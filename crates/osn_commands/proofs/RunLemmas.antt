@@ -1,27 +1,29 @@
 -- A run of the program did what its contract says of that.
 use Rattle.std.proofs.Common.{◌≡◌, ◌≢◌, ◌⊎◌, ◌&&◌, ◌||◌, ℕ, Bool, true, false, List, Option, Some}
 use Rattle.std.proofs.Common.{None, Result, OnErr}
-use Rattle.std.proofs.Common.{IfSome, is_some, option_map, ap, refl, sym, subst, inl, inr}
+use Rattle.std.proofs.Common.{IfSome, is_some, option_map, ap, refl, sym, subst, inl, inr, ◌∙◌}
 use Rattle.std.specs.Option.{option_map_or}
 use Rattle.clap.specs.Words.{HasKind, fault_of, kind_of}
 use Rattle.clap.specs.declared.error.Error.{Error}
 use Rattle.clap.specs.declared.error.kind.ErrorKind.{ErrorKind}
 use Rattle.clap.specs.declared.error.kind.ErrorKind.TheVariants.{OutOfMemory}
-use Rattle.osn_days.specs.Profile.{newest_rules}
 use Rattle.osn_register.specs.declared.limits.Limits.{Limits}
-use Rattle.osn_folder.specs.Folder.{Known, Changes, IsFileIf, MayFail, Opens, Saves, Leaves}
+use Rattle.osn_folder.specs.Folder.{Known, Changes, IsFileIf, MayFail, Opens, Saves, CannotSave}
 use Rattle.osn_folder.specs.Folder.{CannotOpen, path_if}
 use Rattle.osn_folder.specs.declared.fault.KeepFault.{KeepFault}
 use Rattle.osn_folder.specs.declared.fault.KeepFault.TheVariants as keep_faults
+use Rattle.osn_folder.specs.declared.fault.SaveFault.{SaveFault}
 use Rattle.osn_invocation.specs.Grammar.{command_line}
-use Rattle.osn_invocation.specs.Invocation.{command_model, serving}
+use Rattle.osn_invocation.specs.Invocation.{ServiceModel, command_model, serving}
 use Rattle.osn_invocation.specs.declared.invocation.CommandWords.{CommandWords}
+use Rattle.osn_service.specs.declared.rules.ServeRules.{ServeRules}
 use Rattle.osn_commands.proofs.ReportLemmas.{read_is_no_refusal}
-use Rattle.osn_commands.specs.Fault.{by_keep, by_save, fault_status}
+use Rattle.osn_commands.specs.Fault.{by_keep, fault_status}
 use Rattle.osn_commands.specs.Printing.{EndsPrinting}
-use Rattle.osn_commands.specs.Run.{Folders, EndsSaving, Finishes, RunsService, Runs, IsHelp}
+use Rattle.osn_commands.specs.Run.{Folders, EndsSaving, RunsService, Runs, IsHelp}
 use Rattle.osn_commands.specs.Run.{ShowsOrEnds, RunsArgs, RunsServing, EndsKeeping, EndsFirst}
-use Rattle.osn_commands.specs.Run.{files_of}
+use Rattle.osn_commands.specs.Run.{files_of, rules_of}
+use Rattle.osn_commands.specs.Saving.{LocksIf, TellsUnsaved}
 use Rattle.osn_commands.specs.Serving.{Serves}
 use Rattle.osn_commands.specs.Streams.{Input, Output}
 use Rattle.osn_commands.specs.Told.{EndsBy, Tells}
@@ -56,7 +58,7 @@ told_of contents has_failed old new = record {
   unwritten = has_failed new;
 }
 
--- how a run of the service ended, behind the journal that was saved or not
+-- how a run of the service ended, after the journal that was saved or not
 module _ {E D J P : Type 0} (contents : E → Option (List ℕ)) (has_failed : E → Bool)
     (known : D → Option Known) (bytes : J → List ℕ) (now : P → List ℕ) (old : Option (List ℕ))
     (mid new : E) (opened after : D) (was is : Status) (served : Option CommandFault) where
@@ -73,29 +75,37 @@ module _ {E D J P : Type 0} (contents : E → Option (List ℕ)) (has_failed : E
       → (is_some save && is_some journal ≡ false → (is ≡ was) × (new ≡ mid) × (after ≡ opened))
       → IfSome save (λ path. IfSome journal (λ text.
       ((is ≡ was) × (new ≡ mid)
-      × Changes (Saves (now path) (bytes text)) (known opened) (known after))
-      ⊎ (Changes (Leaves (now path)) (known opened) (known after)
-      × Finishes (told_of contents has_failed (contents mid) new) is)))
-      → (ending : Option CommandFault) × EndsBy (told_of contents has_failed old new) ending is
-      × EndsSaving (option_map now save) (option_map bytes journal) (known opened) (known after)
-      served ending
+      × Changes (Saves (now path) None (bytes text)) (known opened) (known after))
+      ⊎ ((fault : SaveFault)
+      × Changes (CannotSave (now path) None (bytes text) fault) (known opened) (known after)
+      × TellsUnsaved (told_of contents has_failed (contents mid) new) fault is)))
+      → EndsSaving (option_map now save) (option_map bytes journal) (known opened) (known after)
+      served (told_of contents has_failed old new) is
   served_ends None journal h left unsaved saved =
-      let same = unsaved refl in
-      (served, as_before h same.0 same.1, (refl, ap known same.2))
+      let same = unsaved refl in (as_before h same.0 same.1, ap known same.2)
   served_ends (Some path) None h left unsaved saved =
-      let same = unsaved refl in
-      (served, as_before h same.0 same.1, (refl, ap known same.2))
+      let same = unsaved refl in (as_before h same.0 same.1, ap known same.2)
   served_ends (Some path) (Some text) h left unsaved (inl saved) =
-      (served, as_before h saved.0 saved.1, inl (refl, saved.2))
+      inl (as_before h saved.0 saved.1, saved.2)
   served_ends (Some path) (Some text) h (inl none) unsaved (inr told) =
       let all = subst (λ s. EndsBy (told_of contents has_failed old mid) s was) none h in
-      let fault = told.1 in (
-        Some (by_save fault.0),
-        subst (λ c. EndsBy (told_of contents has_failed c new) (Some (by_save fault.0)) is) all.1
-            fault.1,
-        inr (told.0, fault.0, refl),
+      inr (
+        told.0,
+        told.1,
+        subst (λ c. TellsUnsaved (told_of contents has_failed c new) told.0 is) all.1 told.2,
       )
   served_ends (Some path) (Some text) h (inr none) unsaved (inr told) = absurd (cc)
+
+-- a file that could not be opened once another was locked
+pub locked_first : (save : Option (List ℕ)) (paths : List (List ℕ))
+    (before locked after : Option Known) → LocksIf save before locked
+    → CannotOpen paths locked after → CannotOpen paths before after
+locked_first None paths before locked after same h =
+    subst (λ k. CannotOpen paths k after) same h
+locked_first (Some path) paths None locked after lock h = (h.0, tt)
+locked_first (Some path) paths (Some k) None after lock h = absurd lock
+locked_first (Some path) paths (Some k) (Some m) after lock h =
+    subst (λ n. CannotOpen paths (Some n) after) lock.0 h
 
 -- where no journal is left in one form, none is in another
 pub none_left : {A B : Type 0} (f : A → B) (served : Option CommandFault) (journal : Option A)
@@ -104,19 +114,19 @@ none_left f served journal (inl none) = inl none
 none_left f served journal (inr none) = inr (ap (option_map f) none)
 
 -- the service was run with these files
-pub service_ran : (limits : Limits) (journal save : Option (List ℕ)) (kept : Bool) (readers : ℕ)
-    (CanFail : Bool → Type 0) (d : Folders) (i : Input) (o : Output) (opened : Option Known)
-    (begun : Option (Option (List ℕ))) (failed : Bool) (left : Option (List ℕ))
-    (served ending : Option CommandFault)
-    → kept ≡ is_some save → IsFileIf d.before journal begun → CanFail failed
+pub service_ran : (limits : Limits) (journal save found : Option (List ℕ)) (kept : Bool)
+    (given rules : ServeRules) (CanFail : Bool → Type 0) (d : Folders) (i : Input) (o e : Output)
+    (status : Status) (opened : Option Known) (begun : Option (Option (List ℕ))) (failed : Bool)
+    (left : Option (List ℕ)) (served : Option CommandFault)
+    → found ≡ save → kept ≡ is_some found → given ≡ rules
+    → IsFileIf d.before journal begun → CanFail failed
     → (served ≡ None) ⊎ (left ≡ None)
-    → IfSome i.bytes (λ input. Serves newest_rules limits readers begun failed kept o input
-    i.unread left served)
+    → IfSome i.bytes (λ input. Serves limits given begun failed kept o input i.unread left served)
     → Changes (Opens (path_if journal)) d.before opened
-    → EndsSaving save left opened d.after served ending
-    → RunsService limits journal save readers CanFail d i o ending
-service_ran limits journal save kept readers CanFail d i o opened begun failed left served ending
-    same is may none h opens saved = (
+    → EndsSaving found left opened d.after served e status
+    → RunsService limits journal save rules CanFail d i o e status
+service_ran limits journal save found kept given rules CanFail d i o e status opened begun failed
+    left served named same by is may none h opens saved = (
       begun,
       is,
       failed,
@@ -124,11 +134,13 @@ service_ran limits journal save kept readers CanFail d i o opened begun failed l
       left,
       served,
       none,
-      subst (λ s. IfSome i.bytes (λ input. Serves newest_rules limits readers begun failed
-          s o input i.unread left served)) same h,
+      subst (λ s. IfSome i.bytes (λ input. Serves limits rules begun failed s o input i.unread left
+          served)) (same ∙ ap is_some named)
+          (subst (λ r. IfSome i.bytes (λ input. Serves limits r begun failed kept o input i.unread
+          left served)) by h),
       opened,
       opens,
-      saved,
+      subst (λ s. EndsSaving s left opened d.after served e status) named saved,
     )
 
 -- help is no want of memory
@@ -160,43 +172,44 @@ shown_ran args error CanFail d i o e status (inr among) same (inr shown) =
 -- ---- the service by its options
 
 -- the service was run by these options
-pub served_by : (limits : Limits) (journal save given found : Option (List ℕ)) (readers : ℕ)
-    (CanFail : Bool → Type 0) (d : Folders) (i : Input) (o e : Output) (status : Status)
-    → given ≡ found → RunsServing limits journal save found readers CanFail d i o e status
-    → RunsServing limits journal save given readers CanFail d i o e status
-served_by limits journal save given found readers CanFail d i o e status is h =
-    subst (λ k. RunsServing limits journal save k readers CanFail d i o e status) (sym is) h
+pub served_by : (limits : Limits) (journal save given found : Option (List ℕ))
+    (service : ServiceModel) (CanFail : Bool → Type 0) (d : Folders) (i : Input) (o e : Output)
+    (status : Status)
+    → given ≡ found → RunsServing limits journal save found service CanFail d i o e status
+    → RunsServing limits journal save given service CanFail d i o e status
+served_by limits journal save given found service CanFail d i o e status is h =
+    subst (λ k. RunsServing limits journal save k service CanFail d i o e status) (sym is) h
 
 -- where none is kept, the journal is the file that could not be opened
 pub unserved_by : {T E : Type 0} (result : Result T E) (journal save given : Option (List ℕ))
-    (readers : ℕ) (before after : Option Known) (P Q : Type 0) → given ≡ None
+    (service : ServiceModel) (before after : Option Known) (P Q : Type 0) → given ≡ None
     → OnErr result (CannotOpen (path_if journal) before after × P × Q)
-    → OnErr result (CannotOpen (files_of (serving journal save given readers)) before after × P × Q)
-unserved_by {T} {E} result journal save given readers before after P Q is h =
+    → OnErr result (CannotOpen (files_of (serving journal save given service)) before after × P × Q)
+unserved_by {T} {E} result journal save given service before after P Q is h =
     subst (λ k. OnErr result
-    (CannotOpen (files_of (serving journal save k readers)) before after × P × Q)) (sym is) h
+    (CannotOpen (files_of (serving journal save k service)) before after × P × Q)) (sym is) h
 
 -- a journal that is kept goes with no other
 module _ {P : Type 0} (now : P → List ℕ) (limits : Limits) where
-  pub misused_with : (journal save : Option P) (path : List ℕ) (readers : ℕ)
+  pub misused_with : (journal save : Option P) (path : List ℕ) (service : ServiceModel)
       (CanFail : Bool → Type 0) (d : Folders) (i : Input) (o e : Output) (status : Status)
       → (is_some journal || is_some save) ≡ true
       → (d.after ≡ d.before) × EndsFirst KeptWithOther o e status
-      → RunsServing limits (option_map now journal) (option_map now save) (Some path) readers
+      → RunsServing limits (option_map now journal) (option_map now save) (Some path) service
       CanFail d i o e status
-  misused_with None None path readers CanFail d i o e status given h = absurd (cc)
-  misused_with None (Some save) path readers CanFail d i o e status given h = h
-  misused_with (Some journal) save path readers CanFail d i o e status given h = h
+  misused_with None None path service CanFail d i o e status given h = absurd (cc)
+  misused_with None (Some save) path service CanFail d i o e status given h = h
+  misused_with (Some journal) save path service CanFail d i o e status given h = h
 
-  pub kept_alone : (journal save : Option P) (path : List ℕ) (readers : ℕ)
+  pub kept_alone : (journal save : Option P) (path : List ℕ) (service : ServiceModel)
       (CanFail : Bool → Type 0) (d : Folders) (i : Input) (o e : Output) (status : Status)
       → (is_some journal || is_some save) ≡ false
-      → EndsKeeping limits path readers CanFail d i o e status
-      → RunsServing limits (option_map now journal) (option_map now save) (Some path) readers
+      → EndsKeeping limits path (rules_of service) CanFail d i o e status
+      → RunsServing limits (option_map now journal) (option_map now save) (Some path) service
       CanFail d i o e status
-  kept_alone None None path readers CanFail d i o e status given h = h
-  kept_alone None (Some save) path readers CanFail d i o e status given h = absurd (cc)
-  kept_alone (Some journal) save path readers CanFail d i o e status given h = absurd (cc)
+  kept_alone None None path service CanFail d i o e status given h = h
+  kept_alone None (Some save) path service CanFail d i o e status given h = absurd (cc)
+  kept_alone (Some journal) save path service CanFail d i o e status given h = absurd (cc)
 
 -- what is no refusal was told as itself, before a command began
 pub first_told : (fault : CommandFault) (o e : Output) (status : Status)

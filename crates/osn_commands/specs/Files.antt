@@ -10,6 +10,7 @@ use Rattle.osn_commands.specs.declared.fault.CommandFault.TheVariants.{ReadFault
 use Rattle.osn_commands.specs.declared.fault.CommandFault.TheVariants.{NoMemory}
 use Rattle.osn_commands.specs.declared.fault.CommandFault.TheVariants.{KeptWithOther}
 use Rattle.osn_commands.specs.declared.fault.CommandFault.TheVariants.{KeptElsewhere, OlderVersion}
+use Rattle.osn_commands.specs.declared.fault.CommandFault.TheVariants.{KeptReplaced, RefusedLine}
 use Rattle.osn_commands.specs.Streams.{Input}
 
 -- what the rule makes of the file, where its bytes are known
@@ -26,7 +27,9 @@ IsFileFault role rule file (Refused refusal) = ⊥
 IsFileFault role rule file (Desk fault) = ⊥
 IsFileFault role rule file KeptWithOther = ⊥
 IsFileFault role rule file KeptElsewhere = ⊥
+IsFileFault role rule file KeptReplaced = ⊥
 IsFileFault role rule file (OlderVersion version) = ⊥
+IsFileFault role rule file (RefusedLine at) = ⊥
 IsFileFault role rule file ReadFault = IsReadFault file.unread file.bytes
 IsFileFault role rule file WriteFault = ⊥
 IsFileFault role rule file NoMemory = ⊤

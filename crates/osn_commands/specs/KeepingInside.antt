@@ -1,45 +1,27 @@
 -- What the parts of a service have done that keeps a file.
-use Rattle.std.specs.Prelude.{◌≡◌, ℕ, Bool, List, ◌++◌, take, Option, Some, Ok}
+use Rattle.std.specs.Prelude.{◌≡◌, ℕ, Bool, List, ◌++◌, take, Option, Some, IfSome}
 use Rattle.osn_days.specs.Profile.{Profile}
 use Rattle.osn_register.specs.declared.limits.Limits.{Limits}
 use Rattle.osn_core.specs.Sequential.{ObjectState}
-use Rattle.osn_format.specs.declared.version.Version.{Version}
 use Rattle.osn_files.specs.WholePart.{IsWholePart, whole_bytes}
 use Rattle.osn_files.specs.declared.whole_lines.WholePart.{WholePart}
-use Rattle.osn_commands.specs.Keeping.{kept_object, kept_text, missing_text, unfinished_line}
-use Rattle.osn_commands.specs.Keeping.{SaysVersion, HoldsObject, HoldsNoObject, KeptState}
+use Rattle.osn_service.specs.declared.rules.ServeRules.{ServeRules}
+use Rattle.osn_journal.specs.Kept.{FileState}
+use Rattle.osn_commands.specs.Keeping.{kept_text, missing_text, unfinished_line}
+use Rattle.osn_commands.specs.Keeping.{HoldsObject, HoldsNoObject, ready_file}
 use Rattle.osn_commands.specs.Keeping.{AnswersKept, AnswersKeptUntil, IsLeft}
 use Rattle.osn_commands.specs.Streams.{Input, Output}
 use Rattle.osn_commands.specs.declared.fault.CommandFault.{CommandFault}
 
--- this object is the one that the file holds, in a journal of this version, where its source gives
--- what was measured
-abbrev pub IsObjectOf : Profile → Limits → WholePart → Option (List ℕ) → ObjectState → Version
-    → Type 0
-IsObjectOf p limits part loaded s version =
-    (held : List ℕ) → loaded ≡ Some held → IsWholePart part held
-    → (kept_object p limits held ≡ Ok s) × SaysVersion version (whole_bytes held)
-
--- there is no object, where the source gives what was measured
-abbrev pub HasNoObjectOf : Profile → Limits → WholePart → Option (List ℕ) → Bool → CommandFault
-    → Type 0
-HasNoObjectOf p limits part loaded failed fault =
-    (held : List ℕ) → loaded ≡ Some held → IsWholePart part held
-    → HoldsNoObject p limits held failed fault
-
 -- so much of the file counts, and makes this object
-abbrev pub IsReadKept : Profile → Limits → Option (List ℕ) → Option (List ℕ) → WholePart
-    → ObjectState → Type 0
-IsReadKept p limits measured loaded part s =
-    (held : List ℕ) → measured ≡ Some held → loaded ≡ Some held
-    → IsWholePart part held × HoldsObject p limits held s
+abbrev pub IsReadKept : Profile → Limits → Option (List ℕ) → WholePart → ObjectState → Type 0
+IsReadKept p limits given part s =
+    IfSome given (λ held. IsWholePart part held × HoldsObject p limits held s)
 
--- the file makes no object
-abbrev pub IsUnreadKept : Profile → Limits → Option (List ℕ) → Option (List ℕ) → Bool
-    → CommandFault → Type 0
-IsUnreadKept p limits measured loaded failed fault =
-    (held : List ℕ) → measured ≡ Some held → loaded ≡ Some held
-    → HoldsNoObject p limits held failed fault
+-- the file makes no object, and a read of it failed or not
+abbrev pub IsUnreadKept : Profile → Limits → Option (List ℕ) → Bool → CommandFault → Type 0
+IsUnreadKept p limits given failed fault =
+    IfSome given (λ held. HoldsNoObject p limits held failed fault)
 
 -- the last line was cut off, if it was not finished
 abbrev pub IsCut : WholePart → Option ℕ → Option (List ℕ) → Option (List ℕ) → Type 0
@@ -73,15 +55,15 @@ IsUnready part cut old new =
     (held : List ℕ) → old ≡ Some held → IsWholePart part held → IsLeft held cut new
 
 -- all lines were answered from the object, where the file and the input are known
-abbrev pub AnswersKnown : Profile → ℕ → ObjectState → KeptState → KeptState → Input → Output
-    → Type 0
-AnswersKnown p readers s begun file i o =
+abbrev pub AnswersKnown : ServeRules → ObjectState → FileState → FileState → Input → Output → Type 0
+AnswersKnown rules s begun file i o =
     (text : List ℕ) (input : List ℕ) → begun.contents ≡ Some text → begun.synced ≡ Some text
-    → i.bytes ≡ Some input → AnswersKept p readers s text file o input
+    → i.bytes ≡ Some input → AnswersKept rules s (ready_file text begun.fault) file o input
 
 -- they were until a fault
-abbrev pub AnswersKnownUntil : Profile → ℕ → ObjectState → KeptState → KeptState → Input → Output
+abbrev pub AnswersKnownUntil : ServeRules → ObjectState → FileState → FileState → Input → Output
     → CommandFault → Type 0
-AnswersKnownUntil p readers s begun file i o fault =
+AnswersKnownUntil rules s begun file i o fault =
     (text : List ℕ) (input : List ℕ) → begun.contents ≡ Some text → begun.synced ≡ Some text
-    → i.bytes ≡ Some input → AnswersKeptUntil p readers s text file o input i.unread fault
+    → i.bytes ≡ Some input
+    → AnswersKeptUntil rules s (ready_file text begun.fault) file o input i.unread fault

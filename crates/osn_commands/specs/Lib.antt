@@ -20,4 +20,5 @@ pub mod Replay
 pub mod Transcript
 pub mod Audited
 pub mod ProgressSource
+pub mod Saving
 pub mod Run

@@ -7,6 +7,7 @@ use Rattle.osn_commands.specs.declared.fault.CommandFault.TheVariants.{ReadFault
 use Rattle.osn_commands.specs.declared.fault.CommandFault.TheVariants.{NoMemory}
 use Rattle.osn_commands.specs.declared.fault.CommandFault.TheVariants.{KeptWithOther}
 use Rattle.osn_commands.specs.declared.fault.CommandFault.TheVariants.{KeptElsewhere, OlderVersion}
+use Rattle.osn_commands.specs.declared.fault.CommandFault.TheVariants.{KeptReplaced, RefusedLine}
 
 -- it is refused by what applies, or memory ran out
 abbrev pub IsRefusedBy : Option Refusal → CommandFault → Type 0
@@ -15,7 +16,9 @@ IsRefusedBy refused (Refused refusal) = refused ≡ Some refusal
 IsRefusedBy refused (Desk fault) = ⊥
 IsRefusedBy refused KeptWithOther = ⊥
 IsRefusedBy refused KeptElsewhere = ⊥
+IsRefusedBy refused KeptReplaced = ⊥
 IsRefusedBy refused (OlderVersion version) = ⊥
+IsRefusedBy refused (RefusedLine at) = ⊥
 IsRefusedBy refused ReadFault = ⊥
 IsRefusedBy refused WriteFault = ⊥
 IsRefusedBy refused NoMemory = ⊤

@@ -8,24 +8,27 @@ use Rattle.clap.specs.declared.error.kind.ErrorKind.TheVariants.{DisplayVersion}
 use Rattle.osn_days.specs.Profile.{newest_rules}
 use Rattle.osn_register.specs.declared.limits.Limits.{Limits}
 use Rattle.osn_folder.specs.Folder.{Known, Changes, IsFileOf, IsFileIf, Opens, CannotOpen, Saves}
-use Rattle.osn_folder.specs.Folder.{Leaves, Keeps, IsKeptAt, path_if}
+use Rattle.osn_folder.specs.Folder.{CannotSave, Keeps, CannotKeep, IsKeptAt, path_if}
 use Rattle.osn_folder.specs.declared.fault.KeepFault.{KeepFault}
 use Rattle.osn_folder.specs.declared.fault.OpenFailed.{OpenFailed}
 use Rattle.osn_folder.specs.declared.fault.SaveFault.{SaveFault}
 use Rattle.osn_invocation.specs.Grammar.{command_line}
-use Rattle.osn_invocation.specs.Invocation.{CommandModel, InvocationModel}
+use Rattle.osn_invocation.specs.Invocation.{CommandModel, InvocationModel, ServiceModel}
 use Rattle.osn_invocation.specs.Invocation.{serving, replaying, working, printing}
 use Rattle.osn_invocation.specs.Invocation.{auditing, converting, reading_letters}
 use Rattle.osn_invocation.specs.Invocation.{invocation_in}
+use Rattle.osn_journal.specs.Kept.{FileState}
+use Rattle.osn_service.specs.declared.rules.ServeRules.{ServeRules}
 use Rattle.osn_commands.specs.Audited.{PrintsAudit}
 use Rattle.osn_commands.specs.Conversion.{PrintsConversion}
-use Rattle.osn_commands.specs.Fault.{by_keep, by_save}
-use Rattle.osn_commands.specs.Keeping.{KeptState, EndsKept}
+use Rattle.osn_commands.specs.Fault.{by_keep}
+use Rattle.osn_commands.specs.Keeping.{EndsKept}
 use Rattle.osn_commands.specs.Letters.{PrintsLetters, names_asked, separator_asked}
 use Rattle.osn_commands.specs.Limits.{limits_asked}
 use Rattle.osn_commands.specs.Page.{PrintsPage}
 use Rattle.osn_commands.specs.Printing.{EndsPrinting}
 use Rattle.osn_commands.specs.Replay.{PrintsReplay}
+use Rattle.osn_commands.specs.Saving.{LocksIf, CannotLockIf, TellsUnsaved}
 use Rattle.osn_commands.specs.Serving.{Serves}
 use Rattle.osn_commands.specs.Streams.{Input, Output}
 use Rattle.osn_commands.specs.Told.{EndsBy, TellsLine, TellsMisuse, WritesLine}
@@ -71,84 +74,83 @@ ReadsTwo first second CanFail d Does =
 
 -- ---- the service
 
--- how a run of the service ended, where it is to save a journal and one was left: that was saved,
--- or it could not be, and the run ended by that. Else nothing was written in the folder
-abbrev pub EndsSaving : Option Text → Option (List ℕ) → Option Known → Option Known
-    → Option CommandFault → Option CommandFault → Type 0
-EndsSaving None left opened after served ending = (ending ≡ served) × (after ≡ opened)
-EndsSaving (Some path) None opened after served ending = (ending ≡ served) × (after ≡ opened)
-EndsSaving (Some path) (Some text) opened after served ending =
-    ((ending ≡ served) × Changes (Saves path text) opened after)
-    ⊎ (Changes (Leaves path) opened after
-    × (fault : SaveFault) × (ending ≡ Some (by_save fault)))
+-- what the lines of the service may do, and when it ends, by what is asked for
+abbrev pub rules_of : ServiceModel → ServeRules
+rules_of asked = record {
+  readers = asked.readers;
+  read_only = asked.read_only;
+  stop_at_refusal = asked.stop_at_refusal;
+}
 
--- a journal could not be saved, and standard error was told it
-abbrev pub Finishes : Output → Status → Type 0
-Finishes e status = (fault : SaveFault) × EndsBy e (Some (by_save fault)) status
+-- how a run of the service ended, where it is to save a journal and one was left: that was saved,
+-- or standard error was told why it is not saved for sure. Else nothing was written in the folder
+abbrev pub EndsSaving : Option Text → Option (List ℕ) → Option Known → Option Known
+    → Option CommandFault → Output → Status → Type 0
+EndsSaving None left opened after served e status = EndsBy e served status × (after ≡ opened)
+EndsSaving (Some path) None opened after served e status =
+    EndsBy e served status × (after ≡ opened)
+EndsSaving (Some path) (Some text) opened after served e status =
+    (EndsBy e served status × Changes (Saves path None text) opened after)
+    ⊎ ((fault : SaveFault) × Changes (CannotSave path None text fault) opened after
+    × TellsUnsaved e fault status)
 
 -- the service was run, from what the journal holds, and the journal that it left was saved
-abbrev pub RunsService : Limits → Option Text → Option Text → ℕ → (Bool → Type 0) → Folders
-    → Input → Output → Option CommandFault → Type 0
-RunsService limits journal save readers CanFail d i o ending =
+abbrev pub RunsService : Limits → Option Text → Option Text → ServeRules → (Bool → Type 0)
+    → Folders → Input → Output → Output → Status → Type 0
+RunsService limits journal save rules CanFail d i o e status =
     (begun : Option (Option (List ℕ))) × IsFileIf d.before journal begun
     × (failed : Bool) × CanFail failed
     × (left : Option (List ℕ)) × (served : Option CommandFault)
     × ((served ≡ None) ⊎ (left ≡ None))
     × IfSome i.bytes (λ bytes.
-    Serves newest_rules limits readers begun failed (is_some save) o bytes i.unread left
-    served)
+    Serves limits rules begun failed (is_some save) o bytes i.unread left served)
     × (opened : Option Known) × Changes (Opens (path_if journal)) d.before opened
-    × EndsSaving save left opened d.after served ending
+    × EndsSaving save left opened d.after served e status
 
--- that, and how it ended
-abbrev pub EndsService : Limits → Option Text → Option Text → ℕ → (Bool → Type 0) → Folders
-    → Input → Output → Output → Status → Type 0
-EndsService limits journal save readers CanFail d i o e status =
-    (ending : Option CommandFault) × EndsBy e ending status
-    × RunsService limits journal save readers CanFail d i o ending
+-- the file that the journal is to be saved to could not be locked; or it was, and the service was
+-- run
+abbrev pub EndsService : Limits → Option Text → Option Text → ServeRules → (Bool → Type 0)
+    → Folders → Input → Output → Output → Status → Type 0
+EndsService limits journal save rules CanFail d i o e status =
+    ((fault : KeepFault) × CannotLockIf save fault d.before d.after
+    × EndsFirst (by_keep fault) o e status)
+    ⊎ ((locked : Option Known) × LocksIf save d.before locked
+    × RunsService limits journal save rules CanFail
+    (record { before = locked; after = d.after }) i o e status)
 
 -- ---- the service of a journal that is kept
 
--- the service was run with the file of this path, which is kept and held this, and which was opened
--- twice to be read; or it could not be opened
-abbrev pub RunsKept : Limits → Text → ℕ → (Bool → Type 0) → Option (List ℕ) → Option Known
-    → Option Known → Input → Output → Output → Status → Type 0
-RunsKept limits path readers CanFail held begun after i o e status =
-    (CannotOpen (path ∷ path ∷ []) begun after × EndsFirst ReadFault o e status)
-    ⊎ (Changes (Opens (path ∷ path ∷ [])) begun after
-    × (measured : Option (List ℕ)) × IsFileOf begun path measured
-    × (loaded : Option (List ℕ)) × IsFileOf begun path loaded
-    × (file : KeptState)
-    × EndsKept newest_rules limits readers held file measured loaded CanFail i o e status)
-
--- the file of this path could not be kept; or it is, and the service was run with it
-abbrev pub EndsKeeping : Limits → Text → ℕ → (Bool → Type 0) → Folders → Input → Output → Output
-    → Status → Type 0
-EndsKeeping limits path readers CanFail d i o e status =
-    ((d.after ≡ d.before) × (fault : KeepFault) × EndsFirst (by_keep fault) o e status)
-    ⊎ ((begun : Option Known) × Changes (Keeps path) d.before begun
-    × (held : Option (List ℕ)) × IsKeptAt d.before path held
-    × RunsKept limits path readers CanFail held begun d.after i o e status)
+-- the file of this path could not be kept; or it is, and the service was run with what it holds,
+-- and no change of it had failed before
+abbrev pub EndsKeeping : Limits → Text → ServeRules → (Bool → Type 0) → Folders → Input → Output
+    → Output → Status → Type 0
+EndsKeeping limits path rules CanFail d i o e status =
+    ((fault : KeepFault) × Changes (CannotKeep path fault) d.before d.after
+    × EndsFirst (by_keep fault) o e status)
+    ⊎ (Changes (Keeps path) d.before d.after
+    × (begun : FileState) × IsKeptAt d.before path begun.contents × (begun.fault ≡ None)
+    × (file : FileState)
+    × EndsKept limits rules begun file begun.contents CanFail i o e status)
 
 -- the service was run, with a journal that is kept or without: a journal that is kept goes with no
 -- other
-abbrev pub RunsServing : Limits → Option Text → Option Text → Option Text → ℕ → (Bool → Type 0)
-    → Folders → Input → Output → Output → Status → Type 0
-RunsServing limits journal save None readers CanFail d i o e status =
-    EndsService limits journal save readers CanFail d i o e status
-RunsServing limits None None (Some path) readers CanFail d i o e status =
-    EndsKeeping limits path readers CanFail d i o e status
-RunsServing limits (Some journal) save (Some path) readers CanFail d i o e status =
+abbrev pub RunsServing : Limits → Option Text → Option Text → Option Text → ServiceModel
+    → (Bool → Type 0) → Folders → Input → Output → Output → Status → Type 0
+RunsServing limits journal save None service CanFail d i o e status =
+    EndsService limits journal save (rules_of service) CanFail d i o e status
+RunsServing limits None None (Some path) service CanFail d i o e status =
+    EndsKeeping limits path (rules_of service) CanFail d i o e status
+RunsServing limits (Some journal) save (Some path) service CanFail d i o e status =
     (d.after ≡ d.before) × EndsFirst KeptWithOther o e status
-RunsServing limits None (Some save) (Some path) readers CanFail d i o e status =
+RunsServing limits None (Some save) (Some path) service CanFail d i o e status =
     (d.after ≡ d.before) × EndsFirst KeptWithOther o e status
 
 -- ---- each command
 
 -- the paths of the files that are read, in the order of the arguments
 abbrev pub files_of : CommandModel → List Text
-files_of (serving journal save None readers) = path_if journal
-files_of (serving journal save (Some kept) readers) = []
+files_of (serving journal save None service) = path_if journal
+files_of (serving journal save (Some kept) service) = []
 files_of (replaying readers schedule) = schedule ∷ []
 files_of (working script questions) = script ∷ questions ∷ []
 files_of (printing journal page) = journal ∷ []
@@ -160,8 +162,8 @@ files_of (reading_letters journal place date weekday separator) = journal ∷ []
 -- and ended so: what it wrote to standard output, and what standard error was told
 abbrev pub Runs : Limits → CommandModel → (Bool → Type 0) → Folders → Input → Output → Output
     → Status → Type 0
-Runs limits (serving journal save keep readers) CanFail d i o e status =
-    RunsServing limits journal save keep readers CanFail d i o e status
+Runs limits (serving journal save keep service) CanFail d i o e status =
+    RunsServing limits journal save keep service CanFail d i o e status
 Runs limits (replaying readers schedule) CanFail d i o e status = ReadsOne schedule CanFail d
     (λ file. PrintsReplay newest_rules limits readers file o e status)
 Runs limits (working script questions) CanFail d i o e status = ReadsTwo script questions CanFail d

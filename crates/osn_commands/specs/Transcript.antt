@@ -20,6 +20,7 @@ use Rattle.osn_commands.specs.declared.fault.CommandFault.TheVariants.{ReadFault
 use Rattle.osn_commands.specs.declared.fault.CommandFault.TheVariants.{NoMemory}
 use Rattle.osn_commands.specs.declared.fault.CommandFault.TheVariants.{KeptWithOther}
 use Rattle.osn_commands.specs.declared.fault.CommandFault.TheVariants.{KeptElsewhere, OlderVersion}
+use Rattle.osn_commands.specs.declared.fault.CommandFault.TheVariants.{KeptReplaced, RefusedLine}
 use Rattle.osn_commands.specs.Files.{Makes, IsFileFault}
 use Rattle.osn_commands.specs.Printing.{EndsPrinting}
 use Rattle.osn_commands.specs.Streams.{Input, Output}
@@ -66,7 +67,9 @@ IsTurnedAway lists published (Refused refusal) = ⊥
 IsTurnedAway lists published (Desk fault) = IsDeskFault lists published fault
 IsTurnedAway lists published KeptWithOther = ⊥
 IsTurnedAway lists published KeptElsewhere = ⊥
+IsTurnedAway lists published KeptReplaced = ⊥
 IsTurnedAway lists published (OlderVersion version) = ⊥
+IsTurnedAway lists published (RefusedLine at) = ⊥
 IsTurnedAway lists published ReadFault = ⊥
 IsTurnedAway lists published WriteFault = ⊥
 IsTurnedAway lists published NoMemory = ⊤

@@ -1,9 +1,10 @@
 //! Why a command ended early, and how standard error is told.
 ghost use Rattle.std.specs.Prelude.{◌≡◌, ◌++◌, codes, Some, IfOk, OnErr, string_bytes};
+ghost use Rattle.osn_service.specs.Faults.{MatchServiceFault};
 ghost use Rattle.osn_commands.specs.Fault.{fault_status, fault_line, refusal_end, role_name};
-ghost use Rattle.osn_commands.specs.Fault.{older_line};
-ghost use Rattle.osn_commands.specs.Fault.{by_service, by_file, by_desk, by_save};
-ghost use Rattle.osn_commands.specs.Fault.{by_keep, by_kept_service};
+ghost use Rattle.osn_commands.specs.Fault.{older_line, refused_line};
+ghost use Rattle.osn_commands.specs.Fault.{by_service, by_file, by_desk, by_keep, by_kept_file};
+ghost use Rattle.osn_commands.specs.Fault.{by_kept_service, by_read};
 ghost use Rattle.osn_commands.specs.Streams.{output_of};
 ghost use Rattle.osn_commands.specs.Told.{WritesLine, EndsBy, Tells};
 ghost use Rattle.osn_commands.specs.declared.fault.CommandFault.{CommandFault};
@@ -11,13 +12,14 @@ ghost use Rattle.osn_commands.specs.declared.fault.CommandFault.{CommandFault};
 use crate::limits::limit_hint;
 use crate::status::Status;
 use osn_files::{FileFault, LineFault, Role};
-use osn_folder::{ChangeFailed, KeepFault, SaveFault};
+use osn_folder::{KeepFault, KeptFileFault};
 use osn_format::Version;
-use osn_lines::{Interrupted, Sink, write_all};
+use osn_lines::{Interrupted, ReadAllFault, Sink, write_all};
 use osn_live::DeskFault;
 use osn_register::Refusal;
-use osn_service::{KeptFault, ServeFault};
+use osn_service::{ServeFault, ServiceFault};
 use std::alloc::{AllocError, Global};
+use std::convert::Infallible;
 
 /// Why a command ended early.
 #[derive(Clone, Copy, Debug, PartialEq, Eq)]
@@ -37,10 +39,15 @@ pub enum CommandFault {
     Desk(DeskFault),
     /// A journal is to be kept, and another one to begin with or to be saved.
     KeptWithOther,
-    /// Another run of the program keeps the journal.
+    /// Another run of the program keeps the journal, or saves to it.
     KeptElsewhere,
+    /// The journal that is kept is not at its path any more, or another program has changed it.
+    KeptReplaced,
     /// A journal of this version, which is not the newest, is not kept.
     OlderVersion(Version),
+    /// The line of this number was refused, and was to be the last to be answered. Lines are
+    /// counted from 1.
+    RefusedLine(u64),
     /// A read failed, or a file could not be opened.
     ReadFault,
     /// A write failed.
@@ -84,6 +91,13 @@ fn older_version(alloc: Global, version: Version) -> Result<String, AllocError>
     )
 }
 
+/// The line on a refused line that the service ended at.
+fn refused_at(alloc: Global, line: u64) -> Result<String, AllocError>
+    ensures { IfOk result (λ text. string_bytes text ≡ refused_line line) }
+{
+    format!(in alloc; "oldstyle: line {line} is refused, and no line after it was answered\n")
+}
+
 /// The line on what is refused by this number and name.
 pub(crate) fn refused(alloc: Global, number: u8, name: &'static str) -> Result<String, AllocError>
     ensures { IfOk result (λ text. string_bytes text
@@ -104,21 +118,25 @@ impl From<ServeFault> for CommandFault {
     }
 }
 
-impl From<Interrupted<ServeFault>> for CommandFault {
-    ghost from_gives = { λ end given. given ≡ by_service end.cause };
+impl From<Interrupted<ServiceFault<Infallible>>> for CommandFault {
+    ghost from_gives = { λ end given.
+        MatchServiceFault end.cause (λ fault. given ≡ by_service fault) (λ _. ⊥) };
 
-    fn from(end: Interrupted<ServeFault>) -> CommandFault {
-        CommandFault::from(end.cause)
+    fn from(end: Interrupted<ServiceFault<Infallible>>) -> CommandFault {
+        match end.cause {
+            ServiceFault::Serve(fault) => CommandFault::from(fault),
+            ServiceFault::NotKept(never) => match never {},
+        }
     }
 }
 
-impl From<Interrupted<KeptFault>> for CommandFault {
+impl From<Interrupted<ServiceFault<KeptFileFault>>> for CommandFault {
     ghost from_gives = { λ end given. given ≡ by_kept_service end.cause };
 
-    fn from(end: Interrupted<KeptFault>) -> CommandFault {
+    fn from(end: Interrupted<ServiceFault<KeptFileFault>>) -> CommandFault {
         match end.cause {
-            KeptFault::Serve(fault) => CommandFault::from(fault),
-            KeptFault::KeepFault => CommandFault::WriteFault,
+            ServiceFault::Serve(fault) => CommandFault::from(fault),
+            ServiceFault::NotKept(why) => CommandFault::from(why),
         }
     }
 }
@@ -134,11 +152,25 @@ impl From<KeepFault> for CommandFault {
     }
 }
 
-impl From<ChangeFailed> for CommandFault {
-    ghost from_gives = { λ _ given. given ≡ CommandFault.WriteFault };
+impl From<KeptFileFault> for CommandFault {
+    ghost from_gives = { λ fault given. given ≡ by_kept_file fault };
 
-    fn from(_error: ChangeFailed) -> CommandFault {
-        CommandFault::WriteFault
+    fn from(fault: KeptFileFault) -> CommandFault {
+        match fault {
+            KeptFileFault::ChangeFailed => CommandFault::WriteFault,
+            KeptFileFault::Replaced => CommandFault::KeptReplaced,
+        }
+    }
+}
+
+impl From<ReadAllFault> for CommandFault {
+    ghost from_gives = { λ fault given. given ≡ by_read fault };
+
+    fn from(fault: ReadAllFault) -> CommandFault {
+        match fault {
+            ReadAllFault::NoMemory => CommandFault::NoMemory,
+            ReadAllFault::ReadFault => CommandFault::ReadFault,
+        }
     }
 }
 
@@ -164,17 +196,6 @@ impl From<DeskFault> for CommandFault {
             | DeskFault::BadCount
             | DeskFault::NoPlace
             | DeskFault::GateClosed => CommandFault::Desk(fault),
-        }
-    }
-}
-
-impl From<SaveFault> for CommandFault {
-    ghost from_gives = { λ fault given. given ≡ by_save fault };
-
-    fn from(fault: SaveFault) -> CommandFault {
-        match fault {
-            SaveFault::WriteFault => CommandFault::WriteFault,
-            SaveFault::NoMemory => CommandFault::NoMemory,
         }
     }
 }
@@ -261,7 +282,16 @@ pub(crate) fn report<E: Sink>(alloc: Global, errors: &mut E, fault: CommandFault
             );
             Status::ReadFault
         }
+        CommandFault::KeptReplaced => {
+            write_line(
+                errors,
+                "oldstyle: another program moved, replaced or changed the journal: no more is \
+kept in it\n",
+            );
+            Status::WriteFault
+        }
         CommandFault::OlderVersion(version) => tell_refusal(errors, older_version(alloc, version)),
+        CommandFault::RefusedLine(line) => tell_refusal(errors, refused_at(alloc, line)),
         CommandFault::ReadFault => {
             write_line(errors, "oldstyle: read fault\n");
             Status::ReadFault

@@ -1,104 +1,32 @@
 //! The commands over the files of a folder, which are opened by their paths first.
-ghost use Rattle.std.specs.Prelude.{◌≡◌, ◌⊎◌, ◌&&◌, ◌∷◌, [], false, is_some, option_map};
-ghost use Rattle.std.specs.Prelude.{IfOk, IfSome, OnErr, string_bytes};
+ghost use Rattle.std.specs.Prelude.{◌≡◌, ◌∷◌, [], IfOk, OnErr};
 ghost use Rattle.osn_days.specs.Profile.{newest_rules};
-ghost use Rattle.osn_folder.specs.Folder.{Changes, CannotOpen, MayFail, Saves, Leaves, path_if};
+ghost use Rattle.osn_folder.specs.Folder.{CannotOpen, MayFail};
 ghost use Rattle.osn_invocation.specs.Invocation.{page_words};
 ghost use Rattle.osn_commands.specs.Audited.{PrintsAudit};
 ghost use Rattle.osn_letters.specs.Columns.{names_of};
 ghost use Rattle.osn_commands.specs.Letters.{PrintsLetters};
 ghost use Rattle.osn_commands.specs.Page.{PrintsPage};
 ghost use Rattle.osn_commands.specs.Replay.{PrintsReplay};
-ghost use Rattle.osn_commands.specs.Run.{EndsService, Finishes, ReadsOne, ReadsTwo, folders_of};
+ghost use Rattle.osn_commands.specs.Run.{ReadsOne, ReadsTwo, folders_of};
 ghost use Rattle.osn_commands.specs.Streams.{input_of, output_of};
 ghost use Rattle.osn_commands.specs.Transcript.{PrintsTranscript};
 
 use crate::audited::audit_command;
 use crate::desk::desk_command;
-use crate::fault::{CommandFault, report};
 use crate::letters::letters_command;
 use crate::page::page_command;
 use crate::progress::{ProgressSource, ReadProgress};
 use crate::replay::replay_command;
-use crate::serving::{ServeResult, serve_command};
 use crate::status::Status;
-use osn_folder::{Folder, OpenFailed, open_both, open_file, open_if, save_file};
-use osn_invocation::{PageWords, ServeOptions};
+use osn_folder::{Folder, OpenFailed, open_both, open_file};
+use osn_invocation::PageWords;
 use osn_letters::TableSettings;
 use osn_lines::{Sink, Source};
 use osn_register::Limits;
 use std::alloc::Global;
 use std::sync::Wait;
 use std::thread::Threads;
-
-/// Opens the journal, if any, answers the request lines, and saves the journal that is left.
-pub(crate) fn serve<D: Folder, R: Source, W: Sink, E: Sink>(
-    alloc: Global,
-    limits: Limits,
-    folder: &mut D,
-    options: ServeOptions,
-    input: &mut R,
-    output: &mut W,
-    errors: &mut E,
-) -> Result<Status, OpenFailed>
-    ensures ok { IfOk result (EndsService limits
-        (option_map (λ path. path.now) options.entry.journal)
-        (option_map (λ path. path.now) options.entry.save) options.entry.readers
-        (MayFail D.File.has_failed)
-        (folders_of D.known folder.old folder.new)
-        (input_of R.remaining R.has_failed input.old input.new)
-        (output_of W.contents W.has_failed output.old output.new)
-        (output_of E.contents E.has_failed errors.old errors.new)) }
-    ensures err { OnErr result
-        (CannotOpen (path_if (option_map (λ path. path.now) options.entry.journal))
-        (D.known folder.old) (D.known folder.new)
-        × (output.new ≡ output.old) × (errors.new ≡ errors.old)) }
-{
-    let ServeOptions {
-        journal,
-        save,
-        readers,
-        ..
-    } = options;
-    let mut source = open_if(folder, journal)?;
-    let saves = save.is_some();
-    let served = serve_command(
-        alloc,
-        limits,
-        &mut source,
-        readers,
-        saves,
-        input,
-        output,
-        errors,
-    );
-    Ok(finish(alloc, folder, served, save, errors))
-}
-
-/// Saves the journal that the service left, if any, or tells standard error why it could not.
-fn finish<D: Folder, E: Sink>(
-    alloc: Global,
-    folder: &mut D,
-    served: ServeResult,
-    path: Option<&str>,
-    errors: &mut E,
-) -> Status
-    ensures unsaved { is_some path.entry && is_some served.journal ≡ false
-        → (result ≡ served.status) × (errors.new ≡ errors.old) × (folder.new ≡ folder.old) }
-    ensures saved { IfSome path.entry (λ path. IfSome served.journal (λ text.
-        ((result ≡ served.status) × (errors.new ≡ errors.old)
-        × Changes (Saves path.now (string_bytes text)) (D.known folder.old) (D.known folder.new))
-        ⊎ (Changes (Leaves path.now) (D.known folder.old) (D.known folder.new)
-        × Finishes (output_of E.contents E.has_failed errors.old errors.new) result))) }
-{
-    let (Some(path), Some(journal)) = (path, served.journal) else {
-        return served.status;
-    };
-    match save_file(folder, alloc, path, journal.as_str()) {
-        Ok(()) => served.status,
-        Err(fault) => report(alloc, errors, CommandFault::from(fault)),
-    }
-}
 
 /// Opens the schedule, and replays it.
 pub(crate) fn replay<D: Folder, W: Sink, E: Sink>(

@@ -1,15 +1,16 @@
 //! The command `serve` with a journal that is kept: the service begins with what the file holds,
 //! and each change is in it before its reply goes out.
-ghost use Rattle.std.specs.Prelude.{◌≡◌, ◌≢◌, ◌^◌, ◌<◌, ℕ, List, Bool, Option, IfOk, IfErr, OnOk};
+ghost use Rattle.std.specs.Prelude.{◌≡◌, ◌≢◌, ◌^◌, ◌<◌, ℕ, List, Option, Ok, IfOk, IfErr, OnOk};
 ghost use Rattle.std.specs.Prelude.{Some, None, false, string_bytes, ◌+◌, option_map, take};
 ghost use Rattle.osn_days.specs.Profile.{newest_rules};
 ghost use Rattle.osn_format.specs.Version.{newest_version};
 ghost use Rattle.osn_files.specs.WholePart.{IsWholePart, whole_bytes};
 ghost use Rattle.osn_folder.specs.Folder.{MayFail};
-ghost use Rattle.osn_commands.specs.Keeping.{cut_line, missing_head, missing_text, state_of};
+ghost use Rattle.osn_journal.specs.Kept.{file_of};
+ghost use Rattle.osn_commands.specs.Keeping.{HoldsNoObject, SaysVersion, cut_line, missing_head};
+ghost use Rattle.osn_commands.specs.Keeping.{missing_text, object_of};
 ghost use Rattle.osn_commands.specs.Keeping.{TellsCut, IsChangeFault, KeepsKnown, EndsKept};
-ghost use Rattle.osn_commands.specs.KeepingInside.{IsObjectOf, HasNoObjectOf, IsReadKept};
-ghost use Rattle.osn_commands.specs.KeepingInside.{IsUnreadKept, IsCut, IsCompleted};
+ghost use Rattle.osn_commands.specs.KeepingInside.{IsReadKept, IsUnreadKept, IsCut, IsCompleted};
 ghost use Rattle.osn_commands.specs.KeepingInside.{IsCompletedInPart, IsReady, IsUnready};
 ghost use Rattle.osn_commands.specs.KeepingInside.{AnswersKnown, AnswersKnownUntil};
 ghost use Rattle.osn_commands.specs.Streams.{input_of, output_of};
@@ -20,12 +21,13 @@ use crate::fault::{CommandFault, report, write_line};
 use crate::reading::journal_with_version;
 use crate::status::Status;
 use osn_core::Object;
-use osn_files::{FirstBytes, LastLine, WholePart, head_line, whole_part};
+use osn_files::{LastLine, WholePart, head_line, whole_part};
 use osn_folder::KeptFile;
 use osn_format::Version;
-use osn_lines::{Sink, Source};
+use osn_journal::serve_kept;
+use osn_lines::{Bytes, Sink, Source, read_all};
 use osn_register::Limits;
-use osn_service::serve_kept;
+use osn_service::ServeRules;
 use std::alloc::{AllocError, Global};
 
 /// The room that a head gets at first.
@@ -33,22 +35,21 @@ const HEAD_ROOM: usize = 32;
 
 /// The object of the lines of a journal that count, and the version that they say; or an empty one
 /// and the newest where there are none.
-fn kept_object<J: Source + Drop>(
+fn kept_object(
     alloc: Global,
     limits: Limits,
-    part: WholePart,
-    journal: J,
+    lines: &[u8],
 ) -> Result<(Object, Version), CommandFault>
-    ensures ok { IfOk result (λ read.
-        IsObjectOf newest_rules limits part (J.remaining journal) read.0 read.1) }
-    ensures err { IfErr result (λ fault. (failed : Bool) × MayFail J.has_failed failed
-        × HasNoObjectOf newest_rules limits part (J.remaining journal) failed fault) }
+    ensures object { IfOk result (λ read. object_of newest_rules limits lines.now ≡ Ok read.0) }
+    ensures version { IfOk result (λ read. SaysVersion read.1 lines.now) }
+    // Whatever stands after the lines that count.
+    ensures err { IfErr result (λ fault. (held : List ℕ) → lines.now ≡ whole_bytes held →
+        HoldsNoObject newest_rules limits held false fault) }
 {
-    if part.bytes == 0 {
+    if lines.is_empty() {
         return Ok((Object::new(alloc, limits), Version::newest()));
     }
-    let mut first = FirstBytes::new(journal, part.bytes);
-    journal_with_version(alloc, limits, &mut first)
+    journal_with_version(alloc, limits, &mut Bytes::new(lines))
 }
 
 /// Refuses a version that is not the newest: a journal of it has no line for what it lacks.
@@ -64,24 +65,24 @@ fn newest_alone(version: Version) -> Result<(), CommandFault>
     }
 }
 
-/// The object that a kept file holds, and how much of it counts. It is measured, and then loaded.
-fn read_kept<J: Source + Drop>(
+/// The object that a kept file holds, and how much of it counts. It is read once, then measured and
+/// loaded.
+fn read_kept<J: Source>(
     alloc: Global,
     limits: Limits,
-    measured: &mut J,
-    journal: J,
+    journal: &mut J,
 ) -> Result<(Object, WholePart), CommandFault>
     ensures few { IfOk result (λ read. read.1.lines < 2 ^ 63) }
-    ensures ok { IfOk result (λ read. IsReadKept newest_rules limits (J.remaining measured.old)
-        (J.remaining journal) read.1 read.0) }
-    ensures err { IfErr result (λ fault. (failed : Bool) × MayFail J.has_failed failed
-        × IsUnreadKept newest_rules limits (J.remaining measured.old) (J.remaining journal)
-        failed fault) }
+    ensures ok { IfOk result (λ read.
+        IsReadKept newest_rules limits (J.remaining journal.old) read.1 read.0) }
+    ensures err { IfErr result (λ fault. IsUnreadKept newest_rules limits
+        (J.remaining journal.old) (J.has_failed journal.new) fault) }
 {
-    let part = whole_part(alloc, measured)?;
-    let found = kept_object(alloc, limits, part, journal)?;
-    newest_alone(found.1)?;
-    Ok((found.0, part))
+    let held = read_all(alloc, journal)?;
+    let part = whole_part(alloc, &mut Bytes::new(&held))?;
+    let (object, version) = kept_object(alloc, limits, &held[..part.bytes as usize])?;
+    newest_alone(version)?;
+    Ok((object, part))
 }
 
 /// The line on a line that is cut off.
@@ -99,11 +100,12 @@ fn cut_last<K: KeptFile, E: Sink>(
     errors: &mut E,
 ) -> Result<(), CommandFault>
     requires { part.lines < 2 ^ 63 }
+    ensures sound { OnOk result (K.fault keeper.new ≡ K.fault keeper.old) }
     ensures ok { OnOk result (
         (K.contents keeper.new ≡ option_map (take part.bytes) (K.contents keeper.old))
         × WritesLine (output_of E.contents E.has_failed errors.old errors.new)
         (cut_line (part.lines + 1))) }
-    ensures err { IfErr result (λ fault. IsChangeFault fault
+    ensures err { IfErr result (λ fault. IsChangeFault fault (K.fault keeper.new)
         × (E.contents errors.new ≡ E.contents errors.old)
         × (K.contents keeper.new ≡ K.contents keeper.old)) }
 {
@@ -121,10 +123,11 @@ fn cut_unfinished<K: KeptFile, E: Sink>(
     errors: &mut E,
 ) -> Result<(), CommandFault>
     requires { part.lines < 2 ^ 63 }
+    ensures sound { OnOk result (K.fault keeper.new ≡ K.fault keeper.old) }
     ensures ok { OnOk result ((cut : Option ℕ)
         × TellsCut (output_of E.contents E.has_failed errors.old errors.new) cut
         × IsCut part cut (K.contents keeper.old) (K.contents keeper.new)) }
-    ensures err { IfErr result (λ fault. IsChangeFault fault
+    ensures err { IfErr result (λ fault. IsChangeFault fault (K.fault keeper.new)
         × (E.contents errors.new ≡ E.contents errors.old)
         × (K.contents keeper.new ≡ K.contents keeper.old)) }
 {
@@ -145,7 +148,7 @@ fn missing_head(alloc: Global, part: WholePart) -> Result<Vec<u8>, AllocError>
     Ok(Vec::new(alloc))
 }
 
-/// What is missing behind the lines of a kept file that count: the line feed of the last one, or
+/// What is missing after the lines of a kept file that count: the line feed of the last one, or
 /// the head where there is none.
 fn missing_text(alloc: Global, part: WholePart) -> Result<Vec<u8>, AllocError>
     ensures { IfOk result (λ text. (held : List ℕ) → IsWholePart part held
@@ -157,15 +160,16 @@ fn missing_text(alloc: Global, part: WholePart) -> Result<Vec<u8>, AllocError>
     }
 }
 
-/// Appends to a kept file of lines that count what is missing behind them, and has all on the disk.
+/// Appends to a kept file of lines that count what is missing after them, and has all on the disk.
 fn append_missing<K: KeptFile>(
     alloc: Global,
     part: WholePart,
     keeper: &mut K,
 ) -> Result<(), CommandFault>
+    ensures sound { OnOk result (K.fault keeper.new ≡ K.fault keeper.old) }
     ensures ok { OnOk result (IsCompleted part (K.contents keeper.old) (K.contents keeper.new)
         (K.synced keeper.new)) }
-    ensures err { IfErr result (λ fault. IsChangeFault fault
+    ensures err { IfErr result (λ fault. IsChangeFault fault (K.fault keeper.new)
         × IsCompletedInPart part (K.contents keeper.old) (K.contents keeper.new)) }
 {
     let text = missing_text(alloc, part)?;
@@ -183,10 +187,12 @@ fn make_ready<K: KeptFile, E: Sink>(
     errors: &mut E,
 ) -> Result<(), CommandFault>
     requires { part.lines < 2 ^ 63 }
+    ensures sound { OnOk result (K.fault keeper.new ≡ K.fault keeper.old) }
     ensures ok { OnOk result ((cut : Option ℕ)
         × TellsCut (output_of E.contents E.has_failed errors.old errors.new) cut
         × IsReady part cut (K.contents keeper.old) (K.contents keeper.new) (K.synced keeper.new)) }
-    ensures err { IfErr result (λ fault. IsChangeFault fault × (cut : Option ℕ)
+    ensures err { IfErr result (λ fault. IsChangeFault fault (K.fault keeper.new)
+        × (cut : Option ℕ)
         × TellsCut (output_of E.contents E.has_failed errors.old errors.new) cut
         × IsUnready part cut (K.contents keeper.old) (K.contents keeper.new)) }
 {
@@ -194,93 +200,95 @@ fn make_ready<K: KeptFile, E: Sink>(
     append_missing(alloc, part, keeper)
 }
 
-/// Answers every line from the object, and keeps the file.
+/// Answers the lines from the object, and keeps the file.
 fn answer<K: KeptFile, R: Source, W: Sink>(
     alloc: Global,
     object: &mut Object,
-    readers: u32,
+    rules: ServeRules,
     keeper: &mut K,
     input: &mut R,
     output: &mut W,
 ) -> Result<(), CommandFault>
-    ensures ok { OnOk result (AnswersKnown newest_rules readers object.old
-        (state_of K.contents K.synced keeper.old) (state_of K.contents K.synced keeper.new)
+    ensures ok { OnOk result (AnswersKnown rules object.old
+        (file_of K.contents K.synced K.fault keeper.old)
+        (file_of K.contents K.synced K.fault keeper.new)
         (input_of R.remaining R.has_failed input.old input.new)
         (output_of W.contents W.has_failed output.old output.new)) }
-    ensures err { IfErr result (AnswersKnownUntil newest_rules readers object.old
-        (state_of K.contents K.synced keeper.old) (state_of K.contents K.synced keeper.new)
+    ensures err { IfErr result (AnswersKnownUntil rules object.old
+        (file_of K.contents K.synced K.fault keeper.old)
+        (file_of K.contents K.synced K.fault keeper.new)
         (input_of R.remaining R.has_failed input.old input.new)
         (output_of W.contents W.has_failed output.old output.new)) }
 {
-    serve_kept(alloc, object, readers, input, output, keeper)?;
+    let served = serve_kept(alloc, object, rules, input, output, keeper)?;
+    if served.refused {
+        return Err(CommandFault::RefusedLine(served.lines));
+    }
     Ok(())
 }
 
-/// Answers every line from the object that a kept file holds, and keeps the file.
-fn keep_lines<K: KeptFile, J: Source + Drop, R: Source, W: Sink, E: Sink>(
+/// Answers the lines from the object that a kept file holds, and keeps the file.
+fn keep_lines<K: KeptFile, J: Source, R: Source, W: Sink, E: Sink>(
     alloc: Global,
     limits: Limits,
     keeper: &mut K,
-    measured: &mut J,
-    journal: J,
-    readers: u32,
+    journal: &mut J,
+    rules: ServeRules,
     input: &mut R,
     output: &mut W,
     errors: &mut E,
 ) -> Result<(), CommandFault>
     ensures ok { OnOk result ((cut : Option ℕ)
         × TellsCut (output_of E.contents E.has_failed errors.old errors.new) cut
-        × KeepsKnown newest_rules limits readers
-        (K.contents keeper.old) (state_of K.contents K.synced keeper.new)
-        (J.remaining measured.old) (J.remaining journal) false cut
+        × KeepsKnown limits rules
+        (file_of K.contents K.synced K.fault keeper.old)
+        (file_of K.contents K.synced K.fault keeper.new)
+        (J.remaining journal.old) (J.has_failed journal.new) cut
         (input_of R.remaining R.has_failed input.old input.new)
         (output_of W.contents W.has_failed output.old output.new) None) }
     ensures err { IfErr result (λ fault. (cut : Option ℕ)
         × TellsCut (output_of E.contents E.has_failed errors.old errors.new) cut
-        × (failed : Bool) × MayFail J.has_failed failed
-        × KeepsKnown newest_rules limits readers
-        (K.contents keeper.old) (state_of K.contents K.synced keeper.new)
-        (J.remaining measured.old) (J.remaining journal) failed cut
+        × KeepsKnown limits rules
+        (file_of K.contents K.synced K.fault keeper.old)
+        (file_of K.contents K.synced K.fault keeper.new)
+        (J.remaining journal.old) (J.has_failed journal.new) cut
         (input_of R.remaining R.has_failed input.old input.new)
         (output_of W.contents W.has_failed output.old output.new) (Some fault)) }
 {
-    let (mut object, part) = read_kept(alloc, limits, measured, journal)?;
+    let (mut object, part) = read_kept(alloc, limits, journal)?;
     make_ready(alloc, part, keeper, errors)?;
-    answer(alloc, &mut object, readers, keeper, input, output)
+    answer(alloc, &mut object, rules, keeper, input, output)
 }
 
-/// The command `serve` with a journal that is kept: answers every request line of the input, for so
-/// many readers, from the object that the kept file holds, or from an empty one under these limits
-/// where no line of it counts. Each change is in the file before its reply goes out.
+/// The command `serve` with a journal that is kept: answers the request lines of the input, by
+/// these rules, from the object that the kept file holds, or from an empty one under these limits
+/// where no line of it counts. Each change is in the file before its reply goes out. All lines are
+/// answered, or those up to the first refused one where the rules say so, which is a fault then.
 ///
-/// Two sources give what the file holds: the first is measured, and the second is loaded as far as
-/// lines count. A last line that was not finished is cut off, and standard error is told so; one
-/// that counts and lacks its line feed gets it. A file with no line gets a head. All of it is on
-/// the disk before the first line is answered. A file with a bad line, or with a head of an older
-/// version, is left as it is.
+/// The source gives what the file holds, which is loaded as far as lines count. A last line that
+/// was not finished is cut off, and standard error is told so; one that counts and lacks its line
+/// feed gets it. A file with no line gets a head. All of it is on the disk before the first line is
+/// answered. A file with a bad line, or with a head of an older version, is left as it is.
 ///
 /// Where the service ends early, standard error is told in a line why, and the status says it.
-pub fn keep_command<K: KeptFile, J: Source + Drop, R: Source, W: Sink, E: Sink>(
+pub fn keep_command<K: KeptFile, J: Source, R: Source, W: Sink, E: Sink>(
     alloc: Global,
     limits: Limits,
     keeper: &mut K,
-    measured: &mut J,
-    journal: J,
-    readers: u32,
+    journal: &mut J,
+    rules: ServeRules,
     input: &mut R,
     output: &mut W,
     errors: &mut E,
 ) -> Status
-    ensures { EndsKept newest_rules limits readers
-        (K.contents keeper.old) (state_of K.contents K.synced keeper.new)
-        (J.remaining measured.old) (J.remaining journal) (MayFail J.has_failed)
+    ensures { EndsKept limits rules (file_of K.contents K.synced K.fault keeper.old)
+        (file_of K.contents K.synced K.fault keeper.new)
+        (J.remaining journal.old) (MayFail J.has_failed)
         (input_of R.remaining R.has_failed input.old input.new)
         (output_of W.contents W.has_failed output.old output.new)
         (output_of E.contents E.has_failed errors.old errors.new) result }
 {
-    match keep_lines(
-        alloc, limits, keeper, measured, journal, readers, input, output, errors,
-    ) {
+    match keep_lines(alloc, limits, keeper, journal, rules, input, output, errors) {
         Ok(()) => Status::Done,
         Err(fault) => report(alloc, errors, fault),
     }

@@ -21,6 +21,7 @@ mod program;
 mod progress;
 mod reading;
 mod replay;
+mod saving;
 mod serving;
 mod shown;
 mod status;

@@ -16,7 +16,7 @@ use osn_core::Object;
 use osn_files::journal_text;
 use osn_lines::{Sink, Source};
 use osn_register::Limits;
-use osn_service::serve_from;
+use osn_service::{ServeRules, serve_store};
 use std::alloc::Global;
 
 /// What the service of a command line leaves.
@@ -46,25 +46,29 @@ fn initial_object<J: Source>(
     }
 }
 
-/// Answers every line from the object. Answers its journal, where that is to be saved.
+/// Answers the lines from the object. Answers its journal, where that is to be saved and no refused
+/// line was the end.
 fn answer<R: Source, W: Sink>(
     alloc: Global,
     object: &mut Object,
-    readers: u32,
+    rules: ServeRules,
     saves: bool,
     input: &mut R,
     output: &mut W,
 ) -> Result<Option<String>, CommandFault>
     ensures ok { IfOk result (λ journal. IfSome (R.remaining input.old) (λ bytes.
-        AnswersAll newest_rules readers object.old saves
+        AnswersAll rules object.old saves
         (output_of W.contents W.has_failed output.old output.new) bytes
         (option_map string_bytes journal))) }
     ensures err { IfErr result (λ fault. IfSome (R.remaining input.old) (λ bytes.
-        AnswersUntil newest_rules readers object.old
+        AnswersUntil rules object.old
         (output_of W.contents W.has_failed output.old output.new) bytes
         (R.has_failed input.new) fault)) }
 {
-    serve_from(alloc, object, readers, input, output)?;
+    let served = serve_store(alloc, object, rules, input, output)?;
+    if served.refused {
+        return Err(CommandFault::RefusedLine(served.lines));
+    }
     if !saves {
         return Ok(None);
     }
@@ -75,37 +79,39 @@ fn serve_lines<J: Source, R: Source, W: Sink>(
     alloc: Global,
     limits: Limits,
     journal: &mut Option<J>,
-    readers: u32,
+    rules: ServeRules,
     saves: bool,
     input: &mut R,
     output: &mut W,
 ) -> Result<Option<String>, CommandFault>
     ensures ok { IfOk result (λ text. IfSome (R.remaining input.old) (λ bytes.
-        Serves newest_rules limits readers (option_map J.remaining journal.old)
+        Serves limits rules (option_map J.remaining journal.old)
         (option_map_or J.has_failed journal.new false) saves
         (output_of W.contents W.has_failed output.old output.new) bytes
         (R.has_failed input.new) (option_map string_bytes text) None)) }
     ensures err { IfErr result (λ fault. IfSome (R.remaining input.old) (λ bytes.
-        Serves newest_rules limits readers (option_map J.remaining journal.old)
+        Serves limits rules (option_map J.remaining journal.old)
         (option_map_or J.has_failed journal.new false) saves
         (output_of W.contents W.has_failed output.old output.new) bytes
         (R.has_failed input.new) None (Some fault))) }
 {
     let mut object = initial_object(alloc, limits, journal)?;
-    answer(alloc, &mut object, readers, saves, input, output)
+    answer(alloc, &mut object, rules, saves, input, output)
 }
 
-/// The command `serve`: answers every request line of the input, for so many readers, from the
-/// object of the journal or from an empty one, under these limits. The journal is read whole
-/// before a line is. Where the journal is to be saved and all lines were answered, its text is
-/// answered too.
+/// The command `serve`: answers the request lines of the input, by these rules, from the object of
+/// the journal or from an empty one, under these limits. The journal is read whole before a line
+/// is. Where the journal is to be saved and all lines were answered, its text is answered too.
+///
+/// All lines are answered, or those up to the first refused one where the rules say so: that is a
+/// fault then, and there is no journal to be saved.
 ///
 /// Where the service ends early, standard error is told in a line why, and the status says it.
 pub fn serve_command<J: Source, R: Source, W: Sink, E: Sink>(
     alloc: Global,
     limits: Limits,
     journal: &mut Option<J>,
-    readers: u32,
+    rules: ServeRules,
     saves: bool,
     input: &mut R,
     output: &mut W,
@@ -116,12 +122,12 @@ pub fn serve_command<J: Source, R: Source, W: Sink, E: Sink>(
         result.status
         × ((ending ≡ None) ⊎ (result.journal ≡ None))
         × IfSome (R.remaining input.old) (λ bytes.
-        Serves newest_rules limits readers (option_map J.remaining journal.old)
+        Serves limits rules (option_map J.remaining journal.old)
         (option_map_or J.has_failed journal.new false) saves
         (output_of W.contents W.has_failed output.old output.new) bytes
         (R.has_failed input.new) (option_map string_bytes result.journal) ending) }
 {
-    match serve_lines(alloc, limits, journal, readers, saves, input, output) {
+    match serve_lines(alloc, limits, journal, rules, saves, input, output) {
         Ok(journal) => ServeResult {
             status: Status::Done,
             journal,

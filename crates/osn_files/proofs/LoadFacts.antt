@@ -10,7 +10,8 @@ use Rattle.osn_register.specs.declared.limits.Limits.{Limits}
 use Rattle.osn_register.specs.Plain.{refusal}
 use Rattle.osn_core.specs.Sequential.{ObjectState, IsSound, opened, with_pending, with_edition}
 use Rattle.osn_core.specs.Sequential.{draft_lands}
-use Rattle.osn_lines.specs.Lines.{lines, onto_first}
+use Rattle.osn_lines.specs.Lines.{lines, EndsWithFeed}
+use Rattle.osn_lines.proofs.FeedLemmas.{lines-append}
 use Rattle.osn_format.specs.declared.version.Version.{Version}
 use Rattle.osn_format.specs.declared.wire_fault.WireFault.{WireFault}
 use Rattle.osn_format.specs.Version.{newest_version}
@@ -20,7 +21,7 @@ use Rattle.osn_files.specs.Journal.{load, after_object, after_command}
 use Rattle.osn_files.specs.Journal as journal
 use Rattle.osn_files.specs.JournalText.{line_text, edit_data, publish_data, journal_text}
 use Rattle.osn_files.specs.JournalText.{edits_text, batch_text, batches_text}
-use Rattle.osn_files.specs.Loaded.{IsOfVersion, EndsWithFeed, IsJournalOf}
+use Rattle.osn_files.specs.Loaded.{IsOfVersion, IsJournalOf}
 use Rattle.osn_files.specs.Loaded.{LoadsByLines}
 use Rattle.osn_files.specs.Turns.{on_read, go_on, in_turn}
 use Rattle.osn_files.specs.Version.{head_data}
@@ -28,47 +29,6 @@ use Rattle.osn_files.proofs.CommandFacts.{IsLine, both_none}
 use Rattle.osn_files.proofs.LawFacts.{load-journal_text}
 use Rattle.osn_files.proofs.SaysFacts.{Says-lawful, Says-publish, IsLine-head, version_of-head}
 use Rattle.osn_files.proofs.VersionFacts.{edit_command}
-
--- ---- further bytes behind a line feed
-
--- bytes that have a line, and behind which further bytes begin a line of their own
-record Ends (bytes : List ℕ) : Type 0 where
-  first : List ℕ
-  rest : List (List ℕ)
-  is : lines bytes ≡ first ∷ rest
-  more : (ys : List ℕ) → lines (bytes ++ ys) ≡ first ∷ rest ++ lines ys
-
--- so with one byte more in front, which is a line feed or not
-Ends-more : (b : ℕ) (bytes : List ℕ) (t : Bool) → (b == 10) ≡ t → Ends bytes → Ends (b ∷ bytes)
-Ends-more b bytes true e h =
-    let cut : (ys : List ℕ) → lines (b ∷ ys) ≡ [] ∷ lines ys =
-    λ ys. ap (λ t. cond t ([] ∷ lines ys) (onto_first b (lines ys))) e in
-    record {
-      first = [];
-      rest = h.first ∷ h.rest;
-      is = cut bytes ∙ ap (λ ls. [] ∷ ls) h.is;
-      more = λ ys. cut (bytes ++ ys) ∙ ap (λ ls. [] ∷ ls) (h.more ys);
-    }
-Ends-more b bytes false e h =
-    let kept : (ys : List ℕ) → lines (b ∷ ys) ≡ onto_first b (lines ys) =
-    λ ys. ap (λ t. cond t ([] ∷ lines ys) (onto_first b (lines ys))) e in
-    record {
-      first = b ∷ h.first;
-      rest = h.rest;
-      is = kept bytes ∙ ap (onto_first b) h.is;
-      more = λ ys. kept (bytes ++ ys) ∙ ap (onto_first b) (h.more ys);
-    }
-
-Ends-feed : (front : List ℕ) → Ends (front ++ 10 ∷ [])
-Ends-feed [] = record { first = []; rest = []; is = refl; more = λ ys. refl }
-Ends-feed (b ∷ front) = Ends-more b (front ++ 10 ∷ []) (b == 10) refl (Ends-feed front)
-
--- the lines of two texts, the first of which ends with a line feed
-pub lines-behind : (xs ys : List ℕ) → EndsWithFeed xs → lines (xs ++ ys) ≡ lines xs ++ lines ys
-lines-behind xs ys ended =
-    let h = Ends-feed ended.0 in
-    subst (λ l. lines (l ++ ys) ≡ lines l ++ lines ys) (sym ended.1)
-    (h.more ys ∙ ap (λ l. l ++ lines ys) (sym h.is))
 
 -- ---- lines that are run in turn
 
@@ -136,7 +96,7 @@ IsJournalOf-line version limits s t text d line makes h =
     let one : lines (line_text d) ≡ compact_text d ∷ [] =
     ap lines (sym (append-nil (line_text d))) ∙ line.first [] in
     let cut : lines (text ++ line_text d) ≡ lines text ++ compact_text d ∷ [] =
-    lines-behind text (line_text d) h.ends ∙ ap (λ ls. lines text ++ ls) one in
+    lines-append text (line_text d) h.ends ∙ ap (λ ls. lines text ++ ls) one in
     record {
       head =
           subst (IsOfVersion version) (sym cut)

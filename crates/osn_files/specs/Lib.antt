@@ -17,4 +17,3 @@ pub mod LastLine
 pub mod LastLineInside
 pub mod WholePart
 pub mod WholePartInside
-pub mod FirstBytesInside

@@ -12,7 +12,7 @@ use Rattle.osn_register.specs.declared.edit.Edit.TheVariants.{DropException}
 use Rattle.osn_register.specs.declared.limits.Limits.{Limits}
 use Rattle.osn_core.specs.Sequential.{ObjectState, joined, with_pending, with_edition}
 use Rattle.osn_core.specs.Sequential.{stage_refusal, publish_refusal}
-use Rattle.osn_lines.specs.Lines.{lines}
+use Rattle.osn_lines.specs.Lines.{lines, EndsWithFeed}
 use Rattle.osn_format.specs.declared.version.Version.{Version}
 use Rattle.osn_format.specs.Version.{rules_of}
 use Rattle.osn_files.specs.Journal.{load}
@@ -44,10 +44,6 @@ HasEdits version s = All (HasEdit version) (joined s.batches ++ s.pending)
 abbrev pub IsOfVersion : Version → List (List ℕ) → Type 0
 IsOfVersion version [] = ⊥
 IsOfVersion version (head ∷ rest) = version_of head ≡ Ok version
-
--- the last byte is a line feed
-abbrev pub EndsWithFeed : List ℕ → Type 0
-EndsWithFeed text = (front : List ℕ) × (text ≡ front ++ 10 ∷ [])
 
 -- A text of whole lines, whose head says this version, is loaded under these limits as an object.
 -- Its bytes may be others than those that are written of the object.

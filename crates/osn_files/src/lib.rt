@@ -8,7 +8,6 @@
 
 mod command_line;
 mod fault;
-mod first_bytes;
 mod journal;
 mod last_line;
 mod lists;
@@ -25,7 +24,6 @@ mod whole_lines;
 mod written;
 
 pub use fault::{FileFault, LineFault, Role};
-pub use first_bytes::FirstBytes;
 pub use journal::{load_journal, load_with_version};
 pub use last_line::LastLine;
 pub use question_line::question_in;

@@ -1,22 +1,47 @@
 -- What is known of a folder, and what was done in it.
-use Rattle.std.specs.Prelude.{◌≡◌, ◌≢◌, ◌⊎◌, ⊤, ℕ, Bool, true, false, List, [], ◌∷◌, ◌++◌}
-use Rattle.std.specs.Prelude.{Option, Some, None, codes, is_some, unwrap_or, if◌then◌else◌}
+use Rattle.std.specs.Prelude.{◌≡◌, ◌≢◌, ◌⊎◌, ◌↔◌, ⊤, ℕ, Bool, true, false, List, [], ◌∷◌, ◌++◌}
+use Rattle.std.specs.Prelude.{Option, Some, None, IfSome, is_some, unwrap_or, if◌then◌else◌}
+use Rattle.std.specs.Prelude.{string_bytes}
 use Rattle.std.specs.List.{list_all}
+use Rattle.osn_folder.specs.declared.fault.KeepFault.{KeepFault}
+use Rattle.osn_folder.specs.declared.fault.KeepFault.TheVariants.{Held, NotOpened}
+use Rattle.osn_folder.specs.declared.fault.MoveFault.{MoveFault}
+use Rattle.osn_folder.specs.declared.fault.MoveFault.TheVariants as moves
+use Rattle.osn_folder.specs.declared.fault.SaveFault.{SaveFault}
+use Rattle.osn_folder.specs.declared.fault.SaveFault.TheVariants as saves
+
+-- what no call changes of paths: where a path leads, through links; whether something is there that
+-- is no file, as a pipe; whether another run of the program keeps the file of it, or saves to it;
+-- and whether anyone else puts another file there, or takes it away, while this run is at work
+pub record Paths : Type 0 where
+  pub place : List ℕ → List ℕ
+  pub is_stream : List ℕ → Bool
+  pub is_held : List ℕ → Bool
+  pub is_changed : List ℕ → Bool
 
 -- what is known of a folder: what the file of a path holds, where there is one; which paths were
--- opened, in order; where a path leads, through links; and whether something is there that is no
--- file, as a pipe
+-- opened to be read, in order; its paths; and whether the system has ever failed to keep, lock or
+-- change a file
 pub record Known : Type 0 where
   pub at : List ℕ → Option (List ℕ)
   pub opened : List (List ℕ)
-  pub place : List ℕ → List ℕ
-  pub is_stream : List ℕ → Bool
+  pub paths : Paths
+  pub has_failed : Bool
 
 -- a change of a folder, where that is known
 abbrev pub Changes : (Known → Known → Type 0) → Option Known → Option Known → Type 0
 Changes Change None new = ⊤
 Changes Change (Some k) None = ⊥
 Changes Change (Some k) (Some n) = Change k n
+
+-- nothing was changed
+abbrev pub Stays : Known → Known → Type 0
+Stays k n = n ≡ k
+
+-- the system failed, and nothing was changed
+abbrev pub Fails : Known → Known → Type 0
+Fails k n =
+    (n.at ≡ k.at) × (n.opened ≡ k.opened) × (n.paths ≡ k.paths) × (n.has_failed ≡ true)
 
 -- ---- what is read
 
@@ -34,14 +59,14 @@ HasNoFile (Some k) path = k.at path ≡ None
 abbrev pub Opens : List (List ℕ) → Known → Known → Type 0
 Opens paths k n =
     (n.opened ≡ k.opened ++ paths) × (n.at ≡ k.at)
-    × (n.place ≡ k.place) × (n.is_stream ≡ k.is_stream)
+    × (n.paths ≡ k.paths) × (n.has_failed ≡ k.has_failed)
 
 -- those of these paths that are opened where the first of them ends it that has no file
 abbrev pub tried : (List ℕ → Option (List ℕ)) → List (List ℕ) → List (List ℕ)
 tried at [] = []
 tried at (path ∷ paths) = path ∷ (if is_some (at path) then tried at paths else [])
 
--- one of these paths has no file, and none was opened behind the first such
+-- one of these paths has no file, and none was opened after the first such
 abbrev pub Misses : List (List ℕ) → Known → Known → Type 0
 Misses paths k n =
     (list_all (λ path. is_some (k.at path)) paths ≡ false) × Opens (tried k.at paths) k n
@@ -66,66 +91,125 @@ module _ {S : Type 0} where
   abbrev pub MayFail : (S → Bool) → Bool → Type 0
   MayFail has_failed failed = failed ≡ true → (file : S) × (has_failed file ≡ true)
 
--- ---- what is written
+-- ---- what is kept
+
+-- of all paths but this one, what they hold is as it was
+abbrev pub KeepsOthers : List ℕ → Known → Known → Type 0
+KeepsOthers path k n =
+    (n.opened ≡ k.opened) × (n.paths ≡ k.paths)
+    × ((other : List ℕ) → other ≢ path → n.at other ≡ k.at other)
 
 -- the file of this path holds this now, or is gone, and nothing else was changed
 abbrev pub Becomes : List ℕ → Option (List ℕ) → Known → Known → Type 0
 Becomes path file k n =
-    (n.opened ≡ k.opened) × (n.at path ≡ file)
-    × ((other : List ℕ) → other ≢ path → n.at other ≡ k.at other)
+    KeepsOthers path k n × (n.at path ≡ file) × (n.has_failed ≡ k.has_failed)
 
 -- what the file of this path holds, or nothing where there is none
 abbrev pub held_at : Known → List ℕ → List ℕ
 held_at k path = unwrap_or (k.at path) []
 
--- the file of this path is there, with what it held, or empty where there was none, and nothing
--- else was changed
+-- the file of this path, which no other run has, is there with what it held, or empty where there
+-- was none, and nothing else was changed
 abbrev pub Keeps : List ℕ → Known → Known → Type 0
 Keeps path k n =
     Becomes path (Some (held_at k path)) k n
-    × (n.is_stream path ≡ false)
-    × ((other : List ℕ) → other ≢ path → n.is_stream other ≡ k.is_stream other)
+    × (k.paths.is_stream path ≡ false) × (k.paths.is_held path ≡ false)
 
 -- a file that is kept holds what that of this path did, or nothing where there was none
 abbrev pub IsKeptAt : Option Known → List ℕ → Option (List ℕ) → Type 0
 IsKeptAt None path contents = ⊤
 IsKeptAt (Some k) path contents = contents ≡ Some (held_at k path)
 
--- a file was put in the place of another
+-- the file of this path is not kept: another run has it, the system failed, or no file is there
+abbrev pub CannotKeep : List ℕ → KeepFault → Known → Known → Type 0
+CannotKeep path Held k n = Stays k n × (k.paths.is_held path ≡ true)
+CannotKeep path NotOpened k n = Fails k n ⊎ (Stays k n × (k.paths.is_stream path ≡ true))
+
+-- ---- what is saved
+
+-- the file of this path, or the name where there is none, is locked, and no other run has it
+abbrev pub Locks : List ℕ → Known → Known → Type 0
+Locks path k n =
+    Stays k n × (k.paths.is_stream path ≡ false → k.paths.is_held path ≡ false)
+
+-- it is not locked: another run has it, or the system failed
+abbrev pub CannotLock : List ℕ → KeepFault → Known → Known → Type 0
+CannotLock path Held k n = Stays k n × (k.paths.is_held path ≡ true)
+CannotLock path NotOpened k n = Fails k n
+
+-- a path leads to this place
+abbrev pub IsPlaceOf : List ℕ → List ℕ → Known → Known → Type 0
+IsPlaceOf path place k n = Stays k n × (place ≡ k.paths.place path)
+
+-- nothing was changed, since memory ran out or the system failed
+abbrev pub LeavesAll : SaveFault → Known → Known → Type 0
+LeavesAll saves.NoMemory k n = Stays k n
+LeavesAll saves.WriteFault k n = Fails k n
+LeavesAll saves.NotSynced k n = ⊥
+LeavesAll (saves.Changed unfinished) k n = ⊥
+
+-- what is at this path was written in part, at most, since the system failed
+abbrev pub Spoils : List ℕ → Known → Known → Type 0
+Spoils path k n = KeepsOthers path k n × (n.has_failed ≡ true)
+
+-- a text stands at a path beside this place, at which nothing was, and nothing else was changed
+abbrev pub WritesBeside : List ℕ → List ℕ → List ℕ → Known → Known → Type 0
+WritesBeside place text path k n =
+    (path ≢ place) × (k.at path ≡ None) × Becomes path (Some text) k n
+
+-- whether the file of this path holds exactly these bytes was found, and nothing was changed
+abbrev pub Compares : List ℕ → List ℕ → Bool → Known → Known → Type 0
+Compares path bytes same k n = Stays k n × ((same ≡ true) ↔ (k.at path ≡ Some bytes))
+
+-- a file was put at another path, where no one else had changed anything
 abbrev pub Moves : List ℕ → List ℕ → Known → Known → Type 0
 Moves from to k n =
-    (n.opened ≡ k.opened) × (n.at to ≡ k.at from) × (from ≢ to → n.at from ≡ None)
+    (n.opened ≡ k.opened) × (n.paths ≡ k.paths) × (n.has_failed ≡ k.has_failed)
+    × (n.at to ≡ k.at from) × (from ≢ to → n.at from ≡ None)
     × ((other : List ℕ) → other ≢ from → other ≢ to → n.at other ≡ k.at other)
+    × (k.paths.is_changed to ≡ false)
 
--- the path of what is not finished yet
-abbrev pub beside : List ℕ → List ℕ
-beside place = place ++ codes ".unfinished"
+-- no file was put at this path: someone else had changed what is there, or the system failed
+abbrev pub CannotMove : List ℕ → MoveFault → Known → Known → Type 0
+CannotMove to moves.Changed k n = Stays k n × (k.paths.is_changed to ≡ true)
+CannotMove to moves.Failed k n = Fails k n
 
--- of all paths but these two, what they hold is as it was
-abbrev pub KeepsOthers : List ℕ → Known → Known → Type 0
-KeepsOthers place k n =
-    (n.opened ≡ k.opened)
-    × ((other : List ℕ) → other ≢ place → other ≢ beside place → n.at other ≡ k.at other)
+-- what is at this place is what was there at first: no one else put another file there, and it
+-- holds what was loaded from it, where that is given
+abbrev pub IsUnchanged : List ℕ → Option (List ℕ) → Known → Type 0
+IsUnchanged place loaded k =
+    (k.paths.is_changed place ≡ false) × IfSome loaded (λ bytes. k.at place ≡ Some bytes)
 
--- the text stands at this place, with nothing unfinished beside it where it is a file, and nothing
--- else was changed
-abbrev pub SavesAt : List ℕ → List ℕ → Known → Known → Type 0
-SavesAt place text k n =
-    KeepsOthers place k n × (n.at place ≡ Some text)
-    × (k.is_stream place ≡ false → n.at (beside place) ≡ None)
+abbrev pub HasChanged : List ℕ → Option (List ℕ) → Known → Type 0
+HasChanged place loaded k =
+    (k.paths.is_changed place ≡ true)
+    ⊎ ((bytes : List ℕ) × (loaded ≡ Some bytes) × (k.at place ≢ Some bytes))
 
--- a file at this place is as it was, with nothing unfinished beside it that was not there, and
--- nothing else was changed
-abbrev pub LeavesAt : List ℕ → Known → Known → Type 0
-LeavesAt place k n =
-    KeepsOthers place k n
-    × (k.is_stream place ≡ false → (n.at place ≡ k.at place)
-    × ((n.at (beside place) ≡ None) ⊎ (n.at (beside place) ≡ k.at (beside place))))
+-- the text stands at this place, and all other paths are as they were; a file that it replaced was
+-- what was there at first
+abbrev pub SavesAt : List ℕ → Option (List ℕ) → List ℕ → Known → Known → Type 0
+SavesAt place loaded text k n =
+    Becomes place (Some text) k n
+    × (k.paths.is_stream place ≡ false → IsUnchanged place loaded k)
+
+-- the text was not saved at this place, for this reason
+abbrev pub CannotSaveAt : List ℕ → Option (List ℕ) → List ℕ → SaveFault → Known → Known → Type 0
+CannotSaveAt place loaded text saves.NoMemory k n = Stays k n
+CannotSaveAt place loaded text saves.WriteFault k n =
+    KeepsOthers place k n × (n.has_failed ≡ true)
+    × (k.paths.is_stream place ≡ false → n.at place ≡ k.at place)
+CannotSaveAt place loaded text saves.NotSynced k n =
+    KeepsOthers place k n × (n.at place ≡ Some text) × (n.has_failed ≡ true)
+    × (k.paths.is_stream place ≡ false) × IsUnchanged place loaded k
+CannotSaveAt place loaded text (saves.Changed unfinished) k n =
+    HasChanged place loaded k × (k.paths.is_stream place ≡ false)
+    × WritesBeside place text (string_bytes unfinished) k n
 
 -- the text was saved where the path leads
-abbrev pub Saves : List ℕ → List ℕ → Known → Known → Type 0
-Saves path text k n = SavesAt (k.place path) text k n
+abbrev pub Saves : List ℕ → Option (List ℕ) → List ℕ → Known → Known → Type 0
+Saves path loaded text k n = SavesAt (k.paths.place path) loaded text k n
 
--- nothing was saved where the path leads
-abbrev pub Leaves : List ℕ → Known → Known → Type 0
-Leaves path k n = LeavesAt (k.place path) k n
+-- the text was not saved where the path leads, for this reason
+abbrev pub CannotSave : List ℕ → Option (List ℕ) → List ℕ → SaveFault → Known → Known → Type 0
+CannotSave path loaded text fault k n =
+    CannotSaveAt (k.paths.place path) loaded text fault k n

@@ -1,1 +1,3 @@
 pub mod Folder
+pub mod FolderInside
+pub mod KeptFile

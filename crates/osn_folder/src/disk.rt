@@ -1,13 +1,15 @@
 //! The files of the disk.
 ghost use Rattle.std.specs.Prelude.{None};
 
-use crate::fault::{ChangeFailed, KeepFault, OpenFailed, SaveFault};
+use crate::disk_file::{DiskFile, keep_file};
+use crate::disk_lock::{DiskLock, holds_bytes, lock_file, move_locked};
+use crate::disk_names::{sync_name, write_new};
+use crate::fault::{ChangeFailed, KeepFault, MoveFault, OpenFailed, SaveFault};
 use crate::folder::Folder;
-use crate::keeping::keep_file;
 use osn_lines::Plain;
 use std::alloc::Global;
-use std::fs::{File, OpenFile};
-use std::io::{ErrorKind, Write};
+use std::fs::File;
+use std::io::ErrorKind;
 use std::rt::Files;
 use std::{fs, io};
 
@@ -24,10 +26,12 @@ impl<'a, R> Disk<'a, R> {
     }
 }
 
-impl<R: Files<File = File> + AllocGlobal> Folder for Disk<'_, R> {
+impl<'a, R: Files<File = File> + AllocGlobal> Folder for Disk<'a, R> {
     type File = Plain<File>;
 
-    type Kept = File;
+    type Kept = DiskFile<'a, R>;
+
+    type Lock = DiskLock;
 
     ghost known = { λ _. None };
 
@@ -38,7 +42,15 @@ impl<R: Files<File = File> + AllocGlobal> Folder for Disk<'_, R> {
         }
     }
 
-    fn place(&self, alloc: Global, path: &str) -> Result<String, SaveFault> {
+    fn keep(&mut self, path: &str) -> Result<(DiskFile<'a, R>, Plain<File>), KeepFault> {
+        keep_file(self.files, path)
+    }
+
+    fn lock_to_save(&mut self, path: &str) -> Result<DiskLock, KeepFault> {
+        lock_file(self.files, path)
+    }
+
+    fn place(&mut self, alloc: Global, path: &str) -> Result<String, SaveFault> {
         match fs::canonicalize(self.files, path) {
             Ok(place) => Ok(place.into_string()),
             Err(error) if error.kind() == ErrorKind::NotFound => {
@@ -60,15 +72,25 @@ impl<R: Files<File = File> + AllocGlobal> Folder for Disk<'_, R> {
         }
     }
 
-    fn write(&mut self, path: &str, other: &str, text: &str) -> Result<(), ChangeFailed> {
-        match write_file(self.files, path, other, text) {
-            Ok(()) => Ok(()),
-            Err(_) => Err(ChangeFailed),
-        }
+    fn write_beside(
+        &mut self,
+        alloc: Global,
+        place: &str,
+        text: &str,
+    ) -> Result<String, SaveFault> {
+        write_new(self.files, alloc, place, text)
     }
 
-    fn rename(&mut self, from: &str, to: &str) -> Result<(), ChangeFailed> {
-        match fs::rename(self.files, from, to) {
+    fn holds(&mut self, lock: &DiskLock, _place: &str, bytes: &[u8]) -> Result<bool, ChangeFailed> {
+        holds_bytes(lock, bytes)
+    }
+
+    fn replace(&mut self, lock: DiskLock, from: &str, place: &str) -> Result<(), MoveFault> {
+        move_locked(self.files, lock, from, place)
+    }
+
+    fn sync_name(&mut self, path: &str) -> Result<(), ChangeFailed> {
+        match sync_name(self.files, path) {
             Ok(()) => Ok(()),
             Err(_) => Err(ChangeFailed),
         }
@@ -76,10 +98,6 @@ impl<R: Files<File = File> + AllocGlobal> Folder for Disk<'_, R> {
 
     fn remove(&mut self, path: &str) {
         let _ = fs::remove_file(self.files, path);
-    }
-
-    fn keep(&mut self, path: &str) -> Result<File, KeepFault> {
-        keep_file(self.files, path)
     }
 }
 
@@ -112,14 +130,4 @@ fn leads_somewhere(files: &impl Files, path: &str) -> Result<(), SaveFault> {
         Ok(_) => Ok(()),
         Err(error) => Err(place_fault(&error)),
     }
-}
-
-/// Writes a file anew, with the permissions of another one, and waits until it is on the disk.
-fn write_file(files: &impl Files, path: &str, other: &str, text: &str) -> io::Result<()> {
-    let mut file = fs::create(files, path)?;
-    if let Ok(old) = fs::metadata(files, other) {
-        file.set_permissions(old.permissions())?;
-    }
-    file.write_all(text.as_bytes())?;
-    file.sync_all()
 }

@@ -1,5 +1,6 @@
 //! Why a file was not opened, changed or saved.
 ghost use Rattle.std.specs.Prelude.{◌≡◌};
+ghost use Rattle.osn_folder.specs.declared.fault.MoveFault.{MoveFault};
 ghost use Rattle.osn_folder.specs.declared.fault.SaveFault.{SaveFault};
 
 use std::alloc::AllocError;
@@ -15,26 +16,58 @@ pub enum OpenFailed {
     Other,
 }
 
-/// A file that could not be written or moved.
+/// A file that could not be written, compared or moved.
 #[derive(Clone, Copy, Debug, PartialEq, Eq)]
 pub struct ChangeFailed;
 
-/// Why a file is not kept.
+/// Why a file is not kept, or not locked to be saved to.
 #[derive(Clone, Copy, Debug, PartialEq, Eq)]
 pub enum KeepFault {
-    /// Another open of the file keeps it.
+    /// Another open of the file keeps it, or saves to it.
     Held,
     /// It can't be opened, made or locked, or is no file, as a folder or a pipe.
     NotOpened,
 }
 
-/// Why a file could not be saved.
+/// Why a file that is kept was not changed, or is not sure to be on the disk.
 #[derive(Clone, Copy, Debug, PartialEq, Eq)]
+pub enum KeptFileFault {
+    /// A write, a cut or a sync failed.
+    ChangeFailed,
+    /// Its path names another file now, or none, or someone else has cut it or added to it.
+    Replaced,
+}
+
+/// Why a file was not put in the place of another.
+#[derive(Clone, Copy, Debug, PartialEq, Eq)]
+pub enum MoveFault {
+    /// What is at the place is not what was there at first.
+    Changed,
+    /// The system failed.
+    Failed,
+}
+
+/// Why a text is not saved for sure.
+#[derive(Debug, PartialEq, Eq, Drop)]
 pub enum SaveFault {
-    /// Its path leads nowhere that is known, or a write or a move failed.
-    WriteFault,
     /// Memory ran out.
     NoMemory,
+    /// The path leads nowhere that is known, or a write or a move failed. A file at the place is as
+    /// it was.
+    WriteFault,
+    /// The text stands at the place, but a crash of the system may still undo that.
+    NotSynced,
+    /// What is at the place is not what was there at first, and is left as it is. The text stands
+    /// in a file beside it, of this path.
+    Changed(String),
+}
+
+impl From<ChangeFailed> for MoveFault {
+    ghost from_gives = { λ _ given. given ≡ MoveFault.Failed };
+
+    fn from(_error: ChangeFailed) -> MoveFault {
+        MoveFault::Failed
+    }
 }
 
 impl From<ChangeFailed> for SaveFault {

@@ -1,10 +1,13 @@
-//! Files by their paths: those that are read, and the one that a text is saved to.
-ghost use Rattle.std.specs.Prelude.{◌≡◌, ◌∷◌, [], ℕ, List, Option, Some, None, IfOk, IfSome};
-ghost use Rattle.std.specs.Prelude.{OnOk, OnErr, string_bytes};
-ghost use Rattle.osn_folder.specs.Folder.{Known, Changes, IsFileOf, HasNoFile, Opens, Becomes};
-ghost use Rattle.osn_folder.specs.Folder.{Moves, IsKeptAt, Keeps};
+//! Files by their paths: those that are read, those that are kept, and those that a text is saved
+//! to.
+ghost use Rattle.std.specs.Prelude.{◌≡◌, ◌∷◌, [], ℕ, List, Option, Some, None, IfOk, IfErr};
+ghost use Rattle.std.specs.Prelude.{IfSome, OnOk, OnErr, false, string_bytes};
+ghost use Rattle.osn_folder.specs.Folder.{Known, Changes, Stays, Fails, IsFileOf, HasNoFile, Opens};
+ghost use Rattle.osn_folder.specs.Folder.{KeepsOthers, Becomes, IsKeptAt, Keeps, CannotKeep};
+ghost use Rattle.osn_folder.specs.Folder.{Locks, CannotLock, IsPlaceOf, LeavesAll, WritesBeside};
+ghost use Rattle.osn_folder.specs.Folder.{Compares, Moves, CannotMove, Spoils};
 
-use crate::fault::{ChangeFailed, KeepFault, OpenFailed, SaveFault};
+use crate::fault::{ChangeFailed, KeepFault, MoveFault, OpenFailed, SaveFault};
 use crate::kept_file::KeptFile;
 use osn_lines::Source;
 use std::alloc::Global;
@@ -14,8 +17,12 @@ pub trait Folder {
     /// A file that is open to be read.
     type File: Source + Drop;
 
-    /// A file that is kept. No other open of it keeps it before it is dropped.
+    /// A file that is kept. No other run keeps it or saves to it before it is dropped.
     type Kept: KeptFile + Drop;
+
+    /// The lock of a file that a text will be saved to. No other run keeps the file or saves to it
+    /// before the lock is dropped.
+    type Lock: Drop;
 
     // What its files hold, and which were opened, where that is known.
     ghost known: { Self → Option Known };
@@ -31,53 +38,97 @@ pub trait Folder {
             (λ file. IsFileOf (known self.old) path.now (Self.File.remaining file)) }
         ensures none { OnErr result (HasNoFile (known self.old) path.now) };
 
+    /// Opens a file to be kept. It is made where there is none, and locked, so that no other run of
+    /// the program keeps it or saves to it at the same time. The second part of the answer reads
+    /// the same open file, from its first byte on, as long as the first part has not changed it.
+    ///
+    /// # Errors
+    ///
+    /// `Held` where another open of the file keeps it or saves to it, `NotOpened` where it can't be
+    /// kept.
+    fn keep(&mut self, path: &str) -> Result<(Self::Kept, Self::File), KeepFault>
+        ensures contents { IfOk result
+            (λ kept. IsKeptAt (known self.old) path.now (Self.Kept.contents kept.0)) }
+        ensures source { IfOk result
+            (λ kept. Self.File.remaining kept.1 ≡ Self.Kept.contents kept.0) }
+        ensures sound { IfOk result (λ kept. (Self.Kept.fault kept.0 ≡ None)
+            × (Self.File.has_failed kept.1 ≡ false)) }
+        ensures ok { OnOk result (Changes (Keeps path.now) (known self.old) (known self.new)) }
+        ensures err { IfErr result
+            (λ why. Changes (CannotKeep path.now why) (known self.old) (known self.new)) };
+
+    /// Locks the file of a path, through links, to save a text to it later. Where nothing is there,
+    /// the lock remembers that. What is no file, as a pipe, takes no lock.
+    ///
+    /// # Errors
+    ///
+    /// `Held` where another open of the file keeps it or saves to it, `NotOpened` where it can't be
+    /// locked, or a link leads nowhere.
+    fn lock_to_save(&mut self, path: &str) -> Result<Self::Lock, KeepFault>
+        ensures ok { OnOk result (Changes (Locks path.now) (known self.old) (known self.new)) }
+        ensures err { IfErr result
+            (λ why. Changes (CannotLock path.now why) (known self.old) (known self.new)) };
+
     /// Where a path leads, through links; the path itself where nothing is there.
     ///
     /// # Errors
     ///
     /// `NoMemory` where memory ran out; `WriteFault` where it isn't known, or a link leads nowhere.
-    fn place(&self, alloc: Global, path: &str) -> Result<String, SaveFault>
-        ensures { IfOk result (λ place. IfSome (known self.now)
-            (λ k. string_bytes place ≡ k.place path.now)) };
+    fn place(&mut self, alloc: Global, path: &str) -> Result<String, SaveFault>
+        ensures ok { IfOk result (λ place. Changes (IsPlaceOf path.now (string_bytes place))
+            (known self.old) (known self.new)) }
+        ensures err { IfErr result
+            (λ why. Changes (LeavesAll why) (known self.old) (known self.new)) };
 
     /// Whether something is there that is no file, as a pipe.
     fn is_stream(&self, path: &str) -> bool
-        ensures { IfSome (known self.now) (λ k. result ≡ k.is_stream path.now) };
+        ensures { IfSome (known self.now) (λ k. result ≡ k.paths.is_stream path.now) };
 
     /// Writes a text to what is there and is no file.
     fn write_stream(&mut self, path: &str, text: &str) -> Result<(), ChangeFailed>
         ensures ok { OnOk result
             (Changes (Becomes path.now (Some text.now)) (known self.old) (known self.new)) }
-        ensures err { OnErr result ((left : Option (List ℕ))
-            × Changes (Becomes path.now left) (known self.old) (known self.new)) };
+        ensures err { OnErr result (Changes (Spoils path.now) (known self.old) (known self.new)) };
 
-    /// Writes a file anew, with the permissions of another one, if that is there. Answers once the
-    /// text is on the disk.
-    fn write(&mut self, path: &str, other: &str, text: &str) -> Result<(), ChangeFailed>
-        ensures ok { OnOk result
-            (Changes (Becomes path.now (Some text.now)) (known self.old) (known self.new)) }
-        ensures err { OnErr result ((left : Option (List ℕ))
-            × Changes (Becomes path.now left) (known self.old) (known self.new)) };
+    /// Writes a text to a new file beside a place, with the permissions of the file at the place,
+    /// if one is there. Answers the path of the new file, once the text is on the disk.
+    ///
+    /// # Errors
+    ///
+    /// `NoMemory` where memory ran out, `WriteFault` where no file could be made or a write failed.
+    /// Nothing is left beside the place then.
+    fn write_beside(&mut self, alloc: Global, place: &str, text: &str) -> Result<String, SaveFault>
+        ensures ok { IfOk result (λ path.
+            Changes (WritesBeside place.now text.now (string_bytes path))
+            (known self.old) (known self.new)) }
+        ensures err { IfErr result
+            (λ why. Changes (LeavesAll why) (known self.old) (known self.new)) };
 
-    /// Puts a file in the place of another, which a reader finds as it was or as it is then.
-    fn rename(&mut self, from: &str, to: &str) -> Result<(), ChangeFailed>
+    /// Whether the file that is locked, at this place, holds exactly these bytes.
+    fn holds(&mut self, lock: &Self::Lock, place: &str, bytes: &[u8]) -> Result<bool, ChangeFailed>
+        ensures ok { IfOk result (λ same. Changes (Compares place.now bytes.now same)
+            (known self.old) (known self.new)) }
+        ensures err { OnErr result (Changes Fails (known self.old) (known self.new)) };
+
+    /// Puts a file at a place, which a reader finds as it was or as it is then, if the place still
+    /// names the file that is locked, or still nothing where nothing was.
+    ///
+    /// # Errors
+    ///
+    /// `Changed` where it does not, `Failed` where the file could not be moved. Nothing is changed
+    /// then.
+    fn replace(&mut self, lock: Self::Lock, from: &str, place: &str) -> Result<(), MoveFault>
         ensures ok { OnOk result
-            (Changes (Moves from.now to.now) (known self.old) (known self.new)) }
-        ensures err { OnErr result (known self.new ≡ known self.old) };
+            (Changes (Moves from.now place.now) (known self.old) (known self.new)) }
+        ensures err { IfErr result
+            (λ why. Changes (CannotMove place.now why) (known self.old) (known self.new)) };
+
+    /// Answers once it is on the disk which file is at a path.
+    fn sync_name(&mut self, path: &str) -> Result<(), ChangeFailed>
+        ensures ok { OnOk result (Changes Stays (known self.old) (known self.new)) }
+        ensures err { OnErr result (Changes Fails (known self.old) (known self.new)) };
 
     /// Takes a file away, where it can be.
     fn remove(&mut self, path: &str)
         ensures { Changes (Becomes path.now None) (known self.old) (known self.new) };
-
-    /// Opens a file to be kept. It is made where there is none, and locked, so that no other run of
-    /// the program keeps it at the same time.
-    ///
-    /// # Errors
-    ///
-    /// `Held` where another open of the file keeps it, `NotOpened` where it can't be kept.
-    fn keep(&mut self, path: &str) -> Result<Self::Kept, KeepFault>
-        ensures file { IfOk result
-            (λ kept. IsKeptAt (known self.old) path.now (Self.Kept.contents kept)) }
-        ensures ok { OnOk result (Changes (Keeps path.now) (known self.old) (known self.new)) }
-        ensures err { OnErr result (known self.new ≡ known self.old) };
 }

@@ -1,10 +1,12 @@
 //! A file that is kept while a program runs.
 ghost use Rattle.std.specs.Prelude.{◌≡◌, ℕ, List, Option, take, option_map, OnOk, OnErr};
 ghost use Rattle.std.specs.Io.KnownBytes.{Appends};
+ghost use Rattle.osn_folder.specs.KeptFile.{fault_after};
+ghost use Rattle.osn_folder.specs.declared.fault.KeptFileFault.{KeptFileFault};
 
-use crate::fault::ChangeFailed;
+use crate::fault::KeptFileFault;
 
-/// A file that is kept: what is appended to it stands behind what it holds.
+/// A file that is kept: what is appended to it stands after what it holds.
 pub trait KeptFile {
     // What it holds, where that is known.
     ghost contents: { Self → Option (List ℕ) };
@@ -12,35 +14,43 @@ pub trait KeptFile {
     // What is on the disk for sure, where that is known.
     ghost synced: { Self → Option (List ℕ) };
 
+    // Why the last change that failed did so, where one did.
+    ghost fault: { Self → Option KeptFileFault };
+
     /// Appends bytes.
     ///
     /// # Errors
     ///
     /// Where a write failed. The first of the bytes may stand in the file then.
-    fn append(&mut self, bytes: &[u8]) -> Result<(), ChangeFailed>
+    fn append(&mut self, bytes: &[u8]) -> Result<(), KeptFileFault>
         ensures ok { OnOk result (Appends (contents self.old) (contents self.new) bytes.now) }
         ensures err { OnErr result ((n : ℕ)
             × Appends (contents self.old) (contents self.new) (take n bytes.now)) }
-        ensures disk { synced self.new ≡ synced self.old };
+        ensures disk { synced self.new ≡ synced self.old }
+        ensures fault { fault self.new ≡ fault_after result (fault self.old) };
 
     /// Cuts it to its first bytes. One that has no more is left as it is.
     ///
     /// # Errors
     ///
     /// Where it could not be cut.
-    fn cut(&mut self, length: u64) -> Result<(), ChangeFailed>
+    fn cut(&mut self, length: u64) -> Result<(), KeptFileFault>
         ensures ok { OnOk result
             (contents self.new ≡ option_map (take length) (contents self.old)) }
         ensures err { OnErr result (contents self.new ≡ contents self.old) }
-        ensures disk { OnErr result (synced self.new ≡ synced self.old) };
+        ensures disk { OnErr result (synced self.new ≡ synced self.old) }
+        ensures fault { fault self.new ≡ fault_after result (fault self.old) };
 
-    /// Answers once all that it holds is on the disk.
+    /// Answers once all that it holds is on the disk, at the path that it was opened by.
     ///
     /// # Errors
     ///
-    /// Where that is not sure. What was on the disk before still is.
-    fn sync(&mut self) -> Result<(), ChangeFailed>
+    /// `ChangeFailed` where it isn't sure that all is on the disk; what was there before still is.
+    /// `Replaced` where the path names another file now, or none, or the file is not as long as
+    /// what it was given.
+    fn sync(&mut self) -> Result<(), KeptFileFault>
         ensures same { contents self.new ≡ contents self.old }
         ensures ok { OnOk result (synced self.new ≡ contents self.new) }
-        ensures err { OnErr result (synced self.new ≡ synced self.old) };
+        ensures err { OnErr result (synced self.new ≡ synced self.old) }
+        ensures fault { fault self.new ≡ fault_after result (fault self.old) };
 }

@@ -1,20 +1,24 @@
-//! Files by their paths: those that are opened to be read, in order, and the one that a text is
-//! saved to. What the crate promises to those above: of a folder that is known, `open_file`,
-//! `open_both` and `open_if` open the files that are named and no others, and `save_file` puts a
-//! text in the place of a file, whole or not at all. A file may also be kept, to be appended to
-//! while a program runs.
+//! Files by their paths: those that are opened to be read, in order, those that a text is saved to,
+//! and those that are kept. What the crate promises to those above: of a folder that is known,
+//! `open_file`, `open_both` and `open_if` open the files that are named and no others, and
+//! `save_file` puts a text in the place of a file that was locked, whole or not at all, and of none
+//! that anyone else has changed. A file may also be kept, to be appended to while a program runs.
 #![tactic(auto)]
 
 mod disk;
+mod disk_file;
+mod disk_lock;
+mod disk_names;
 mod fault;
 mod folder;
-mod keeping;
 mod kept_file;
 mod opening;
 mod saving;
 
 pub use disk::Disk;
-pub use fault::{ChangeFailed, KeepFault, OpenFailed, SaveFault};
+pub use disk_file::DiskFile;
+pub use disk_lock::DiskLock;
+pub use fault::{ChangeFailed, KeepFault, KeptFileFault, MoveFault, OpenFailed, SaveFault};
 pub use folder::Folder;
 pub use kept_file::KeptFile;
 pub use opening::{open_both, open_file, open_if};

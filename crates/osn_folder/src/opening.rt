@@ -17,7 +17,7 @@ pub fn open_file<D: Folder>(folder: &mut D, path: &str) -> Result<D::File, OpenF
     folder.open(path)
 }
 
-/// Opens two files, one behind the other.
+/// Opens two files, one after the other.
 pub fn open_both<D: Folder>(
     folder: &mut D,
     first: &str,

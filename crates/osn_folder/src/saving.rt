@@ -1,98 +1,163 @@
-//! Saves a text in a file, whole or not at all.
-ghost use Rattle.std.specs.Prelude.{◌≡◌, ℕ, List, Option, IfOk};
-ghost use Rattle.std.specs.Prelude.{OnOk, OnErr, string_bytes};
-ghost use Rattle.osn_folder.specs.Folder.{Changes, Becomes, beside, SavesAt, LeavesAt};
-ghost use Rattle.osn_folder.specs.Folder.{Saves, Leaves};
+//! Saves a text in a file that was locked, whole or not at all.
+ghost use Rattle.std.specs.Prelude.{◌≡◌, Some, IfErr, OnOk, option_map};
+ghost use Rattle.osn_folder.specs.Folder.{Changes, Stays, Fails, Saves, CannotSave};
+ghost use Rattle.osn_folder.specs.Folder.{SavesAt, CannotSaveAt};
+ghost use Rattle.osn_folder.specs.FolderInside.{ReplacesAt, CannotReplaceAt, HoldsLoaded};
+ghost use Rattle.osn_folder.specs.FolderInside.{MovesLoaded, CannotMoveLoaded};
+ghost use Rattle.osn_folder.specs.declared.fault.SaveFault.{SaveFault};
 
-use crate::fault::{ChangeFailed, SaveFault};
+use crate::fault::{ChangeFailed, MoveFault, SaveFault};
 use crate::folder::Folder;
-use std::alloc::{AllocError, Global};
+use std::alloc::Global;
 
-/// Puts a text in place of a file, which a reader finds as it was or as it is then, and never in
-/// part. The text is written to a file beside it first, of the same name and `.unfinished`, with
-/// the permissions of the one that it replaces. A link stays one, and one that leads nowhere takes
-/// nothing. What is no file, as a pipe, is written as it is.
+/// Puts a text in place of the file that was locked, which a reader finds as it was or as it is
+/// then, and never in part. The text is written to a new file beside it first, with the permissions
+/// of the one that it replaces. A link stays one, and one that leads nowhere takes nothing. What is
+/// no file, as a pipe, is written as it is.
+///
+/// Where `loaded` is given, the file has to hold exactly these bytes.
 ///
 /// # Errors
 ///
 /// `NoMemory` where memory ran out, `WriteFault` where a step failed; the file is as it was then,
-/// and nothing is left beside it.
+/// and nothing is left beside it. `NotSynced` where the text stands there, and it isn't sure that
+/// this is on the disk. `Changed` where the path leads to another file now, or to one where nothing
+/// was, or the file holds anything but the bytes that are given: all is left as it is, and the text
+/// stands in the file beside it.
 pub fn save_file<D: Folder>(
     folder: &mut D,
     alloc: Global,
+    lock: D::Lock,
     path: &str,
+    loaded: Option<&[u8]>,
     text: &str,
 ) -> Result<(), SaveFault>
     ensures ok { OnOk result
-        (Changes (Saves path.now text.now) (D.known folder.old) (D.known folder.new)) }
-    ensures err { OnErr result
-        (Changes (Leaves path.now) (D.known folder.old) (D.known folder.new)) }
+        (Changes (Saves path.now (option_map (λ bytes. bytes.now) loaded.entry) text.now)
+        (D.known folder.old) (D.known folder.new)) }
+    ensures err { IfErr result (λ why.
+        Changes (CannotSave path.now (option_map (λ bytes. bytes.now) loaded.entry) text.now why)
+        (D.known folder.old) (D.known folder.new)) }
 {
     let place = folder.place(alloc, path)?;
-    save_at(folder, alloc, place.as_str(), text)
-}
-
-/// The path of what is not finished yet.
-fn beside_of(alloc: Global, place: &str) -> Result<String, AllocError>
-    ensures { IfOk result (λ path. string_bytes path ≡ beside place.now) }
-{
-    format!(in alloc; "{place}.unfinished")
+    save_at(folder, alloc, lock, place.as_str(), loaded, text)
 }
 
 /// Puts a text in place of what stands at a path that is no link.
 fn save_at<D: Folder>(
     folder: &mut D,
     alloc: Global,
+    lock: D::Lock,
     place: &str,
+    loaded: Option<&[u8]>,
     text: &str,
 ) -> Result<(), SaveFault>
     ensures ok { OnOk result
-        (Changes (SavesAt place.now text.now) (D.known folder.old) (D.known folder.new)) }
-    ensures err { OnErr result
-        (Changes (LeavesAt place.now) (D.known folder.old) (D.known folder.new)) }
+        (Changes (SavesAt place.now (option_map (λ bytes. bytes.now) loaded.entry) text.now)
+        (D.known folder.old) (D.known folder.new)) }
+    ensures err { IfErr result (λ why. Changes (CannotSaveAt place.now
+        (option_map (λ bytes. bytes.now) loaded.entry) text.now why)
+        (D.known folder.old) (D.known folder.new)) }
 {
-    let saved = if folder.is_stream(place) {
-        folder.write_stream(place, text)
+    if folder.is_stream(place) {
+        Ok(folder.write_stream(place, text)?)
     } else {
-        let beside = beside_of(alloc, place)?;
-        replace(folder, place, beside.as_str(), text)
-    };
-    Ok(saved?)
+        save_as_file(folder, alloc, lock, place, loaded, text)
+    }
 }
 
 /// Puts a text in place of a file, by one beside it.
-fn replace<D: Folder>(
+fn save_as_file<D: Folder>(
     folder: &mut D,
+    alloc: Global,
+    lock: D::Lock,
     place: &str,
-    path: &str,
+    loaded: Option<&[u8]>,
     text: &str,
-) -> Result<(), ChangeFailed>
-    requires { path.now ≡ beside place.now }
+) -> Result<(), SaveFault>
     ensures ok { OnOk result
-        (Changes (SavesAt place.now text.now) (D.known folder.old) (D.known folder.new)) }
-    ensures err { OnErr result
-        (Changes (LeavesAt place.now) (D.known folder.old) (D.known folder.new)) }
+        (Changes (ReplacesAt place.now (option_map (λ bytes. bytes.now) loaded.entry) text.now)
+        (D.known folder.old) (D.known folder.new)) }
+    ensures err { IfErr result (λ why. Changes (CannotReplaceAt place.now
+        (option_map (λ bytes. bytes.now) loaded.entry) text.now why)
+        (D.known folder.old) (D.known folder.new)) }
 {
-    let moved = write_and_move(folder, place, path, text);
-    if moved.is_err() {
-        folder.remove(path);
+    let beside = folder.write_beside(alloc, place, text)?;
+    match move_loaded(folder, lock, beside.as_str(), place, loaded) {
+        Ok(()) => sync_saved(folder, place),
+        Err(MoveFault::Changed) => Err(SaveFault::Changed(beside)),
+        Err(MoveFault::Failed) => {
+            folder.remove(beside.as_str());
+            Err(SaveFault::WriteFault)
+        }
     }
-    moved
 }
 
-/// Writes the text beside a file, and moves it there.
-fn write_and_move<D: Folder>(
-    folder: &mut D,
-    place: &str,
-    path: &str,
-    text: &str,
-) -> Result<(), ChangeFailed>
-    requires { path.now ≡ beside place.now }
-    ensures ok { OnOk result
-        (Changes (SavesAt place.now text.now) (D.known folder.old) (D.known folder.new)) }
-    ensures err { OnErr result ((left : Option (List ℕ))
-        × Changes (Becomes path.now left) (D.known folder.old) (D.known folder.new)) }
+/// Has it on the disk which file is at a place.
+fn sync_saved<D: Folder>(folder: &mut D, place: &str) -> Result<(), SaveFault>
+    ensures ok { OnOk result (Changes Stays (D.known folder.old) (D.known folder.new)) }
+    ensures err { IfErr result (λ why. (why ≡ SaveFault.NotSynced)
+        × Changes Fails (D.known folder.old) (D.known folder.new)) }
 {
-    folder.write(path, place, text)?;
-    folder.rename(path, place)
+    match folder.sync_name(place) {
+        Ok(()) => Ok(()),
+        Err(ChangeFailed) => Err(SaveFault::NotSynced),
+    }
+}
+
+/// That the file which is locked holds exactly the bytes that are given, if any are.
+fn check_loaded<D: Folder>(
+    folder: &mut D,
+    lock: &D::Lock,
+    place: &str,
+    loaded: Option<&[u8]>,
+) -> Result<(), MoveFault>
+    ensures ok { OnOk result (Changes (HoldsLoaded place.now
+        (option_map (λ bytes. bytes.now) loaded.entry)) (D.known folder.old) (D.known folder.new)) }
+    ensures err { IfErr result (λ why.
+        Changes (CannotMoveLoaded place.now (option_map (λ bytes. bytes.now) loaded.entry) why)
+        (D.known folder.old) (D.known folder.new)) }
+{
+    match loaded {
+        Some(bytes) => check_bytes(folder, lock, place, bytes),
+        None => Ok(()),
+    }
+}
+
+/// That the file which is locked holds exactly these bytes.
+fn check_bytes<D: Folder>(
+    folder: &mut D,
+    lock: &D::Lock,
+    place: &str,
+    bytes: &[u8],
+) -> Result<(), MoveFault>
+    ensures ok { OnOk result (Changes (HoldsLoaded place.now (Some bytes.now))
+        (D.known folder.old) (D.known folder.new)) }
+    ensures err { IfErr result (λ why. Changes (CannotMoveLoaded place.now (Some bytes.now) why)
+        (D.known folder.old) (D.known folder.new)) }
+{
+    if folder.holds(lock, place, bytes)? {
+        Ok(())
+    } else {
+        Err(MoveFault::Changed)
+    }
+}
+
+/// Puts a file at a place, if that holds what was loaded from it, where this is given.
+fn move_loaded<D: Folder>(
+    folder: &mut D,
+    lock: D::Lock,
+    from: &str,
+    place: &str,
+    loaded: Option<&[u8]>,
+) -> Result<(), MoveFault>
+    ensures ok { OnOk result
+        (Changes (MovesLoaded from.now place.now (option_map (λ bytes. bytes.now) loaded.entry))
+        (D.known folder.old) (D.known folder.new)) }
+    ensures err { IfErr result (λ why.
+        Changes (CannotMoveLoaded place.now (option_map (λ bytes. bytes.now) loaded.entry) why)
+        (D.known folder.old) (D.known folder.new)) }
+{
+    check_loaded(folder, &lock, place, loaded)?;
+    folder.replace(lock, from, place)
 }

@@ -1,3 +1,4 @@
+//! Why a line is no request, or a line of a file is refused.
 ghost use Rattle.std.specs.Prelude.{◌≡◌};
 ghost use Rattle.osn_format.specs.WireFault.{wire_fault_number, wire_fault_name};
 
@@ -30,6 +31,8 @@ pub enum WireFault {
     UnknownEdition,
     /// A reader's reply names an edition before that of the reader's reply before it.
     EditionFell,
+    /// The service takes no edit and no publish.
+    ReadOnly,
 }
 
 impl WireFault {
@@ -50,6 +53,7 @@ impl WireFault {
             WireFault::WrongReply => 42,
             WireFault::UnknownEdition => 43,
             WireFault::EditionFell => 44,
+            WireFault::ReadOnly => 45,
         }
     }
 
@@ -70,6 +74,7 @@ impl WireFault {
             WireFault::WrongReply => "WrongReply",
             WireFault::UnknownEdition => "UnknownEdition",
             WireFault::EditionFell => "EditionFell",
+            WireFault::ReadOnly => "ReadOnly",
         }
     }
 }

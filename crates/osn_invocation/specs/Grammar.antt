@@ -4,6 +4,7 @@ use Rattle.clap.specs.Words.{App, Rule, Text, app_of, found_of, matches_of, new_
 use Rattle.clap.specs.Words.{rows_of, rule_of, subcommand_of, subcommand_rows_of, with_rule}
 use Rattle.clap.specs.Words.{with_subcommand}
 use Rattle.clap.specs.Simple.{on_top}
+use Rattle.clap.specs.declared.builder.action.ArgAction.TheVariants.{Count}
 use Rattle.clap.specs.declared.builder.arg.Arg.{Arg}
 use Rattle.clap.specs.declared.builder.command.Command.{Command}
 use Rattle.clap.specs.declared.builder.command.Command.TheViews.{out-Command}
@@ -13,6 +14,10 @@ use Rattle.clap.specs.declared.parser.matches.ArgMatches.{ArgMatches}
 -- an option with a value, `--journal FILE`
 abbrev pub value_option : Text → Rule
 value_option name = record (new_rule name) { long = Some name; value_names = 1 }
+
+-- an option without a value, `--read-only`
+abbrev pub flag_option : Text → Rule
+flag_option name = record (new_rule name) { long = Some name; action = Some Count }
 
 -- the option `--readers N`: N is 1 to 64
 abbrev pub readers_option : Rule
@@ -35,11 +40,13 @@ abbrev pub year_arg : Rule
 year_arg =
     record (required_arg (codes "year")) { parser = Some (Signed (pos 0) (pos 4294967295)) }
 
--- `serve [--journal FILE] [--save FILE] [--keep FILE] [--readers N]`
+-- `serve [--journal FILE] [--save FILE] [--keep FILE] [--readers N] [--read-only]
+-- [--stop-at-refusal]`
 abbrev pub serve_grammar : App
-serve_grammar = with_rule (with_rule (with_rule
+serve_grammar = with_rule (with_rule (with_rule (with_rule (with_rule
     (with_rule (new_app (codes "serve")) (value_option (codes "journal")))
-    (value_option (codes "save"))) (value_option (codes "keep"))) readers_option
+    (value_option (codes "save"))) (value_option (codes "keep"))) readers_option)
+    (flag_option (codes "read-only"))) (flag_option (codes "stop-at-refusal"))
 
 -- `replay --readers N SCHEDULE`
 abbrev pub replay_grammar : App

@@ -6,7 +6,7 @@ use Rattle.std.specs.List.{list_all}
 use Rattle.std.specs.Option.{option_map_or}
 use Rattle.std.specs.Str.{bytes_eq}
 use Rattle.std.specs.Str.Parse.{digits_value, without_leading_plus}
-use Rattle.clap.specs.Words.{Row, Text, first_of, matches_of, one_of, subcommand_of}
+use Rattle.clap.specs.Words.{Row, Text, count_of, first_of, matches_of, one_of, subcommand_of}
 use Rattle.osn_invocation.specs.Grammar.{command_line}
 use Rattle.osn_invocation.specs.declared.invocation.CommandWords.{CommandWords}
 use Rattle.osn_invocation.specs.declared.invocation.CommandWords.TheVariants.{Serve, Replay, Desk}
@@ -14,6 +14,7 @@ use Rattle.osn_invocation.specs.declared.invocation.CommandWords.TheVariants.{Pa
 use Rattle.osn_invocation.specs.declared.invocation.CommandWords.TheVariants.{Letters}
 use Rattle.osn_invocation.specs.declared.invocation.Invocation.{Invocation}
 use Rattle.osn_invocation.specs.declared.invocation.PageWords.{PageWords}
+use Rattle.osn_invocation.specs.declared.invocation.ServeOptions.{ServeOptions}
 use Rattle.osn_invocation.specs.declared.invocation.PageWords.TheVariants as pages
 
 -- a page of what a journal published: the almanac of a territory's code and a year; the reading of
@@ -27,13 +28,20 @@ pub data PageWordsModel : Type 0 where
   month_words : Text → Text → Text → PageWordsModel
   territory_words : Option Text → PageWordsModel
 
+-- what the service is asked for beside files: how many readers ask, whether edits and publishes are
+-- refused, and whether the first line that is refused is the last to be answered
+pub record ServiceModel : Type 0 where
+  pub readers : ℕ
+  pub read_only : Bool
+  pub stop_at_refusal : Bool
+
 -- what a command is asked for: the service by a journal, where to save it, where to keep it, and
--- readers; a replay by readers and a schedule; a desk by a script and questions; a page by a
+-- the rest; a replay by readers and a schedule; a desk by a script and questions; a page by a
 -- journal and which page; an audit by a journal and a transcript; a conversion by a calendar and a
 -- date; letters by a journal, the names of the columns of places and dates, and, if they are named,
 -- that of the weekdays and what separates the fields. Files are named by their paths
 pub data CommandModel : Type 0 where
-  serving : Option Text → Option Text → Option Text → ℕ → CommandModel
+  serving : Option Text → Option Text → Option Text → ServiceModel → CommandModel
   replaying : ℕ → Text → CommandModel
   working : Text → Text → CommandModel
   printing : Text → PageWordsModel → CommandModel
@@ -69,7 +77,11 @@ text_of name given = unwrap_or (first_of name given) []
 -- what each command asks for, by what was found for its arguments
 abbrev pub serve_command : List Row → CommandModel
 serve_command given = serving (first_of (codes "journal") given) (first_of (codes "save") given)
-    (first_of (codes "keep") given) (number_of 8 (codes "readers") given)
+    (first_of (codes "keep") given) (record {
+      readers = number_of 8 (codes "readers") given;
+      read_only = nat_lt 0 (count_of (codes "read-only") given);
+      stop_at_refusal = nat_lt 0 (count_of (codes "stop-at-refusal") given);
+    })
 
 abbrev pub replay_command : List Row → CommandModel
 replay_command given =
@@ -162,10 +174,17 @@ page_words (pages.Day code date) = day_words code.now date.now
 page_words (pages.Month code year month) = month_words code.now year.now month.now
 page_words (pages.Territory code) = territory_words (option_map (λ code. code.now) code)
 
+abbrev pub service_model : ServeOptions → ServiceModel
+service_model given = record {
+  readers = given.readers;
+  read_only = given.read_only;
+  stop_at_refusal = given.stop_at_refusal;
+}
+
 abbrev pub command_model : CommandWords → CommandModel
 command_model (Serve given) =
     serving (option_map (λ path. path.now) given.journal) (option_map (λ path. path.now) given.save)
-    (option_map (λ path. path.now) given.keep) given.readers
+    (option_map (λ path. path.now) given.keep) (service_model given)
 command_model (Replay readers schedule) = replaying readers schedule.now
 command_model (Desk script questions) = working script.now questions.now
 command_model (Page journal page) = printing journal.now (page_words page)

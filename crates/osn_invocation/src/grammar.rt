@@ -6,11 +6,11 @@ ghost use Rattle.osn_invocation.specs.Grammar.{IsArg, IsCommand, almanac_grammar
 ghost use Rattle.osn_invocation.specs.Grammar.{command_line, convert_grammar, day_grammar};
 ghost use Rattle.osn_invocation.specs.Grammar.{desk_grammar, letters_grammar, limited};
 ghost use Rattle.osn_invocation.specs.Grammar.{month_grammar};
-ghost use Rattle.osn_invocation.specs.Grammar.{optional_arg, read_grammar, readers_option};
+ghost use Rattle.osn_invocation.specs.Grammar.{flag_option, optional_arg, read_grammar, readers_option};
 ghost use Rattle.osn_invocation.specs.Grammar.{replay_grammar, required_arg, serve_grammar};
 ghost use Rattle.osn_invocation.specs.Grammar.{territory_grammar, value_option, year_arg};
 
-use clap::{Arg, Command, value_parser};
+use clap::{Arg, ArgAction, Command, value_parser};
 use std::alloc::{AllocError, Global};
 
 const ABOUT: &str = "Says which day a dated document means, by the calendar, the beginning of the \
@@ -48,6 +48,13 @@ fn option_arg<'a>(alloc: Global, id: &'a str, shown: &'a str) -> Arg<'a>
     Arg::new(alloc, id).long(id).value_name(shown)
 }
 
+/// An option without a value.
+fn flag_arg<'a>(alloc: Global, id: &'a str) -> Arg<'a>
+    ensures { IsArg (flag_option id.now) result }
+{
+    Arg::new(alloc, id).long(id).action(ArgAction::Count)
+}
+
 /// An argument that may stand.
 fn optional_arg<'a>(alloc: Global, id: &'a str, shown: &'a str) -> Arg<'a>
     ensures { IsArg (optional_arg id.now) result }
@@ -78,14 +85,21 @@ fn serve_grammar<'a>(alloc: Global) -> Result<Command<'a>, AllocError>
         .arg(option_arg(alloc, "keep", "FILE").help(
             "The journal to begin with, to which each change is appended while the service runs",
         ))?
-        .arg(readers_arg(alloc).help("How many readers ask, 1 to 64 [default: 8]"))
+        .arg(readers_arg(alloc).help("How many readers ask, 1 to 64 [default: 8]"))?
+        .arg(flag_arg(alloc, "read-only").help(
+            "Refuses each edit and each publish by 45 ReadOnly",
+        ))?
+        .arg(flag_arg(alloc, "stop-at-refusal").help(
+            "Ends after the first line that is refused, and saves nothing then",
+        ))
 }
 
 const SERVE_EXAMPLE: &str = "Example:
   ./oldstyle serve --journal examples/samples.journal --save new.journal < examples/added.jsonl
 
 Requests and replies are JSON lines. With --save, the journal is saved only if all lines were
-answered. With --keep, each change is in the journal before its reply is written.";
+answered. With --keep, each change is in the journal before its reply is written. With
+--stop-at-refusal, a batch of edits is published whole or not at all.";
 
 /// The command `read`, its arguments and its option.
 fn read_grammar<'a>(alloc: Global) -> Result<Command<'a>, AllocError>

@@ -32,6 +32,10 @@ pub struct ServeOptions<'a> {
     pub keep: Option<&'a str>,
     /// How many readers ask.
     pub readers: u32,
+    /// Whether edits and publishes are refused.
+    pub read_only: bool,
+    /// Whether the first line that is refused is the last to be answered.
+    pub stop_at_refusal: bool,
 }
 
 /// A page of what a journal published, by the words of the command line.
@@ -216,6 +220,8 @@ fn serve_of<'a>(given: &ArgMatches<'a>) -> CommandWords<'a>
         save: value_of(given, "save"),
         keep: value_of(given, "keep"),
         readers: number_of(given, "readers", READERS),
+        read_only: given.get_count("read-only") > 0,
+        stop_at_refusal: given.get_count("stop-at-refusal") > 0,
     })
 }
 

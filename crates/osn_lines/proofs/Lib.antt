@@ -1,4 +1,5 @@
 pub mod ByteLemmas
+pub mod FeedLemmas
 pub mod LineLemmas
 pub mod TakeLemmas
 pub mod InputLemmas

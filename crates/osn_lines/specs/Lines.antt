@@ -1,6 +1,6 @@
 -- How bytes are cut into lines (this project's profile): at each line feed, and what stands after
 -- the last one is a line if it isn't empty.
-use Rattle.std.specs.Prelude.{◌≡◌, ◌<◌, ◌≤◌, ℕ, List, [], ◌∷◌, ◌==◌, if◌then◌else◌, length}
+use Rattle.std.specs.Prelude.{◌≡◌, ◌<◌, ◌≤◌, ℕ, List, [], ◌∷◌, ◌++◌, ◌==◌, if◌then◌else◌, length}
 use Rattle.osn_lines.specs.declared.line.Line.{Line}
 use Rattle.osn_lines.specs.declared.line.Line.TheVariants.{Whole, TooLong}
 
@@ -13,6 +13,10 @@ onto_first b (line ∷ rest) = (b ∷ line) ∷ rest
 abbrev pub lines : List ℕ → List (List ℕ)
 lines [] = []
 lines (b ∷ bs) = if b == 10 then [] ∷ lines bs else onto_first b (lines bs)
+
+-- the last byte is a line feed
+abbrev pub EndsWithFeed : List ℕ → Type 0
+EndsWithFeed text = (front : List ℕ) × (text ≡ front ++ 10 ∷ [])
 
 -- the most bytes of a line, without its line feed
 abbrev pub longest_line : ℕ

@@ -1,9 +1,10 @@
 //! Lines of bytes: what they are read from and written to, how they are cut, and the loop that
 //! hands each line to what takes lines. What the crate promises to those above: `take_lines` hands
 //! over exactly the lines of the input, in order, in whatever pieces the bytes come, and says where
-//! it ended early and why.
+//! it ended early and why. `read_all` has all bytes of an input in memory.
 #![tactic(auto)]
 
+mod bytes;
 mod cut;
 mod fault;
 mod kept;
@@ -13,7 +14,9 @@ mod sink;
 mod source;
 mod stream;
 mod taker;
+mod whole;
 
+pub use bytes::Bytes;
 pub use fault::{Interrupted, TakeFault};
 pub use line::{LONGEST_LINE, Line};
 pub use plain::Plain;
@@ -21,3 +24,4 @@ pub use sink::{Sink, WriteFailed, write_all};
 pub use source::{ReadFailed, Source, read_buffer};
 pub use stream::take_lines;
 pub use taker::LineTaker;
+pub use whole::{ReadAllFault, read_all};

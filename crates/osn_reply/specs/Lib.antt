@@ -1,3 +1,4 @@
+pub mod Outcome
 pub mod ReplyText
 pub mod OutText
 pub mod Transcript

@@ -1,11 +1,15 @@
+//! What became of a line.
+ghost use Rattle.std.specs.Prelude.{◌≡◌};
+ghost use Rattle.osn_reply.specs.Outcome as spec;
+
 use osn_core::Reply;
 use osn_format::WireFault;
-use osn_register::Refusal;
+use osn_register::{Answer, Refusal};
 
 /// What became of a line.
 #[derive(Debug, Drop)]
 pub enum Outcome {
-    /// The edit was staged; so many are pending now.
+    /// The edit was staged; this many are pending now.
     Staged(u32),
     /// The pending edits became this edition.
     Published(u32),
@@ -15,4 +19,17 @@ pub enum Outcome {
     Fault(WireFault),
     /// The query of this reader was told this.
     Replied { reader: u32, reply: Reply },
+}
+
+impl Outcome {
+    /// Whether the reply tells a refusal, or the fault of its line.
+    pub fn is_refused(&self) -> bool
+        ensures { result ≡ spec.is_refused self.now }
+    {
+        match self {
+            Outcome::Staged(_) | Outcome::Published(_) => false,
+            Outcome::Refused(_) | Outcome::Fault(_) => true,
+            Outcome::Replied { reply, .. } => matches!(reply.answer, Answer::Refused(_)),
+        }
+    }
 }

@@ -1,12 +1,7 @@
 pub mod WaitLemmas
 pub mod PartLemmas
-pub mod ServeLemmas
-pub mod StopLemmas
-pub mod ClauseLemmas
 pub mod LawLemmas
-pub mod KeptLaw
-pub mod ChangeLemmas
-pub mod KeptLemmas
+pub mod ServeLemmas
+pub mod SessionLemmas
 pub mod TakingLemmas
-pub mod KeepingLemmas
-pub mod KeptTakingLemmas
+pub mod ClauseLemmas

@@ -22,20 +22,24 @@ use Rattle.osn_service.proofs.WaitLemmas.{Waits-at}
 abbrev pub whole_in : List ℕ → ℕ → ℕ
 whole_in ends bytes = count_by (λ end. nat_le end bytes) ends
 
+-- one reply more, which ends within the bytes or not
 whole_cons : (end : ℕ) (ends : List ℕ) (bytes : ℕ) (t : Bool) → nat_le end bytes ≡ t →
     whole_in (end ∷ ends) bytes ≡ cond t 1 0 + whole_in ends bytes
 whole_cons end ends bytes t h =
     sum_by-cons (λ e. cond (nat_le e bytes) 1 0) end ends
     ∙ ap (λ b. cond b 1 0 + whole_in ends bytes) h
 
+-- one more that does
 whole_yes : (end : ℕ) (ends : List ℕ) (bytes : ℕ) → nat_le end bytes ≡ true →
     whole_in (end ∷ ends) bytes ≡ whole_in ends bytes + 1
 whole_yes end ends bytes h = omega (arith, whole_cons end ends bytes true h)
 
+-- one more that does not
 whole_no : (end : ℕ) (ends : List ℕ) (bytes : ℕ) → nat_le end bytes ≡ false →
     whole_in (end ∷ ends) bytes ≡ whole_in ends bytes
 whole_no end ends bytes h = omega (arith, whole_cons end ends bytes false h)
 
+-- what ends behind the bytes does not end within them
 is_past : (end bytes : ℕ) → bytes < end → nat_le end bytes ≡ false
 is_past end bytes lt = ⊎_elim (λ k. absurd (omega (arith, k.1))) (λ k. k.0) (leb_tells end bytes)
 
@@ -57,6 +61,7 @@ record Whole {S : Type 0} (text : S → List ℕ → List ℕ) (after : S → Li
   whole : from + length (replies text after s (take j xs)) ≤ bytes
   no_more : j < length xs → bytes < from + length (replies text after s (take (suc j) xs))
 
+-- so it is with a reply in front that ends within them
 Whole-more : {S : Type 0} (text : S → List ℕ → List ℕ) (after : S → List ℕ → S) (from to : ℕ)
     (s : S) (x : List ℕ) (xs : List (List ℕ)) (bytes i : ℕ) → to ≡ from + length (text s x) →
     Whole text after to (after s x) xs bytes i → Whole text after from s (x ∷ xs) bytes (suc i)
@@ -73,6 +78,7 @@ Whole-more text after from to s x xs bytes i is_to h = record {
       );
 }
 
+-- or where the first does not
 Whole-none : {S : Type 0} (text : S → List ℕ → List ℕ) (after : S → List ℕ → S) (from : ℕ) (s : S)
     (x : List ℕ) (xs : List (List ℕ)) (bytes : ℕ) → from ≤ bytes →
     bytes < from + length (text s x) → Whole text after from s (x ∷ xs) bytes 0
@@ -82,6 +88,7 @@ Whole-none text after from s x xs bytes le lt = record {
   no_more = λ _. omega (arith, length-append (text s x) []);
 }
 
+-- so many of them as are counted
 Whole-counted : {S : Type 0} (text : S → List ℕ → List ℕ) (after : S → List ℕ → S) (from : ℕ)
     (s : S) (xs : List (List ℕ)) (bytes : ℕ) → from ≤ bytes →
     Whole text after from s xs bytes (whole_in (ends_from text after from s xs) bytes)
@@ -100,6 +107,7 @@ Whole-counted text after from s (x ∷ xs) bytes le =
     (Whole-none text after from s x xs bytes le k.1))
     (leb_tells to bytes)
 
+-- nor do the first of them change anything
 ChangesNothing-take : {S : Type 0} (after : S → List ℕ → S) (s : S) (xs : List (List ℕ)) (i : ℕ) →
     ChangesNothing after s xs → ChangesNothing after s (take i xs)
 ChangesNothing-take after s [] zero h = tt

@@ -1,189 +1,319 @@
 -- How taking lines ended, as the service says it.
-use Rattle.std.proofs.Common.{◌≡◌, ◌≤◌, ◌∙◌, ◌+◌, ℕ, Bool, false, List, [], Option, Some, None}
-use Rattle.std.proofs.Common.{Ok, Err, IfSome, IfOk, length, refl, sym, ap, subst, arith, Result}
+use Rattle.std.proofs.Common.{◌≡◌, ◌≤◌, ◌<◌, ◌+◌, ◌-◌, ◌∙◌, ℕ, Bool, true, List, [], ◌∷◌, ◌++◌}
+use Rattle.std.proofs.Common.{Option, Some, None, Result, Ok, Err, IfSome, IfOk, length, take}
+use Rattle.std.proofs.Common.{slice_get, sym, ap, subst, arith, add-one, length-append}
+use Rattle.std.proofs.Math.Seq.{take-suc}
+use Rattle.std.proofs.lemmas.List.{take_all}
+use Rattle.std.proofs.lemmas.Option.{get_or_from_slice_get, slice_get_within}
 use Rattle.std.specs.Io.KnownBytes.{IsAtEnd, Appends}
-use Rattle.osn_days.specs.Profile.{newest_rules}
+use Rattle.osn_core.specs.Sequential.{ObjectState}
 use Rattle.osn_lines.specs.declared.fault.Interrupted.{Interrupted}
 use Rattle.osn_lines.specs.declared.fault.TakeFault.{TakeFault}
 use Rattle.osn_lines.specs.declared.fault.TakeFault.TheVariants as take
 use Rattle.osn_lines.specs.Faults as fault
-use Rattle.osn_lines.specs.Faults.{IsReadFault, WriteFails}
+use Rattle.osn_lines.specs.Faults.{IsReadFault}
 use Rattle.osn_lines.specs.Lines.{lines}
-use Rattle.osn_lines.specs.Taking.{TakesFirst, TakesEnded, StopsAfter, HasRead}
-use Rattle.osn_service.specs.declared.fault.ServeFault.{ServeFault}
-use Rattle.osn_service.specs.declared.fault.ServeFault.TheVariants.{NoMemory, ReadFault, WriteFault}
+use Rattle.osn_lines.specs.Streams.{Input}
+use Rattle.osn_lines.specs.Taking.{TakesAll, TakesFirst, TakesEnded, StopsAfter}
+use Rattle.osn_service.specs.declared.fault.ServiceFault.{ServiceFault}
+use Rattle.osn_service.specs.declared.fault.ServiceFault.TheVariants.{NotKept}
+use Rattle.osn_service.specs.declared.rules.ServeRules.{ServeRules}
 use Rattle.osn_service.specs.declared.service.LinesTaken.{LinesTaken}
+use Rattle.osn_service.specs.declared.service.End.{End}
+use Rattle.osn_service.specs.declared.service.End.TheVariants.{AtEnd, AtRefusal}
 use Rattle.osn_service.specs.declared.session.Session.{Session}
 use Rattle.osn_service.specs.declared.stop.Stop.{Stop}
 use Rattle.osn_service.specs.declared.stop.Stop.TheVariants as stop
-use Rattle.osn_service.specs.declared.reply_buffer.ReplyBuffer.{ReplyBuffer}
-use Rattle.osn_service.specs.Faults.{MatchFault}
-use Rattle.osn_service.specs.Serves.{Serves}
-use Rattle.osn_service.specs.ServiceInside.{WritesSome}
-use Rattle.osn_service.specs.SessionInside.{IsSame, Serving, StopsServing, AnswersFirst, EndsTaking}
-use Rattle.osn_service.specs.SessionInside.{AnswersInPart}
-use Rattle.osn_service.specs.Stop.{MatchStop}
-use Rattle.osn_service.specs.TakingInside.{HasTaken, IsWithin, taken_until}
-use Rattle.osn_service.proofs.ClauseLemmas.{Serves-all, Serves-first, Serves-passed, Serves-rest}
-use Rattle.osn_service.proofs.ServeLemmas.{AnswersFirst-first, AnswersFirst-few}
-use Rattle.osn_service.proofs.ServeLemmas.{AnswersFirst-stopped, AnswersInPart-from, Fails}
-use Rattle.osn_service.proofs.ServeLemmas.{Fails-stopped, Fails-few}
+use Rattle.osn_service.specs.Refusals.{NoneRefused, IsFirstRefused}
+use Rattle.osn_service.specs.Served.{line_text, outputs, after_lines, WritesFirst}
+use Rattle.osn_service.specs.Served.{StandsAt}
+use Rattle.osn_service.specs.ServiceInside.{InPart}
+use Rattle.osn_service.specs.Session.{line_after}
+use Rattle.osn_service.specs.SessionInside.{Moment, moment_of, Failing, IsSame, HasLost, HasRefused}
+use Rattle.osn_service.specs.Store.{KeepsSince}
+use Rattle.osn_service.specs.TakingInside.{HasTaken, HasKept, IsWithin, AnswersFirst, AnswersInPart}
+use Rattle.osn_service.specs.TakingInside.{SparedFirst, EndsTaking, taken_until}
+use Rattle.osn_service.proofs.ServeLemmas.{Serving-few}
+use Rattle.osn_service.proofs.SessionLemmas.{Served, Stopped, Served-nothing}
 
--- what one session became, by why no more lines were taken
-abbrev pub Ended : {W : Type 0} → (W → Option (List ℕ)) → (W → Bool) → Session W → Session W →
-    Option (List ℕ) → Option (List ℕ) → ℕ → TakeFault Stop → Type 0
-Ended contents has_failed s t input rest n cause =
-    fault.MatchFault cause (AnswersFirst contents has_failed s t input n)
-    (AnswersFirst contents has_failed s t input n × HasRead input rest n)
-    (λ why. MatchStop why (AnswersFirst contents has_failed s t input n)
-    (Fails contents has_failed s t input n))
+-- what follows where a value is known
+pub IfSome-weaker : {A : Type 0} (o : Option A) (P Q : A → Type 0) → ((x : A) → P x → Q x) →
+    IfSome o P → IfSome o Q
+IfSome-weaker None P Q f h = tt
+IfSome-weaker (Some x) P Q f h = f x h
 
--- why a source failed or didn't, by why no more lines were taken
-abbrev pub EndsSource : {S : Type 0} → TakeFault S → Option (List ℕ) → Bool → Bool → Type 0
-EndsSource cause input before now =
-    fault.MatchFault cause (now ≡ before) (IsReadFault now input) (λ _. now ≡ before)
+-- from two facts of it
+pub IfSome-both : {A : Type 0} (o : Option A) (P Q R : A → Type 0) → ((x : A) → P x → Q x → R x) →
+    IfSome o P → IfSome o Q → IfSome o R
+IfSome-both None P Q R f h k = tt
+IfSome-both (Some x) P Q R f h k = f x h k
 
-module _ {W : Type 0} (contents : W → Option (List ℕ)) (has_failed : W → Bool) (s t : Session W)
-    (input rest : Option (List ℕ)) where
-  pub Ended-from : (n : ℕ) (cause : TakeFault Stop) → s.waiting.now.text.items ≡ [] →
-      s.waiting.now.ends.items ≡ [] →
-      fault.MatchFault cause (TakesFirst (Serving contents has_failed) s t input n)
-      (TakesEnded (Serving contents has_failed) s t input rest n)
-      (StopsAfter (Serving contents has_failed) (λ begun taken at now why. StopsServing contents
-      has_failed begun taken now why) s t input n) →
-      Ended contents has_failed s t input rest n cause
-  Ended-from n take.NoMemory text ends h = AnswersFirst-first text ends h
-  Ended-from n take.ReadFault text ends h = (AnswersFirst-first text ends h.first, h.read)
-  Ended-from n (take.Stopped stop.NoMemory) text ends h = AnswersFirst-stopped text ends refl h
-  Ended-from n (take.Stopped (stop.WriteFailed failed)) text ends h =
-      Fails-stopped text ends refl h
+-- the lines up to one, and that one
+take_next : (all : List (List ℕ)) (n : ℕ) (line : List ℕ) → slice_get all n ≡ Some line →
+    take (n + 1) all ≡ take n all ++ line ∷ []
+take_next all n line h =
+    ap (λ i. take i all) (add-one n)
+    ∙ (take-suc all n line (slice_get_within all n line h)
+    ∙ ap (λ l. take n all ++ l ∷ []) (get_or_from_slice_get all n line line h))
 
-  pub IsWithin-ended : (n : ℕ) (cause : TakeFault Stop) →
-      Ended contents has_failed s t input rest n cause → IsWithin n cause
-  IsWithin-ended n take.NoMemory h = tt
-  IsWithin-ended n take.ReadFault h = tt
-  IsWithin-ended n (take.Stopped stop.NoMemory) h = tt
-  IsWithin-ended n (take.Stopped (stop.WriteFailed failed)) h = Fails-few h
+-- the first lines of an input are these, and this one is the next
+record IsNext (all taken : List (List ℕ)) (line : List ℕ) (n : ℕ) : Type 0 where
+  within : n < length all
+  first : take n all ≡ taken
+  more : take (n + 1) all ≡ taken ++ line ∷ []
 
-  pub HasTaken-ended : (before now : Bool) (n : ℕ) (cause : TakeFault Stop) →
-      Ended contents has_failed s t input rest n cause → EndsSource cause input before now →
-      HasTaken contents has_failed s t input rest before now (taken_until n cause)
-  HasTaken-ended before now n take.NoMemory h source = (h, source)
-  HasTaken-ended before now n take.ReadFault h source = (h.0, (h.1, source))
-  HasTaken-ended before now n (take.Stopped stop.NoMemory) h source = (h, source)
-  HasTaken-ended before now n (take.Stopped (stop.WriteFailed failed)) h source =
-      let few = Fails-few h in
-      AnswersInPart-from h (omega (arith, few))
+-- by its place
+IsNext-from : (all taken : List (List ℕ)) (line : List ℕ) (n : ℕ) → take n all ≡ taken →
+    slice_get all n ≡ Some line → IsNext all taken line n
+IsNext-from all taken line n first next = record {
+  within = slice_get_within all n line next;
+  first = first;
+  more = take_next all n line next ∙ ap (λ l. l ++ line ∷ []) first;
+}
 
-  -- all lines were taken
-  pub HasTaken-all : (before now : Bool) (n : ℕ) → AnswersFirst contents has_failed s t input n →
-      IfSome input (λ bytes. n ≡ length (lines bytes)) → IsAtEnd rest → now ≡ before →
-      HasTaken contents has_failed s t input rest before now
-      (Ok (record { lines = n; fault = None }))
-  HasTaken-all before now n h all end source = (h, (all, end, source))
+-- a write failed, and of the n lines that were taken so many replies are not written whole
+pub AnswersInPart-from : {rules : ServeRules} {begun now : Moment} {input : Option (List ℕ)}
+    (n unwritten : ℕ) (taken : List (List ℕ)) → Failing rules begun taken now unwritten →
+    n ≡ length taken → IfSome input (λ bytes. take n (lines bytes) ≡ taken) →
+    AnswersInPart rules begun now input (n - unwritten)
+AnswersInPart-from {rules} {begun} {now} {input} n unwritten taken h count first =
+    let same : h.whole ≡ n - unwritten = omega (arith, h.count, count) in
+    record {
+      taken = taken;
+      part =
+          subst (λ (m : ℕ). InPart (line_text rules) (line_after rules) begun.object now.object
+          taken begun.written now.written m) same h.part;
+      reason = h.reason;
+      first = subst (λ (m : ℕ). IfSome input (λ bytes. take m (lines bytes) ≡ taken)) count first;
+    }
 
-  -- as many replies wait as lines were taken, at most
-  pub HasTaken-few : (before now : Bool) (taken : Result LinesTaken (Interrupted ServeFault)) →
-      HasTaken contents has_failed s t input rest before now taken →
-      IfOk taken (λ taken. length t.waiting.now.ends.items ≤ taken.lines)
-  HasTaken-few before now (Ok taken) h = AnswersFirst-few h.0
-  HasTaken-few before now (Err end) h = tt
+-- no more replies wait than lines were taken
+pub HasTaken-few : {F : Type 0} (rules : ServeRules) (begun now : Moment) (holds_back : Bool)
+    (i : Input) (taken : Result LinesTaken (Interrupted (ServiceFault F))) →
+    HasTaken rules begun now holds_back i taken →
+    IfOk taken (λ taken. length now.waiting.ends.items ≤ taken.lines)
+HasTaken-few rules begun now holds_back i (Ok taken) h =
+    omega (arith, h.0.count, Serving-few rules begun now h.0.taken h.0.serving)
+HasTaken-few rules begun now holds_back i (Err end) h = tt
 
-  in_part_same : (n : ℕ) (cause : ServeFault) →
-      MatchFault cause ⊥ ⊥ (AnswersInPart contents has_failed s t input n) → IsSame s t
-  in_part_same n NoMemory h = absurd h
-  in_part_same n ReadFault h = absurd h
-  in_part_same n WriteFault h = h.same
+module _ {W S F : Type 0} (contents : W → Option (List ℕ)) (has_failed holds_back : W → Bool)
+    (state : S → ObjectState) (lends kept : S → S → Type 0)
+    (not_kept : S → ObjectState → S → F → Type 0) (s t : Session W S) (i : Input) where
+  -- what became of a session
+  abbrev Serves : Session W S → List (List ℕ) → Session W S → Type 0
+  Serves = Served contents has_failed holds_back state lends kept not_kept
 
-  -- what was lent is the same
-  pub HasTaken-same : (before now : Bool) (taken : Result LinesTaken (Interrupted ServeFault)) →
-      HasTaken contents has_failed s t input rest before now taken → IsSame s t
-  HasTaken-same before now (Ok taken) h = h.0.serving.same
-  HasTaken-same before now (Err end) h = in_part_same end.lines end.cause h
+  abbrev Stops : Session W S → List (List ℕ) → Option (List ℕ) → Session W S → Stop F → Type 0
+  Stops = Stopped contents has_failed holds_back state lends kept not_kept
 
--- so many lines are all of them
-pub all_counted : (input : Option (List ℕ)) (taken : List (List ℕ)) (n : ℕ) → n ≡ length taken →
-    IfSome input (λ bytes. lines bytes ≡ taken) →
-    IfSome input (λ bytes. n ≡ length (lines bytes))
-all_counted None taken n count h = tt
-all_counted (Some bytes) taken n count h = count ∙ ap length (sym h)
+  abbrev Now : Session W S → Moment
+  Now = moment_of contents has_failed state
 
--- ---- what is written behind that
+  -- what one session became by lines, as a result says it
+  pub record Ends (result : Result LinesTaken (Interrupted (ServiceFault F))) : Type 0 where
+    pub same : IsSame s t
+    pub lent : KeepsSince lends s.store.now t.store.now
+    pub taken : HasTaken s.rules (Now s) (Now t) (holds_back t.sink.now) i result
+    pub keeps : HasKept kept not_kept s.rules (state s.store.now) s.store.now t.store.now i result
 
--- a write failed before
-pub Serves-ended : {W : Type 0} (contents : W → Option (List ℕ)) (has_failed : W → Bool)
-    (s t : Session W) {input rest : Option (List ℕ)} {before now holds_back : Bool}
-    (sink : W) (r : Result ℕ (Interrupted ServeFault)) (given end : Interrupted ServeFault) →
-    t.sink.now ≡ sink → r ≡ Err given → given ≡ end →
-    HasTaken contents has_failed s t input rest before now (Err end) →
-    Serves newest_rules s.readers s.object.now t.object.now input rest before now
-    (contents s.sink.now) (contents sink) (has_failed s.sink.now) (has_failed sink) holds_back r
-Serves-ended {W} contents has_failed s t {input} {rest} {before} {now} {holds_back} sink r given
-    end is_sink is_err same h =
-    subst (λ (w : W). Serves newest_rules s.readers s.object.now t.object.now input rest before now
-    (contents s.sink.now) (contents w) (has_failed s.sink.now) (has_failed w) holds_back r) is_sink
-    (Serves-passed contents has_failed s t r given end is_err same h)
+  -- lines were answered, the first of the input
+  first_taken : (taken : List (List ℕ)) (n : ℕ) → Serves s taken t → n ≡ length taken →
+      IfSome i.bytes (λ bytes. take n (lines bytes) ≡ taken) →
+      AnswersFirst s.rules (Now s) (Now t) i.bytes n
+  first_taken taken n h count first = record {
+    taken = taken;
+    serving = h.serving;
+    count = count;
+    first =
+        subst (λ (m : ℕ). IfSome i.bytes (λ bytes. take m (lines bytes) ≡ taken)) count first;
+  }
 
-module _ {W : Type 0} (contents : W → Option (List ℕ)) (has_failed : W → Bool) (s t : Session W)
-    (sink new : W) (waiting : ReplyBuffer) where
-  -- the write of what waits failed
-  pub Serves-unwritten : {input rest : Option (List ℕ)} {before now holds_back : Bool}
-      {n m unwritten : ℕ} → t.sink.now ≡ sink → t.waiting.now ≡ waiting →
-      AnswersFirst contents has_failed s t input n →
-      WritesSome (contents sink) (contents new) waiting unwritten →
-      WriteFails (has_failed sink) (has_failed new) waiting.text.items → m + unwritten ≡ n →
-      Serves newest_rules s.readers s.object.now t.object.now input rest before now
-      (contents s.sink.now) (contents new) (has_failed s.sink.now) (has_failed new) holds_back
-      (Err (record { lines = m; cause = WriteFault }))
-  Serves-unwritten {input} {rest} {before} {now} {holds_back} {n} {m} {unwritten} is_sink
-      is_waiting h some reason e =
-      Serves-rest new h
-      (subst (λ (w : W). WritesSome (contents w) (contents new) t.waiting.now unwritten)
-      (sym is_sink)
-      (subst (λ (b : ReplyBuffer). WritesSome (contents sink) (contents new) b unwritten)
-      (sym is_waiting) some))
-      (subst (λ (w : W). WriteFails (has_failed w) (has_failed new) t.waiting.now.text.items)
-      (sym is_sink)
-      (subst (λ (b : ReplyBuffer). WriteFails (has_failed sink) (has_failed new) b.text.items)
-      (sym is_waiting) reason))
-      e
+  -- none of them was refused where a refusal is to be the end
+  spared_first : (taken : List (List ℕ)) (n : ℕ) →
+      (s.rules.stop_at_refusal ≡ true → NoneRefused s.rules (state s.store.now) taken) →
+      IfSome i.bytes (λ bytes. take n (lines bytes) ≡ taken) →
+      SparedFirst s.rules (state s.store.now) i.bytes n
+  spared_first taken n spared first asked =
+      IfSome-weaker i.bytes (λ bytes. take n (lines bytes) ≡ taken)
+      (λ bytes. NoneRefused s.rules (state s.store.now) (take n (lines bytes)))
+      (λ bytes e. subst (NoneRefused s.rules (state s.store.now)) (sym e) (spared asked)) first
 
-  -- what waits is written
-  rest_written : t.sink.now ≡ sink → t.waiting.now ≡ waiting →
-      Appends (contents sink) (contents new) waiting.text.items →
-      Appends (contents t.sink.now) (contents new) t.waiting.now.text.items
-  rest_written is_sink is_waiting h =
-      subst (λ (w : W). Appends (contents w) (contents new) t.waiting.now.text.items) (sym is_sink)
-      (subst (λ (b : ReplyBuffer). Appends (contents sink) (contents new) b.text.items)
-      (sym is_waiting) h)
+  -- lines of which the last was refused, or the change of the next was not kept
+  nexts : (taken : List (List ℕ)) (at : Option (List ℕ)) (line : List ℕ) (n : ℕ) →
+      at ≡ Some line → IfSome i.bytes (λ bytes. take n (lines bytes) ≡ taken) →
+      IfSome i.bytes (λ bytes. IfSome at (λ line. slice_get (lines bytes) n ≡ Some line)) →
+      IfSome i.bytes (λ bytes. IsNext (lines bytes) taken line n)
+  nexts taken at line n is first next =
+      IfSome-both i.bytes (λ bytes. take n (lines bytes) ≡ taken)
+      (λ bytes. slice_get (lines bytes) n ≡ Some line)
+      (λ bytes. IsNext (lines bytes) taken line n)
+      (λ bytes e k. IsNext-from (lines bytes) taken line n e k) first
+      (subst (λ (o : Option (List ℕ)). IfSome i.bytes (λ bytes. IfSome o
+      (λ line. slice_get (lines bytes) n ≡ Some line))) is next)
 
-  pub Serves-written : {input rest : Option (List ℕ)} {before now holds_back : Bool}
-      (taken : LinesTaken) → t.sink.now ≡ sink → t.waiting.now ≡ waiting →
-      HasTaken contents has_failed s t input rest before now (Ok taken) → taken.fault ≡ None →
-      Appends (contents sink) (contents new) waiting.text.items →
-      has_failed new ≡ has_failed sink → holds_back ≡ false →
-      Serves newest_rules s.readers s.object.now t.object.now input rest before now
-      (contents s.sink.now) (contents new) (has_failed s.sink.now) (has_failed new) holds_back
-      (Ok taken.lines)
-  Serves-written {input} {rest} {before} {now} {holds_back} taken is_sink is_waiting h none all
-      sound
-      passed =
-      Serves-all h.0
-      (subst (λ (f : Option ServeFault). EndsTaking f input rest before now taken.lines) none h.1)
-      (rest_written is_sink is_waiting all)
-      (sound ∙ ap has_failed (sym is_sink)) passed
+  -- the change of a line was not kept
+  ends_lost : (n : ℕ) (taken : List (List ℕ)) (at : Option (List ℕ)) (why : F) →
+      HasLost contents has_failed holds_back state lends kept not_kept s taken at t why →
+      n ≡ length taken → IfSome i.bytes (λ bytes. take n (lines bytes) ≡ taken) →
+      IfSome i.bytes (λ bytes. IfSome at (λ line. slice_get (lines bytes) n ≡ Some line)) →
+      i.unread ≡ i.unread_before → Ends (Err (record { lines = n; cause = NotKept why }))
+  ends_lost n taken at why h count first next source =
+      let object = state s.store.now in
+      let next = nexts taken at h.line n h.is first next in
+      record {
+        same = h.same;
+        lent = h.lent;
+        taken = record {
+          written =
+              IfSome-weaker i.bytes (λ bytes. IsNext (lines bytes) taken h.line n)
+              (λ bytes. WritesFirst s.rules object (contents s.sink.now) (contents t.sink.now)
+              (lines bytes) n)
+              (λ bytes k. record {
+                enough = omega (arith, k.within);
+                written =
+                    subst (λ (l : List (List ℕ)). Appends (contents s.sink.now)
+                    (contents t.sink.now) (outputs s.rules object l)) (sym k.first)
+                    h.unkept.written;
+              }) next;
+          next =
+              IfSome-weaker i.bytes (λ bytes. IsNext (lines bytes) taken h.line n)
+              (λ bytes. n < length (lines bytes)) (λ bytes k. k.within) next;
+          object =
+              IfSome-weaker i.bytes (λ bytes. IsNext (lines bytes) taken h.line n)
+              (λ bytes. StandsAt s.rules object (state t.store.now) (lines bytes) (n + 1))
+              (λ bytes k. h.unkept.reached ∙ ap (after_lines s.rules object) (sym k.more)) next;
+          none = spared_first taken n h.spared first;
+          passed = h.unkept.passed;
+          source = source;
+          sink = h.unkept.sound;
+        };
+        keeps = (
+          after_lines s.rules object taken,
+          IfSome-weaker i.bytes (λ bytes. take n (lines bytes) ≡ taken)
+              (λ bytes. after_lines s.rules object taken
+              ≡ after_lines s.rules object (take n (lines bytes)))
+              (λ bytes e. ap (after_lines s.rules object) (sym e)) first,
+          h.fails,
+        );
+      }
 
-  pub Serves-so_far : {input rest : Option (List ℕ)} {before now holds_back : Bool}
-      (taken : LinesTaken) (cause : ServeFault) → t.sink.now ≡ sink → t.waiting.now ≡ waiting →
-      HasTaken contents has_failed s t input rest before now (Ok taken) →
-      taken.fault ≡ Some cause → Appends (contents sink) (contents new) waiting.text.items →
-      has_failed new ≡ has_failed sink → holds_back ≡ false →
-      Serves newest_rules s.readers s.object.now t.object.now input rest before now
-      (contents s.sink.now) (contents new) (has_failed s.sink.now) (has_failed new) holds_back
-      (Err (record { lines = taken.lines; cause = cause }))
-  Serves-so_far {input} {rest} {before} {now} {holds_back} taken cause is_sink is_waiting h some all
-      sound passed =
-      Serves-first cause h.0
-      (subst (λ (f : Option ServeFault). EndsTaking f input rest before now taken.lines) some h.1)
-      (rest_written is_sink is_waiting all)
-      (sound ∙ ap has_failed (sym is_sink)) passed
+  -- a line was refused, and was to be the last
+  ends_refused : (n : ℕ) (taken : List (List ℕ)) (at : Option (List ℕ)) →
+      HasRefused contents has_failed holds_back state lends kept not_kept s taken at t →
+      n ≡ length taken → IfSome i.bytes (λ bytes. take n (lines bytes) ≡ taken) →
+      IfSome i.bytes (λ bytes. IfSome at (λ line. slice_get (lines bytes) n ≡ Some line)) →
+      i.unread ≡ i.unread_before → Ends (Ok (record { lines = n + 1; end = AtRefusal }))
+  ends_refused n taken at h count first next source =
+      let all = taken ++ h.line ∷ [] in
+      let next = nexts taken at h.line n h.is first next in
+      let more : n + 1 ≡ length all = omega (arith, count, length-append taken (h.line ∷ [])) in
+      record {
+        same = h.same;
+        lent = h.lent;
+        taken = (
+          record {
+            taken = all;
+            serving = h.serving;
+            count = more;
+            first =
+                subst (λ (m : ℕ). IfSome i.bytes (λ bytes. take m (lines bytes) ≡ all)) more
+                (IfSome-weaker i.bytes (λ bytes. IsNext (lines bytes) taken h.line n)
+                (λ bytes. take (n + 1) (lines bytes) ≡ all) (λ bytes k. k.more) next);
+          },
+          (
+            h.refused.asked,
+            IfSome-weaker i.bytes (λ bytes. IsNext (lines bytes) taken h.line n)
+                (λ bytes. IsFirstRefused s.rules (state s.store.now) (lines bytes) (n + 1))
+                (λ bytes k. record {
+                  before = taken;
+                  line = h.line;
+                  split = k.more;
+                  none = h.refused.none;
+                  refused = h.refused.refused;
+                }) next,
+            source,
+          ),
+        );
+        keeps = h.keeps;
+      }
+
+  -- neither, and it ended so
+  ends_served : (n : ℕ) (taken : List (List ℕ)) (end : End) → Serves s taken t →
+      n ≡ length taken → IfSome i.bytes (λ bytes. take n (lines bytes) ≡ taken) →
+      (SparedFirst s.rules (state s.store.now) i.bytes n →
+      EndsTaking s.rules (state s.store.now) i n end) →
+      Ends (Ok (record { lines = n; end = end }))
+  ends_served n taken end h count first ends = record {
+    same = h.same;
+    lent = h.lent;
+    taken = (first_taken taken n h count first, ends (spared_first taken n h.spared first));
+    keeps = h.keeps;
+  }
+
+  -- why no more lines were taken
+  abbrev pub Ended : ℕ → TakeFault (Stop F) → Type 0
+  Ended n cause =
+      fault.MatchFault cause (TakesFirst Serves s t i.bytes n)
+      (TakesEnded Serves s t i.bytes i.rest n) (StopsAfter Serves Stops s t i.bytes n)
+
+  -- why the source failed or did not
+  abbrev pub EndsSource : TakeFault (Stop F) → Type 0
+  EndsSource cause =
+      fault.MatchFault cause (i.unread ≡ i.unread_before) (IsReadFault i.unread i.bytes)
+      (λ _. i.unread ≡ i.unread_before)
+
+  module _ (text : s.waiting.now.text.items ≡ []) (ends : s.waiting.now.ends.items ≡ []) where
+    -- nothing was taken at first
+    none : Serves s [] s
+    none = Served-nothing contents has_failed holds_back state lends kept not_kept s text ends
+
+    -- no more replies are not written than lines were taken
+    pub IsWithin-ended : (n : ℕ) (cause : TakeFault (Stop F)) → Ended n cause → IsWithin n cause
+    IsWithin-ended n take.NoMemory h = tt
+    IsWithin-ended n take.ReadFault h = tt
+    IsWithin-ended n (take.Stopped stop.NoMemory) h = tt
+    IsWithin-ended n (take.Stopped (stop.WriteFailed failed)) h =
+        let k = h.stops s [] none in
+        omega (arith, k.failing.count, h.count)
+    IsWithin-ended n (take.Stopped (stop.NotKept why)) h = tt
+    IsWithin-ended n (take.Stopped stop.Refused) h = tt
+
+    -- it ended early
+    pub Ends-early : (n : ℕ) (cause : TakeFault (Stop F)) → Ended n cause → EndsSource cause →
+        Ends (taken_until n cause)
+    Ends-early n take.NoMemory h source =
+        ends_served n h.taken _ (h.takes s [] none) h.count h.first (λ spared. (source, spared))
+    Ends-early n take.ReadFault h source =
+        let f = h.first in
+        ends_served n f.taken _ (f.takes s [] none) f.count f.first
+        (λ spared. (h.read, source, spared))
+    Ends-early n (take.Stopped stop.NoMemory) h source =
+        ends_served n h.taken _ (h.stops s [] none) h.count h.first (λ spared. (source, spared))
+    Ends-early n (take.Stopped (stop.WriteFailed failed)) h source =
+        let k = h.stops s [] none in
+        record {
+          same = k.same;
+          lent = k.lent;
+          taken = AnswersInPart-from n failed.unwritten h.taken k.failing h.count h.first;
+          keeps = k.keeps;
+        }
+    Ends-early n (take.Stopped (stop.NotKept why)) h source =
+        ends_lost n h.taken h.at why (h.stops s [] none) h.count h.first h.next source
+    Ends-early n (take.Stopped stop.Refused) h source =
+        ends_refused n h.taken h.at (h.stops s [] none) h.count h.first h.next source
+
+    -- all lines were taken
+    pub Ends-all : (n : ℕ) → TakesAll Serves s t i.bytes n → IsAtEnd i.rest →
+        i.unread ≡ i.unread_before → Ends (Ok (record { lines = n; end = AtEnd }))
+    Ends-all n h end source =
+        ends_served n h.taken AtEnd (h.takes s [] none) h.count
+        (IfSome-weaker i.bytes (λ bytes. lines bytes ≡ h.taken)
+        (λ bytes. take n (lines bytes) ≡ h.taken)
+        (λ bytes e. ap (take n) e ∙ take_all n h.taken (omega (arith, h.count))) h.all)
+        (λ spared. (
+          IfSome-weaker i.bytes (λ bytes. lines bytes ≡ h.taken)
+              (λ bytes. n ≡ length (lines bytes)) (λ bytes e. h.count ∙ ap length (sym e)) h.all,
+          end,
+          source,
+          spared,
+        ))

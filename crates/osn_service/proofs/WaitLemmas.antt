@@ -9,6 +9,7 @@ use Rattle.osn_service.specs.Replies.{replies}
 use Rattle.osn_service.specs.ServiceInside.{ends_from, ChangesNothing, ChangesFirst, Waits, Writes}
 use Rattle.osn_service.specs.ServiceInside.{Adds, Settles}
 
+-- the replies to two lists of lines
 pub replies-append : {S : Type 0} (text : S → List ℕ → List ℕ) (after : S → List ℕ → S) (s : S)
     (xs ys : List (List ℕ)) → replies text after s (xs ++ ys) ≡ replies text after s xs ++ replies
     text after (fold after s xs) ys
@@ -18,6 +19,7 @@ replies-append text after s (x ∷ xs) ys =
     ∙ sym (append_assoc (text s x) (replies text after (after s x) xs)
     (replies text after (fold after (after s x) xs) ys))
 
+-- where they end with a line more
 ends-append : {S : Type 0} (text : S → List ℕ → List ℕ) (after : S → List ℕ → S) (from : ℕ) (s : S)
     (xs : List (List ℕ)) (line : List ℕ) →
     ends_from text after from s (xs ++ line ∷ []) ≡ ends_from text after from s xs ++
@@ -31,12 +33,14 @@ ends-append text after from s (x ∷ xs) line =
     ∙ ap (λ n. ends_from text after to (after s x) xs ++ n ∷ [])
     (omega (arith, length-append (text s x) (replies text after (after s x) (xs ++ line ∷ [])))))
 
+-- each line has an end
 pub length-ends : {S : Type 0} (text : S → List ℕ → List ℕ) (after : S → List ℕ → S) (from : ℕ)
     (s : S) (xs : List (List ℕ)) → length (ends_from text after from s xs) ≡ length xs
 length-ends text after from s [] = refl
 length-ends text after from s (x ∷ xs) =
     omega (arith, length-ends text after (from + length (text s x)) (after s x) xs)
 
+-- a line more that changes nothing
 ChangesNothing-append : {S : Type 0} (after : S → List ℕ → S) (s : S) (xs : List (List ℕ))
     (line : List ℕ) → ChangesNothing after s xs → after s line ≡ s →
     ChangesNothing after s (xs ++ line ∷ [])
@@ -49,6 +53,7 @@ pub unchanged : {S : Type 0} (after : S → List ℕ → S) (s : S) (xs : List (
 unchanged after s [] h = refl
 unchanged after s (x ∷ xs) h = ap (λ v. fold after v xs) h.0 ∙ unchanged after s xs h.1
 
+-- such a line behind lines of which only the first changes anything
 ChangesFirst-append : {S : Type 0} (after : S → List ℕ → S) (s : S) (xs : List (List ℕ))
     (line : List ℕ) → ChangesFirst after s xs → after (fold after s xs) line ≡ fold after s xs →
     ChangesFirst after s (xs ++ line ∷ [])
@@ -98,6 +103,7 @@ Waits-written text after begun now lines a b c w h k =
     subst (Appends a c) (Waits-all text after begun now lines a b w h)
     (Appends-then a b c (replies text after begun h.done) w.text.items h.written k)
 
+-- all that waits is written, and nothing waits then
 pub Waits-write : {S : Type 0} (text : S → List ℕ → List ℕ) (after : S → List ℕ → S) (begun now : S)
     (lines : List (List ℕ)) (a b c : Option (List ℕ)) (w w' : ReplyBuffer) →
     Waits text after begun now lines a b w → Writes b c w w' →
@@ -113,6 +119,7 @@ Waits-write text after begun now lines a b c w w' h k = record {
   changes = tt;
 }
 
+-- nothing was written, or all that waited
 pub Waits-settle : {S : Type 0} (text : S → List ℕ → List ℕ) (after : S → List ℕ → S)
     (begun now u : S) (lines : List (List ℕ)) (a b c : Option (List ℕ)) (w w' : ReplyBuffer) →
     Waits text after begun now lines a b w → Settles b c w w' → u ≡ now →
@@ -197,6 +204,7 @@ Waits-first text after begun s u lines line a b c w w' h k texts ends e =
       changes = tt;
     }
 
+-- a reply more
 pub Waits-add : {S : Type 0} (text : S → List ℕ → List ℕ) (after : S → List ℕ → S) (begun s u : S)
     (reply : List ℕ) (lines : List (List ℕ)) (line : List ℕ) (a b c : Option (List ℕ))
     (w w' : ReplyBuffer) → Waits text after begun s lines a b w → Adds s u reply b c w w' →

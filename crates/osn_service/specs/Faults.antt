@@ -1,12 +1,15 @@
 -- What holds where answering lines ended, by its end, and why a write fails.
-use Rattle.std.specs.Prelude.{◌≡◌, ◌≤◌, ◌⊎◌, ℕ, Bool, true, List, Option, IfSome, length}
+use Rattle.std.specs.Prelude.{◌≡◌, ◌≤◌, ◌⊎◌, ℕ, Bool, true, false, List, Option, IfSome, length}
 use Rattle.std.specs.Prelude.{Result, Ok, Err}
-use Rattle.osn_days.specs.Profile.{Profile}
 use Rattle.osn_lines.specs.declared.fault.Interrupted.{Interrupted}
 use Rattle.osn_lines.specs.Lines.{lines}
 use Rattle.osn_core.specs.Sequential.{ObjectState}
 use Rattle.osn_service.specs.Served.{outputs}
 use Rattle.osn_service.specs.declared.fault.ServeFault.{ServeFault}
+use Rattle.osn_service.specs.declared.fault.ServiceFault.{ServiceFault}
+use Rattle.osn_service.specs.declared.fault.ServiceFault.TheVariants.{Serve, NotKept}
+use Rattle.osn_service.specs.declared.service.Served.{Served}
+use Rattle.osn_service.specs.declared.rules.ServeRules.{ServeRules}
 use Rattle.osn_service.specs.declared.fault.ServeFault.TheVariants.{NoMemory, ReadFault, WriteFault}
 
 -- a fact for each cause
@@ -21,9 +24,27 @@ abbrev pub MatchEnd : Result ℕ (Interrupted ServeFault) → (ℕ → Type 0) �
 MatchEnd (Ok n) All P Q R = All n
 MatchEnd (Err end) All P Q R = MatchFault end.cause (P end.lines) (Q end.lines) (R end.lines)
 
+-- a fact of an end that an object by itself has too, one of the number of lines where the last of
+-- them was refused and was to be the last, and one where a change was not kept
+abbrev pub MatchServed : Bool → (ℕ → Type 0) → (ℕ → Type 0) → ℕ → Type 0
+MatchServed false P Q n = P n
+MatchServed true P Q n = Q n
+
+abbrev pub MatchServiceFault : {F : Type 0} → ServiceFault F → (ServeFault → Type 0) → (F → Type 0)
+    → Type 0
+MatchServiceFault (Serve fault) P Q = P fault
+MatchServiceFault (NotKept why) P Q = Q why
+
+abbrev pub MatchService : {F : Type 0} → Result Served (Interrupted (ServiceFault F))
+    → (Result ℕ (Interrupted ServeFault) → Type 0) → (ℕ → Type 0) → (ℕ → F → Type 0) → Type 0
+MatchService (Ok served) P Q R = MatchServed served.refused (λ n. P (Ok n)) Q served.lines
+MatchService (Err end) P Q R =
+    MatchServiceFault end.cause (λ fault. P (Err (record { lines = end.lines; cause = fault })))
+    (R end.lines)
+
 -- the sink failed, or it may take the replies to all lines of the input in more writes than the
 -- 4,294,967,295 that are made
-abbrev pub IsUnwritten : Profile → ℕ → ObjectState → Option (List ℕ) → Bool → Type 0
-IsUnwritten p readers s input failed =
+abbrev pub IsUnwritten : ServeRules → ObjectState → Option (List ℕ) → Bool → Type 0
+IsUnwritten rules s input failed =
     (failed ≡ true)
-    ⊎ IfSome input (λ bytes. 4294967295 ≤ length (outputs p readers s (lines bytes)))
+    ⊎ IfSome input (λ bytes. 4294967295 ≤ length (outputs rules s (lines bytes)))

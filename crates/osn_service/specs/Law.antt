@@ -1,23 +1,22 @@
--- An input may be cut between its lines and answered in parts: what is written for one part behind
+-- An input may be cut between its lines and answered in parts: what is written for one part after
 -- another is what is written for the whole.
 use Rattle.std.specs.Prelude.{◌≡◌, ◌⊎◌, ℕ, List, [], ◌∷◌, ◌++◌, Result, Ok, Err, ⊤}
 use Rattle.std.specs.List.{All, concat, flat_map}
-use Rattle.osn_days.specs.Profile.{Profile}
 use Rattle.osn_core.specs.Sequential.{ObjectState}
 use Rattle.osn_lines.specs.Lines.{lines}
 use Rattle.osn_format.specs.declared.wire_fault.WireFault.{WireFault}
 use Rattle.osn_request.specs.declared.request.Request.{Request}
 use Rattle.osn_request.specs.declared.request.Request.TheVariants.{Stage, Publish, Ask}
-use Rattle.osn_request.specs.Request.{request}
 use Rattle.osn_reply.specs.declared.outcome.Outcome.{Outcome}
 use Rattle.osn_reply.specs.declared.outcome.Outcome.TheVariants.{Staged, Published, Refused, Fault}
 use Rattle.osn_reply.specs.declared.outcome.Outcome.TheVariants.{Replied}
+use Rattle.osn_service.specs.declared.rules.ServeRules.{ServeRules}
 use Rattle.osn_service.specs.Served.{outputs, after_lines}
-use Rattle.osn_service.specs.Session.{line_outcome, line_after}
+use Rattle.osn_service.specs.Session.{line_outcome, line_after, line_request}
 
 -- a line after which the object is what it was
-abbrev pub LeavesObject : Profile → ℕ → ObjectState → List ℕ → Type 0
-LeavesObject p readers s line = line_after p readers s line ≡ s
+abbrev pub LeavesObject : ServeRules → ObjectState → List ℕ → Type 0
+LeavesObject rules s line = line_after rules s line ≡ s
 
 -- the bytes end between two lines: there are none, or the last is a line feed
 abbrev pub EndsBetweenLines : List ℕ → Type 0
@@ -39,37 +38,37 @@ HasChangedNothing (Fault fault) = ⊤
 HasChangedNothing (Replied reader reply) = ⊤
 
 -- what is written for the bytes of an input
-abbrev pub input_outputs : Profile → ℕ → ObjectState → List ℕ → List ℕ
-input_outputs p readers s bytes = outputs p readers s (lines bytes)
+abbrev pub input_outputs : ServeRules → ObjectState → List ℕ → List ℕ
+input_outputs rules s bytes = outputs rules s (lines bytes)
 
--- For the parts and the last one, one behind another, is written what is written for each part from
+-- For the parts and the last one, one after another, is written what is written for each part from
 -- the same object, in their order, and then for the last one; and the object is then what the last
 -- one alone makes of it.
-pub record IsAnsweredInParts (p : Profile) (readers : ℕ) (s : ObjectState) (parts : List (List ℕ))
+pub record IsAnsweredInParts (rules : ServeRules) (s : ObjectState) (parts : List (List ℕ))
     (last : List ℕ) : Type 0 where
-  pub written : input_outputs p readers s (concat parts ++ last)
-      ≡ flat_map (input_outputs p readers s) parts ++ input_outputs p readers s last
-  pub object : after_lines p readers s (lines (concat parts ++ last))
-      ≡ after_lines p readers s (lines last)
+  pub written : input_outputs rules s (concat parts ++ last)
+      ≡ flat_map (input_outputs rules s) parts ++ input_outputs rules s last
+  pub object : after_lines rules s (lines (concat parts ++ last))
+      ≡ after_lines rules s (lines last)
 
--- How an input is cut that is answered from the object s for so many readers.
-pub record MayBeCut (p : Profile) (readers : ℕ) (s : ObjectState) : Type 0 where
-  -- Behind lines that leave the object further lines are answered as if they stood alone.
-  pub lists : (first rest : List (List ℕ)) → All (LeavesObject p readers s) first
-      → outputs p readers s (first ++ rest)
-      ≡ outputs p readers s first ++ outputs p readers s rest
+-- How an input is cut that is answered from the object s by these rules.
+pub record MayBeCut (rules : ServeRules) (s : ObjectState) : Type 0 where
+  -- After lines that leave the object further lines are answered as if they stood alone.
+  pub lists : (first rest : List (List ℕ)) → All (LeavesObject rules s) first
+      → outputs rules s (first ++ rest)
+      ≡ outputs rules s first ++ outputs rules s rest
   -- An input is answered in parts wherever it is cut between its lines, where each line before the
   -- last part leaves the object.
   pub inputs : (parts : List (List ℕ)) (last : List ℕ) → All EndsBetweenLines parts
-      → All (LeavesObject p readers s) (lines (concat parts))
-      → IsAnsweredInParts p readers s parts last
+      → All (LeavesObject rules s) (lines (concat parts))
+      → IsAnsweredInParts rules s parts last
   -- A query leaves the object, and so does a line that is no request, whatever its fault.
-  pub queries : (line : List ℕ) → IsQueryOrFault (request p readers line)
-      → LeavesObject p readers s line
+  pub queries : (line : List ℕ) → IsQueryOrFault (line_request rules line)
+      → LeavesObject rules s line
   -- So does each line whose reply tells of no staged edit and of no published edition.
-  pub replies : (line : List ℕ) → HasChangedNothing (line_outcome p readers s line)
-      → LeavesObject p readers s line
+  pub replies : (line : List ℕ) → HasChangedNothing (line_outcome rules s line)
+      → LeavesObject rules s line
 
 -- so is every input, from every object
-unfoldable pub MayEachInputBeCut : Profile → Type 0
-MayEachInputBeCut p = (readers : ℕ) (s : ObjectState) → MayBeCut p readers s
+unfoldable pub MayEachInputBeCut : Type 0
+MayEachInputBeCut = (rules : ServeRules) (s : ObjectState) → MayBeCut rules s

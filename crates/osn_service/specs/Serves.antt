@@ -1,49 +1,101 @@
 -- What a service has done where it ended.
-use Rattle.std.specs.Prelude.{◌≡◌, ℕ, Bool, false, List, Option, IfSome, Result, ⊤}
+use Rattle.std.specs.Prelude.{◌≡◌, ◌<◌, ◌+◌, ℕ, true, false, IfSome, Result, ⊤, length, take}
 use Rattle.std.specs.Io.KnownBytes.{IsAtEnd}
-use Rattle.osn_days.specs.Profile.{Profile}
 use Rattle.osn_core.specs.Sequential.{ObjectState}
 use Rattle.osn_lines.specs.declared.fault.Interrupted.{Interrupted}
 use Rattle.osn_lines.specs.Faults.{IsReadFault}
 use Rattle.osn_lines.specs.Lines.{lines}
+use Rattle.osn_lines.specs.Streams.{Input, Output}
 use Rattle.osn_lines.specs.Taking.{HasRead}
 use Rattle.osn_service.specs.declared.fault.ServeFault.{ServeFault}
-use Rattle.osn_service.specs.Faults.{MatchEnd, IsUnwritten}
-use Rattle.osn_service.specs.Served.{WritesAll, WritesFirst, WritesInPart, StandsBehind, StandsAt}
-use Rattle.osn_service.specs.Served.{StandsNear}
+use Rattle.osn_service.specs.declared.fault.ServiceFault.{ServiceFault}
+use Rattle.osn_service.specs.declared.rules.ServeRules.{ServeRules}
+use Rattle.osn_service.specs.declared.service.Served.{Served}
+use Rattle.osn_service.specs.Faults.{MatchEnd, MatchService, IsUnwritten}
+use Rattle.osn_service.specs.Refusals.{NoneRefused, IsFirstRefused}
+use Rattle.osn_service.specs.Served.{WritesAll, WritesFirst, WritesInPart, StandsAfter, StandsAt}
+use Rattle.osn_service.specs.Served.{StandsNear, after_lines}
 
--- The lines of an input were answered from the object s for so many readers, and the object is t
--- then. Of the source `input` was to be read and `rest` is left, of the sink `old` was written and
--- `new` is, where that is known; a call of the source had failed before or not, and has now or not,
--- and so of the sink, which holds bytes back or not.
-pub record Serves (p : Profile) (readers : ℕ) (s t : ObjectState) (input rest : Option (List ℕ))
-    (unread_before unread : Bool) (old new : Option (List ℕ)) (unwritten_before unwritten : Bool)
-    (holds_back : Bool) (end : Result ℕ (Interrupted ServeFault)) : Type 0 where
+-- The lines of an input were answered by these rules from the object s, and the object is t then.
+pub record Serves (rules : ServeRules) (s t : ObjectState) (i : Input) (o : Output)
+    (end : Result ℕ (Interrupted ServeFault)) : Type 0 where
   -- Exactly the replies to all lines are written, and their number is answered. Ended early,
   -- exactly those to the first lines are; or where a write failed a front of all replies, with
-  -- those to so many lines whole.
-  pub written : IfSome input (λ bytes. MatchEnd end
-      (WritesAll p readers s old new (lines bytes))
-      (WritesFirst p readers s old new (lines bytes))
-      (WritesFirst p readers s old new (lines bytes))
-      (WritesInPart p readers s old new (lines bytes)))
+  -- those to as many lines whole as are told.
+  pub written : IfSome i.bytes (λ bytes. MatchEnd end
+      (WritesAll rules s o.old o.new (lines bytes))
+      (WritesFirst rules s o.old o.new (lines bytes))
+      (WritesFirst rules s o.old o.new (lines bytes))
+      (WritesInPart rules s o.old o.new (lines bytes)))
   -- The object stands after all lines. Ended early it stands after those; or where a write failed
   -- after those or one more.
-  pub object : IfSome input (λ bytes. MatchEnd end
-      (λ _. StandsBehind p readers s t (lines bytes))
-      (StandsAt p readers s t (lines bytes))
-      (StandsAt p readers s t (lines bytes))
-      (StandsNear p readers s t (lines bytes)))
+  pub object : IfSome i.bytes (λ bytes. MatchEnd end
+      (λ _. StandsAfter rules s t (lines bytes))
+      (StandsAt rules s t (lines bytes))
+      (StandsAt rules s t (lines bytes))
+      (StandsNear rules s t (lines bytes)))
   -- What is written is passed on, but after a failed write.
-  pub passed : MatchEnd end (λ _. holds_back ≡ false) (λ _. holds_back ≡ false)
-      (λ _. holds_back ≡ false) (λ _. ⊤)
+  pub passed : MatchEnd end (λ _. o.holds_back ≡ false) (λ _. o.holds_back ≡ false)
+      (λ _. o.holds_back ≡ false) (λ _. ⊤)
   -- The source is read to its end. Of the line that a failed read cut short nothing is answered.
-  pub read : MatchEnd end (λ _. IsAtEnd rest) (λ _. ⊤) (HasRead input rest) (λ _. ⊤)
+  pub read : MatchEnd end (λ _. IsAtEnd i.rest) (λ _. ⊤) (HasRead i.bytes i.rest) (λ _. ⊤)
   -- The source failed where a read fault says so, or gave no end in 4,294,967,295 reads, and
   -- nowhere else, but maybe where a write failed.
-  pub source : MatchEnd end (λ _. unread ≡ unread_before) (λ _. unread ≡ unread_before)
-      (λ _. IsReadFault unread input) (λ _. ⊤)
+  pub source : MatchEnd end (λ _. i.unread ≡ i.unread_before) (λ _. i.unread ≡ i.unread_before)
+      (λ _. IsReadFault i.unread i.bytes) (λ _. ⊤)
   -- The sink failed where a write fault says so, or may take the replies in more writes than the
   -- 4,294,967,295 that are made, and nowhere else.
-  pub sink : MatchEnd end (λ _. unwritten ≡ unwritten_before) (λ _. unwritten ≡ unwritten_before)
-      (λ _. unwritten ≡ unwritten_before) (λ _. IsUnwritten p readers s input unwritten)
+  pub sink : MatchEnd end (λ _. o.unwritten ≡ o.unwritten_before)
+      (λ _. o.unwritten ≡ o.unwritten_before) (λ _. o.unwritten ≡ o.unwritten_before)
+      (λ _. IsUnwritten rules s i.bytes o.unwritten)
+
+-- Where the service is to end at a refusal, no line that was answered is refused.
+abbrev pub RefusesNone : ServeRules → ObjectState → Input → Result ℕ (Interrupted ServeFault)
+    → Type 0
+RefusesNone rules s i end =
+    rules.stop_at_refusal ≡ true
+    → IfSome i.bytes (λ bytes. MatchEnd end (λ _. NoneRefused rules s (lines bytes))
+    (λ n. NoneRefused rules s (take n (lines bytes)))
+    (λ n. NoneRefused rules s (take n (lines bytes))) (λ _. ⊤))
+
+-- The first n lines were answered, the last of which is the first that is refused.
+pub record ServesToRefusal (rules : ServeRules) (s t : ObjectState) (i : Input) (o : Output) (n : ℕ)
+    : Type 0 where
+  pub asked : rules.stop_at_refusal ≡ true
+  pub written : IfSome i.bytes (λ bytes. WritesFirst rules s o.old o.new (lines bytes) n)
+  pub object : IfSome i.bytes (λ bytes. StandsAt rules s t (lines bytes) n)
+  pub first : IfSome i.bytes (λ bytes. IsFirstRefused rules s (lines bytes) n)
+  pub passed : o.holds_back ≡ false
+  pub source : i.unread ≡ i.unread_before
+  pub sink : o.unwritten ≡ o.unwritten_before
+
+-- The first n lines were answered, and the change that the next one made was not kept.
+pub record ServesUnkept (rules : ServeRules) (s t : ObjectState) (i : Input) (o : Output) (n : ℕ)
+    : Type 0 where
+  pub written : IfSome i.bytes (λ bytes. WritesFirst rules s o.old o.new (lines bytes) n)
+  pub next : IfSome i.bytes (λ bytes. n < length (lines bytes))
+  pub object : IfSome i.bytes (λ bytes. StandsAt rules s t (lines bytes) (n + 1))
+  pub none : rules.stop_at_refusal ≡ true
+      → IfSome i.bytes (λ bytes. NoneRefused rules s (take n (lines bytes)))
+  pub passed : o.holds_back ≡ false
+  pub source : i.unread ≡ i.unread_before
+  pub sink : o.unwritten ≡ o.unwritten_before
+
+-- How the lines of an input were answered from a store, by how that ended.
+abbrev pub ServesStore : {F : Type 0} → ServeRules → ObjectState → ObjectState → Input → Output
+    → Result Served (Interrupted (ServiceFault F)) → Type 0
+ServesStore rules s t i o result =
+    MatchService result (λ end. Serves rules s t i o end × RefusesNone rules s i end)
+    (ServesToRefusal rules s t i o) (λ n why. ServesUnkept rules s t i o n)
+
+-- What a store has kept where answering lines ended, and where it has not kept all what the object
+-- was up to which it has.
+abbrev pub KeepsStore : {S F : Type 0} → (S → S → Type 0) → (S → ObjectState → S → F → Type 0)
+    → ServeRules → ObjectState → S → S → Input → Result Served (Interrupted (ServiceFault F))
+    → Type 0
+KeepsStore {S} kept not_kept rules s old new i result =
+    MatchService result (λ end. (begun : S) → kept begun old → kept begun new)
+    (λ n. (begun : S) → kept begun old → kept begun new)
+    (λ n why. (before : ObjectState)
+    × IfSome i.bytes (λ bytes. before ≡ after_lines rules s (take n (lines bytes)))
+    × ((begun : S) → kept begun old → not_kept begun before new why))

@@ -1,4 +1,4 @@
--- What holds while lines are served: the replies that wait to be written, and what stands behind
+-- What holds while lines are served: the replies that wait to be written, and what stands after
 -- them.
 use Rattle.std.specs.Prelude.{◌≡◌, ◌≤◌, ◌<◌, ◌+◌, ◌⊎◌, ℕ, nat_le, List, [], ◌∷◌, ◌++◌}
 use Rattle.std.specs.Prelude.{Option, length, take, fold}
@@ -7,7 +7,7 @@ use Rattle.std.specs.Io.KnownBytes.{Appends}
 use Rattle.osn_service.specs.declared.reply_buffer.ReplyBuffer.{ReplyBuffer}
 use Rattle.osn_service.specs.Replies.{replies}
 
--- with so many bytes what waits is written
+-- with as many bytes what waits is written
 abbrev pub full : ℕ
 full = 65536
 
@@ -53,7 +53,7 @@ pub record Writes (written now : Option (List ℕ)) (old new : ReplyBuffer) : Ty
   pub text : new.text.items ≡ []
   pub ends : new.ends.items ≡ []
 
--- some bytes of what waited are written, and so many replies of it not whole
+-- some bytes of what waited are written, and this many replies of it not whole
 pub record WritesSome (written now : Option (List ℕ)) (waiting : ReplyBuffer)
     (unwritten : ℕ) : Type 0 where
   pub bytes : ℕ
@@ -76,7 +76,7 @@ Settles written now old new =
     ((now ≡ written) × (new.text.items ≡ old.text.items) × (new.ends.items ≡ old.ends.items))
     ⊎ Writes written now old new
 
--- a front of the replies is written, with those to n lines whole and no more, and no line behind
+-- a front of the replies is written, with those to n lines whole and no more, and no line after
 -- the next has changed anything
 pub record InPart {S : Type 0} (text : S → List ℕ → List ℕ) (after : S → List ℕ → S) (begun now : S)
     (lines : List (List ℕ)) (old new : Option (List ℕ)) (n : ℕ) : Type 0 where

@@ -1,7 +1,8 @@
 -- What a line is told: the sequential object's reply to its request, or its fault, which leaves the
--- object.
-use Rattle.std.specs.Prelude.{ℕ, List, length, Option, Some, None, Result, Ok, Err, ◌+◌}
-use Rattle.osn_days.specs.Profile.{Profile}
+-- object. The newest rules are those of every line.
+use Rattle.std.specs.Prelude.{ℕ, Bool, true, false, List, length, Option, Some, None, Result, Ok}
+use Rattle.std.specs.Prelude.{Err, ◌+◌}
+use Rattle.osn_days.specs.Profile.{newest_rules}
 use Rattle.osn_register.specs.declared.edit.Edit.{Edit}
 use Rattle.osn_register.specs.declared.query.Query.{Query}
 use Rattle.osn_register.specs.declared.refusal.Refusal.{Refusal}
@@ -13,49 +14,65 @@ use Rattle.osn_reply.specs.declared.outcome.Outcome.TheVariants.{Replied}
 use Rattle.osn_request.specs.declared.request.Request.{Request}
 use Rattle.osn_request.specs.declared.request.Request.TheVariants.{Stage, Publish, Ask}
 use Rattle.osn_format.specs.declared.wire_fault.WireFault.{WireFault}
+use Rattle.osn_format.specs.declared.wire_fault.WireFault.TheVariants.{ReadOnly}
+use Rattle.osn_request.specs.Field.{◌>>=◌}
 use Rattle.osn_request.specs.Request.{request}
+use Rattle.osn_service.specs.declared.rules.ServeRules.{ServeRules}
+
+-- edits are taken from so many readers' lines, and all lines are answered
+abbrev pub editing : ℕ → ServeRules
+editing readers = record { readers = readers; read_only = false; stop_at_refusal = false }
 
 abbrev pub unless_refused : Option Refusal → Outcome → Outcome
 unless_refused None outcome = outcome
 unless_refused (Some f) outcome = Refused f
 
-abbrev pub stage_outcome : Profile → ObjectState → Edit → Outcome
-stage_outcome p s e = unless_refused (stage_refusal p s e) (Staged (length s.pending + 1))
-
-abbrev pub stage_after : Profile → ObjectState → Edit → ObjectState
-stage_after = object.stage_after
+abbrev pub stage_outcome : ObjectState → Edit → Outcome
+stage_outcome s e = unless_refused (stage_refusal newest_rules s e) (Staged (length s.pending + 1))
 
 abbrev pub publish_outcome : ObjectState → Outcome
 publish_outcome s = unless_refused (publish_refusal s) (Published (length s.batches + 1))
 
-abbrev pub publish_after : ObjectState → ObjectState
-publish_after = object.publish_after
-
-abbrev pub ask_outcome : Profile → ObjectState → ℕ → Query → Outcome
-ask_outcome p s reader q = Replied reader (reply_at p s.limits s.batches q)
+abbrev pub ask_outcome : ObjectState → ℕ → Query → Outcome
+ask_outcome s reader q = Replied reader (reply_at newest_rules s.limits s.batches q)
 
 -- what a request is told, and what it leaves
-abbrev pub request_outcome : Profile → ObjectState → Request → Outcome
-request_outcome p s (Stage e) = stage_outcome p s e
-request_outcome p s Publish = publish_outcome s
-request_outcome p s (Ask reader q) = ask_outcome p s reader q
+abbrev pub request_outcome : ObjectState → Request → Outcome
+request_outcome s (Stage e) = stage_outcome s e
+request_outcome s Publish = publish_outcome s
+request_outcome s (Ask reader q) = ask_outcome s reader q
 
-abbrev pub request_after : Profile → ObjectState → Request → ObjectState
-request_after p s (Stage e) = stage_after p s e
-request_after p s Publish = publish_after s
-request_after p s (Ask reader q) = s
+abbrev pub request_after : ObjectState → Request → ObjectState
+request_after s (Stage e) = object.stage_after newest_rules s e
+request_after s Publish = object.publish_after s
+request_after s (Ask reader q) = s
 
-abbrev pub outcome_of : Profile → ObjectState → Result Request WireFault → Outcome
-outcome_of p s (Ok r) = request_outcome p s r
-outcome_of p s (Err f) = Fault f
+abbrev pub outcome_of : ObjectState → Result Request WireFault → Outcome
+outcome_of s (Ok r) = request_outcome s r
+outcome_of s (Err f) = Fault f
 
-abbrev pub state_after : Profile → ObjectState → Result Request WireFault → ObjectState
-state_after p s (Ok r) = request_after p s r
-state_after p s (Err f) = s
+abbrev pub state_after : ObjectState → Result Request WireFault → ObjectState
+state_after s (Ok r) = request_after s r
+state_after s (Err f) = s
 
--- what a line is told where there are so many readers, and what it leaves
-abbrev pub line_outcome : Profile → ℕ → ObjectState → List ℕ → Outcome
-line_outcome p readers s line = outcome_of p s (request p readers line)
+-- a request where edits and publishes are refused
+abbrev pub reading : Request → Result Request WireFault
+reading (Stage e) = Err ReadOnly
+reading Publish = Err ReadOnly
+reading (Ask reader q) = Ok (Ask reader q)
 
-abbrev pub line_after : Profile → ℕ → ObjectState → List ℕ → ObjectState
-line_after p readers s line = state_after p s (request p readers line)
+-- a line's request where that may be so
+abbrev pub allowed : Bool → Result Request WireFault → Result Request WireFault
+allowed false r = r
+allowed true r = r >>= reading
+
+-- what a line requests
+abbrev pub line_request : ServeRules → List ℕ → Result Request WireFault
+line_request rules line = allowed rules.read_only (request newest_rules rules.readers line)
+
+-- what a line is told, and what it leaves
+abbrev pub line_outcome : ServeRules → ObjectState → List ℕ → Outcome
+line_outcome rules s line = outcome_of s (line_request rules line)
+
+abbrev pub line_after : ServeRules → ObjectState → List ℕ → ObjectState
+line_after rules s line = state_after s (line_request rules line)

@@ -1,79 +1,194 @@
--- A session as what takes lines.
-use Rattle.std.specs.Prelude.{◌≡◌, ◌+◌, ℕ, Bool, List, Option, Some, None, length, take, IfSome}
-use Rattle.std.specs.Io.KnownBytes.{IsAtEnd}
-use Rattle.osn_lines.specs.Faults.{IsReadFault, WriteFails}
+-- A session as what takes lines: what it has answered, and what of that waits.
+use Rattle.std.specs.Prelude.{◌≡◌, ◌+◌, ℕ, Bool, true, false, List, [], ◌∷◌, ◌++◌, Option}
+use Rattle.std.specs.Prelude.{Some, length, Result, Ok, Err}
+use Rattle.std.specs.Io.KnownBytes.{Appends}
+use Rattle.osn_lines.specs.Faults.{WriteFails}
 use Rattle.osn_lines.specs.Lines.{lines}
-use Rattle.osn_lines.specs.Taking.{HasRead}
-use Rattle.osn_days.specs.Profile.{newest_rules}
-use Rattle.osn_service.specs.declared.fault.ServeFault.{ServeFault}
-use Rattle.osn_service.specs.declared.fault.ServeFault.TheVariants.{NoMemory, ReadFault, WriteFault}
+use Rattle.osn_core.specs.Sequential.{ObjectState}
+use Rattle.osn_reply.specs.declared.outcome.Outcome.{Outcome}
+use Rattle.osn_reply.specs.ReplyText.{reply_line}
+use Rattle.osn_service.specs.declared.reply_buffer.ReplyBuffer.{ReplyBuffer}
+use Rattle.osn_service.specs.declared.rules.ServeRules.{ServeRules}
 use Rattle.osn_service.specs.declared.session.Session.{Session}
 use Rattle.osn_service.specs.declared.stop.Stop.{Stop}
-use Rattle.osn_service.specs.Served.{line_text, outputs}
-use Rattle.osn_service.specs.ServiceInside.{Waits, InPart}
-use Rattle.osn_service.specs.Session.{line_after}
+use Rattle.osn_reply.specs.Outcome.{is_refused}
+use Rattle.osn_service.specs.Refusals.{NoneRefused}
+use Rattle.osn_service.specs.Served.{line_text, outputs, after_lines}
+use Rattle.osn_service.specs.ServiceInside.{Waits, InPart, Adds, Settles, WritesSome}
+use Rattle.osn_service.specs.Session.{line_after, line_outcome}
 use Rattle.osn_service.specs.Stop.{MatchStop}
+use Rattle.osn_service.specs.Store.{KeepsSince}
 
--- what one session lends and keeps, another does
-pub record IsSame {W : Type 0} (begun now : Session W) : Type 0 where
-  pub readers : now.readers ≡ begun.readers
-  pub object : now.object.ghost_name ≡ begun.object.ghost_name
-  pub sink : now.sink.ghost_name ≡ begun.sink.ghost_name
+-- what a session has at a moment: its object, what is written, whether a write has failed, and the
+-- replies that wait
+pub record Moment : Type 0 where
+  pub object : ObjectState
+  pub written : Option (List ℕ)
+  pub failed : Bool
+  pub waiting : ReplyBuffer
 
--- what was one session is another, once it took these lines
-pub record Serving {W : Type 0} (contents : W → Option (List ℕ)) (has_failed : W → Bool)
-    (begun : Session W) (lines : List (List ℕ)) (now : Session W) : Type 0 where
-  pub same : IsSame begun now
-  pub waits : Waits (line_text newest_rules begun.readers) (line_after newest_rules begun.readers)
-      begun.object.now now.object.now lines (contents begun.sink.now) (contents now.sink.now)
-      now.waiting.now
-  pub sound : has_failed now.sink.now ≡ has_failed begun.sink.now
+-- that of a store, a sink and a buffer
+abbrev pub moment : {W S : Type 0} → (W → Option (List ℕ)) → (W → Bool) → (S → ObjectState)
+    → S → W → ReplyBuffer → Moment
+moment contents has_failed state store sink waiting = record {
+  object = state store;
+  written = contents sink;
+  failed = has_failed sink;
+  waiting = waiting;
+}
 
--- it took these lines, and a write failed with so many of their replies not written whole
-pub record Failing {W : Type 0} (contents : W → Option (List ℕ)) (has_failed : W → Bool)
-    (begun : Session W) (lines : List (List ℕ)) (now : Session W) (unwritten : ℕ) : Type 0 where
+-- ---- one line
+
+-- a reply was added, and the object is this one then
+pub record Answered (outcome : Outcome) (after : ObjectState) (s t : Moment) : Type 0 where
+  pub adds : Adds s.object t.object (reply_line outcome) s.written t.written s.waiting t.waiting
+  pub object : t.object ≡ after
+  pub sound : t.failed ≡ s.failed
+
+-- nothing was answered, and nothing was written or all that waited
+pub record Settled (s t : Moment) : Type 0 where
+  pub settles : Settles s.written t.written s.waiting t.waiting
+  pub object : t.object ≡ s.object
+  pub sound : t.failed ≡ s.failed
+
+-- a write of what waited failed, with this many replies not written whole
+pub record Unwritten (s t : Moment) (unwritten : ℕ) : Type 0 where
+  pub some : WritesSome s.written t.written s.waiting unwritten
+  pub object : t.object ≡ s.object
+  pub reason : WriteFails s.failed t.failed s.waiting.text.items
+
+-- what waited was written, the object is this one then, and its reply was taken back
+pub record TakenBack (after : ObjectState) (s t : Moment) (holds_back : Bool) : Type 0 where
+  pub written : Appends s.written t.written s.waiting.text.items
+  pub none : t.waiting.text.items ≡ []
+  pub object : t.object ≡ after
+  pub sound : t.failed ≡ s.failed
+  pub passed : holds_back ≡ false
+
+-- what was kept since any moment is so no longer, for this reason
+abbrev pub KeepsNoMore : {S F : Type 0} → (S → S → Type 0) → (S → ObjectState → S → F → Type 0)
+    → S → ObjectState → S → F → Type 0
+KeepsNoMore {S} kept not_kept old before new why =
+    (begun : S) → kept begun old → not_kept begun before new why
+
+-- what became of a line that is told this and after which the object is this one, by whether it was
+-- answered
+abbrev pub Answers : {S F : Type 0} → (S → S → Type 0) → (S → S → Type 0)
+    → (S → ObjectState → S → F → Type 0) → Outcome → ObjectState → Moment → Moment → Bool → S → S
+    → Result Bool (Stop F) → Type 0
+Answers lends kept not_kept outcome after s t holds_back old new (Ok refused) =
+    KeepsSince lends old new × (refused ≡ is_refused outcome) × Answered outcome after s t
+    × KeepsSince kept old new
+Answers lends kept not_kept outcome after s t holds_back old new (Err stop) =
+    KeepsSince lends old new × MatchStop stop
+    (Settled s t × KeepsSince kept old new)
+    (λ unwritten. Unwritten s t unwritten × KeepsSince kept old new)
+    (λ why. (is_refused outcome ≡ false) × TakenBack after s t holds_back
+    × KeepsNoMore kept not_kept old s.object new why)
+    ⊥
+
+-- ---- all lines so far
+
+-- lines were answered, and the replies to the last of them wait
+pub record Serving (rules : ServeRules) (begun : Moment) (lines : List (List ℕ)) (now : Moment)
+    : Type 0 where
+  pub waits : Waits (line_text rules) (line_after rules) begun.object now.object lines
+      begun.written now.written now.waiting
+  pub sound : now.failed ≡ begun.failed
+
+-- lines were answered, and a write failed with this many of their replies not written whole
+pub record Failing (rules : ServeRules) (begun : Moment) (lines : List (List ℕ)) (now : Moment)
+    (unwritten : ℕ) : Type 0 where
   pub whole : ℕ
   pub count : whole + unwritten ≡ length lines
-  pub same : IsSame begun now
-  pub part : InPart (line_text newest_rules begun.readers) (line_after newest_rules begun.readers)
-      begun.object.now now.object.now lines (contents begun.sink.now) (contents now.sink.now) whole
-  pub reason : WriteFails (has_failed begun.sink.now) (has_failed now.sink.now)
-      (outputs newest_rules begun.readers begun.object.now lines)
+  pub part : InPart (line_text rules) (line_after rules) begun.object now.object lines
+      begun.written now.written whole
+  pub reason : WriteFails begun.failed now.failed (outputs rules begun.object lines)
 
--- it took these lines and stopped, between two lines or at one
-abbrev pub StopsServing : {W : Type 0} → (W → Option (List ℕ)) → (W → Bool) → Session W →
-    List (List ℕ) → Session W → Stop → Type 0
-StopsServing contents has_failed begun lines now why =
-    MatchStop why (Serving contents has_failed begun lines now)
-    (Failing contents has_failed begun lines now)
+-- lines were answered and their replies written, and the change of the line after them was not kept
+pub record Unkept (rules : ServeRules) (begun : Moment) (lines : List (List ℕ)) (line : List ℕ)
+    (now : Moment) (holds_back : Bool) : Type 0 where
+  pub written : Appends begun.written now.written (outputs rules begun.object lines)
+  pub none : now.waiting.text.items ≡ []
+  pub sound : now.failed ≡ begun.failed
+  pub passed : holds_back ≡ false
+  pub reached : now.object ≡ after_lines rules begun.object (lines ++ line ∷ [])
 
--- n lines were answered, the first n of the input where that is known, and their replies are
--- written or wait
-pub record AnswersFirst {W : Type 0} (contents : W → Option (List ℕ)) (has_failed : W → Bool)
-    (begun now : Session W) (input : Option (List ℕ)) (n : ℕ) : Type 0 where
-  pub taken : List (List ℕ)
-  pub serving : Serving contents has_failed begun taken now
-  pub count : n ≡ length taken
-  pub first : IfSome input (λ bytes. take (length taken) (lines bytes) ≡ taken)
+-- where a refusal is to be the end, no line of these was refused
+abbrev pub Spared : ServeRules → ObjectState → List (List ℕ) → Type 0
+Spared rules s lines = rules.stop_at_refusal ≡ true → NoneRefused rules s lines
 
--- why no more than n lines were answered where no write failed, and how far the source was read
-abbrev pub EndsTaking : Option ServeFault → Option (List ℕ) → Option (List ℕ) → Bool → Bool → ℕ →
-    Type 0
-EndsTaking None input rest unread_before unread n =
-    IfSome input (λ bytes. n ≡ length (lines bytes)) × IsAtEnd rest × (unread ≡ unread_before)
-EndsTaking (Some NoMemory) input rest unread_before unread n = unread ≡ unread_before
-EndsTaking (Some ReadFault) input rest unread_before unread n =
-    HasRead input rest n × IsReadFault unread input
-EndsTaking (Some WriteFault) input rest unread_before unread n = ⊥
+-- a line was refused, after lines that were not, and is to be the last
+pub record Refused (rules : ServeRules) (s : ObjectState) (lines : List (List ℕ)) (line : List ℕ)
+    : Type 0 where
+  pub asked : rules.stop_at_refusal ≡ true
+  pub none : NoneRefused rules s lines
+  pub refused : is_refused (line_outcome rules (after_lines rules s lines) line) ≡ true
 
--- the first lines of the input were answered, a write failed, and of their replies a front with
--- those to n lines is written
-pub record AnswersInPart {W : Type 0} (contents : W → Option (List ℕ)) (has_failed : W → Bool)
-    (begun now : Session W) (input : Option (List ℕ)) (n : ℕ) : Type 0 where
-  pub taken : List (List ℕ)
-  pub same : IsSame begun now
-  pub part : InPart (line_text newest_rules begun.readers) (line_after newest_rules begun.readers)
-      begun.object.now now.object.now taken (contents begun.sink.now) (contents now.sink.now) n
-  pub reason : WriteFails (has_failed begun.sink.now) (has_failed now.sink.now)
-      (outputs newest_rules begun.readers begun.object.now taken)
-  pub first : IfSome input (λ bytes. take (length taken) (lines bytes) ≡ taken)
+-- ---- the session
+
+-- what one session lends and keeps, another does
+pub record IsSame {W S : Type 0} (begun now : Session W S) : Type 0 where
+  pub rules : now.rules ≡ begun.rules
+  pub store : now.store.ghost_name ≡ begun.store.ghost_name
+  pub sink : now.sink.ghost_name ≡ begun.sink.ghost_name
+
+-- what a session has now
+abbrev pub moment_of : {W S : Type 0} → (W → Option (List ℕ)) → (W → Bool) → (S → ObjectState)
+    → Session W S → Moment
+moment_of contents has_failed state s =
+    moment contents has_failed state s.store.now s.sink.now s.waiting.now
+
+module _ {W S F : Type 0} (contents : W → Option (List ℕ)) (has_failed holds_back : W → Bool)
+    (state : S → ObjectState) (lends kept : S → S → Type 0)
+    (not_kept : S → ObjectState → S → F → Type 0) where
+  -- what was one session is another, once it took these lines, none of which ended it
+  pub record HasServed (begun : Session W S) (lines : List (List ℕ)) (now : Session W S) : Type 0
+    where
+      pub same : IsSame begun now
+      pub lent : KeepsSince lends begun.store.now now.store.now
+      pub serving : Serving begun.rules (moment_of contents has_failed state begun) lines
+          (moment_of contents has_failed state now)
+      pub spared : Spared begun.rules (state begun.store.now) lines
+      pub keeps : KeepsSince kept begun.store.now now.store.now
+
+  -- it took these lines, and a write failed
+  pub record HasFailed (begun : Session W S) (lines : List (List ℕ)) (now : Session W S)
+      (unwritten : ℕ) : Type 0 where
+    pub same : IsSame begun now
+    pub lent : KeepsSince lends begun.store.now now.store.now
+    pub failing : Failing begun.rules (moment_of contents has_failed state begun) lines
+        (moment_of contents has_failed state now) unwritten
+    pub keeps : KeepsSince kept begun.store.now now.store.now
+
+  -- it took these lines, and the change of this one was not kept
+  pub record HasLost (begun : Session W S) (lines : List (List ℕ)) (at : Option (List ℕ))
+      (now : Session W S) (why : F) : Type 0 where
+    pub line : List ℕ
+    pub is : at ≡ Some line
+    pub same : IsSame begun now
+    pub lent : KeepsSince lends begun.store.now now.store.now
+    pub unkept : Unkept begun.rules (moment_of contents has_failed state begun) lines line
+        (moment_of contents has_failed state now) (holds_back now.sink.now)
+    pub spared : Spared begun.rules (state begun.store.now) lines
+    pub fails : KeepsNoMore kept not_kept begun.store.now
+        (after_lines begun.rules (state begun.store.now) lines) now.store.now why
+
+  -- it took these lines and this one, which was refused and is the last
+  pub record HasRefused (begun : Session W S) (lines : List (List ℕ)) (at : Option (List ℕ))
+      (now : Session W S) : Type 0 where
+    pub line : List ℕ
+    pub is : at ≡ Some line
+    pub same : IsSame begun now
+    pub lent : KeepsSince lends begun.store.now now.store.now
+    pub serving : Serving begun.rules (moment_of contents has_failed state begun)
+        (lines ++ line ∷ []) (moment_of contents has_failed state now)
+    pub refused : Refused begun.rules (state begun.store.now) lines line
+    pub keeps : KeepsSince kept begun.store.now now.store.now
+
+  -- it took these lines and stopped, between two lines or at one
+  abbrev pub HasStopped : Session W S → List (List ℕ) → Option (List ℕ) → Session W S → Stop F
+      → Type 0
+  HasStopped begun lines at now why =
+      MatchStop why (HasServed begun lines now) (HasFailed begun lines now)
+      (HasLost begun lines at now) (HasRefused begun lines at now)

@@ -1,39 +1,125 @@
 -- How taking lines ended, as the service says it.
-use Rattle.std.specs.Prelude.{◌≤◌, ◌-◌, ⊤, ℕ, Bool, List, Option, Some, Result, Ok, Err}
+use Rattle.std.specs.Prelude.{◌≡◌, ◌≤◌, ◌-◌, ◌+◌, ⊤, ℕ, Bool, true, List}
+use Rattle.std.specs.Prelude.{Option, Result, Ok, Err}
+use Rattle.std.specs.Prelude.{length, take, IfSome}
+use Rattle.std.specs.Io.KnownBytes.{IsAtEnd}
+use Rattle.osn_core.specs.Sequential.{ObjectState}
 use Rattle.osn_lines.specs.declared.fault.Interrupted.{Interrupted}
 use Rattle.osn_lines.specs.declared.fault.TakeFault.{TakeFault}
 use Rattle.osn_lines.specs.declared.fault.TakeFault.TheVariants as take
-use Rattle.osn_service.specs.declared.fault.ServeFault.{ServeFault}
+use Rattle.osn_lines.specs.Faults.{IsReadFault, WriteFails}
+use Rattle.osn_lines.specs.Lines.{lines}
+use Rattle.osn_lines.specs.Streams.{Input, Output}
+use Rattle.osn_lines.specs.Taking.{HasRead}
 use Rattle.osn_service.specs.declared.fault.ServeFault.TheVariants.{NoMemory, ReadFault, WriteFault}
+use Rattle.osn_service.specs.declared.fault.ServiceFault.{ServiceFault}
+use Rattle.osn_service.specs.declared.fault.ServiceFault.TheVariants.{Serve, NotKept}
+use Rattle.osn_service.specs.declared.rules.ServeRules.{ServeRules}
+use Rattle.osn_service.specs.declared.service.End.{End}
+use Rattle.osn_service.specs.declared.service.End.TheVariants.{AtEnd, AtRefusal, ByFault}
 use Rattle.osn_service.specs.declared.service.LinesTaken.{LinesTaken}
-use Rattle.osn_service.specs.declared.session.Session.{Session}
 use Rattle.osn_service.specs.declared.stop.Stop.{Stop}
 use Rattle.osn_service.specs.declared.stop.Stop.TheVariants as stop
-use Rattle.osn_service.specs.Faults.{MatchFault}
-use Rattle.osn_service.specs.SessionInside.{AnswersFirst, AnswersInPart, EndsTaking}
+use Rattle.osn_service.specs.Faults.{MatchFault, MatchServiceFault}
+use Rattle.osn_service.specs.Refusals.{NoneRefused, IsFirstRefused}
+use Rattle.osn_service.specs.Served.{outputs, after_lines}
+use Rattle.osn_service.specs.Serves.{ServesUnkept}
+use Rattle.osn_service.specs.ServiceInside.{InPart}
+use Rattle.osn_service.specs.Served.{line_text}
+use Rattle.osn_service.specs.Session.{line_after}
+use Rattle.osn_service.specs.SessionInside.{Moment, Serving, KeepsNoMore}
+use Rattle.osn_service.specs.Store.{KeepsSince}
 
--- what was taken where it ended early, behind so many lines
-abbrev pub taken_until : ℕ → TakeFault Stop → Result LinesTaken (Interrupted ServeFault)
-taken_until n take.NoMemory = Ok (record { lines = n; fault = Some NoMemory })
-taken_until n take.ReadFault = Ok (record { lines = n; fault = Some ReadFault })
-taken_until n (take.Stopped stop.NoMemory) = Ok (record { lines = n; fault = Some NoMemory })
+-- what was taken where it ended early, after n lines
+abbrev pub taken_until : {F : Type 0} → ℕ → TakeFault (Stop F)
+    → Result LinesTaken (Interrupted (ServiceFault F))
+taken_until n take.NoMemory = Ok (record { lines = n; end = ByFault NoMemory })
+taken_until n take.ReadFault = Ok (record { lines = n; end = ByFault ReadFault })
+taken_until n (take.Stopped stop.NoMemory) = Ok (record { lines = n; end = ByFault NoMemory })
 taken_until n (take.Stopped (stop.WriteFailed failed)) =
-    Err (record { lines = n - failed.unwritten; cause = WriteFault })
+    Err (record { lines = n - failed.unwritten; cause = Serve WriteFault })
+taken_until n (take.Stopped (stop.NotKept why)) = Err (record { lines = n; cause = NotKept why })
+taken_until n (take.Stopped stop.Refused) = Ok (record { lines = n + 1; end = AtRefusal })
 
 -- no more replies are not written than lines were taken
-abbrev pub IsWithin : ℕ → TakeFault Stop → Type 0
+abbrev pub IsWithin : {F : Type 0} → ℕ → TakeFault (Stop F) → Type 0
 IsWithin n take.NoMemory = ⊤
 IsWithin n take.ReadFault = ⊤
 IsWithin n (take.Stopped stop.NoMemory) = ⊤
 IsWithin n (take.Stopped (stop.WriteFailed failed)) = failed.unwritten ≤ n
+IsWithin n (take.Stopped (stop.NotKept why)) = ⊤
+IsWithin n (take.Stopped stop.Refused) = ⊤
 
--- what was one session is another: it took lines, all of them or as many as it says, or a write
--- failed
-abbrev pub HasTaken : {W : Type 0} → (W → Option (List ℕ)) → (W → Bool) → Session W → Session W →
-    Option (List ℕ) → Option (List ℕ) → Bool → Bool →
-    Result LinesTaken (Interrupted ServeFault) → Type 0
-HasTaken contents has_failed begun now input rest unread_before unread (Ok taken) =
-    AnswersFirst contents has_failed begun now input taken.lines
-    × EndsTaking taken.fault input rest unread_before unread taken.lines
-HasTaken contents has_failed begun now input rest unread_before unread (Err end) =
-    MatchFault end.cause ⊥ ⊥ (AnswersInPart contents has_failed begun now input end.lines)
+-- n lines were answered, the first n of the input where that is known, and their replies are
+-- written or wait
+pub record AnswersFirst (rules : ServeRules) (begun now : Moment) (input : Option (List ℕ)) (n : ℕ)
+    : Type 0 where
+  pub taken : List (List ℕ)
+  pub serving : Serving rules begun taken now
+  pub count : n ≡ length taken
+  pub first : IfSome input (λ bytes. take (length taken) (lines bytes) ≡ taken)
+
+-- the first lines of the input were answered, a write failed, and of their replies a front with
+-- those to n lines is written
+pub record AnswersInPart (rules : ServeRules) (begun now : Moment) (input : Option (List ℕ)) (n : ℕ)
+    : Type 0 where
+  pub taken : List (List ℕ)
+  pub part : InPart (line_text rules) (line_after rules) begun.object now.object taken begun.written
+      now.written n
+  pub reason : WriteFails begun.failed now.failed (outputs rules begun.object taken)
+  pub first : IfSome input (λ bytes. take (length taken) (lines bytes) ≡ taken)
+
+-- where a refusal is to be the end, none of the first n lines was refused
+abbrev pub SparedFirst : ServeRules → ObjectState → Option (List ℕ) → ℕ → Type 0
+SparedFirst rules s input n =
+    rules.stop_at_refusal ≡ true
+    → IfSome input (λ bytes. NoneRefused rules s (take n (lines bytes)))
+
+-- why no more than n lines were answered where no write failed, and how far the source was read
+abbrev pub EndsTaking : ServeRules → ObjectState → Input → ℕ → End → Type 0
+EndsTaking rules s i n AtEnd =
+    IfSome i.bytes (λ bytes. n ≡ length (lines bytes)) × IsAtEnd i.rest
+    × (i.unread ≡ i.unread_before) × SparedFirst rules s i.bytes n
+EndsTaking rules s i n AtRefusal =
+    (rules.stop_at_refusal ≡ true)
+    × IfSome i.bytes (λ bytes. IsFirstRefused rules s (lines bytes) n)
+    × (i.unread ≡ i.unread_before)
+EndsTaking rules s i n (ByFault NoMemory) =
+    (i.unread ≡ i.unread_before) × SparedFirst rules s i.bytes n
+EndsTaking rules s i n (ByFault ReadFault) =
+    HasRead i.bytes i.rest n × IsReadFault i.unread i.bytes × SparedFirst rules s i.bytes n
+EndsTaking rules s i n (ByFault WriteFault) = ⊥
+
+-- what a sink had at a moment, and has now
+abbrev pub output_since : Moment → Option (List ℕ) → Bool → Bool → Output
+output_since begun new unwritten holds_back = record {
+  old = begun.written;
+  new = new;
+  unwritten_before = begun.failed;
+  unwritten = unwritten;
+  holds_back = holds_back;
+}
+
+-- a session took lines, all of them or as many as it says; or a write failed; or a change was not
+-- kept
+abbrev pub HasTaken : {F : Type 0} → ServeRules → Moment → Moment → Bool → Input
+    → Result LinesTaken (Interrupted (ServiceFault F)) → Type 0
+HasTaken rules begun now holds_back i (Ok taken) =
+    AnswersFirst rules begun now i.bytes taken.lines
+    × EndsTaking rules begun.object i taken.lines taken.end
+HasTaken rules begun now holds_back i (Err end) =
+    MatchServiceFault end.cause
+    (λ fault. MatchFault fault ⊥ ⊥ (AnswersInPart rules begun now i.bytes end.lines))
+    (λ why. ServesUnkept rules begun.object now.object i
+    (output_since begun now.written now.failed holds_back) end.lines)
+
+-- what a store has kept where taking lines ended
+abbrev pub HasKept : {S F : Type 0} → (S → S → Type 0) → (S → ObjectState → S → F → Type 0)
+    → ServeRules → ObjectState → S → S → Input → Result LinesTaken (Interrupted (ServiceFault F))
+    → Type 0
+HasKept kept not_kept rules s old new i (Ok taken) = KeepsSince kept old new
+HasKept kept not_kept rules s old new i (Err end) =
+    MatchServiceFault end.cause (λ fault. KeepsSince kept old new)
+    (λ why. (before : ObjectState)
+    × IfSome i.bytes (λ bytes. before ≡ after_lines rules s (take end.lines (lines bytes)))
+    × KeepsNoMore kept not_kept old before new why)

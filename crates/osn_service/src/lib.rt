@@ -1,17 +1,18 @@
 //! Bytes in and bytes out: the lines of a stream, a request read from each, and the reply to it as
 //! a JSON line. What the crate promises to those above: `serve` writes the text of each outcome of
 //! the sequential object run on the requests of the lines read, in order, and nothing else.
-//! `serve_kept` does so too, and appends each change to a file before its reply goes out.
+//! `serve_store` does so for whatever keeps an object, and says what it keeps.
 #![tactic(auto)]
 
 mod fault;
-mod kept_service;
-mod kept_session;
 mod reply_buffer;
+mod rules;
 mod service;
 mod session;
 mod stop;
+mod store;
 
-pub use fault::{KeptFault, ServeFault};
-pub use kept_service::serve_kept;
-pub use service::{serve, serve_from};
+pub use fault::{ServeFault, ServiceFault};
+pub use rules::ServeRules;
+pub use service::{Served, serve, serve_from, serve_store};
+pub use store::{Change, Store, StoreFault};

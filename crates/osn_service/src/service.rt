@@ -1,127 +1,227 @@
 //! The service: every request line of a source is answered, in order.
-ghost use Rattle.std.specs.Prelude.{◌≡◌, ◌≤◌, ℕ, Bool, List, [], Option, length, IfOk};
-ghost use Rattle.osn_days.specs.Profile.{newest_rules};
+ghost use Rattle.std.specs.Prelude.{◌≡◌, ◌≤◌, ◌<◌, ◌^◌, ℕ, [], length, IfOk};
 ghost use Rattle.osn_core.specs.Sequential.{ObjectState, opened};
+ghost use Rattle.osn_lines.specs.Streams.{Input, input_of, output_of};
 ghost use Rattle.osn_service.specs.Law.{MayEachInputBeCut};
-ghost use Rattle.osn_service.specs.Serves.{Serves};
-ghost use Rattle.osn_service.specs.SessionInside.{IsSame};
+ghost use Rattle.osn_service.specs.Serves.{KeepsStore, Serves, ServesStore};
+ghost use Rattle.osn_service.specs.Session.{editing};
+ghost use Rattle.osn_service.specs.SessionInside.{IsSame, Moment, moment_of};
+ghost use Rattle.osn_service.specs.Store.{KeepsSince};
 ghost use Rattle.osn_service.specs.TakingInside as spec;
-ghost use Rattle.osn_service.specs.TakingInside.{HasTaken, IsWithin};
-ghost use Rattle.osn_service.specs.declared.session.Session.{Session};
+ghost use Rattle.osn_service.specs.TakingInside.{HasKept, HasTaken, IsWithin, output_since};
+ghost use Rattle.osn_service.specs.declared.rules.ServeRules.{ServeRules};
 
-use crate::fault::ServeFault;
+use crate::fault::{ServeFault, ServiceFault};
 use crate::reply_buffer::ReplyBuffer;
+use crate::rules::ServeRules;
 use crate::session::Session;
 use crate::stop::{Stop, UnwrittenReplies};
+use crate::store::Store;
 use json::Scratch;
 use osn_core::Object;
 use osn_lines::{Interrupted, Sink, Source, TakeFault, take_lines};
 use osn_register::Limits;
 use std::alloc::Global;
 
-/// How many lines were taken, and why no more, where some were not and no write failed.
+/// What was answered where nothing failed.
+#[derive(Clone, Copy, Debug, PartialEq, Eq)]
+pub struct Served {
+    /// The number of lines that were answered.
+    pub lines: u64,
+    /// Whether the last of them was refused, and was to be the last to be answered.
+    pub refused: bool,
+}
+
+/// Why no more lines were taken, where no write failed and each change was kept.
+#[derive(Clone, Copy)]
+pub(crate) enum End {
+    /// There are no more.
+    AtEnd,
+    /// The last one was refused, and was to be the last.
+    AtRefusal,
+    /// Memory ran out, or the source failed.
+    ByFault(ServeFault),
+}
+
+/// How many lines were taken, and why no more.
 #[derive(Clone, Copy)]
 pub(crate) struct LinesTaken {
     pub(crate) lines: u64,
-    pub(crate) fault: Option<ServeFault>,
+    pub(crate) end: End,
 }
 
-/// What was taken where it ended early, behind so many lines.
-pub(crate) fn taken_until(
+/// What was taken where it ended early, after this many lines.
+fn taken_until<F>(
     lines: u64,
-    cause: TakeFault<Stop>,
-) -> Result<LinesTaken, Interrupted<ServeFault>>
-    requires { IsWithin lines cause }
+    cause: TakeFault<Stop<F>>,
+) -> Result<LinesTaken, Interrupted<ServiceFault<F>>>
+    requires few { lines < 2 ^ 63 }
+    requires within { IsWithin lines cause }
     ensures { result ≡ spec.taken_until lines cause }
 {
     match cause {
         TakeFault::NoMemory | TakeFault::Stopped(Stop::NoMemory) => Ok(LinesTaken {
             lines,
-            fault: Some(ServeFault::NoMemory),
+            end: End::ByFault(ServeFault::NoMemory),
         }),
         TakeFault::ReadFault => Ok(LinesTaken {
             lines,
-            fault: Some(ServeFault::ReadFault),
+            end: End::ByFault(ServeFault::ReadFault),
+        }),
+        TakeFault::Stopped(Stop::Refused) => Ok(LinesTaken {
+            lines: lines + 1,
+            end: End::AtRefusal,
         }),
         TakeFault::Stopped(Stop::WriteFailed(UnwrittenReplies { unwritten })) => Err(Interrupted {
             lines: lines - unwritten,
-            cause: ServeFault::WriteFault,
+            cause: ServiceFault::Serve(ServeFault::WriteFault),
+        }),
+        TakeFault::Stopped(Stop::NotKept(why)) => Err(Interrupted {
+            lines,
+            cause: ServiceFault::NotKept(why),
         }),
     }
 }
 
 /// Answers every line of the source up to its end. The replies to the last ones wait then.
-fn take_all<R: Source, W: Sink>(
-    session: &mut Session<'_, W>,
+fn take_all<R: Source, W: Sink, S: Store>(
+    session: &mut Session<'_, '_, '_, W, S>,
     source: &mut R,
-) -> Result<LinesTaken, Interrupted<ServeFault>>
+) -> Result<LinesTaken, Interrupted<ServiceFault<S::Fault>>>
     requires text { session.old.waiting.now.text.items ≡ [] }
     requires ends { session.old.waiting.now.ends.items ≡ [] }
-    ensures { HasTaken W.contents W.has_failed session.old session.new (R.remaining source.old)
-        (R.remaining source.new) (R.has_failed source.old) (R.has_failed source.new) result }
+    ensures same { IsSame session.old session.new }
+    ensures lent { KeepsSince S.lends session.old.store.now session.new.store.now }
+    ensures taken { HasTaken session.old.rules
+        (moment_of W.contents W.has_failed S.state session.old)
+        (moment_of W.contents W.has_failed S.state session.new)
+        (W.holds_back session.new.sink.now)
+        (input_of R.remaining R.has_failed source.old source.new) result }
+    ensures kept { HasKept S.kept S.not_kept session.old.rules (S.state session.old.store.now)
+        session.old.store.now session.new.store.now
+        (input_of R.remaining R.has_failed source.old source.new) result }
 {
     match take_lines(session.alloc, session, source) {
-        Ok(lines) => Ok(LinesTaken { lines, fault: None }),
+        Ok(lines) => Ok(LinesTaken {
+            lines,
+            end: End::AtEnd,
+        }),
         Err(Interrupted { lines, cause }) => taken_until(lines, cause),
     }
 }
 
 /// Writes the replies that wait, where no write has failed. Answers how many lines were answered,
-/// if they are all.
-pub(crate) fn write_rest<W: Sink>(
+/// if no more were to be.
+fn write_rest<W: Sink, S: Store>(
     sink: &mut W,
     waiting: &mut ReplyBuffer,
-    taken: Result<LinesTaken, Interrupted<ServeFault>>,
-) -> Result<u64, Interrupted<ServeFault>>
+    taken: Result<LinesTaken, Interrupted<ServiceFault<S::Fault>>>,
+) -> Result<Served, Interrupted<ServiceFault<S::Fault>>>
     requires { IfOk taken (λ taken. length waiting.old.ends.items ≤ taken.lines) }
-    // Whatever the session.
-    ensures { (begun : Session W) (now : Session W) (input : Option (List ℕ))
-        (rest : Option (List ℕ)) (unread_before : Bool) (unread : Bool) →
-        now.sink.now ≡ sink.old → now.waiting.now ≡ waiting.old →
-        HasTaken W.contents W.has_failed begun now input rest unread_before unread taken →
-        Serves newest_rules begun.readers begun.object.now now.object.now input rest
-        unread_before unread (W.contents begun.sink.now) (W.contents sink.new)
-        (W.has_failed begun.sink.now) (W.has_failed sink.new) (W.holds_back sink.new) result }
+    // Whatever was taken, and by which rules.
+    ensures serves { (rules : ServeRules) (begun : Moment) (object : ObjectState) (i : Input) →
+        HasTaken rules begun (record {
+          object = object;
+          written = W.contents sink.old;
+          failed = W.has_failed sink.old;
+          waiting = waiting.old;
+        }) (W.holds_back sink.old) i taken →
+        ServesStore rules begun.object object i (output_since begun (W.contents sink.new)
+        (W.has_failed sink.new) (W.holds_back sink.new)) result }
+    ensures kept { (rules : ServeRules) (s : ObjectState) (old : S) (new : S) (i : Input) →
+        HasKept S.kept S.not_kept rules s old new i taken →
+        KeepsStore S.kept S.not_kept rules s old new i result }
 {
-    let LinesTaken { lines, fault } = taken?;
+    let LinesTaken { lines, end } = taken?;
     if let Err(UnwrittenReplies { unwritten }) = waiting.write(sink) {
         return Err(Interrupted {
             lines: lines - unwritten,
-            cause: ServeFault::WriteFault,
+            cause: ServiceFault::Serve(ServeFault::WriteFault),
         });
     }
-    match fault {
-        None => Ok(lines),
-        Some(cause) => Err(Interrupted { lines, cause }),
+    match end {
+        End::AtEnd => Ok(Served {
+            lines,
+            refused: false,
+        }),
+        End::AtRefusal => Ok(Served {
+            lines,
+            refused: true,
+        }),
+        End::ByFault(cause) => Err(Interrupted {
+            lines,
+            cause: ServiceFault::Serve(cause),
+        }),
     }
 }
 
 /// Answers every line of the source up to its end, and writes each reply. Answers their number.
-fn run<R: Source, W: Sink>(
-    session: &mut Session<'_, W>,
+fn run<R: Source, W: Sink, S: Store>(
+    session: &mut Session<'_, '_, '_, W, S>,
     source: &mut R,
-) -> Result<u64, Interrupted<ServeFault>>
+) -> Result<Served, Interrupted<ServiceFault<S::Fault>>>
     requires text { session.old.waiting.now.text.items ≡ [] }
     requires ends { session.old.waiting.now.ends.items ≡ [] }
     ensures same { IsSame session.old session.new }
-    ensures serves { Serves newest_rules session.old.readers session.old.object.now
-        session.new.object.now (R.remaining source.old) (R.remaining source.new)
-        (R.has_failed source.old) (R.has_failed source.new)
-        (W.contents session.old.sink.now) (W.contents session.new.sink.now)
-        (W.has_failed session.old.sink.now) (W.has_failed session.new.sink.now)
-        (W.holds_back session.new.sink.now) result }
+    ensures lent { KeepsSince S.lends session.old.store.now session.new.store.now }
+    ensures serves { ServesStore session.old.rules (S.state session.old.store.now)
+        (S.state session.new.store.now)
+        (input_of R.remaining R.has_failed source.old source.new)
+        (output_of W.contents W.has_failed W.holds_back session.old.sink.now session.new.sink.now)
+        result }
+    ensures kept { KeepsStore S.kept S.not_kept session.old.rules (S.state session.old.store.now)
+        session.old.store.now session.new.store.now
+        (input_of R.remaining R.has_failed source.old source.new) result }
 {
     let taken = take_all(session, source);
-    write_rest(session.sink, session.waiting, taken)
+    write_rest::<W, S>(session.sink, session.waiting, taken)
 }
 
-/// Answers every line of the source up to its end, from the object that is given, for readers that
-/// are counted from 1. Answers the number of lines.
+/// Answers every line of the source up to its end, by these rules, from the store that is given.
+/// Answers how many were answered.
 ///
 /// What is written is the text of each outcome of the sequential object run on the requests of the
 /// lines read, in order, and nothing else, in whatever pieces the bytes come. A line that is no
 /// request is told its fault and leaves the object. Replies wait until more is to be read, a line
-/// is to change the object, or 65,536 bytes of them wait.
+/// is to change the object, or 65,536 bytes of them wait. The reply to a change goes out only after
+/// the store has kept it.
+///
+/// # Errors
+///
+/// The number of lines whose reply was written whole, and why no more: `Serve` for what ends
+/// `serve_from` too, and `NotKept` where the store could not keep what the next line changed.
+pub fn serve_store<R: Source, W: Sink, S: Store>(
+    alloc: Global,
+    store: &mut S,
+    rules: ServeRules,
+    source: &mut R,
+    sink: &mut W,
+) -> Result<Served, Interrupted<ServiceFault<S::Fault>>>
+    requires { S.lends store.old store.old }
+    ensures lent { S.lends store.old store.new }
+    ensures serves { ServesStore rules (S.state store.old) (S.state store.new)
+        (input_of R.remaining R.has_failed source.old source.new)
+        (output_of W.contents W.has_failed W.holds_back sink.old sink.new) result }
+    ensures kept { KeepsStore S.kept S.not_kept rules (S.state store.old) store.old store.new
+        (input_of R.remaining R.has_failed source.old source.new) result }
+{
+    let mut scratch = Scratch::new(alloc);
+    let mut waiting = ReplyBuffer::new(alloc);
+    run(
+        &mut Session {
+            alloc,
+            scratch: &mut scratch,
+            rules,
+            store,
+            sink,
+            waiting: &mut waiting,
+        },
+        source,
+    )
+}
+
+/// Answers every line of the source up to its end, from the object that is given, for readers that
+/// are counted from 1. Answers the number of lines. What is written, and when, `serve_store` says.
 ///
 /// # Errors
 ///
@@ -137,25 +237,19 @@ pub fn serve_from<R: Source, W: Sink>(
     source: &mut R,
     sink: &mut W,
 ) -> Result<u64, Interrupted<ServeFault>>
-    ensures serves { Serves newest_rules readers object.old object.new
-        (R.remaining source.old) (R.remaining source.new)
-        (R.has_failed source.old) (R.has_failed source.new)
-        (W.contents sink.old) (W.contents sink.new)
-        (W.has_failed sink.old) (W.has_failed sink.new) (W.holds_back sink.new) result }
+    ensures serves { Serves (editing readers) object.old object.new
+        (input_of R.remaining R.has_failed source.old source.new)
+        (output_of W.contents W.has_failed W.holds_back sink.old sink.new) result }
     // as a law: an input may be cut between its lines and answered in parts
-    ensures cut { MayEachInputBeCut newest_rules }
+    ensures cut { MayEachInputBeCut }
 {
-    let mut scratch = Scratch::new(alloc);
-    let mut waiting = ReplyBuffer::new(alloc);
-    let mut session = Session {
-        alloc,
-        scratch: &mut scratch,
-        readers,
-        object,
-        sink,
-        waiting: &mut waiting,
-    };
-    run(&mut session, source)
+    match serve_store(alloc, object, ServeRules::editing(readers), source, sink) {
+        Ok(served) => Ok(served.lines),
+        Err(Interrupted { lines, cause }) => match cause {
+            ServiceFault::Serve(cause) => Err(Interrupted { lines, cause }),
+            ServiceFault::NotKept(never) => match never {},
+        },
+    }
 }
 
 /// Answers every line of the source up to its end, from an empty object, as `serve_from` does.
@@ -172,11 +266,9 @@ pub fn serve<R: Source, W: Sink>(
     sink: &mut W,
 ) -> Result<u64, Interrupted<ServeFault>>
     // Of an object that is gone then.
-    ensures { (object : ObjectState) × Serves newest_rules readers (opened limits) object
-        (R.remaining source.old) (R.remaining source.new)
-        (R.has_failed source.old) (R.has_failed source.new)
-        (W.contents sink.old) (W.contents sink.new)
-        (W.has_failed sink.old) (W.has_failed sink.new) (W.holds_back sink.new) result }
+    ensures { (object : ObjectState) × Serves (editing readers) (opened limits) object
+        (input_of R.remaining R.has_failed source.old source.new)
+        (output_of W.contents W.has_failed W.holds_back sink.old sink.new) result }
 {
     let mut object = Object::new(alloc, limits);
     serve_from(alloc, &mut object, readers, source, sink)

@@ -1,228 +1,178 @@
-//! What answers request lines: an object, and a sink for the replies.
+//! What answers request lines: a store, and a sink for the replies.
 //!
 //! What waits is written before a line that changes the object, so that of the lines whose replies
 //! wait only the first has changed it.
-ghost use Rattle.std.specs.Prelude.{◌≡◌, ◌<◌, ◌⊎◌, ℕ, List, [], ◌∷◌, false, length, Ok, IfErr};
-ghost use Rattle.std.specs.Prelude.{MatchResult, OnOk};
+ghost use Rattle.std.specs.Prelude.{◌≡◌, ◌<◌, ℕ, List, Ok, length, IfErr, IfOk, MatchResult, OnOk};
 ghost use Rattle.std.specs.Prelude.{OnErr};
-ghost use Rattle.std.specs.Io.KnownBytes.{Appends};
-ghost use Rattle.osn_days.specs.Profile.{newest_rules};
 ghost use Rattle.osn_lines.specs.Faults.{WriteFails};
 ghost use Rattle.osn_lines.specs.Lines.{IsLine};
 ghost use Rattle.osn_register.specs.BorrowedQuery.{as_query};
+ghost use Rattle.osn_reply.specs.Outcome.{is_refused};
 ghost use Rattle.osn_reply.specs.ReplyText.{reply_line};
 ghost use Rattle.osn_request.specs.LineRequest.{as_request};
-ghost use Rattle.osn_request.specs.Request.{request, Fails};
+ghost use Rattle.osn_request.specs.Request.{Fails};
+ghost use Rattle.osn_service.specs.Change.{change_outcome, change_after};
 ghost use Rattle.osn_service.specs.RequestInside.{IsReadOf};
-ghost use Rattle.osn_service.specs.ServiceInside.{full, Pushes, Adds, Settles, WritesSome};
-ghost use Rattle.osn_service.specs.Served.{line_text};
+ghost use Rattle.osn_service.specs.ServiceInside.{full, Pushes, Settles, WritesSome};
 ghost use Rattle.osn_service.specs.Session as spec;
-ghost use Rattle.osn_service.specs.Stop.{MatchStop};
+ghost use Rattle.osn_service.specs.SessionInside.{Answers, moment};
 
 use crate::reply_buffer::ReplyBuffer;
+use crate::rules::ServeRules;
 use crate::stop::{Stop, UnwrittenReplies};
+use crate::store::{Change, Store};
 use json::Scratch;
-use osn_core::Object;
+use osn_format::WireFault;
 use osn_lines::{Line, LineTaker, Sink};
-use osn_register::{BorrowedQuery, Edit};
+use osn_register::BorrowedQuery;
 use osn_reply::Outcome;
 use osn_request::{LineObject, LineRequest, RequestError, line_request_of, object_of};
 use std::alloc::{AllocError, Global};
 
-/// Writes what waits, and then adds the reply to a change, which is made behind it.
-fn write_and_push<W: Sink>(
-    alloc: Global,
-    sink: &mut W,
-    waiting: &mut ReplyBuffer,
-    outcome: Outcome,
-) -> Result<(), Stop>
-    ensures ok { OnOk result
-        (Appends (W.contents sink.old) (W.contents sink.new) waiting.old.text.items) }
-    ensures text { OnOk result (waiting.new.text.items ≡ reply_line outcome) }
-    ensures ends { OnOk result (waiting.new.ends.items ≡ length (reply_line outcome) ∷ []) }
-    ensures passed { OnOk result (W.holds_back sink.new ≡ false) }
-    ensures sound { OnOk result (W.has_failed sink.new ≡ W.has_failed sink.old) }
-    ensures err { IfErr result (λ stop. MatchStop stop
-        (Settles (W.contents sink.old) (W.contents sink.new) waiting.old waiting.new)
-        (WritesSome (W.contents sink.old) (W.contents sink.new) waiting.old)) }
-    ensures reason { IfErr result (λ stop. MatchStop stop
-        (W.has_failed sink.new ≡ W.has_failed sink.old)
-        (λ _. WriteFails (W.has_failed sink.old) (W.has_failed sink.new) waiting.old.text.items)) }
-{
-    waiting.write(sink)?;
-    Ok(waiting.push(alloc, outcome)?)
-}
-
-fn stage<W: Sink>(
-    alloc: Global,
-    object: &mut Object,
-    sink: &mut W,
-    waiting: &mut ReplyBuffer,
-    edit: Edit,
-) -> Result<(), Stop>
-    ensures ok { OnOk result (Adds object.old object.new
-        (reply_line (spec.stage_outcome newest_rules object.old edit))
-        (W.contents sink.old) (W.contents sink.new) waiting.old waiting.new) }
-    ensures after { OnOk result (object.new ≡ spec.stage_after newest_rules object.old edit) }
-    ensures passed { OnOk result ((object.new ≡ object.old) ⊎ (W.holds_back sink.new ≡ false)) }
-    ensures sound { OnOk result (W.has_failed sink.new ≡ W.has_failed sink.old) }
-    ensures err { IfErr result (λ stop. MatchStop stop
-        (Settles (W.contents sink.old) (W.contents sink.new) waiting.old waiting.new)
-        (WritesSome (W.contents sink.old) (W.contents sink.new) waiting.old)) }
-    ensures kept { OnErr result (object.new ≡ object.old) }
-    ensures reason { IfErr result (λ stop. MatchStop stop
-        (W.has_failed sink.new ≡ W.has_failed sink.old)
-        (λ _. WriteFails (W.has_failed sink.old) (W.has_failed sink.new) waiting.old.text.items)) }
-{
-    let pending = match object.check(&edit) {
-        Ok(pending) => pending,
-        Err(refusal) => return Ok(waiting.push(alloc, Outcome::Refused(refusal))?),
-    };
-    write_and_push(alloc, sink, waiting, Outcome::Staged(pending))?;
-    match object.admit(edit) {
-        Ok(_) => Ok(()),
-        Err(_) => {
-            waiting.clear();
-            Err(Stop::NoMemory)
-        }
-    }
-}
-
-fn publish<W: Sink>(
-    alloc: Global,
-    object: &mut Object,
-    sink: &mut W,
-    waiting: &mut ReplyBuffer,
-) -> Result<(), Stop>
-    ensures ok { OnOk result (Adds object.old object.new
-        (reply_line (spec.publish_outcome object.old))
-        (W.contents sink.old) (W.contents sink.new) waiting.old waiting.new) }
-    ensures after { OnOk result (object.new ≡ spec.publish_after object.old) }
-    ensures passed { OnOk result ((object.new ≡ object.old) ⊎ (W.holds_back sink.new ≡ false)) }
-    ensures sound { OnOk result (W.has_failed sink.new ≡ W.has_failed sink.old) }
-    ensures err { IfErr result (λ stop. MatchStop stop
-        (Settles (W.contents sink.old) (W.contents sink.new) waiting.old waiting.new)
-        (WritesSome (W.contents sink.old) (W.contents sink.new) waiting.old)) }
-    ensures kept { OnErr result (object.new ≡ object.old) }
-    ensures reason { IfErr result (λ stop. MatchStop stop
-        (W.has_failed sink.new ≡ W.has_failed sink.old)
-        (λ _. WriteFails (W.has_failed sink.old) (W.has_failed sink.new) waiting.old.text.items)) }
-{
-    let edition = match object.check_publish() {
-        Ok(edition) => edition,
-        Err(refusal) => return Ok(waiting.push(alloc, Outcome::Refused(refusal))?),
-    };
-    write_and_push(alloc, sink, waiting, Outcome::Published(edition))?;
-    match object.make_edition() {
-        Ok(_) => Ok(()),
-        Err(_) => {
-            waiting.clear();
-            Err(Stop::NoMemory)
-        }
-    }
-}
-
-fn ask(
-    alloc: Global,
-    object: &Object,
-    reader: u32,
-    query: BorrowedQuery<'_>,
-    waiting: &mut ReplyBuffer,
-) -> Result<(), AllocError>
-    ensures ok { OnOk result (Pushes waiting.old waiting.new
-        (reply_line (spec.ask_outcome newest_rules object.now reader (as_query query.entry)))) }
+/// Adds the reply to a line that changes nothing, and answers whether it was refused.
+fn tell(alloc: Global, waiting: &mut ReplyBuffer, outcome: Outcome) -> Result<bool, AllocError>
+    ensures refused { IfOk result (λ refused. refused ≡ is_refused outcome) }
+    ensures ok { OnOk result (Pushes waiting.old waiting.new (reply_line outcome)) }
     ensures err { OnErr result (waiting.new.text.items ≡ waiting.old.text.items) }
     ensures err_ends { OnErr result (waiting.new.ends.items ≡ waiting.old.ends.items) }
 {
-    let reply = object.ask_borrowed(query)?;
-    waiting.push(alloc, Outcome::Replied { reader, reply })
+    let refused = outcome.is_refused();
+    waiting.push(alloc, outcome)?;
+    Ok(refused)
+}
+
+/// Makes a change that is not refused, after what waits is written, and adds its reply, which is
+/// taken back where the change fails. Answers whether it was refused.
+fn change<W: Sink, S: Store>(
+    alloc: Global,
+    store: &mut S,
+    sink: &mut W,
+    waiting: &mut ReplyBuffer,
+    change: Change,
+) -> Result<bool, Stop<S::Fault>>
+    ensures { Answers S.lends S.kept S.not_kept (change_outcome (S.state store.old) change)
+        (change_after (S.state store.old) change)
+        (moment W.contents W.has_failed S.state store.old sink.old waiting.old)
+        (moment W.contents W.has_failed S.state store.new sink.new waiting.new)
+        (W.holds_back sink.new) store.old store.new result }
+{
+    let number = match store.check(&change) {
+        Ok(number) => number,
+        Err(refusal) => return Ok(tell(alloc, waiting, Outcome::Refused(refusal))?),
+    };
+    waiting.write(sink)?;
+    waiting.push(alloc, change.outcome(number))?;
+    match store.make(change) {
+        Ok(()) => Ok(false),
+        Err(fault) => {
+            waiting.clear();
+            Err(Stop::from(fault))
+        }
+    }
+}
+
+/// Adds the reply to a query, and answers whether it was refused.
+fn ask<S: Store>(
+    alloc: Global,
+    store: &S,
+    reader: u32,
+    query: BorrowedQuery<'_>,
+    waiting: &mut ReplyBuffer,
+) -> Result<bool, AllocError>
+    ensures refused { IfOk result (λ refused. refused
+        ≡ is_refused (spec.ask_outcome (S.state store.now) reader (as_query query.entry))) }
+    ensures ok { OnOk result (Pushes waiting.old waiting.new
+        (reply_line (spec.ask_outcome (S.state store.now) reader (as_query query.entry)))) }
+    ensures err { OnErr result (waiting.new.text.items ≡ waiting.old.text.items) }
+    ensures err_ends { OnErr result (waiting.new.ends.items ≡ waiting.old.ends.items) }
+{
+    let reply = store.ask(query)?;
+    tell(alloc, waiting, Outcome::Replied { reader, reply })
+}
+
+/// What a line asks for that may change something, where that is not refused to all lines.
+fn allowed(read_only: bool, request: LineRequest<'_>) -> Result<LineRequest<'_>, RequestError>
+    ensures { MatchResult result
+        (λ r. spec.allowed read_only (Ok (as_request request.entry)) ≡ Ok (as_request r))
+        (λ e. Fails e (spec.allowed read_only (Ok (as_request request.entry)))) }
+{
+    match request {
+        LineRequest::Stage(_) | LineRequest::Publish if read_only => {
+            Err(RequestError::Fault(WireFault::ReadOnly))
+        }
+        request => Ok(request),
+    }
 }
 
 /// The request of a line of which this was read, or the fault as which it was read.
 fn request_in<'a>(
     alloc: Global,
-    readers: u32,
+    rules: ServeRules,
     read: &'a Result<LineObject<'_>, RequestError>,
 ) -> Result<LineRequest<'a>, RequestError>
     ensures { (whole : List ℕ) → IsReadOf whole read.now → MatchResult result
-        (λ r. request newest_rules readers whole ≡ Ok (as_request r))
-        (λ e. Fails e (request newest_rules readers whole)) }
+        (λ r. spec.line_request rules whole ≡ Ok (as_request r))
+        (λ e. Fails e (spec.line_request rules whole)) }
 {
     match read {
-        Ok(object) => line_request_of(alloc, readers, object),
+        Ok(object) => allowed(
+            rules.read_only,
+            line_request_of(alloc, rules.readers, object)?,
+        ),
         Err(error) => Err(*error),
     }
 }
 
 /// Answers what was read of a line: adds the reply to its request, or to its first fault, which
-/// leaves the object. A stop leaves the object too.
-fn answer_read<W: Sink>(
+/// leaves the object. Answers whether it was refused.
+fn answer_read<W: Sink, S: Store>(
     alloc: Global,
-    readers: u32,
-    object: &mut Object,
+    rules: ServeRules,
+    store: &mut S,
     sink: &mut W,
     waiting: &mut ReplyBuffer,
     read: &Result<LineObject<'_>, RequestError>,
-) -> Result<(), Stop>
-    ensures ok { OnOk result ((whole : List ℕ) → IsReadOf whole read.now →
-        Adds object.old object.new (line_text newest_rules readers object.old whole)
-        (W.contents sink.old) (W.contents sink.new) waiting.old waiting.new) }
-    ensures after { OnOk result ((whole : List ℕ) → IsReadOf whole read.now →
-        object.new ≡ spec.line_after newest_rules readers object.old whole) }
-    ensures passed { OnOk result ((object.new ≡ object.old) ⊎ (W.holds_back sink.new ≡ false)) }
-    ensures sound { OnOk result (W.has_failed sink.new ≡ W.has_failed sink.old) }
-    ensures err { IfErr result (λ stop. MatchStop stop
-        (Settles (W.contents sink.old) (W.contents sink.new) waiting.old waiting.new)
-        (WritesSome (W.contents sink.old) (W.contents sink.new) waiting.old)) }
-    ensures kept { OnErr result (object.new ≡ object.old) }
-    ensures reason { IfErr result (λ stop. MatchStop stop
-        (W.has_failed sink.new ≡ W.has_failed sink.old)
-        (λ _. WriteFails (W.has_failed sink.old) (W.has_failed sink.new) waiting.old.text.items)) }
+) -> Result<bool, Stop<S::Fault>>
+    ensures { (whole : List ℕ) → IsReadOf whole read.now → Answers S.lends S.kept S.not_kept
+        (spec.line_outcome rules (S.state store.old) whole)
+        (spec.line_after rules (S.state store.old) whole)
+        (moment W.contents W.has_failed S.state store.old sink.old waiting.old)
+        (moment W.contents W.has_failed S.state store.new sink.new waiting.new)
+        (W.holds_back sink.new) store.old store.new result }
 {
-    match request_in(alloc, readers, read) {
-        Ok(LineRequest::Stage(edit)) => stage(alloc, object, sink, waiting, edit),
-        Ok(LineRequest::Publish) => publish(alloc, object, sink, waiting),
-        Ok(LineRequest::Ask { reader, query }) => Ok(ask(alloc, object, reader, query, waiting)?),
-        Err(RequestError::Fault(fault)) => Ok(waiting.push(alloc, Outcome::Fault(fault))?),
+    match request_in(alloc, rules, read) {
+        Ok(LineRequest::Stage(edit)) => change(alloc, store, sink, waiting, Change::Stage(edit)),
+        Ok(LineRequest::Publish) => change(alloc, store, sink, waiting, Change::Publish),
+        Ok(LineRequest::Ask { reader, query }) => Ok(ask(alloc, store, reader, query, waiting)?),
+        Err(RequestError::Fault(fault)) => Ok(tell(alloc, waiting, Outcome::Fault(fault))?),
         Err(RequestError::NoMemory) => Err(Stop::NoMemory),
     }
 }
 
 /// Answers a line, as `answer_read`. What was read of it lives until the reply is made, so that a
 /// query borrows from it.
-pub(crate) fn answer<W: Sink>(
+fn answer<W: Sink, S: Store>(
     alloc: Global,
     scratch: &mut Scratch,
-    readers: u32,
-    object: &mut Object,
+    rules: ServeRules,
+    store: &mut S,
     sink: &mut W,
     waiting: &mut ReplyBuffer,
     line: Line<'_>,
-) -> Result<(), Stop>
-    ensures ok { OnOk result ((whole : List ℕ) → IsLine line.entry whole →
-        Adds object.old object.new (line_text newest_rules readers object.old whole)
-        (W.contents sink.old) (W.contents sink.new) waiting.old waiting.new) }
-    ensures after { OnOk result ((whole : List ℕ) → IsLine line.entry whole →
-        object.new ≡ spec.line_after newest_rules readers object.old whole) }
-    ensures passed { OnOk result ((object.new ≡ object.old) ⊎ (W.holds_back sink.new ≡ false)) }
-    ensures sound { OnOk result (W.has_failed sink.new ≡ W.has_failed sink.old) }
-    ensures err { IfErr result (λ stop. MatchStop stop
-        (Settles (W.contents sink.old) (W.contents sink.new) waiting.old waiting.new)
-        (WritesSome (W.contents sink.old) (W.contents sink.new) waiting.old)) }
-    ensures kept { OnErr result (object.new ≡ object.old) }
-    ensures reason { IfErr result (λ stop. MatchStop stop
-        (W.has_failed sink.new ≡ W.has_failed sink.old)
-        (λ _. WriteFails (W.has_failed sink.old) (W.has_failed sink.new) waiting.old.text.items)) }
+) -> Result<bool, Stop<S::Fault>>
+    ensures { (whole : List ℕ) → IsLine line.entry whole → Answers S.lends S.kept S.not_kept
+        (spec.line_outcome rules (S.state store.old) whole)
+        (spec.line_after rules (S.state store.old) whole)
+        (moment W.contents W.has_failed S.state store.old sink.old waiting.old)
+        (moment W.contents W.has_failed S.state store.new sink.new waiting.new)
+        (W.holds_back sink.new) store.old store.new result }
 {
     let read = object_of(alloc, scratch, line);
-    answer_read(alloc, readers, object, sink, waiting, &read)
+    answer_read(alloc, rules, store, sink, waiting, &read)
 }
 
 /// Writes what waits where it is so much that it is to be written, so that less waits then.
-pub(crate) fn make_room<W: Sink>(
-    sink: &mut W,
-    waiting: &mut ReplyBuffer,
-) -> Result<(), UnwrittenReplies>
+fn make_room<W: Sink>(sink: &mut W, waiting: &mut ReplyBuffer) -> Result<(), UnwrittenReplies>
     ensures ok { OnOk result
         (Settles (W.contents sink.old) (W.contents sink.new) waiting.old waiting.new) }
     ensures room { OnOk result (length waiting.new.text.items < full) }
@@ -238,42 +188,47 @@ pub(crate) fn make_room<W: Sink>(
     Ok(())
 }
 
-/// An object and a sink, with the replies that wait, the number of readers, and what reads lines.
-/// It owns no memory, so that what it borrows is known again once it is gone.
+/// A store and a sink, with the replies that wait, the rules, and what reads lines. It owns no
+/// memory, so that what it borrows is known again once it is gone.
 #[derive(Drop)]
-pub(crate) struct Session<'a, W> {
+pub(crate) struct Session<'a, 'b, 'c, W, S> {
     pub(crate) alloc: Global,
-    pub(crate) scratch: &'a mut Scratch,
-    pub(crate) readers: u32,
-    pub(crate) object: &'a mut Object,
-    pub(crate) sink: &'a mut W,
-    pub(crate) waiting: &'a mut ReplyBuffer,
+    pub(crate) scratch: &'c mut Scratch,
+    pub(crate) rules: ServeRules,
+    pub(crate) store: &'a mut S,
+    pub(crate) sink: &'b mut W,
+    pub(crate) waiting: &'c mut ReplyBuffer,
 }
 
-impl<'a, W: Sink> LineTaker for Session<'a, W> {
-    ghost use Rattle.osn_service.specs.SessionInside.{Serving, StopsServing};
+impl<'a, 'b, 'c, W: Sink, S: Store> LineTaker for Session<'a, 'b, 'c, W, S> {
+    ghost use Rattle.osn_service.specs.SessionInside.{HasServed, HasStopped};
 
-    type Stop = Stop;
+    type Stop = Stop<S::Fault>;
 
-    ghost after = { λ begun lines now. Serving W.contents W.has_failed begun lines now };
+    ghost after = { HasServed W.contents W.has_failed W.holds_back S.state S.lends S.kept
+        S.not_kept };
 
-    ghost stopped = { λ begun lines _ now why.
-        StopsServing W.contents W.has_failed begun lines now why };
+    ghost stopped = { HasStopped W.contents W.has_failed W.holds_back S.state S.lends S.kept
+        S.not_kept };
 
-    fn take(&mut self, line: Line<'_>) -> Result<(), Stop> {
+    fn take(&mut self, line: Line<'_>) -> Result<(), Stop<S::Fault>> {
         make_room(self.sink, self.waiting)?;
-        answer(
+        let refused = answer(
             self.alloc,
             self.scratch,
-            self.readers,
-            self.object,
+            self.rules,
+            self.store,
             self.sink,
             self.waiting,
             line,
-        )
+        )?;
+        if refused && self.rules.stop_at_refusal {
+            return Err(Stop::Refused);
+        }
+        Ok(())
     }
 
-    fn before_read(&mut self) -> Result<(), Stop> {
+    fn before_read(&mut self) -> Result<(), Stop<S::Fault>> {
         Ok(self.waiting.write(self.sink)?)
     }
 }

@@ -1,4 +1,5 @@
 //! Why the service stops.
+use crate::store::StoreFault;
 use std::alloc::AllocError;
 
 /// A write of the replies that wait failed, and so many of them are not written whole.
@@ -9,63 +10,49 @@ pub(crate) struct UnwrittenReplies {
 
 /// Why the service stops before the end of the input.
 #[derive(Drop)]
-pub(crate) enum Stop {
+pub(crate) enum Stop<F> {
     /// Memory ran out.
     NoMemory,
     /// A write failed.
     WriteFailed(UnwrittenReplies),
+    /// A change was made and could not be kept.
+    NotKept(F),
+    /// The line was refused, and is to be the last one.
+    Refused,
 }
 
-/// Why a service that keeps a file stops before the end of the input.
-#[derive(Drop)]
-pub(crate) enum KeptStop {
-    /// As one stops that keeps none.
-    Stopped(Stop),
-    /// The file failed, or memory ran out for a line of it.
-    KeepFailed,
-}
-
-impl From<AllocError> for Stop {
+impl<F> From<AllocError> for Stop<F> {
     ghost use Rattle.std.specs.Prelude.{◌≡◌};
     ghost use Rattle.osn_service.specs.declared.stop.Stop.TheVariants.{NoMemory};
 
     ghost from_gives = { λ _ e. e ≡ NoMemory };
 
-    fn from(_: AllocError) -> Stop {
+    fn from(_: AllocError) -> Stop<F> {
         Stop::NoMemory
     }
 }
 
-impl From<UnwrittenReplies> for Stop {
+impl<F> From<UnwrittenReplies> for Stop<F> {
     ghost use Rattle.std.specs.Prelude.{◌≡◌};
     ghost use Rattle.osn_service.specs.declared.stop.Stop.TheVariants.{WriteFailed};
 
     ghost from_gives = { λ failed e. e ≡ WriteFailed failed };
 
-    fn from(failed: UnwrittenReplies) -> Stop {
+    fn from(failed: UnwrittenReplies) -> Stop<F> {
         Stop::WriteFailed(failed)
     }
 }
 
-impl From<Stop> for KeptStop {
+impl<F> From<StoreFault<F>> for Stop<F> {
     ghost use Rattle.std.specs.Prelude.{◌≡◌};
-    ghost use Rattle.osn_service.specs.declared.stop.KeptStop.TheVariants.{Stopped};
+    ghost use Rattle.osn_service.specs.Stop.{by_store};
 
-    ghost from_gives = { λ stop e. e ≡ Stopped stop };
+    ghost from_gives = { λ fault e. e ≡ by_store fault };
 
-    fn from(stop: Stop) -> KeptStop {
-        KeptStop::Stopped(stop)
-    }
-}
-
-impl From<UnwrittenReplies> for KeptStop {
-    ghost use Rattle.std.specs.Prelude.{◌≡◌};
-    ghost use Rattle.osn_service.specs.declared.stop.KeptStop.TheVariants.{Stopped};
-    ghost use Rattle.osn_service.specs.declared.stop.Stop.TheVariants.{WriteFailed};
-
-    ghost from_gives = { λ failed e. e ≡ Stopped (WriteFailed failed) };
-
-    fn from(failed: UnwrittenReplies) -> KeptStop {
-        KeptStop::Stopped(Stop::WriteFailed(failed))
+    fn from(fault: StoreFault<F>) -> Stop<F> {
+        match fault {
+            StoreFault::NoMemory => Stop::NoMemory,
+            StoreFault::NotKept(why) => Stop::NotKept(why),
+        }
     }
 }

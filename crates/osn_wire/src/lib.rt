@@ -10,10 +10,13 @@ pub use osn_files::{
     read_schedule, read_script, with_edit, with_publish,
 };
 pub use osn_format::{Member, WireFault};
+pub use osn_journal::serve_kept;
 pub use osn_lines::{
     Interrupted, LONGEST_LINE, Line, LineTaker, Plain, ReadFailed, Sink, Source, TakeFault,
     WriteFailed, take_lines, write_all,
 };
 pub use osn_reply::{Outcome, out_text, reply_text, transcript_text};
 pub use osn_request::{Request, RequestError, read_request};
-pub use osn_service::{KeptFault, ServeFault, serve, serve_from, serve_kept};
+pub use osn_service::{
+    ServeFault, ServeRules, Served, ServiceFault, serve, serve_from, serve_store,
+};

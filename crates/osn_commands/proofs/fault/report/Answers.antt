@@ -1,9 +1,8 @@
-use Rattle.std.proofs.Common.{refl, sym, ap, subst, ◌∙◌}
+use Rattle.std.proofs.Common.{refl, sym, ap, ◌∙◌}
 use Rattle.std.specs.Prelude.{string_bytes}
 use Rattle.std.proofs.lemmas.Result.{IfOk-weaker}
 use Rattle.osn_commands.proofs.ReportLemmas.{told_as_it_is, told_refusal, same_end}
 use Rattle.osn_commands.specs.Fault.{fault_status, fault_line}
-use Rattle.osn_commands.specs.Told.{WritesLine}
 use Rattle.osn_commands.proofs.fault.report.Goals as goal
 
 pub returns-in-BadLine : goal.returns-in-BadLine
@@ -51,6 +50,14 @@ returns-in-OlderVersion g c =
     (λ text e. e ∙ sym (ap fault_line c.in-OlderVersion.is)) c.older_version.ensures)
     c.tell_refusal-in-OlderVersion.ensures.ok c.tell_refusal-in-OlderVersion.ensures.err
 
+pub returns-in-RefusedLine : goal.returns-in-RefusedLine
+returns-in-RefusedLine g c =
+    told_refusal string_bytes _ c.args.fault _ c.refused_at.result
+    (ap fault_status c.in-RefusedLine.is)
+    (IfOk-weaker c.refused_at.result _ _
+    (λ text e. e ∙ sym (ap fault_line c.in-RefusedLine.is)) c.refused_at.ensures)
+    c.tell_refusal-in-RefusedLine.ensures.ok c.tell_refusal-in-RefusedLine.ensures.err
+
 pub returns-in-ReadFault : goal.returns-in-ReadFault
 returns-in-ReadFault g c =
     told_as_it_is _ c.args.fault _ _ c.in-ReadFault.is
@@ -64,3 +71,8 @@ returns-in-WriteFault g c =
 pub returns-in-NoMemory : goal.returns-in-NoMemory
 returns-in-NoMemory g c =
     told_as_it_is _ c.args.fault _ _ c.in-NoMemory.is c.tell_no_memory.ensures
+
+pub returns-in-KeptReplaced : goal.returns-in-KeptReplaced
+returns-in-KeptReplaced g c =
+    told_as_it_is _ c.args.fault _ _ c.in-KeptReplaced.is
+    (refl, c.write_line-in-KeptReplaced.ensures)

@@ -14,7 +14,7 @@ returns-in_err-append-clause-err g c =
     let part = c.in_err-append.ensures.err in
     if_err_made c.from_residual-in_err-append.result c.from_residual-in_err-append.ensures.1
     (λ e is. (
-      inl is,
+      inl (_, c.in_err-append.ensures.fault, is),
       λ held known whole. completed_in_part held c.deref.result.now _ _ part.0
           (c.deref.ensures.value ∙ c.in_ok-text.ensures held whole) known part.1,
     ))
@@ -23,7 +23,7 @@ pub returns-in_err-sync-clause-err : goal.returns-in_err-sync-clause-err
 returns-in_err-sync-clause-err g c =
     if_err_made c.from_residual-in_err-sync.result c.from_residual-in_err-sync.ensures.1
     (λ e is. (
-      inl is,
+      inl (_, c.in_err-sync.ensures.fault, is),
       λ held known whole. completed_by_all held _ (c.in_err-sync.ensures.same
           ∙ completed held c.deref.result.now _ _
           (c.deref.ensures.value ∙ c.in_ok-text.ensures held whole) known

@@ -10,7 +10,7 @@ returns-in_err-told-clause-err g c =
 pub returns-in_err-cut-clause-err : goal.returns-in_err-cut-clause-err
 returns-in_err-cut-clause-err g c =
     if_err_made c.from_residual-in_err-cut.result c.from_residual-in_err-cut.ensures.1
-    (λ e is. (inl is, refl, c.in_err-cut.ensures.err))
+    (λ e is. (inl (_, c.in_err-cut.ensures.fault, is), refl, c.in_err-cut.ensures.err))
 
 pub returns-clause-ok : goal.returns-clause-ok
 returns-clause-ok g c = (

@@ -1,12 +1,13 @@
-use Rattle.std.proofs.Common.{Some, None, false, refl}
-use Rattle.osn_days.specs.Profile.{newest_rules}
-use Rattle.osn_commands.proofs.KeepingLemmas.{kept_told, none_failed}
+use Rattle.std.proofs.Common.{Some, None, refl}
+use Rattle.osn_journal.specs.Kept.{file_of}
+use Rattle.osn_commands.proofs.KeepingLemmas.{kept_told}
 use Rattle.osn_commands.proofs.keeping.keep_command.Goals as goal
 
 pub returns-in-Ok : goal.returns-in-Ok
 returns-in-Ok g c =
     let h = c.in-Ok.ensures.ok in
-    let errors = c.keep_lines.new.errors in (
+    let errors = c.keep_lines.new.errors in
+    let journal = c.keep_lines.new.journal in (
       None,
       h.0,
       record {
@@ -15,16 +16,18 @@ returns-in-Ok g c =
         told = h.1;
         ended = (refl, refl);
       },
-      false,
-      none_failed g.J.Source.has_failed,
+      g.J.Source.has_failed journal,
+      (λ yes. (journal, yes)),
       h.2,
     )
 
 pub returns-in-Err : goal.returns-in-Err
 returns-in-Err g c =
     let h = c.in-Err.ensures.err in
+    let state = file_of g.K.KeptFile.contents g.K.KeptFile.synced g.K.KeptFile.fault in
     let t = c.report.ensures in
-    let errors = c.keep_lines.new.errors in (
+    let errors = c.keep_lines.new.errors in
+    let journal = c.keep_lines.new.journal in (
       Some t.0,
       h.0,
       record {
@@ -33,8 +36,8 @@ returns-in-Err g c =
         told = h.1;
         ended = t.2;
       },
-      h.2,
-      h.3,
-      kept_told newest_rules c.args.limits c.args.readers _ _ _ _ h.2 h.0 _ _ c.in-Err.fault t.0
-          t.1 h.4,
+      g.J.Source.has_failed journal,
+      (λ yes. (journal, yes)),
+      kept_told c.args.limits c.args.rules (state c.args.keeper.now)
+          (state c.keep_lines.new.keeper) _ _ h.0 _ _ c.in-Err.fault t.0 t.1 h.2,
     )

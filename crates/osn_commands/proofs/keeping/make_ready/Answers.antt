@@ -9,7 +9,7 @@ returns-in_err-cut_unfinished-clause-err g c =
     let h = c.in_err-cut_unfinished.ensures.err in
     if_err_made c.from_residual.result c.from_residual.ensures.1
     (λ e is. (
-      subst IsChangeFault (sym is) h.0,
+      subst (λ f. IsChangeFault f (g.K.KeptFile.fault c.cut_unfinished.new.keeper)) (sym is) h.0,
       None,
       h.1,
       (λ held known whole. inl (refl, h.2 ∙ known)),

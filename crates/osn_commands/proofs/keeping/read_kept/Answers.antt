@@ -1,59 +1,109 @@
-use Rattle.std.proofs.Common.{false, sym, subst, ◌∙◌}
+use Rattle.std.proofs.Common.{◌≡◌, Ok, sym, subst, ◌∙◌, arith, length-take}
 use Rattle.osn_days.specs.Profile.{newest_rules}
 use Rattle.osn_files.specs.WholePart.{IsWholePart, whole_bytes}
-use Rattle.osn_commands.specs.Keeping.{SaysVersion, HoldsNoObject}
-use Rattle.osn_commands.proofs.FileLemmas.{if_err_made}
-use Rattle.osn_commands.proofs.KeepingLemmas.{not_measured, known_bytes, none_failed, older_kept}
+use Rattle.osn_lines.specs.Whole.{WhyNotRead}
+use Rattle.osn_commands.specs.Keeping.{SaysVersion, HoldsObject, HoldsNoObject, object_of}
+use Rattle.osn_commands.proofs.FileLemmas.{if_err_made, any_bytes, known_bytes}
+use Rattle.osn_commands.proofs.KeepingLemmas.{not_read, not_measured}
+use Rattle.osn_commands.proofs.KeepingLemmas.{none_held, older_kept, whole_read, whole_within}
 use Rattle.osn_commands.proofs.keeping.read_kept.Goals as goal
+
+pub returns-in_err-held-clause-err : goal.returns-in_err-held-clause-err
+returns-in_err-held-clause-err g c =
+    let before = g.J.Source.has_failed c.args.journal.now in
+    let failed = g.J.Source.has_failed c.read_all.new.source in
+    let why = c.in_err-held.field-0.0 in
+    if_err_made c.from_residual.result c.from_residual.ensures.1
+    (λ e is. any_bytes _ _ (λ held known.
+    subst (HoldsNoObject newest_rules c.args.limits held failed) (sym is)
+    (not_read newest_rules c.args.limits held before failed why
+    (subst (WhyNotRead why before failed) known c.in_err-held.ensures.reason))))
 
 pub returns-in_err-part-clause-err : goal.returns-in_err-part-clause-err
 returns-in_err-part-clause-err g c =
-    let file = c.whole_part.new.source in
-    let failed = g.J.Source.has_failed file in
-    if_err_made c.from_residual.result c.from_residual.ensures.1
-    (λ e is. (
-      failed,
-      (λ yes. (file, yes)),
-      (λ held known loaded. subst (HoldsNoObject newest_rules c.args.limits held failed) (sym is)
-          (not_measured newest_rules c.args.limits _ held failed _ c.in_err-part.field-0.0
-          c.in_err-part.ensures.reason known)),
-    ))
+    let failed = g.J.Source.has_failed c.read_all.new.source in
+    if_err_made c.from_residual-in_err-part.result c.from_residual-in_err-part.ensures.1
+    (λ e is. any_bytes _ _ (λ held known.
+    subst (HoldsNoObject newest_rules c.args.limits held failed) (sym is)
+    (not_measured newest_rules c.args.limits c.new.result.rest.now held failed _
+    c.in_err-part.field-0.0
+    (c.new.ensures ∙ (c.deref.ensures.value
+    ∙ known_bytes _ held (λ bytes. c.in_ok-held.held.items ≡ bytes) known
+    c.in_ok-held.ensures.bytes))
+    c.in_err-part.ensures.reason)))
 
-pub returns-in_err-found-clause-err : goal.returns-in_err-found-clause-err
-returns-in_err-found-clause-err g c =
-    let ended = c.in_err-found.ensures.err in
-    if_err_made c.from_residual-in_err-found.result c.from_residual-in_err-found.ensures.1
-    (λ e is. (
-      ended.0,
-      ended.1,
-      (λ held known loaded. subst (HoldsNoObject newest_rules c.args.limits held ended.0) (sym is)
-          (ended.2 held loaded
-          (known_bytes _ held (IsWholePart c.in_ok-part.part) known c.in_ok-part.ensures.ok))),
-    ))
+pub slice_bounds-kept_object-end : goal.slice_bounds-kept_object-end
+slice_bounds-kept_object-end g c =
+    let part = c.in_ok-part.part in
+    let read = c.deref-2.result.now in
+    omega (
+      arith,
+      length-take part.bytes read,
+      whole_within part read
+          (subst (IsWholePart part)
+          (c.new.ensures ∙ (c.deref.ensures.value ∙ sym c.deref-2.ensures.value))
+          c.in_ok-part.ensures.ok),
+    )
+
+pub returns-in_err-object-clause-err : goal.returns-in_err-object-clause-err
+returns-in_err-object-clause-err g c =
+    let failed = g.J.Source.has_failed c.read_all.new.source in
+    if_err_made c.from_residual-in_err-object.result c.from_residual-in_err-object.ensures.1
+    (λ e is. any_bytes _ _ (λ held known.
+    let read = known_bytes _ held (λ bytes. c.in_ok-held.held.items ≡ bytes) known
+    c.in_ok-held.ensures.bytes in
+    subst (HoldsNoObject newest_rules c.args.limits held failed) (sym is)
+    (none_held newest_rules c.args.limits held failed _
+    (c.in_err-object.ensures.err held
+    (whole_read c.in_ok-part.part c.deref-2.result.now held (c.deref-2.ensures.value ∙ read)
+    (subst (IsWholePart c.in_ok-part.part)
+    (c.new.ensures ∙ (c.deref.ensures.value ∙ sym c.deref-2.ensures.value))
+    c.in_ok-part.ensures.ok))))))
 
 pub returns-in_err-newest_alone-clause-err : goal.returns-in_err-newest_alone-clause-err
 returns-in_err-newest_alone-clause-err g c =
+    let failed = g.J.Source.has_failed c.read_all.new.source in
     let older = c.in_err-newest_alone.ensures.err in
+    let object = c.in_ok-object.object in
+    let version = c.in_ok-object.version in
     if_err_made c.from_residual-in_err-newest_alone.result
     c.from_residual-in_err-newest_alone.ensures.1
-    (λ e is. (
-      false,
-      none_failed g.J.Source.has_failed,
-      (λ held known loaded. older_kept newest_rules c.args.limits held false
-          c.in_ok-found.found.0 c.in_ok-found.found.1 _ (is ∙ older.0) older.1
-          (c.in_ok-found.ensures.ok held loaded
-          (known_bytes _ held (IsWholePart c.in_ok-part.part) known c.in_ok-part.ensures.ok))),
-    ))
+    (λ e is. any_bytes _ _ (λ held known.
+    let read = known_bytes _ held (λ bytes. c.in_ok-held.held.items ≡ bytes) known
+    c.in_ok-held.ensures.bytes in
+    let whole =
+    whole_read c.in_ok-part.part c.deref-2.result.now held (c.deref-2.ensures.value ∙ read)
+    (subst (IsWholePart c.in_ok-part.part)
+    (c.new.ensures ∙ (c.deref.ensures.value ∙ sym c.deref-2.ensures.value))
+    c.in_ok-part.ensures.ok) in
+    older_kept newest_rules c.args.limits held failed object version _ (is ∙ older.0) older.1 (
+      subst (λ l. object_of newest_rules c.args.limits l ≡ Ok object) whole
+          c.in_ok-object.ensures.object,
+      subst (SaysVersion version) whole c.in_ok-object.ensures.version,
+    )))
 
 pub returns-clause-ok : goal.returns-clause-ok
-returns-clause-ok g c = λ held known loaded.
+returns-clause-ok g c =
+    let object = c.in_ok-object.object in
+    let version = c.in_ok-object.version in
+    any_bytes _ (λ held. IsWholePart c.in_ok-part.part held
+    × HoldsObject newest_rules c.args.limits held object)
+    (λ held known.
+    let read = known_bytes _ held (λ bytes. c.in_ok-held.held.items ≡ bytes) known
+    c.in_ok-held.ensures.bytes in
     let whole =
-    known_bytes _ held (IsWholePart c.in_ok-part.part) known c.in_ok-part.ensures.ok in
-    let read = c.in_ok-found.ensures.ok held loaded whole in (
-      whole,
+    whole_read c.in_ok-part.part c.deref-2.result.now held (c.deref-2.ensures.value ∙ read)
+    (subst (IsWholePart c.in_ok-part.part)
+    (c.new.ensures ∙ (c.deref.ensures.value ∙ sym c.deref-2.ensures.value))
+    c.in_ok-part.ensures.ok) in (
+      subst (IsWholePart c.in_ok-part.part) (c.new.ensures ∙ (c.deref.ensures.value ∙ read))
+          c.in_ok-part.ensures.ok,
       record {
-        object = read.0;
+        object =
+            subst (λ l. object_of newest_rules c.args.limits l ≡ Ok object) whole
+            c.in_ok-object.ensures.object;
         version =
-            subst (λ v. SaysVersion v (whole_bytes held)) c.in_ok-newest_alone.ensures.ok read.1;
+            subst (λ v. SaysVersion v (whole_bytes held)) c.in_ok-newest_alone.ensures.ok
+            (subst (SaysVersion version) whole c.in_ok-object.ensures.version);
       },
-    )
+    ))

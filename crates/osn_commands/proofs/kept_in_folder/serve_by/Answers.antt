@@ -1,5 +1,6 @@
 use Rattle.std.proofs.Common.{ap, option_map}
 use Rattle.std.proofs.lemmas.Result.{IfOk-weaker}
+use Rattle.osn_invocation.specs.Invocation.{service_model}
 use Rattle.osn_commands.proofs.RunLemmas.{served_by, unserved_by}
 use Rattle.osn_commands.proofs.kept_in_folder.serve_by.Goals as goal
 
@@ -13,7 +14,7 @@ returns-in-None-clause-ok g c =
 pub returns-in-None-clause-err : goal.returns-in-None-clause-err
 returns-in-None-clause-err g c =
     unserved_by c.serve.result (option_map (λ path. path.now) c.args.options.journal)
-    (option_map (λ path. path.now) c.args.options.save) _ c.args.options.readers _ _ _ _
+    (option_map (λ path. path.now) c.args.options.save) _ (service_model c.args.options) _ _ _ _
     (ap (option_map (λ path. path.now)) c.in-None.is)
     c.serve.ensures.err
 

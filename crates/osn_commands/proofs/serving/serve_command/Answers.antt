@@ -1,5 +1,4 @@
 use Rattle.std.proofs.Common.{Some, refl, inr}
-use Rattle.osn_days.specs.Profile.{newest_rules}
 use Rattle.osn_commands.proofs.ReportLemmas.{serves_known}
 use Rattle.osn_commands.proofs.serving.serve_command.Goals as goal
 
@@ -9,6 +8,6 @@ returns-in-Err g c =
       Some t.0,
       t.2,
       inr refl,
-      serves_known newest_rules c.args.limits _ _ _ c.args.saves _ _ _ _ c.in-Err.fault
-          t.0 t.1 c.in-Err.ensures.err,
+      serves_known c.args.limits _ _ _ c.args.saves _ _ _ _ c.in-Err.fault t.0 t.1
+          c.in-Err.ensures.err,
     )

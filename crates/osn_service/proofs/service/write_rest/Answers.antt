@@ -1,40 +1,39 @@
-use Rattle.std.proofs.Common.{arith}
+use Rattle.std.proofs.Common.{subst}
 use Rattle.std.proofs.lemmas.Result.{err_from_is_err_and}
-use Rattle.osn_service.proofs.TakingLemmas.{Serves-ended, Serves-unwritten, Serves-written}
-use Rattle.osn_service.proofs.TakingLemmas.{Serves-so_far}
+use Rattle.osn_service.specs.TakingInside.{EndsTaking}
+use Rattle.osn_service.proofs.ClauseLemmas.{Serves-passed, Serves-unwritten, Serves-all}
+use Rattle.osn_service.proofs.ClauseLemmas.{Serves-refused, Serves-first}
 use Rattle.osn_service.proofs.service.write_rest.Goals as goal
 
-pub returns-in_err-lines : goal.returns-in_err-lines
-returns-in_err-lines g c begun now input rest before unread is_sink is_waiting h =
+pub returns-in_err-lines-clause-serves : goal.returns-in_err-lines-clause-serves
+returns-in_err-lines-clause-serves g c rules begun object i h =
     let err = err_from_is_err_and c.from_residual.result c.from_residual.ensures.1 in
-    Serves-ended g.W.Sink.contents g.W.Sink.has_failed begun now c.args.sink.now
-    c.from_residual.result err.0 c.in_err-lines.field-0.0 is_sink err.1 err.2
-    (rw c.in_err-lines.was at h)
+    rw (err.1, err.2)
+    (Serves-passed rules begun _ _ i c.in_err-lines.field-0.0 (rw c.in_err-lines.was at h))
 
-pub overflow_sub-result : goal.overflow_sub-result
-overflow_sub-result g c =
-    let few = rw c.in_ok-lines.was at c.requires in
-    omega (arith, few, c.in-Err.ensures.err.count)
-
-pub returns-in-Err : goal.returns-in-Err
-returns-in-Err g c begun now input rest before unread is_sink is_waiting h =
-    let few = rw c.in_ok-lines.was at c.requires in
+pub returns-in-Err-clause-serves : goal.returns-in-Err-clause-serves
+returns-in-Err-clause-serves g c rules begun object i h =
     let write = c.in-Err.ensures in
     let taken = rw c.in_ok-lines.was at h in
-    Serves-unwritten g.W.Sink.contents g.W.Sink.has_failed begun now c.args.sink.now
-    c.write.new.sink c.args.waiting.now is_sink is_waiting taken.0 write.err write.reason
-    (omega (arith, few, write.err.count))
+    Serves-unwritten i taken.0 _ _ _ _ write.err write.reason
 
-pub returns-in-None : goal.returns-in-None
-returns-in-None g c begun now input rest before unread is_sink is_waiting h =
+pub returns-in-AtEnd-clause-serves : goal.returns-in-AtEnd-clause-serves
+returns-in-AtEnd-clause-serves g c rules begun object i h =
     let write = c.in_default.ensures in
-    Serves-written g.W.Sink.contents g.W.Sink.has_failed begun now c.args.sink.now
-    c.write.new.sink c.args.waiting.now c.in_ok-lines.field-0 is_sink is_waiting
-    (rw c.in_ok-lines.was at h) c.in-None.is write.ok.all write.sound write.passed
+    let taken = rw c.in_ok-lines.was at h in
+    Serves-all i taken.0 _ _ _ write.ok.all write.sound write.passed
+    (subst (EndsTaking rules begun.object i _) c.in-AtEnd.is taken.1)
 
-pub returns-in-Some : goal.returns-in-Some
-returns-in-Some g c begun now input rest before unread is_sink is_waiting h =
+pub returns-in-AtRefusal-clause-serves : goal.returns-in-AtRefusal-clause-serves
+returns-in-AtRefusal-clause-serves g c rules begun object i h =
     let write = c.in_default.ensures in
-    Serves-so_far g.W.Sink.contents g.W.Sink.has_failed begun now c.args.sink.now
-    c.write.new.sink c.args.waiting.now c.in_ok-lines.field-0 c.in-Some.cause is_sink is_waiting
-    (rw c.in_ok-lines.was at h) c.in-Some.is write.ok.all write.sound write.passed
+    let taken = rw c.in_ok-lines.was at h in
+    Serves-refused i taken.0 _ _ _ write.ok.all write.sound write.passed
+    (subst (EndsTaking rules begun.object i _) c.in-AtRefusal.is taken.1)
+
+pub returns-in-ByFault-clause-serves : goal.returns-in-ByFault-clause-serves
+returns-in-ByFault-clause-serves g c rules begun object i h =
+    let write = c.in_default.ensures in
+    let taken = rw c.in_ok-lines.was at h in
+    Serves-first i taken.0 _ _ _ write.ok.all write.sound write.passed c.in-ByFault.cause
+    (subst (EndsTaking rules begun.object i _) c.in-ByFault.is taken.1)

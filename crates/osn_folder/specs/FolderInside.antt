@@ -1,0 +1,39 @@
+-- What the steps of a save say.
+use Rattle.std.specs.Prelude.{◌≡◌, ℕ, true, List, Option, Some, IfSome}
+use Rattle.std.specs.Prelude.{string_bytes}
+use Rattle.osn_folder.specs.Folder.{Known, Stays, Fails, KeepsOthers, Becomes, WritesBeside}
+use Rattle.osn_folder.specs.Folder.{Moves, IsUnchanged, HasChanged}
+use Rattle.osn_folder.specs.declared.fault.MoveFault.{MoveFault}
+use Rattle.osn_folder.specs.declared.fault.MoveFault.TheVariants as moves
+use Rattle.osn_folder.specs.declared.fault.SaveFault.{SaveFault}
+use Rattle.osn_folder.specs.declared.fault.SaveFault.TheVariants as saves
+
+-- the file of this path holds what was loaded from it, where that is given
+abbrev pub HoldsLoaded : List ℕ → Option (List ℕ) → Known → Known → Type 0
+HoldsLoaded place loaded k n = Stays k n × IfSome loaded (λ bytes. k.at place ≡ Some bytes)
+
+-- a file was put at this place, which was as it was at first
+abbrev pub MovesLoaded : List ℕ → List ℕ → Option (List ℕ) → Known → Known → Type 0
+MovesLoaded from place loaded k n = Moves from place k n × IsUnchanged place loaded k
+
+-- no file was put at this place, for this reason
+abbrev pub CannotMoveLoaded : List ℕ → Option (List ℕ) → MoveFault → Known → Known → Type 0
+CannotMoveLoaded place loaded moves.Changed k n = Stays k n × HasChanged place loaded k
+CannotMoveLoaded place loaded moves.Failed k n = Fails k n
+
+-- the text stands in a file at this place, which was as it was at first
+abbrev pub ReplacesAt : List ℕ → Option (List ℕ) → List ℕ → Known → Known → Type 0
+ReplacesAt place loaded text k n =
+    Becomes place (Some text) k n × IsUnchanged place loaded k
+
+-- the text does not stand in a file at this place for sure, for this reason
+abbrev pub CannotReplaceAt : List ℕ → Option (List ℕ) → List ℕ → SaveFault → Known → Known
+    → Type 0
+CannotReplaceAt place loaded text saves.NoMemory k n = Stays k n
+CannotReplaceAt place loaded text saves.WriteFault k n =
+    KeepsOthers place k n × (n.has_failed ≡ true) × (n.at place ≡ k.at place)
+CannotReplaceAt place loaded text saves.NotSynced k n =
+    KeepsOthers place k n × (n.at place ≡ Some text) × (n.has_failed ≡ true)
+    × IsUnchanged place loaded k
+CannotReplaceAt place loaded text (saves.Changed unfinished) k n =
+    HasChanged place loaded k × WritesBeside place text (string_bytes unfinished) k n

@@ -1,0 +1,205 @@
+//! The files of the disk that are kept.
+ghost use Rattle.std.specs.Prelude.{◌≡◌, None, IfOk, IfSome, false};
+ghost use Rattle.osn_lines.specs.Plain.{failed_of};
+
+use crate::disk_lock::{is_at, lock};
+use crate::disk_names::{has_nothing, sync_name};
+use crate::fault::{KeepFault, KeptFileFault};
+use crate::kept_file::KeptFile;
+use osn_lines::Plain;
+use std::fs::{File, OpenOptions};
+use std::io::Write;
+use std::rt::Files;
+use std::{fs, io};
+
+/// A file of the disk that is kept, and is locked.
+#[derive(Drop)]
+pub struct DiskFile<'a, R> {
+    files: &'a R,
+    /// The path that it was opened by.
+    path: String,
+    file: File,
+    /// How many bytes it held and was given.
+    length: u64,
+    /// Why the last change that failed did so.
+    fault: Option<KeptFileFault>,
+}
+
+impl<R: Files> DiskFile<'_, R> {
+    ghost use Rattle.osn_folder.specs.KeptFile.{fault_after};
+
+    /// Fails if a change has failed before: nothing is sure of the file after that.
+    fn check(&self) -> Result<(), KeptFileFault> {
+        match self.fault {
+            Some(fault) => Err(fault),
+            None => Ok(()),
+        }
+    }
+
+    /// That nobody else has cut the file or added to it.
+    fn check_length(&self) -> Result<(), KeptFileFault> {
+        match self.file.metadata() {
+            Ok(found) if found.len() == self.length => Ok(()),
+            Ok(_) => Err(KeptFileFault::Replaced),
+            Err(_) => Err(KeptFileFault::ChangeFailed),
+        }
+    }
+
+    /// That the path still names the file.
+    fn check_path(&self) -> Result<(), KeptFileFault> {
+        match is_at(self.files, self.path.as_str(), &self.file) {
+            Ok(true) => Ok(()),
+            _ => Err(KeptFileFault::Replaced),
+        }
+    }
+
+    fn append_bytes(&mut self, bytes: &[u8]) -> Result<(), KeptFileFault>
+        ensures { self.new.fault ≡ self.old.fault }
+    {
+        self.check()?;
+        made(self.file.write_all(bytes))?;
+        self.length = self.length.saturating_add(bytes.len() as u64);
+        Ok(())
+    }
+
+    fn cut_bytes(&mut self, length: u64) -> Result<(), KeptFileFault>
+        ensures { self.new.fault ≡ self.old.fault }
+    {
+        self.check()?;
+        self.check_length()?;
+        let left = length.min(self.length);
+        made(self.file.set_len(left))?;
+        self.length = left;
+        Ok(())
+    }
+
+    fn sync_bytes(&mut self) -> Result<(), KeptFileFault>
+        ensures { self.new.fault ≡ self.old.fault }
+    {
+        self.check()?;
+        made(self.file.sync_all())?;
+        self.check_length()?;
+        self.check_path()
+    }
+
+    /// Remembers the fault of a change that failed.
+    fn remember(&mut self, change: Result<(), KeptFileFault>) -> Result<(), KeptFileFault>
+        ensures same { result ≡ change }
+        ensures fault { self.new.fault ≡ fault_after change self.old.fault }
+    {
+        if let Err(fault) = change {
+            self.fault = Some(fault);
+        }
+        change
+    }
+}
+
+impl<R: Files> KeptFile for DiskFile<'_, R> {
+    ghost contents = { λ _. None };
+
+    ghost synced = { λ _. None };
+
+    ghost fault = { λ f. f.fault };
+
+    fn append(&mut self, bytes: &[u8]) -> Result<(), KeptFileFault> {
+        let change = self.append_bytes(bytes);
+        self.remember(change)
+    }
+
+    fn cut(&mut self, length: u64) -> Result<(), KeptFileFault> {
+        let change = self.cut_bytes(length);
+        self.remember(change)
+    }
+
+    fn sync(&mut self) -> Result<(), KeptFileFault> {
+        let change = self.sync_bytes();
+        self.remember(change)
+    }
+}
+
+/// That a change was made, or failed.
+fn made(change: io::Result<()>) -> Result<(), KeptFileFault> {
+    match change {
+        Ok(()) => Ok(()),
+        Err(_) => Err(KeptFileFault::ChangeFailed),
+    }
+}
+
+/// Opens a file to be kept, or makes it, and gives what reads it from its first byte on. One that
+/// was made and can't be kept is taken away again.
+pub(crate) fn keep_file<'a, R: Files<File = File> + AllocGlobal>(
+    files: &'a R,
+    path: &str,
+) -> Result<(DiskFile<'a, R>, Plain<File>), KeepFault>
+    ensures { IfOk result (λ kept. (kept.0.fault ≡ None) × (failed_of kept.1 ≡ false)) }
+{
+    let is_new = has_no_file(files, path)?;
+    let kept = open_locked(files, path, is_new);
+    if is_new && matches!(kept, Err(KeepFault::NotOpened)) {
+        let _ = fs::remove_file(files, path);
+    }
+    kept
+}
+
+/// Whether nothing is at a path. What is there has to be a file; a link that leads nowhere is none.
+fn has_no_file(files: &impl Files, path: &str) -> Result<bool, KeepFault> {
+    if fs::metadata(files, path).is_ok_and(|found| found.is_file()) {
+        return Ok(false);
+    }
+    match has_nothing(files, path) {
+        Ok(true) => Ok(true),
+        _ => Err(KeepFault::NotOpened),
+    }
+}
+
+/// Opens a file and locks it.
+fn open_locked<'a, R: Files<File = File> + AllocGlobal>(
+    files: &'a R,
+    path: &str,
+    is_new: bool,
+) -> Result<(DiskFile<'a, R>, Plain<File>), KeepFault>
+    ensures { IfOk result (λ kept. (kept.0.fault ≡ None) × (failed_of kept.1 ≡ false)) }
+{
+    let Ok(file) = OpenOptions::new()
+        .read(true)
+        .append(true)
+        .create(true)
+        .open(files, path)
+    else {
+        return Err(KeepFault::NotOpened);
+    };
+    lock(&file)?;
+    match settle(files, path, file, is_new) {
+        Ok(Some(kept)) => Ok(kept),
+        _ => Err(KeepFault::NotOpened),
+    }
+}
+
+/// Keeps a file that was locked, if it is the one at its path, and no other was put there
+/// meanwhile. The name of a new one is on the disk then.
+fn settle<'a, R: Files<File = File> + AllocGlobal>(
+    files: &'a R,
+    path: &str,
+    file: File,
+    is_new: bool,
+) -> io::Result<Option<(DiskFile<'a, R>, Plain<File>)>>
+    ensures { IfOk result (λ found. IfSome found
+        (λ kept. (kept.0.fault ≡ None) × (failed_of kept.1 ≡ false))) }
+{
+    let held = file.metadata()?;
+    if !held.is_file() || !is_at(files, path, &file)? {
+        return Ok(None);
+    }
+    if is_new {
+        sync_name(files, path)?;
+    }
+    let source = Plain::new(file.try_clone()?);
+    let kept = DiskFile {
+        files,
+        path: String::from_str(files.alloc(), path)?,
+        file,
+        length: held.len(),
+        fault: None,
+    };
+    Ok(Some((kept, source)))
+}

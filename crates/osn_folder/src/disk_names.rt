@@ -1,0 +1,100 @@
+//! Which file of the disk is at a path.
+
+use crate::fault::SaveFault;
+use std::alloc::{AllocError, Global};
+use std::fs::{File, Metadata, OpenOptions};
+use std::io::{ErrorKind, Write};
+use std::os::unix::fs::MetadataExt;
+use std::rt::Files;
+use std::{fs, io};
+
+/// How many names are tried for a file beside a place.
+const MOST_NAMES: u32 = 1_000;
+
+/// Whether nothing is at a path, not even a link.
+pub(crate) fn has_nothing(files: &impl Files, path: &str) -> io::Result<bool> {
+    match fs::symlink_metadata(files, path) {
+        Ok(_) => Ok(false),
+        Err(error) if error.kind() == ErrorKind::NotFound => Ok(true),
+        Err(error) => Err(error),
+    }
+}
+
+/// Whether an open file is this one.
+pub(crate) fn is_same(file: &File, found: &Metadata) -> io::Result<bool> {
+    let opened = file.metadata()?;
+    Ok(opened.dev() == found.dev() && opened.ino() == found.ino())
+}
+
+/// Has the names in the folder of a file on the disk.
+pub(crate) fn sync_name<R: Files<File = File> + AllocGlobal>(
+    files: &R,
+    path: &str,
+) -> io::Result<()> {
+    let place = fs::canonicalize(files, path)?;
+    match place.parent() {
+        Some(folder) => fs::open(files, folder)?.sync_all(),
+        None => Ok(()),
+    }
+}
+
+/// The name of a file beside a place, by which of the names it is, from 1 on.
+fn name_beside(alloc: Global, place: &str, number: u32) -> Result<String, AllocError> {
+    if number == 1 {
+        format!(in alloc; "{place}.unfinished")
+    } else {
+        format!(in alloc; "{place}.unfinished-{number}")
+    }
+}
+
+/// Writes a text to a new file beside a place, with the permissions of the file at the place, and
+/// waits until it is on the disk. Answers its path.
+pub(crate) fn write_new<R: Files<File = File>>(
+    files: &R,
+    alloc: Global,
+    place: &str,
+    text: &str,
+) -> Result<String, SaveFault> {
+    for tried in 0..MOST_NAMES {
+        let path = name_beside(alloc, place, tried + 1)?;
+        let made = OpenOptions::new()
+            .write(true)
+            .create_new(true)
+            .open(files, path.as_str());
+        match made {
+            Ok(file) => {
+                write_made(files, file, path.as_str(), place, text)?;
+                return Ok(path);
+            }
+            Err(error) if error.kind() == ErrorKind::AlreadyExists => {}
+            Err(_) => return Err(SaveFault::WriteFault),
+        }
+    }
+    Err(SaveFault::WriteFault)
+}
+
+/// Writes a text to a file that was made, which is taken away again where that fails.
+fn write_made(
+    files: &impl Files,
+    file: File,
+    path: &str,
+    place: &str,
+    text: &str,
+) -> Result<(), SaveFault> {
+    match write_synced(files, file, place, text) {
+        Ok(()) => Ok(()),
+        Err(_) => {
+            let _ = fs::remove_file(files, path);
+            Err(SaveFault::WriteFault)
+        }
+    }
+}
+
+/// Writes a file, with the permissions of another one, and waits until it is on the disk.
+fn write_synced(files: &impl Files, mut file: File, other: &str, text: &str) -> io::Result<()> {
+    if let Ok(old) = fs::metadata(files, other) {
+        file.set_permissions(old.permissions())?;
+    }
+    file.write_all(text.as_bytes())?;
+    file.sync_all()
+}

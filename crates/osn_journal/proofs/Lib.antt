@@ -1,0 +1,5 @@
+mod JournalLemmas
+mod ChangeLemmas
+mod KeepingLemmas
+mod AppendLemmas
+mod StoreLemmas

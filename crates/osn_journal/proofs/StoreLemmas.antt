@@ -1,0 +1,118 @@
+-- A kept object is a store.
+use Rattle.std.proofs.Common.{ℕ, List, Bool, true, false, Option, Result, Ok, Err, OnOk, IfErr}
+use Rattle.std.proofs.Common.{◌≡◌, None, sym, subst}
+use Rattle.osn_core.specs.Sequential.{ObjectState}
+use Rattle.osn_lines.specs.declared.fault.Interrupted.{Interrupted}
+use Rattle.osn_lines.specs.Streams.{Input}
+use Rattle.osn_folder.specs.declared.fault.KeptFileFault.{KeptFileFault}
+use Rattle.osn_service.specs.Change.{change_refusal, changed}
+use Rattle.osn_service.specs.declared.fault.ServiceFault.{ServiceFault}
+use Rattle.osn_service.specs.declared.fault.ServiceFault.TheVariants.{Serve, NotKept}
+use Rattle.osn_service.specs.declared.rules.ServeRules.{ServeRules}
+use Rattle.osn_service.specs.declared.service.Served.{Served}
+use Rattle.osn_service.specs.declared.store.Change.{Change}
+use Rattle.osn_service.specs.declared.store.StoreFault.{StoreFault}
+use Rattle.osn_service.specs.declared.store.StoreFault.TheVariants as store_faults
+use Rattle.osn_service.specs.Faults.{MatchServed}
+use Rattle.osn_service.specs.Serves.{KeepsStore}
+use Rattle.osn_service.specs.Store.{Makes, MatchStoreFault, FailsToKeep}
+use Rattle.osn_journal.specs.declared.kept_object.KeptObject.{KeptObject}
+use Rattle.osn_journal.specs.Kept.{FileState, KeepsAll, KeepsFile, KeepsUntil, file_of}
+use Rattle.osn_journal.specs.KeptInside.{Keeping}
+use Rattle.osn_journal.specs.KeptObjectInside.{HasKept, HasLost}
+use Rattle.osn_journal.proofs.KeepingLemmas.{KeepsAll-nothing, KeepsAll-change, KeepsAll-then}
+use Rattle.osn_journal.proofs.KeepingLemmas.{KeepsUntil-from}
+
+module _ {K : Type 0} (contents synced : K → Option (List ℕ))
+    (fault : K → Option KeptFileFault) where
+  -- what it has at a moment: its object, and its file
+  abbrev object_of : KeptObject K → ObjectState
+  object_of s = s.object.now
+
+  abbrev file_at : KeptObject K → FileState
+  file_at s = file_of contents synced fault s.keeper.now
+
+  -- what of it is kept, and is not
+  abbrev kept : KeptObject K → KeptObject K → Type 0
+  kept = HasKept contents synced fault
+
+  abbrev lost : KeptObject K → ObjectState → KeptObject K → KeptFileFault → Type 0
+  lost = HasLost contents synced fault
+
+  module _ (change : Change) (old new : KeptObject K)
+      (lawful : change_refusal (object_of old) change ≡ None) where
+    -- a change was made and kept
+    pub Makes-changed : {A : Type 0} (result : Result A (StoreFault KeptFileFault))
+        → Keeping change (object_of old) (object_of new) (file_at old) (file_at new) result
+        → OnOk result (Makes object_of kept old new (changed (object_of old) change))
+    Makes-changed (Ok done) h = record {
+      is = h.0;
+      keeps = λ begun before.
+          subst
+          (λ (t : ObjectState). KeepsAll (object_of begun) t (file_at begun) (file_at new))
+          (sym h.0)
+          (KeepsAll-then (object_of begun) (object_of old) change (file_at begun) (file_at old)
+          (file_at new) before
+          (KeepsAll-change (object_of old) change (file_at old) (file_at new) lawful h.1));
+    }
+    Makes-changed (Err why) h = tt
+
+    -- it was not made, or not kept
+    pub Faults-changed : {A : Type 0} (result : Result A (StoreFault KeptFileFault))
+        → Keeping change (object_of old) (object_of new) (file_at old) (file_at new) result
+        → IfErr result (λ why. MatchStoreFault why
+        (Makes object_of kept old new (object_of old))
+        (FailsToKeep object_of kept lost old new (changed (object_of old) change)))
+    Faults-changed (Ok done) h = tt
+    Faults-changed (Err store_faults.NoMemory) h = record {
+      is = h.0;
+      keeps = λ begun before.
+          subst (λ (t : ObjectState). KeepsAll (object_of begun) t (file_at begun) (file_at new))
+          (sym h.0)
+          (subst
+          (λ (f : FileState). KeepsAll (object_of begun) (object_of old) (file_at begun) f)
+          (sym h.1) before);
+    }
+    Faults-changed (Err (store_faults.NotKept why)) h = record {
+      is = h.0;
+      fails = λ begun before.
+          subst
+          (λ (t : ObjectState). KeepsUntil (object_of begun) (object_of old) t (file_at begun)
+          (file_at new) why) (sym h.0)
+          (KeepsUntil-from (object_of begun) (object_of old) change why (file_at begun)
+          (file_at old) (file_at new) before h.1);
+    }
+
+  module _ (rules : ServeRules) (old new : KeptObject K) (i : Input) where
+    -- nothing is kept yet
+    begun : KeepsAll (object_of old) (object_of old) (file_at old) (file_at old)
+    begun = KeepsAll-nothing (object_of old) (file_at old)
+
+    -- the file was kept from its first state on, or from any since which it was
+    abbrev KeptFrom : Type 0
+    KeptFrom = KeepsAll (object_of old) (object_of new) (file_at old) (file_at new)
+
+    abbrev KeptSince : Type 0
+    KeptSince = (first : KeptObject K) → kept first old → kept first new
+
+    -- where the service ended without a fault
+    served : (refused : Bool) (n : ℕ) → MatchServed refused (λ _. KeptSince) (λ _. KeptSince) n
+        → MatchServed refused (λ _. KeptFrom) (λ _. KeptFrom) n
+    served false n h = h old begun
+    served true n h = h old begun
+
+    -- where it ended by a fault
+    ended : (n : ℕ) (cause : ServiceFault KeptFileFault)
+        → KeepsStore kept lost rules (object_of old) old new i
+        (Err (record { lines = n; cause = cause }))
+        → KeepsFile rules (object_of old) (object_of new) i.bytes (file_at old) (file_at new)
+        (Err (record { lines = n; cause = cause }))
+    ended n (Serve why) h = h old begun
+    ended n (NotKept why) h = record { before = h.0; stands = h.1; keeps = h.2 old begun }
+
+    -- what the store has kept since it began
+    pub KeepsFile-begun : (result : Result Served (Interrupted (ServiceFault KeptFileFault)))
+        → KeepsStore kept lost rules (object_of old) old new i result
+        → KeepsFile rules (object_of old) (object_of new) i.bytes (file_at old) (file_at new) result
+    KeepsFile-begun (Ok done) h = served done.refused done.lines h
+    KeepsFile-begun (Err end) h = ended end.lines end.cause h

@@ -1,0 +1,99 @@
+-- The file that is kept while lines are served: the lines of what was changed stand after what it
+-- held, and up to the last publish all of it is on the disk.
+use Rattle.std.specs.Prelude.{◌≡◌, ℕ, List, ◌++◌, take, Option, Some, IfSome, Result}
+use Rattle.std.specs.Io.KnownBytes.{Appends}
+use Rattle.osn_register.specs.declared.limits.Limits.{Limits}
+use Rattle.osn_core.specs.Sequential.{ObjectState}
+use Rattle.osn_lines.specs.declared.fault.Interrupted.{Interrupted}
+use Rattle.osn_lines.specs.Lines.{lines}
+use Rattle.osn_folder.specs.declared.fault.KeptFileFault.{KeptFileFault}
+use Rattle.osn_format.specs.declared.version.Version.{Version}
+use Rattle.osn_files.specs.JournalText.{journal_text, edits_text}
+use Rattle.osn_files.specs.Loaded.{HasEdits, IsJournalOf}
+use Rattle.osn_service.specs.declared.fault.ServiceFault.{ServiceFault}
+use Rattle.osn_service.specs.declared.rules.ServeRules.{ServeRules}
+use Rattle.osn_service.specs.declared.service.Served.{Served}
+use Rattle.osn_service.specs.Faults.{MatchService}
+use Rattle.osn_service.specs.Served.{after_lines}
+
+-- ---- what becomes of the file
+
+-- What a file holds is on the disk for sure, but for some of its last bytes, which are the end of
+-- the lines of an object's pending edits.
+pub record IsOnDisk (s : ObjectState) (contents synced : Option (List ℕ)) : Type 0 where
+  pub on_disk : List ℕ
+  pub front : List ℕ
+  pub rest : List ℕ
+  pub disk : synced ≡ Some on_disk
+  pub held : contents ≡ Some (on_disk ++ rest)
+  pub pending : edits_text s.pending ≡ front ++ rest
+
+-- The file was kept for an object that was s and is t.
+pub record Keeps (s t : ObjectState) (old new old_synced new_synced : Option (List ℕ))
+    : Type 0 where
+  -- what the journal of t has more than that of s was appended, where it is known what was held
+  pub added : List ℕ
+  pub grows : journal_text t ≡ journal_text s ++ added
+  pub journal : Appends old new added
+  -- after whatever is loaded as s it is loaded as t, by a version that has the edits of t
+  pub loads : (version : Version) (limits : Limits) (text : List ℕ) → HasEdits version t
+      → IsJournalOf version limits s text → IsJournalOf version limits t (text ++ added)
+  -- where all but lines of pending edits was on the disk, it is
+  pub disk : IsOnDisk s old old_synced → IsOnDisk t new new_synced
+
+-- The file was kept for an object that was s and then u, and failed at the line of the change that
+-- made it t, a front of which was appended. Up to u the file held `kept`.
+pub record KeepsInPart (s u t : ObjectState) (old new old_synced new_synced : Option (List ℕ))
+    : Type 0 where
+  pub kept : Option (List ℕ)
+  pub keeps : Keeps s u old kept old_synced new_synced
+  pub line : List ℕ
+  pub next : journal_text t ≡ journal_text u ++ line
+  pub bytes : ℕ
+  pub journal : Appends kept new (take bytes line)
+
+-- ---- whether the file failed
+
+-- what is known of a file that is kept: what it holds, what of that is on the disk for sure, and
+-- why the last change that failed did so
+pub record FileState : Type 0 where
+  pub contents : Option (List ℕ)
+  pub synced : Option (List ℕ)
+  pub fault : Option KeptFileFault
+
+-- the same of a file, by its ghosts
+abbrev pub file_of : {K : Type 0} → (K → Option (List ℕ)) → (K → Option (List ℕ))
+    → (K → Option KeptFileFault) → K → FileState
+file_of contents synced fault file = record {
+  contents = contents file;
+  synced = synced file;
+  fault = fault file;
+}
+
+-- The file was kept for an object that was s and is t, and has not failed since.
+pub record KeepsAll (s t : ObjectState) (old new : FileState) : Type 0 where
+  pub keeps : Keeps s t old.contents new.contents old.synced new.synced
+  pub sound : new.fault ≡ old.fault
+
+-- The file was kept for an object that was s and then u, and failed for this reason at the change
+-- that made it t.
+pub record KeepsUntil (s u t : ObjectState) (old new : FileState) (why : KeptFileFault)
+    : Type 0 where
+  pub keeps : KeepsInPart s u t old.contents new.contents old.synced new.synced
+  pub reason : new.fault ≡ Some why
+
+-- ---- how it ends
+
+-- The file was kept up to the first n lines, and failed at what the next one changed.
+pub record KeepsFirst (rules : ServeRules) (s t : ObjectState) (input : Option (List ℕ))
+    (old new : FileState) (n : ℕ) (why : KeptFileFault) : Type 0 where
+  pub before : ObjectState
+  pub stands : IfSome input (λ bytes. before ≡ after_lines rules s (take n (lines bytes)))
+  pub keeps : KeepsUntil s before t old new why
+
+-- What was kept where answering lines ended.
+abbrev pub KeepsFile : ServeRules → ObjectState → ObjectState → Option (List ℕ) → FileState
+    → FileState → Result Served (Interrupted (ServiceFault KeptFileFault)) → Type 0
+KeepsFile rules s t input old new result =
+    MatchService result (λ _. KeepsAll s t old new) (λ _. KeepsAll s t old new)
+    (KeepsFirst rules s t input old new)

@@ -1,0 +1,4 @@
+pub mod Kept
+pub mod KeptInside
+pub mod KeptObjectInside
+pub mod Laws

@@ -1,0 +1,177 @@
+-- How a session goes on.
+use Rattle.std.proofs.Common.{◌≡◌, ◌∙◌, ℕ, Bool, true, false, List, [], ◌∷◌, ◌++◌, Option, Some, Ok}
+use Rattle.std.proofs.Common.{Err, refl, sym, ap, subst}
+use Rattle.osn_core.specs.Sequential.{ObjectState}
+use Rattle.osn_reply.specs.Outcome.{is_refused}
+use Rattle.osn_service.specs.declared.rules.ServeRules.{ServeRules}
+use Rattle.osn_service.specs.declared.session.Session.{Session}
+use Rattle.osn_service.specs.declared.stop.Stop.{Stop}
+use Rattle.osn_service.specs.declared.stop.Stop.TheVariants.{NoMemory, WriteFailed, NotKept}
+use Rattle.osn_service.specs.declared.stop.Stop.TheVariants.{Refused}
+use Rattle.osn_service.specs.declared.stop.UnwrittenReplies.{UnwrittenReplies}
+use Rattle.osn_service.specs.Served.{after_lines}
+use Rattle.osn_service.specs.Session.{line_outcome, line_after}
+use Rattle.osn_service.specs.SessionInside.{Moment, moment_of, Answered, Settled, Unwritten}
+use Rattle.osn_service.specs.SessionInside.{TakenBack, Answers, Serving, IsSame, HasServed}
+use Rattle.osn_service.specs.SessionInside.{HasStopped}
+use Rattle.osn_service.specs.Store.{KeepsSince}
+use Rattle.osn_service.proofs.ServeLemmas.{Serving-nothing, Serving-settled, Serving-answered}
+use Rattle.osn_service.proofs.ServeLemmas.{Failing-from, Unkept-from, NoneRefused-more}
+
+-- one session is another with what it lends kept
+IsSame-then : {W S : Type 0} {begun s t : Session W S} → IsSame begun s → IsSame s t →
+    IsSame begun t
+IsSame-then h k = record {
+  rules = k.rules ∙ h.rules;
+  store = k.store ∙ h.store;
+  sink = k.sink ∙ h.sink;
+}
+
+module _ {W S F : Type 0} (contents : W → Option (List ℕ)) (has_failed holds_back : W → Bool)
+    (state : S → ObjectState) (lends kept : S → S → Type 0)
+    (not_kept : S → ObjectState → S → F → Type 0) where
+  -- what became of a session by lines, or where it stopped
+  abbrev pub Served : Session W S → List (List ℕ) → Session W S → Type 0
+  Served = HasServed contents has_failed holds_back state lends kept not_kept
+
+  abbrev pub Stopped : Session W S → List (List ℕ) → Option (List ℕ) → Session W S → Stop F → Type 0
+  Stopped = HasStopped contents has_failed holds_back state lends kept not_kept
+
+  -- what a session has now
+  abbrev now_of : Session W S → Moment
+  now_of = moment_of contents has_failed state
+
+  -- nothing is answered yet
+  pub Served-nothing : (s : Session W S) → s.waiting.now.text.items ≡ [] →
+      s.waiting.now.ends.items ≡ [] → Served s [] s
+  Served-nothing s text ends = record {
+    same = record { rules = refl; store = refl; sink = refl };
+    lent = λ _ k. k;
+    serving = Serving-nothing s.rules (now_of s) text ends;
+    spared = λ _. tt;
+    keeps = λ _ k. k;
+  }
+
+  module _ (begun s t : Session W S) (before : List (List ℕ)) (h : Served begun before s)
+      (same : IsSame s t) where
+    -- nothing was answered, and nothing was written or all that waited
+    pub Served-settled : KeepsSince lends s.store.now t.store.now → Settled (now_of s) (now_of t) →
+        KeepsSince kept s.store.now t.store.now → Served begun before t
+    Served-settled lent settled keeps = record {
+      same = IsSame-then h.same same;
+      lent = λ b k. lent b (h.lent b k);
+      serving = Serving-settled h.serving settled;
+      spared = h.spared;
+      keeps = λ b k. keeps b (h.keeps b k);
+    }
+
+    -- a write failed
+    pub Stopped-unwritten : (at : Option (List ℕ)) (failed : UnwrittenReplies) →
+        KeepsSince lends s.store.now t.store.now →
+        Unwritten (now_of s) (now_of t) failed.unwritten →
+        KeepsSince kept s.store.now t.store.now → Stopped begun before at t (WriteFailed failed)
+    Stopped-unwritten at failed lent unwritten keeps = record {
+      same = IsSame-then h.same same;
+      lent = λ b k. lent b (h.lent b k);
+      failing = Failing-from h.serving unwritten;
+      keeps = λ b k. keeps b (h.keeps b k);
+    }
+
+    -- a line, once nothing was written or all that waited
+    module _ (mid : Moment) (line : List ℕ) (room : Settled (now_of s) mid) where
+      -- that was so before the line
+      ready : Serving begun.rules (now_of begun) before mid
+      ready = Serving-settled h.serving room
+
+      -- what the line is told, by the rules from the beginning
+      told : is_refused (line_outcome s.rules mid.object line)
+          ≡ is_refused (line_outcome begun.rules
+          (after_lines begun.rules (state begun.store.now) before) line)
+      told =
+          ap (λ (r : ServeRules). is_refused (line_outcome r mid.object line)) h.same.rules
+          ∙ ap (λ (o : ObjectState). is_refused (line_outcome begun.rules o line))
+          ready.waits.reached
+
+      -- what became of it
+      abbrev pub Replies : Bool → Type 0
+      Replies refused =
+          Answers lends kept not_kept (line_outcome s.rules mid.object line)
+          (line_after s.rules mid.object line) mid (now_of t) (holds_back t.sink.now) s.store.now
+          t.store.now (Ok refused)
+
+      -- its reply waits
+      answered : {refused : Bool} → Replies refused →
+          Serving begun.rules (now_of begun) (before ++ line ∷ []) (now_of t)
+      answered {refused} k =
+          Serving-answered line ready
+          (subst (λ (r : ServeRules). Answered (line_outcome r mid.object line)
+          (line_after r mid.object line) mid (now_of t)) h.same.rules k.2)
+
+      -- it was answered, and is not the last
+      pub Served-answered : {refused : Bool} → Replies refused →
+          (s.rules.stop_at_refusal ≡ true → refused ≡ false) →
+          Served begun (before ++ line ∷ []) t
+      Served-answered {refused} k goes_on = record {
+        same = IsSame-then h.same same;
+        lent = λ b l. k.0 b (h.lent b l);
+        serving = answered k;
+        spared =
+            λ asked.
+            NoneRefused-more begun.rules (state begun.store.now) before line (h.spared asked)
+            (sym told ∙ (sym k.1
+            ∙ goes_on (ap (λ (r : ServeRules). r.stop_at_refusal) h.same.rules ∙ asked)));
+        keeps = λ b l. k.3 b (h.keeps b l);
+      }
+
+      -- it was refused, and is the last
+      pub Stopped-refused : {refused : Bool} → Replies refused → refused ≡ true →
+          s.rules.stop_at_refusal ≡ true → Stopped begun before (Some line) t Refused
+      Stopped-refused {refused} k is asked =
+          let stops = sym (ap (λ (r : ServeRules). r.stop_at_refusal) h.same.rules) ∙ asked in
+          record {
+            line = line;
+            is = refl;
+            same = IsSame-then h.same same;
+            lent = λ b l. k.0 b (h.lent b l);
+            serving = answered k;
+            refused = record {
+              asked = stops;
+              none = h.spared stops;
+              refused = sym told ∙ (sym k.1 ∙ is);
+            };
+            keeps = λ b l. k.3 b (h.keeps b l);
+          }
+
+      -- it was not answered
+      pub Stopped-unanswered : (why : Stop F) →
+          Answers lends kept not_kept (line_outcome s.rules mid.object line)
+          (line_after s.rules mid.object line) mid (now_of t) (holds_back t.sink.now) s.store.now
+          t.store.now (Err why) → Stopped begun before (Some line) t why
+      Stopped-unanswered NoMemory k = record {
+        same = IsSame-then h.same same;
+        lent = λ b l. k.0 b (h.lent b l);
+        serving = Serving-settled ready k.1.0;
+        spared = h.spared;
+        keeps = λ b l. k.1.1 b (h.keeps b l);
+      }
+      Stopped-unanswered (WriteFailed failed) k = record {
+        same = IsSame-then h.same same;
+        lent = λ b l. k.0 b (h.lent b l);
+        failing = Failing-from ready k.1.0;
+        keeps = λ b l. k.1.1 b (h.keeps b l);
+      }
+      Stopped-unanswered (NotKept why) k = record {
+        line = line;
+        is = refl;
+        same = IsSame-then h.same same;
+        lent = λ b l. k.0 b (h.lent b l);
+        unkept =
+            Unkept-from line ready
+            (subst (λ (r : ServeRules). TakenBack (line_after r mid.object line) mid (now_of t)
+            (holds_back t.sink.now)) h.same.rules k.1.1);
+        spared = h.spared;
+        fails =
+            λ b l. subst (λ (o : ObjectState). not_kept b o t.store.now why) ready.waits.reached
+            (k.1.2 b (h.keeps b l));
+      }
+      Stopped-unanswered Refused k = absurd k.1

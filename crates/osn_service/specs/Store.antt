@@ -1,0 +1,27 @@
+-- What a store has done with a change.
+use Rattle.std.specs.Prelude.{◌≡◌}
+use Rattle.osn_core.specs.Sequential.{ObjectState}
+use Rattle.osn_service.specs.declared.store.StoreFault.{StoreFault}
+use Rattle.osn_service.specs.declared.store.StoreFault.TheVariants.{NoMemory, NotKept}
+
+-- a fact for want of memory, and one of the reason for which a change was not kept
+abbrev pub MatchStoreFault : {F : Type 0} → StoreFault F → Type 0 → (F → Type 0) → Type 0
+MatchStoreFault NoMemory P Q = P
+MatchStoreFault (NotKept why) P Q = Q why
+
+-- what held since any moment still does
+abbrev pub KeepsSince : {S : Type 0} → (S → S → Type 0) → S → S → Type 0
+KeepsSince {S} Holds old new = (begun : S) → Holds begun old → Holds begun new
+
+-- the store is this object now, and what was kept since any moment still is
+pub record Makes {S : Type 0} (state : S → ObjectState) (kept : S → S → Type 0) (old new : S)
+    (object : ObjectState) : Type 0 where
+  pub is : state new ≡ object
+  pub keeps : KeepsSince kept old new
+
+-- the store is this object now, and what made it so was not kept, whatever was before
+pub record FailsToKeep {S F : Type 0} (state : S → ObjectState) (kept : S → S → Type 0)
+    (not_kept : S → ObjectState → S → F → Type 0) (old new : S) (object : ObjectState) (why : F)
+    : Type 0 where
+  pub is : state new ≡ object
+  pub fails : (begun : S) → kept begun old → not_kept begun (state old) new why

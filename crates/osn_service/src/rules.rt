@@ -1,0 +1,27 @@
+//! What the lines of a service may do, and when it ends.
+ghost use Rattle.std.specs.Prelude.{◌≡◌};
+ghost use Rattle.osn_service.specs.Session as spec;
+
+/// What the lines of a service may do, and when it ends.
+#[derive(Clone, Copy, Debug, PartialEq, Eq)]
+pub struct ServeRules {
+    /// The number of readers; they are counted from 1.
+    pub readers: u32,
+    /// Whether each edit and each publish is told the fault `ReadOnly`.
+    pub read_only: bool,
+    /// Whether the first line whose reply tells a refusal or a fault is the last to be answered.
+    pub stop_at_refusal: bool,
+}
+
+impl ServeRules {
+    /// Edits are taken, and all lines are answered.
+    pub fn editing(readers: u32) -> ServeRules
+        ensures { result ≡ spec.editing readers }
+    {
+        ServeRules {
+            readers,
+            read_only: false,
+            stop_at_refusal: false,
+        }
+    }
+}

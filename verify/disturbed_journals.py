@@ -1,0 +1,156 @@
+#!/usr/bin/env python3
+"""Disturbs the service at random moments while it keeps its journal: no edition is told that is not
+in the file at the path that was named.
+
+    verify/disturbed_journals.py [RUNS] [SEED] [PROGRAM]   200 runs, seed 1, and ../oldstyle
+
+A run of `serve --keep` is sent edits and publishes, one after the reply to the other. Between two
+of them another run would keep the file or save to it, which is refused and changes nothing; or its
+permissions are taken away, which changes nothing either; or another program moves the file, puts
+another one in its place, cuts it or adds to it. Then the run ends by the fault that says so, tells
+no edition that is sent after that, and the file that it kept has each edition that it told before.
+Two runs that save to one path at once are tried too: one is refused, and nothing is left beside it.
+The status is 1 where something went otherwise.
+"""
+import os
+import random
+import subprocess
+import sys
+import tempfile
+
+from common import compact
+from kept_journals import HEAD, PROGRAM, PUBLISH, SEED, STOPS, Editor, Run, faults, hold
+from kept_journals import journal_lines, land, run
+
+HELD = (3, "", "oldstyle: another run of the program keeps that journal\n")
+REPLACED = ("oldstyle: another program moved, replaced or changed the journal: "
+            "no more is kept in it\n")
+
+
+def is_refused(what, done):
+    told = (done.returncode, done.stdout, done.stderr)
+    hold(f"{what} is told {told}", told == HELD)
+
+
+def keep_too(path):
+    is_refused("a second keeper", run(["serve", "--keep", path], PUBLISH + "\n"))
+
+
+def save_too(path):
+    edits = compact(land(9_999)) + "\n" + PUBLISH + "\n"
+    is_refused("a saver", run(["serve", "--journal", path, "--save", path], edits))
+
+
+def take_permissions(path):
+    os.chmod(path, 0o400)
+
+
+def move(path):
+    os.rename(path, path + ".moved")
+
+
+def replace(path):
+    with open(path + ".new", "w", encoding="utf-8") as file:
+        file.write(HEAD + "\n")
+    os.replace(path + ".new", path)
+
+
+def cut(path):
+    os.truncate(path, len(HEAD) + 1)
+
+
+def lengthen(path):
+    with open(path, "a", encoding="utf-8") as file:
+        file.write("{}\n")
+
+
+# what is done, and whether the run ends by it
+DISTURBANCES = [(keep_too, False), (save_too, False), (take_permissions, False), (move, True),
+                (replace, True), (cut, True), (lengthen, True)]
+
+
+def try_run(path, number):
+    """One run that is disturbed. Answers how many replies it told."""
+    chance = random.Random(SEED * 1_000_003 + number)
+    disturb, ends = DISTURBANCES[number % len(DISTURBANCES)]
+    running, editor, sent = Run(path), Editor(chance.random()), []
+    moment, count = chance.randrange(2, 40), 45
+    for turn in range(count + 2):
+        if turn == moment:
+            before = kept_before(path)
+            disturb(path)
+        # the last two are an edit and a publish that is told as an edition, if any is
+        request = editor.next() if turn < count else last_of(turn - count, editor)
+        sent.append(request)
+        running.send([request[0]])
+        running.wait_for(len(sent))
+        if running.process.poll() is not None:
+            break
+    if running.process.poll() is None:
+        running.process.stdin.close()
+    replies, errors = running.stopped()
+    status = running.process.returncode
+    what = f"run {number}, {disturb.__name__}"
+    hold(f"{what}: {status} {errors!r}", (status, errors) == ((3, REPLACED) if ends else (0, "")))
+    late = [reply for reply in replies[moment:] if reply.get("ok") == "published"]
+    hold(f"{what}: told after it: {late}", not ends or not late)
+    told = [compact(request) for (request, taken), reply in zip(sent, replies) if taken]
+    if not ends:
+        hold(f"{what}: other lines", journal_lines(path) == ([HEAD] + told, ""))
+    hold(f"{what}: lines were lost before it",
+         before[1:] == [compact(request) for request, taken in sent[:moment] if taken])
+    return len(replies)
+
+
+def last_of(turn, editor):
+    if turn == 0:
+        editor.pending += 1
+        return {"op": "add_land", "code": "LAST", "name": "Last", "calendar": "julian",
+                "style": "january", "rule": "julian"}, True
+    return {"op": "publish"}, True
+
+
+def kept_before(path):
+    """The lines that the file holds, each of which was told."""
+    lines, rest = journal_lines(path)
+    hold(f"{rest!r} stands after the lines", rest == "")
+    return lines
+
+
+def try_runs(folder):
+    told = 0
+    for number in range(STOPS):
+        path = os.path.join(folder, f"{number}.journal")
+        told += try_run(path, number)
+    print(f"{STOPS} runs were disturbed: {told} replies told, no edition after another program "
+          "changed the journal", flush=True)
+
+
+def try_savers(folder):
+    """Two runs that save to one path at once."""
+    path = os.path.join(folder, "saved.journal")
+    with open(path, "w", encoding="utf-8") as file:
+        file.write(HEAD + "\n")
+    words = [PROGRAM, "serve", "--journal", path, "--save", path]
+    with subprocess.Popen(words, stdin=subprocess.PIPE, stdout=subprocess.PIPE) as first:
+        first.stdin.write((compact(land(0)) + "\n").encode())
+        first.stdin.flush()
+        hold("the first saver is not answered", b"staged" in first.stdout.readline())
+        save_too(path)
+        first.stdin.close()
+        first.wait()
+    hold("the first saver's edit is not saved", journal_lines(path)[0] == [HEAD, compact(land(0))])
+    beside = [name for name in os.listdir(folder) if "unfinished" in name]
+    hold(f"{beside} are left", not beside)
+    print("two runs that save to one path: the second is refused", flush=True)
+
+
+def main():
+    with tempfile.TemporaryDirectory() as folder:
+        try_runs(folder)
+        try_savers(folder)
+    sys.exit(1 if faults else 0)
+
+
+if __name__ == "__main__":
+    main()
