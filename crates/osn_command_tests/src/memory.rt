@@ -22,8 +22,7 @@ use std::thread::Threads;
 /// A path, and the text that it was left with, or nothing.
 type Change = (String, Option<String>);
 
-/// Files by what was done to them in turn, and the paths that were opened. It ends the test where
-/// memory runs out.
+/// Files by what was done to them in turn, and the paths that were opened. No memory ends a test.
 #[derive(Drop)]
 pub struct MemoryFolder<'a, R> {
     pub rt: &'a R,
@@ -338,8 +337,7 @@ fn nothing_is_opened_after_a_file_that_is_gone(rt: HostRuntime) -> Result<(), Fa
     are_gone(&rt, &GONE, "oldstyle: read fault\n")
 }
 
-/// Runs, and what a file holds then, if it is there. A text is written beside its place first, and
-/// moved from there.
+/// Runs, and what a file holds then. A text is written beside its place, and moved from there.
 const SAVES: [(Row, &str, Option<&str>); 3] = [
     (
         (

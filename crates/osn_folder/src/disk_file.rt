@@ -49,7 +49,8 @@ impl<R: Files> DiskFile<'_, R> {
     fn check_path(&self) -> Result<(), KeptFileFault> {
         match is_at(self.files, self.path.as_str(), &self.file) {
             Ok(true) => Ok(()),
-            _ => Err(KeptFileFault::Replaced),
+            Ok(false) => Err(KeptFileFault::Replaced),
+            Err(_) => Err(KeptFileFault::ChangeFailed),
         }
     }
 

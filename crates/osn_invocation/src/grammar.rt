@@ -5,8 +5,8 @@ ghost use Rattle.clap.specs.Words.{App};
 ghost use Rattle.osn_invocation.specs.Grammar.{IsArg, IsCommand, almanac_grammar, audit_grammar};
 ghost use Rattle.osn_invocation.specs.Grammar.{command_line, convert_grammar, day_grammar};
 ghost use Rattle.osn_invocation.specs.Grammar.{desk_grammar, letters_grammar, limited};
-ghost use Rattle.osn_invocation.specs.Grammar.{month_grammar};
-ghost use Rattle.osn_invocation.specs.Grammar.{flag_option, optional_arg, read_grammar, readers_option};
+ghost use Rattle.osn_invocation.specs.Grammar.{flag_option, month_grammar};
+ghost use Rattle.osn_invocation.specs.Grammar.{optional_arg, read_grammar, readers_option};
 ghost use Rattle.osn_invocation.specs.Grammar.{replay_grammar, required_arg, serve_grammar};
 ghost use Rattle.osn_invocation.specs.Grammar.{territory_grammar, value_option, year_arg};
 
