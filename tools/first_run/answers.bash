@@ -1,0 +1,181 @@
+# shellcheck shell=bash disable=SC2154  # part of `try`
+# Tries the answers that come before the proof.
+
+is_at_work() { ! has_proved "$crates"; }
+has_answer() { [ -s "$at/out$1" ]; }
+goes_before() { [ "$(sed -n "/$1/=" "$at/err")" -lt "$(sed -n "/$2/=" "$at/err")" ]; }
+
+gave_way() { [ "$(cat "$FAKE_KEPT/priority")" -gt "$(ps -o ni= -p $$)" ]; }
+gave_no_way() { ! gave_way; }
+
+# Takes away what is built and kept, so that the next run is a first one.
+forget() {
+    rm -rf "$clone/crates/oldstyle/out" "$FAKE_KEPT"/*
+    touch "$FAKE_KEPT/trace"
+}
+
+try_answers() {
+    new_clone answers
+    mkdir "$at/far"
+    echo "file two" > "$at/far/two"
+    cp "$at/here/one" "$at/here/with space"
+    words=(read one "with space" ../far/two ./one "$at/far/two" --told=one --told=../far/two)
+    words+=(status=3)
+    run FAKE_PAUSE=0.1
+    hold "what only reads is answered before the proof" goes_before "not proved yet" "built in"
+    hold "once, with the files that the words name" gives "" "$(printf '%s\n' "word: read" \
+        "word: one" "file one" "word: with space" "file one" "word: two" "file two" "word: one" \
+        "file one" "word: two" "file two" "word: --told=one" "word: two" "word: status=3")"
+    hold "with the program's status" ends_with 3
+    hold "and what it told standard error" says_once "^oldstyle: one: permission denied"
+    hold "in the words that were typed" says_once "^oldstyle: ../far/two: permission denied"
+    hold "it is said once that this is not proved yet" says_once "not proved yet"
+    hold "and that the program gives the same" says_once "now proved, gives the same answer"
+    hold "with nothing at work and nothing left" is_clean
+    hold "the proof gave way to it" gave_way
+    run PATH=/usr/bin:/bin
+    hold "the next run gives the same alone" says_once "^oldstyle: ../far/two: permission denied"
+    forget
+    start ""
+    await has_answer ""
+    hold "the answer is there while the proof is at work" is_at_work
+    end_started
+    hold "and ends with the program's status" ends_with 3
+    forget
+    words=(desk --help)
+    run FAKE_PAUSE=0.1
+    hold "help is answered too" says_once "gives the same answer"
+}
+
+# run_on FILE NAME=VALUE..: with the file as input.
+run_on() {
+    status=0
+    (cd "$at/here" && env "PATH=$tools:$PATH" "${@:2}" "$clone/oldstyle" "${words[@]}") \
+        < "$1" > "$at/out" 2> "$at/err" || status=$?
+}
+
+# Sends a line, and the next one once that was replied.
+converse() {
+    local reply
+    mkfifo "$at/requests" "$at/replies"
+    (cd "$at/here" && PATH=$tools:$PATH FAKE_PAUSE=0.1 exec "$clone/oldstyle" serve) \
+        < "$at/requests" > "$at/replies" 2> "$at/err" &
+    started=$!
+    exec {requests}> "$at/requests" {replies}< "$at/replies"
+    echo first >&"$requests"
+    read -r -t 60 reply <&"$replies" && [ "$reply" = "word: serve" ] || return
+    read -r -t 60 reply <&"$replies" && [ "$reply" = first ] || return
+    echo second >&"$requests"
+    read -r -t 60 reply <&"$replies" && [ "$reply" = second ] || return
+    exec {requests}>&-
+    end_started
+    ends_with 0
+}
+
+try_inputs() {
+    new_clone inputs
+    words=(serve)
+    run FAKE_PAUSE=0.1
+    hold "a pipe is answered before the proof" goes_before "not proved yet" "built in"
+    hold "once" gives "" $'word: serve\na line'
+    forget
+    run_on "$at/here/one" FAKE_PAUSE=0.1
+    hold "a file is answered before the proof" goes_before "not proved yet" "built in"
+    hold "which gave way" gave_way
+    hold "once" gives "" $'word: serve\nfile one'
+    forget
+    head -c 1048576 /dev/zero > "$at/here/most"
+    head -c 1048577 /dev/zero > "$at/here/more"
+    run_on "$at/here/most" FAKE_PAUSE=0.1
+    hold "so is one of 1 MiB" says_once "gives the same answer"
+    forget
+    run_on "$at/here/more"
+    hold "but none of more" says_once "no answer before the proof: the input has more than 1 MiB"
+    hold "which the program reads whole" cmp "$at/out" <(echo "word: serve" && cat "$at/here/more")
+    forget
+    run_on <(cat "$at/here/more" && sleep 2 && echo more) FAKE_PAUSE=0.1
+    hold "nor a pipe with more" says_once "the proof: the input has more than 1 MiB"
+    hold "which the program reads whole" \
+        cmp "$at/out" <(echo "word: serve" && cat "$at/here/more" && echo more)
+    forget
+    hold "a client that waits for replies is served once the program is built" converse
+    hold "with nothing at work and nothing left" await is_clean
+}
+
+run_closed() {
+    status=0
+    (cd "$at/here" && env "PATH=$tools:$PATH" "$clone/oldstyle" serve) \
+        > "$at/out" 2> "$at/err" <&- || status=$?
+}
+
+try_no_answers() {
+    new_clone no_answers
+    words=(serve --save kept)
+    run
+    hold "what writes waits for the proof" says_once "no answer before the proof: one is given to"
+    hold "and runs then" gives "" $'word: serve\nword: --save\nword: kept\na line'
+    hold "which gave way to nothing" gave_no_way
+    forget
+    run_closed
+    hold "so does what has no standard input" says_once "standard input or output is closed"
+    forget
+    mkfifo "$at/here/pipe"
+    words=(read pipe)
+    run
+    hold "so does what names a pipe" says_once "is no plain file"
+    forget
+    words=(read one)
+    run FAKE_FAULT="the program wrote too much" FAKE_PAUSE=0.1
+    hold "and what the kit can't run" says_once "the proof: the program wrote too much"
+    hold "and runs then" gives "" $'word: read\nword: one\nfile one'
+    forget
+    run FAKE_OTHER=" but not the same" FAKE_PAUSE=0.1
+    hold "two answers that differ end it with 125" ends_with 125
+    hold "and are told" says_once "ANOTHER ANSWER"
+    hold "and kept" grep -q "but not" "$clone/crates/oldstyle/out/answers/proved_output"
+    hold "both" grep -q "file one" "$clone/crates/oldstyle/out/answers/output"
+    forget
+    start ""
+    await has_answer ""
+    echo more >> "$at/here/one"
+    end_started
+    hold "where a file was changed they are not compared" says_once "changed since the answer"
+    hold "and the status is the first one's" ends_with 0
+    forget
+    run FAKE_TRY=60
+    hold "an answer that comes after the program is not awaited" gives "" \
+        $'word: read\nword: one\nfile one\nmore'
+    hold "with nothing at work and nothing left" is_clean
+}
+
+try_interrupted_answers() {
+    new_clone interrupted_answers
+    words=(read one)
+    start ""
+    await has_answer ""
+    kill -INT -- "-$started"
+    end_started
+    hold "Ctrl-C after the answer ends it with 130" ends_with 130
+    hold "with nothing at work and nothing left" is_clean
+    FAKE_TRY=60 start ""
+    await has_proved $((crates * 2 / 3))
+    kill -INT -- "-$started"
+    end_started
+    hold "Ctrl-C before the answer ends both" is_clean
+    run
+    hold "the next run gives the answer" gives "" $'word: read\nword: one\nfile one'
+    hold "and what was proved is not proved again" is_proved_once
+    forget
+    start 1
+    local first=$started
+    await test -d "$clone/crates/oldstyle/out"
+    start 2
+    await has_answer 2
+    hold "a run that waits for another has its answer too" is_at_work
+    end_started
+    hold "and compares it" grep -q "gives the same answer" "$at/err2"
+    started=$first
+    end_started
+    hold "as the other" grep -q "gives the same answer" "$at/err1"
+    hold "and each crate is proved once" is_proved_once
+}

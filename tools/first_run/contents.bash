@@ -1,0 +1,140 @@
+# shellcheck shell=bash disable=SC2154  # part of `try`
+# Tries what makes the program an old one, and what doesn't: contents do, dates and places don't.
+
+# stale WHAT COMMAND..: after the command, in the clone that is built, the script wants to build,
+# which it says where there is no rt.
+stale() {
+    local what=$1
+    shift
+    (cd "$clone" && "$@")
+    run PATH=/usr/bin:/bin
+    hold "noticed: $what" ends_with 125
+    (cd "$clone" && git checkout -q -- . && git clean -qdf)
+}
+
+# fresh WHAT COMMAND..: after the command the program starts, with no rt.
+fresh() {
+    local what=$1
+    shift
+    (cd "$clone" && "$@")
+    run PATH=/usr/bin:/bin
+    hold "no difference: $what" is_run ""
+}
+
+append() { echo >> "$1"; }
+move_line() { tail -n 1 "$1" >> "$2" && sed -i '$d' "$1"; }
+change_line() { sed -i 's/^oldstyle: .*/& itoa/' crates.txt; }
+
+try_contents() {
+    local file=crates/osn_core/src/lib.rt
+    stale "a source that changed" append $file
+    stale "a specification that changed" append crates/osn_days/specs/Lib.antt
+    stale "a proof that is gone" rm crates/osn_core/proofs/Lib.antt
+    stale "another source with an old date" cp -p crates/osn_days/src/lib.rt $file
+    stale "a file that is new" touch crates/osn_service/proofs/New.antt
+    stale "a file of another name" mv $file crates/osn_core/src/other.rt
+    stale "a line that moved to another file" move_line crates/osn_days/src/lib.rt $file
+    stale "the list of crates" change_line
+    stale "the handles" append HANDLES
+    stale "the kit" sed -i '1s/.*/rattle-kit-14a logic 00/' KIT
+    cp -p "$clone/crates/oldstyle/out/oldstyle" "$at/built"
+    stale "another program with an old date" cp -p /bin/true crates/oldstyle/out/oldstyle
+    cp -p "$at/built" "$clone/crates/oldstyle/out/oldstyle"
+    fresh "all is as it was" true
+    fresh "other dates" find . -exec touch {} +
+    fresh "older dates" find . -exec touch -d 2001-02-03 {} +
+    fresh "tests and mutants" append crates/osn_service_tests/src/lib.rt
+    fresh "a remark in the list of crates" sed -i '1s/$/ And more./' crates.txt
+    run
+    hold "and nothing is proved again" is_proved_once
+}
+
+# A commit that changes a source, from which the clone goes back to the one before.
+there_and_back() {
+    append crates/osn_core/src/lib.rt
+    git add -A
+    commit "Another source"
+    git checkout -q HEAD~1
+}
+
+# What `rt run` leaves in the crate's folder: the program with no stamp.
+build_by_rt() {
+    rm crates/oldstyle/out/oldstyle.stamp
+    touch crates/oldstyle/out/oldstyle
+}
+
+try_places() {
+    local first=$clone
+    (cd "$clone" && git checkout -q -- .)
+    fresh "git checkout there and back" there_and_back
+    cp -r "$first" "$at/copied"
+    cp -a "$first" "$at/kept_dates"
+    for clone in "$at/copied" "$at/kept_dates"; do
+        fresh "a copy, ${clone##*/}" true
+    done
+    clone=$at/linked
+    mkdir "$clone"
+    ln -s "$first/oldstyle" "$clone/oldstyle"
+    fresh "a link to the script" true
+    clone=$at/copied
+    stale "in a copy, a source that changed" append crates/osn_core/src/lib.rt
+    try_read_only
+    clone=$first
+    # (the clock of a file system ticks every few milliseconds)
+    sleep 0.05
+    fresh "what rt built in its own folder" build_by_rt
+    stale "a source that changed since" append crates/osn_core/src/lib.rt
+}
+
+# run_as_other: as a user who may not write in the tree.
+run_as_other() {
+    status=0
+    (cd "$at/here" && echo "a line" | env "PATH=$1" "${other[@]}" "$clone/oldstyle" "${words[@]}") \
+        > "$at/out" 2> "$at/err" || status=$?
+}
+
+try_read_only() {
+    local other=()
+    chmod -R a+rX,go-w "$clone" "$at/here"
+    if [ "$(id -u)" = 0 ]; then
+        other=(setpriv --reuid=65534 --regid=65534 --clear-groups)
+    else
+        chmod -R a-w "$clone"
+    fi
+    run_as_other /usr/bin:/bin
+    hold "no difference: a tree that may only be read" is_run ""
+    chmod u+w "$clone/crates/oldstyle" "$clone/crates/oldstyle/out"
+    mv "$clone/crates/oldstyle/out" "$at/out_of_copy"
+    chmod u-w "$clone/crates/oldstyle"
+    run_as_other "$tools:$PATH"
+    hold "where that isn't built it ends with 125" ends_with 125
+    hold "and says so" says_once "the program is not built, and this folder can't be written"
+    chmod -R u+w "$clone"
+}
+
+try_install() {
+    new_clone install
+    words=(install "$at/under")
+    run
+    hold "install proves and builds first" is_proved_once
+    hold "and ends with 0" ends_with 0
+    hold "and says what it did" says_once "installed under $at/under: bin/oldstyle"
+    hold "with the manual" cmp "$clone/docs/oldstyle.1" "$at/under/share/man/man1/oldstyle.1"
+    hold "and the samples" diff -r "$clone/examples" "$at/under/share/oldstyle/examples"
+    hold "which find the program" test -x "$at/under/share/oldstyle/examples/../oldstyle"
+    words=(install)
+    run PATH=/usr/bin:/bin "HOME=$at/home"
+    hold "with no folder it goes to ~/.local" test -x "$at/home/.local/bin/oldstyle"
+    hold "and says that this is not on the PATH" says "$at/home/.local/bin is not on the PATH"
+    words=(install below)
+    run PATH=/usr/bin:/bin
+    hold "a folder goes from where it was typed" test -x "$at/here/below/bin/oldstyle"
+    words=(install /dev/null)
+    run PATH=/usr/bin:/bin
+    hold "a folder that can't be written is refused" ends_with 125
+    hold "with the next step" says "name a folder that you may write to"
+    rm -rf "$clone"
+    status=0
+    (cd "$at/here" && "$at/under/bin/oldstyle" one two <<< "a line") > "$at/out" || status=$?
+    hold "the program needs nothing of the clone" is_run ""
+}

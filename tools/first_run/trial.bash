@@ -1,0 +1,111 @@
+# shellcheck shell=bash disable=SC2034  # part of `try` and `try_release`
+# What the trials of the script `oldstyle` share: clones of what is committed, with the script as it
+# stands, and runs of it with the stand-in `rt` beside this file in place of the kit's.
+tools=$(cd "$(dirname "${BASH_SOURCE[0]}")" && pwd)
+top=$(dirname "$(dirname "$tools")")
+work=$(mktemp -d "${TMPDIR:-/tmp}/try_first_run.XXXXXX")
+chmod 755 "$work"
+trap end_trial EXIT
+trap 'exit 130' INT TERM
+unset FAKE_KIT FAKE_BROKEN FAKE_DIES FAKE_SIZE FAKE_PAUSE FAKE_TRY FAKE_FAULT FAKE_OTHER NO_COLOR
+crates=$(grep '^[a-z]' "$top/crates.txt" | grep -cvE '^(osn_wire|osn_test_texts|osn_[a-z]*_tests)')
+held=0
+failed=0
+
+end_trial() {
+    umount "$work"/*/disk 2> /dev/null || true
+    rm -rf "$work"
+}
+
+# hold WHAT COMMAND..: the command has to succeed.
+hold() {
+    local what=$1
+    shift
+    if "$@" > /dev/null 2>&1; then
+        held=$((held + 1))
+        echo "holds: $what"
+    else
+        failed=$((failed + 1))
+        echo "FAILS: $what"
+        sed 's/^/    /' "$at"/err*
+    fi
+}
+
+tell_count() {
+    echo "tried: $held hold, $failed fail"
+    [ "$failed" = 0 ]
+}
+
+# Makes a clone below the folder $at, with what is kept, temporary and said beside it, and the
+# folder here that the script is run in, with a file.
+new_clone() {
+    at=$work/$1
+    clone=$at/clone
+    words=(one two)
+    export FAKE_KEPT=$at/kept TMPDIR=$at/temporary
+    FAKE_PINNED=$(head -n 1 "$top/KIT")
+    export FAKE_PINNED
+    mkdir -p "$FAKE_KEPT" "$TMPDIR" "$at/here"
+    echo "file one" > "$at/here/one"
+    git clone -q --depth 1 "file://$top" "$clone"
+    rm -rf "$clone/tools"
+    cp -Rp "$top/tools" "$top/oldstyle" "$top/KIT" "$clone/"
+    git -C "$clone" add -A
+    commit "The script as it stands"
+    : > "$FAKE_KEPT/trace"
+}
+
+commit() {
+    git -C "$clone" -c user.name=Trial -c user.email=trial@localhost \
+        commit -q --allow-empty -m "$1"
+}
+
+# run [NAME=VALUE..]: runs the script from another folder, with the words and a line of input.
+run() {
+    status=0
+    (cd "$at/here" && echo "a line" |
+        env "PATH=$tools:$PATH" "$@" "$clone/oldstyle" "${words[@]}") \
+        > "$at/out" 2> "$at/err" || status=$?
+}
+
+# Starts the same in a group of its own, as a shell with a terminal does.
+start() {
+    : > "$at/out$1"
+    set -m
+    (cd "$at/here" && exec env --default-signal=INT "PATH=$tools:$PATH" FAKE_PAUSE=0.3 \
+        "$clone/oldstyle" "${words[@]}" <<< "a line") > "$at/out$1" 2> "$at/err$1" &
+    started=$!
+    set +m
+}
+
+await() {
+    local _
+    for _ in {1..300}; do
+        ! "$@" || return 0
+        sleep 0.1
+    done
+}
+
+end_started() {
+    status=0
+    wait "$started" 2> /dev/null || status=$?
+}
+
+has_proved() { [ "$(wc -l < "$FAKE_KEPT/trace")" -ge "$1" ]; }
+ends_with() { [ "$status" = "$1" ]; }
+gives() { [ "$(cat "$at/out$1")" = "$2" ]; }
+is_run() { [ "$status" = 0 ] && gives "$1" $'word: one\nfile one\nword: two\na line'; }
+says() { grep -q -- "$1" "$at/err"; }
+says_once() { [ "$(cat "$at"/err* | grep -c -- "$1")" = 1 ]; }
+says_nothing() { [ ! -s "$at/err" ]; }
+has_no_control() { ! grep -q $'[\e\r]' "$at/err"; }
+is_proved_once() {
+    [ "$(wc -l < "$FAKE_KEPT/trace")" = "$crates" ] && [ -z "$(sort "$FAKE_KEPT/trace" | uniq -d)" ]
+}
+is_clean() {
+    local process
+    while read -r process; do
+        ! kill -0 "$process" || return 1
+    done < "$FAKE_KEPT/processes"
+    [ -z "$(ls "$TMPDIR")" ] && [ -z "$(git -C "$clone" status --short)" ]
+}

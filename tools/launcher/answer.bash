@@ -1,0 +1,206 @@
+# shellcheck shell=bash disable=SC2034,SC2154  # part of `oldstyle`
+# Answers before the proof: `rt try` of the kit runs the program without one, with checks while it
+# runs. Once the program is built it answers the same again, and both answers have to agree.
+most=1048576
+reader=""
+tried=""
+answered=""
+files=()
+words=()
+data=()
+typed=()
+feeder=""
+runs=""
+closed=""
+
+# why_no_answer WORD..: prints why these words get no answer before the proof, if they get none.
+why_no_answer() {
+    local file
+    if ! only_reads "$@"; then
+        echo "one is given to read, convert, day, month, territory, almanac, letters, audit," \
+            "replay, and serve without --save and --keep"
+    elif takes_input "$@" && [ -t 0 ]; then
+        echo "the input is a terminal; give it as < FILE, or by a pipe"
+    elif [ -n "$closed" ]; then
+        echo "standard input or output is closed"
+    elif takes_input "$@" && [ -f /dev/fd/0 ] && [ "$(stat -L -c %s /dev/fd/0)" -gt $most ]; then
+        echo "the input has more than 1 MiB"
+    else
+        while read -r -d '' file; do
+            if [ ! -f "$file" ]; then
+                echo "${file@Q} is no plain file"
+                return
+            fi
+        done < <(named_files "$@")
+    fi
+}
+
+only_reads() {
+    local word
+    for word in "$@"; do
+        [[ ! $word =~ ^--(save|keep)(=|$) ]] || return 1
+    done
+    case ${1:-} in
+        "" | read | convert | day | month | territory | almanac) ;;
+        letters | audit | replay | serve | help) ;;
+        *) asks_help "$@" ;;
+    esac
+}
+
+asks_help() {
+    local word
+    for word in "$@"; do
+        [[ ! $word =~ ^(--help|-h|--version|-V)$ ]] || return 0
+    done
+    return 1
+}
+
+takes_input() { [[ ${1:-} =~ ^(|serve|letters)$ ]] && ! asks_help "$@"; }
+
+# Prints each file that is there and that a word after the command names, ended by a zero byte.
+named_files() {
+    local word
+    for word in "${@:2}"; do
+        [[ $word != --*=* ]] || word=${word#*=}
+        word=$(cd "$from" && [ -e "$word" ] && realpath -s -- "$word") || continue
+        printf '%s\0' "$word"
+    done
+}
+
+# Begins to read the input, where the words take one; the answer follows once it has ended.
+prepare_answer() {
+    mapfile -d '' -t files < <(named_files "$@")
+    before=$(sum_of_files)
+    place_files "$@"
+    if takes_input "$@"; then
+        exec {given}<&0
+        dd bs=64K iflag=count_bytes count=$((most + 1)) status=none <&"$given" > "$room/input" &
+        reader=$!
+    else
+        : > "$room/input"
+        start_answer
+    fi
+}
+
+sum_of_files() { cat -- /dev/null "${files[@]}" 2> /dev/null | sha256sum; }
+
+# Sets `words`, those that the program gets while it is tried, and `data`. It is tried in a new
+# folder: a file gets there by its name, or the word gives the whole path.
+place_files() {
+    local word file
+    words=("${@:1:1}")
+    for word in "${@:2}"; do
+        file=$word
+        [[ $word != --*=* ]] || file=${word#*=}
+        if [[ $file != /* ]] && [ -f "$from/$file" ]; then
+            if [[ /$file =~ (/\.\.?/|//|=|^/(program|std)) ]]; then
+                word=${word%"$file"}$from/$file
+                typed+=("$file")
+            else
+                data+=(--data "$file=$from/$file")
+            fi
+        fi
+        words+=("$word")
+    done
+}
+
+start_answer() {
+    (cd "$room/copy/crates/oldstyle" && TMPDIR=$room/temporary \
+        exec rt try "${data[@]}" -- "${words[@]}") \
+        < "$room/input" > "$room/output" 2> "$room/said" &
+    tried=$!
+}
+
+# Starts the answer once the input has ended, and shows it once it is there.
+attend() {
+    if [ -n "$reader" ] && [ ! -e "$room/said" ] && has_ended "$reader"; then
+        if [ "$(stat -c %s "$room/input")" -le $most ]; then
+            start_answer
+        else
+            : > "$room/said"
+            share_evenly
+            say "no answer before the proof: the input has more than 1 MiB"
+        fi
+    fi
+    if [ -n "$tried" ] && has_ended "$tried"; then
+        take_answer
+    fi
+}
+
+has_ended() { ! kill -0 "$1" 2> /dev/null; }
+
+take_answer() {
+    local status=0
+    wait "$tried" || status=$?
+    tried=""
+    share_evenly
+    if ! grep -q '^run=ended ' "$room/said"; then
+        say "no answer before the proof: $(sed -n 's/^checked: no-answer: //p' "$room/said" |
+            grep . || echo "rt try ended with status $status")"
+        return
+    fi
+    answered=$status
+    said_by_program > "$room/errors"
+    clear_line
+    cat "$room/output" 2> /dev/null || true
+    cat "$room/errors" >&2
+    say "this answer is not proved yet: the proof of $all functions takes tens of minutes on" \
+        "$(nproc) processors, and the program then answers again; Ctrl-C ends it until the next run"
+}
+
+# Prints what the program told standard error, with the words as they were typed.
+said_by_program() {
+    local said file
+    said=$(sed -e '/^checked: ended/,$d' -e '/^rt: /d' "$room/said")
+    for file in "${typed[@]}"; do
+        said=${said//"$from/$file"/"$file"}
+    done
+    [ -z "$said" ] || echo "$said"
+}
+
+# answer_again WORD..: has the program answer the same, and ends with its status if both agree.
+answer_again() {
+    local status=0 folder=$out/answers
+    if [ "$before" != "$(sum_of_files)" ]; then
+        say "built; a file that the words name was changed since the answer, which is not compared"
+        exit "$answered"
+    fi
+    (cd "$from" && exec "$program" "$@") \
+        < "$room/input" > "$room/proved_output" 2> "$room/proved_errors" || status=$?
+    if [ "$status" = "$answered" ] && cmp -s "$room/output" "$room/proved_output" &&
+        cmp -s "$room/errors" "$room/proved_errors"; then
+        say "the program, now proved, gives the same answer"
+        exit "$status"
+    fi
+    rm -rf "$folder" && mkdir "$folder" &&
+        cp "$room/output" "$room/errors" "$room"/proved_* "$folder"
+    refuse "the program, now proved, gives ANOTHER ANSWER, with status $status for $answered:" \
+        "compare output and errors with proved_output and proved_errors in $folder"
+}
+
+# run_on_input WORD..: runs the program on what was read by now and on what follows.
+run_on_input() {
+    local status=0
+    trap 'exit 130' INT TERM HUP PIPE
+    exec {turn}<&-
+    mkfifo "$room/pipe"
+    feed > "$room/pipe" &
+    feeder=$!
+    (cd "$from" && exec env --default-signal=INT,QUIT "$program" "$@") < "$room/pipe" &
+    runs=$!
+    wait "$runs" || status=$?
+    runs=""
+    exit "$status"
+}
+
+# Passes on what was read, for as long as it is being read, and then what is left.
+feed() {
+    local part
+    trap 'kill "$part"; exit' TERM
+    tail -c +1 -f -s 0.1 --pid="$reader" "$room/input" &
+    part=$!
+    wait "$part" || return
+    cat <&"$given" &
+    part=$!
+    wait "$part"
+}

@@ -1,0 +1,30 @@
+# shellcheck shell=bash disable=SC2034,SC2154  # part of `oldstyle`
+# Puts the program, its manual and the samples under a folder; there it needs neither the kit nor
+# this repository.
+
+# install_program PREFIX: an empty one stands for ~/.local.
+install_program() {
+    local to=${1:-${HOME:+$HOME/.local}}
+    [ -n "$to" ] ||
+        refuse "there is no home folder: name a folder, as ./oldstyle install /usr/local"
+    [[ $to == /* ]] || to=$from/$to
+    put_under "$to" || refuse "it can't be installed under $to:" \
+        "name a folder that you may write to, as ./oldstyle install FOLDER"
+    say "installed under $to:" \
+        "bin/oldstyle, share/man/man1/oldstyle.1 and share/oldstyle/examples"
+    [[ :$PATH: == *":$to/bin:"* ]] ||
+        say "$to/bin is not on the PATH: add it, or start $to/bin/oldstyle"
+}
+
+# The samples' own scripts find the program beside their folder.
+put_under() {
+    local sample mode
+    install -D -m 755 -t "$1/bin" "$program" &&
+        install -D -m 644 -t "$1/share/man/man1" docs/oldstyle.1 || return
+    for sample in examples/*; do
+        mode=644
+        [ ! -x "$sample" ] || mode=755
+        install -D -m $mode -t "$1/share/oldstyle/examples" "$sample" || return
+    done
+    ln -sfn ../../bin/oldstyle "$1/share/oldstyle/oldstyle"
+}
