@@ -10,6 +10,7 @@ permissions are taken away, which changes nothing either; or another program mov
 another one in its place, cuts it or adds to it. Then the run ends by the fault that says so, tells
 no edition that is sent after that, and the file that it kept has each edition that it told before.
 Two runs that save to one path at once are tried too: one is refused, and nothing is left beside it.
+So is a run that saves to the file that it loaded, where another program has changed its bytes.
 The status is 1 where something went otherwise.
 """
 import os
@@ -145,10 +146,33 @@ def try_savers(folder):
     print("two runs that save to one path: the second is refused", flush=True)
 
 
+def try_changed(folder):
+    """A run that saves to the file that it loaded, which someone else has changed meanwhile."""
+    path = os.path.join(folder, "changed.journal")
+    with open(path, "w", encoding="utf-8") as file:
+        file.write(HEAD + "\n")
+    words = [PROGRAM, "serve", "--journal", path, "--save", path]
+    with subprocess.Popen(words, stdin=subprocess.PIPE, stdout=subprocess.PIPE,
+                          stderr=subprocess.PIPE) as saver:
+        saver.stdin.write((compact(land(0)) + "\n").encode())
+        saver.stdin.flush()
+        hold("the saver is not answered", b"staged" in saver.stdout.readline())
+        with open(path, "r+", encoding="utf-8") as file:
+            file.write(HEAD.replace("2", "1"))
+        told = saver.communicate()[1].decode()
+    hold(f"a changed file is replaced: {saver.returncode} {told!r}",
+         saver.returncode == 3 and told.startswith("oldstyle: the file has changed meanwhile"))
+    hold("the changed file is not left", journal_lines(path)[0] == [HEAD.replace("2", "1")])
+    beside = told.rstrip("\n").rsplit(" ", 1)[-1]
+    hold("the journal is not beside it", journal_lines(beside)[0] == [HEAD, compact(land(0))])
+    print("a file that was changed since it was loaded is left as it is", flush=True)
+
+
 def main():
     with tempfile.TemporaryDirectory() as folder:
         try_runs(folder)
         try_savers(folder)
+        try_changed(folder)
     sys.exit(1 if faults else 0)
 
 

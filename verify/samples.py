@@ -97,8 +97,8 @@ def later_digits(year, count):
     return f"{year:0{count}}"[-count:]
 
 
-MALFORMED = ["11 February 1731/5", "11 February 1731/", "1731/33-02-11", "11 Febuary 1731", "1731",
-             "11  February 1731", "Fryday 11 February 1731", "1731-13-01", "1731-02-32",
-             "1731-00-01", "10001-01-01", "1731-02", "0 February 1731", "11 February 1731/x", "x"]
+MALFORMED = ["11 February 1731/5", "11 February 1731/", "1731/33-02-11", "11 Febuary 1731", "11 1731",
+             "11  Febuary 1731", "Fryday 11 February 1731", "1731-13-01", "1731-02-32",
+             "1731-00-01", "10001-01-01", "1731-02-", "0 February 1731", "11 February 1731/z", "z"]
 
 

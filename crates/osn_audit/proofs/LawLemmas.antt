@@ -10,7 +10,7 @@ use Rattle.std.proofs.lemmas.List.{length-set, get_or-set_same}
 use Rattle.std.proofs.lemmas.Slice.Eq.{bytes_eq-Decides}
 use Rattle.serde_json.specs.Data.{Data}
 use Rattle.serde_json.specs.Written.{has_float}
-use Rattle.osn_days.specs.Profile.{Profile, newest_rules}
+use Rattle.osn_days.specs.Profile.{newest_rules}
 use Rattle.osn_register.specs.declared.limits.Limits.{Limits}
 use Rattle.osn_lines.specs.Lines.{lines}
 use Rattle.osn_core.specs.History.{NeverFalls}
@@ -32,33 +32,32 @@ use Rattle.osn_audit.specs.Law.{Agrees, entry_of, IsAnswered, edition_told, edit
 use Rattle.osn_audit.proofs.EntryLemmas.{CountedEntry, entry_counted}
 
 -- what an entry that agrees shows
-record Holds (p : Profile) (s : ObjectState) (last : List ℕ) (e : TranscriptLine) (next : List ℕ) :
-    Type 0 where
+record Holds (s : ObjectState) (last : List ℕ) (e : TranscriptLine) (next : List ℕ) : Type 0 where
   there : e.edition ≤ length s.batches
   forward : last_of last e.reader ≤ e.edition
-  agrees : has_line e.reply (line_due p s e) ≡ true
+  agrees : has_line e.reply (line_due s e) ≡ true
   next_is : set last (e.reader - 1) e.edition ≡ next
 
-Holds-by : (p : Profile) (s : ObjectState) (last : List ℕ) (e : TranscriptLine) (next : List ℕ)
+Holds-by : (s : ObjectState) (last : List ℕ) (e : TranscriptLine) (next : List ℕ)
     (a b c : Bool) → nat_lt (length s.batches) e.edition ≡ a
-    → nat_lt e.edition (last_of last e.reader) ≡ b → has_line e.reply (line_due p s e) ≡ c
+    → nat_lt e.edition (last_of last e.reader) ≡ b → has_line e.reply (line_due s e) ≡ c
     → ((if a then Err UnknownEdition else (if b then Err EditionFell else Ok e.edition))
     >>= λ edition. (if c then Ok e.reply else Err WrongReply)
     >>= λ reply. Ok (set last (e.reader - 1) e.edition)) ≡ Ok next
-    → Holds p s last e next
-Holds-by p s last e next true b c there forward agrees h = absurd (cc)
-Holds-by p s last e next false true c there forward agrees h = absurd (cc)
-Holds-by p s last e next false false false there forward agrees h = absurd (cc)
-Holds-by p s last e next false false true there forward agrees h = record {
+    → Holds s last e next
+Holds-by s last e next true b c there forward agrees h = absurd (cc)
+Holds-by s last e next false true c there forward agrees h = absurd (cc)
+Holds-by s last e next false false false there forward agrees h = absurd (cc)
+Holds-by s last e next false false true there forward agrees h = record {
   there = ltb-false (length s.batches) e.edition there;
   forward = ltb-false e.edition (last_of last e.reader) forward;
   agrees = agrees;
   next_is = cc;
 }
 
-Holds-entry : (p : Profile) (s : ObjectState) (last : List ℕ) (e : TranscriptLine) (next : List ℕ)
-    → after_entry p s last e ≡ Ok next → Holds p s last e next
-Holds-entry p s last e next h = Holds-by p s last e next _ _ _ refl refl refl h
+Holds-entry : (s : ObjectState) (last : List ℕ) (e : TranscriptLine) (next : List ℕ)
+    → after_entry s last e ≡ Ok next → Holds s last e next
+Holds-entry s last e next h = Holds-by s last e next _ _ _ refl refl refl h
 
 -- a reply that has a line has no float, and is written so
 no_float_by : (a b : Bool) → (not a && b) ≡ true → a ≡ false
@@ -87,9 +86,9 @@ All-cons P x xs h rest zero d within = h
 All-cons P x xs h rest (suc k) d within = rest k d (omega (arith, within))
 
 -- the lines are answered, and from the editions of the last replies on none falls
-abbrev Follows : Profile → ObjectState → List ℕ → List (List ℕ) → Type 0
-Follows p s last ls =
-    All (IsAnswered p s) ls
+abbrev Follows : ObjectState → List ℕ → List (List ℕ) → Type 0
+Follows s last ls =
+    All (IsAnswered s) ls
     × ((reader : ℕ) → NeverFalls (last_of last reader) (editions_told reader ls))
 
 -- a reader's editions don't fall by an entry
@@ -111,22 +110,22 @@ forward_by reader last e rest false is within order h =
     (set_up last (e.reader - 1) (reader - 1) e.edition order) h
 
 -- an entry that agrees, and what follows it
-with_entry : (p : Profile) (s : ObjectState) (last next line : List ℕ) (ls : List (List ℕ))
-    (e : TranscriptLine) → length last ≡ 64 → entry_of line ≡ Ok e → Holds p s last e next
-    → Follows p s next ls → Follows p s last (line ∷ ls)
-with_entry p s last next line ls e count says holds rest =
+with_entry : (s : ObjectState) (last next line : List ℕ) (ls : List (List ℕ)) (e : TranscriptLine)
+    → length last ≡ 64 → entry_of line ≡ Ok e → Holds s last e next
+    → Follows s next ls → Follows s last (line ∷ ls)
+with_entry s last next line ls e count says holds rest =
     let known = subst CountedEntry says (entry_counted line) in
     let within : e.reader - 1 < length last = omega (arith, count, known.0, known.1) in (
-      All-cons (IsAnswered p s) line ls
+      All-cons (IsAnswered s) line ls
           (record {
             entry = e;
             says = says;
             there = holds.there;
             no_float = no_float_by (has_float e.reply)
-                (bytes_eq (line_of e.reply) (line_due p s e)) holds.agrees;
-            reply = (bytes_eq-Decides (line_of e.reply) (line_due p s e)).0
+                (bytes_eq (line_of e.reply) (line_due s e)) holds.agrees;
+            reply = (bytes_eq-Decides (line_of e.reply) (line_due s e)).0
                 (written_by (has_float e.reply)
-                (bytes_eq (line_of e.reply) (line_due p s e)) holds.agrees);
+                (bytes_eq (line_of e.reply) (line_due s e)) holds.agrees);
           })
           rest.0,
       λ reader.
@@ -139,61 +138,59 @@ with_entry p s last next line ls e count says holds rest =
     )
 
 -- lines that agree from here on, where the first has this number
-abbrev agree_from : Profile → ObjectState → ℕ → List ℕ → List (List ℕ)
-    → Result (List ℕ) (ℕ × LineFault)
-agree_from p s k last ls = in_turn (after_object p s) k (Some newest_version) last ls
+abbrev agree_from : ObjectState → ℕ → List ℕ → List (List ℕ) → Result (List ℕ) (ℕ × LineFault)
+agree_from s k last ls = in_turn (after_object s) k (Some newest_version) last ls
 
-entry_made : (p : Profile) (s : ObjectState) (last : List ℕ) (r : Result Data WireFault)
-    → on_read r (after_object p s newest_version last)
-    ≡ on_read (r >>= entry_in >>= after_entry p s last) Ok
-entry_made p s last (Ok d) = refl
-entry_made p s last (Err f) = refl
+entry_made : (s : ObjectState) (last : List ℕ) (r : Result Data WireFault)
+    → on_read r (after_object s newest_version last)
+    ≡ on_read (r >>= entry_in >>= after_entry s last) Ok
+entry_made s last (Ok d) = refl
+entry_made s last (Err f) = refl
 
-by_next : (p : Profile) (s : ObjectState) (k : ℕ) (last final line : List ℕ) (ls : List (List ℕ))
+by_next : (s : ObjectState) (k : ℕ) (last final line : List ℕ) (ls : List (List ℕ))
     (e : TranscriptLine) → length last ≡ 64 → entry_of line ≡ Ok e
     → ((next : List ℕ) → length next ≡ 64
-    → agree_from p s (k + 1) next ls ≡ Ok final → Follows p s next ls)
-    → (r : Result (List ℕ) WireFault) → after_entry p s last e ≡ r
-    → go_on k (on_read r Ok) (λ t. agree_from p s (k + 1) t ls) ≡ Ok final
-    → Follows p s last (line ∷ ls)
-by_next p s k last final line ls e count says rest (Err f) is h = absurd (cc)
-by_next p s k last final line ls e count says rest (Ok next) is h =
-    let holds = Holds-entry p s last e next is in
+    → agree_from s (k + 1) next ls ≡ Ok final → Follows s next ls)
+    → (r : Result (List ℕ) WireFault) → after_entry s last e ≡ r
+    → go_on k (on_read r Ok) (λ t. agree_from s (k + 1) t ls) ≡ Ok final
+    → Follows s last (line ∷ ls)
+by_next s k last final line ls e count says rest (Err f) is h = absurd (cc)
+by_next s k last final line ls e count says rest (Ok next) is h =
+    let holds = Holds-entry s last e next is in
     let counted : length next ≡ 64 =
     ap length (sym holds.next_is) ∙ (length-set last (e.reader - 1) e.edition ∙ count) in
-    with_entry p s last next line ls e count says holds (rest next counted h)
+    with_entry s last next line ls e count says holds (rest next counted h)
 
-by_entry : (p : Profile) (s : ObjectState) (k : ℕ) (last final line : List ℕ) (ls : List (List ℕ))
+by_entry : (s : ObjectState) (k : ℕ) (last final line : List ℕ) (ls : List (List ℕ))
     → length last ≡ 64
     → ((next : List ℕ) → length next ≡ 64
-    → agree_from p s (k + 1) next ls ≡ Ok final → Follows p s next ls)
+    → agree_from s (k + 1) next ls ≡ Ok final → Follows s next ls)
     → (r : Result TranscriptLine WireFault) → entry_of line ≡ r
-    → go_on k (on_read (r >>= after_entry p s last) Ok) (λ t. agree_from p s (k + 1) t ls)
-    ≡ Ok final
-    → Follows p s last (line ∷ ls)
-by_entry p s k last final line ls count rest (Err f) is h = absurd (cc)
-by_entry p s k last final line ls count rest (Ok e) is h =
-    by_next p s k last final line ls e count is rest (after_entry p s last e) refl h
+    → go_on k (on_read (r >>= after_entry s last) Ok) (λ t. agree_from s (k + 1) t ls) ≡ Ok final
+    → Follows s last (line ∷ ls)
+by_entry s k last final line ls count rest (Err f) is h = absurd (cc)
+by_entry s k last final line ls count rest (Ok e) is h =
+    by_next s k last final line ls e count is rest (after_entry s last e) refl h
 
-none_follow : (p : Profile) (s : ObjectState) (i : ℕ) (d : List ℕ) → i < 0
-    → IsAnswered p s (get_or [] i d)
-none_follow p s i d within = absurd (omega (arith, within))
+none_follow : (s : ObjectState) (i : ℕ) (d : List ℕ) → i < 0
+    → IsAnswered s (get_or [] i d)
+none_follow s i d within = absurd (omega (arith, within))
 
-pub follows : (p : Profile) (s : ObjectState) (k : ℕ) (last final : List ℕ) (ls : List (List ℕ))
-    → length last ≡ 64 → agree_from p s k last ls ≡ Ok final → Follows p s last ls
-follows p s k last final [] count h = (λ i d within. none_follow p s i d within, λ reader. tt)
-follows p s k last final (line ∷ ls) count h =
-    by_entry p s k last final line ls count
-    (λ next counted go. follows p s (k + 1) next final ls counted go) (entry_of line) refl
-    (sym (ap (λ r. go_on k r (λ t. agree_from p s (k + 1) t ls))
-    (entry_made p s last (object_of line))) ∙ h)
+pub follows : (s : ObjectState) (k : ℕ) (last final : List ℕ) (ls : List (List ℕ))
+    → length last ≡ 64 → agree_from s k last ls ≡ Ok final → Follows s last ls
+follows s k last final [] count h = (λ i d within. none_follow s i d within, λ reader. tt)
+follows s k last final (line ∷ ls) count h =
+    by_entry s k last final line ls count
+    (λ next counted go. follows s (k + 1) next final ls counted go) (entry_of line) refl
+    (sym (ap (λ r. go_on k r (λ t. agree_from s (k + 1) t ls))
+    (entry_made s last (object_of line))) ∙ h)
 
-agrees_by : (p : Profile) (s : ObjectState) (ls : List (List ℕ)) (n : ℕ)
-    (r : Result (List ℕ) (ℕ × LineFault)) → after_lines p s ls ≡ r
-    → counted (length ls) r ≡ Ok n → (n ≡ length ls) × Agrees p s ls
-agrees_by p s ls n (Err f) is h = absurd (cc)
-agrees_by p s ls n (Ok final) is h =
-    let all = follows p s 1 no_replies final ls refl is in (
+agrees_by : (s : ObjectState) (ls : List (List ℕ)) (n : ℕ)
+    (r : Result (List ℕ) (ℕ × LineFault)) → after_lines s ls ≡ r
+    → counted (length ls) r ≡ Ok n → (n ≡ length ls) × Agrees s ls
+agrees_by s ls n (Err f) is h = absurd (cc)
+agrees_by s ls n (Ok final) is h =
+    let all = follows s 1 no_replies final ls refl is in (
       cc,
       record {
         answered = all.0;
@@ -205,12 +202,12 @@ agrees_by p s ls n (Ok final) is h =
 -- what an audit's yes says, where both inputs are known
 pub agreed_on : (limits : Limits) (journal transcript : Option (List ℕ)) (s : ObjectState) (n : ℕ)
     → IfSome journal (λ edits. load newest_rules limits (lines edits) ≡ Ok s)
-    → IfSome transcript (λ told. agreed_lines newest_rules s (lines told) ≡ Ok n)
+    → IfSome transcript (λ told. agreed_lines s (lines told) ≡ Ok n)
     → IfSome journal (λ edits. IfSome transcript (λ told. (n ≡ length (lines told))
     × (object : ObjectState) × (load newest_rules limits (lines edits) ≡ Ok object)
-    × Agrees newest_rules object (lines told)))
+    × Agrees object (lines told)))
 agreed_on limits None transcript s n loaded agrees = tt
 agreed_on limits (Some edits) None s n loaded agrees = tt
 agreed_on limits (Some edits) (Some told) s n loaded agrees =
-    let all = agrees_by newest_rules s (lines told) n _ refl agrees in
+    let all = agrees_by s (lines told) n _ refl agrees in
     (all.0, s, loaded, all.1)

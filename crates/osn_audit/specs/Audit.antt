@@ -7,7 +7,7 @@ use Rattle.std.specs.Str.{bytes_eq}
 use Rattle.serde_json.specs.Data.{Data}
 use Rattle.serde_json.specs.Find.{get}
 use Rattle.serde_json.specs.Written.{has_float}
-use Rattle.osn_days.specs.Profile.{Profile}
+use Rattle.osn_days.specs.Profile.{newest_rules}
 use Rattle.osn_register.specs.declared.query.Query.{Query}
 use Rattle.osn_core.specs.Sequential.{ObjectState, reply_at}
 use Rattle.osn_format.specs.declared.member.Member.{Member}
@@ -62,9 +62,9 @@ known_edition editions last edition =
     else (if nat_lt edition last then Err EditionFell else Ok edition)
 
 -- the line of the reply to the query under the edition
-abbrev pub line_due : Profile → ObjectState → TranscriptLine → List ℕ
-line_due p s e = reply_line
-    (Replied e.reader (reply_at p s.limits (take e.edition s.batches) e.query))
+abbrev pub line_due : ObjectState → TranscriptLine → List ℕ
+line_due s e = reply_line
+    (Replied e.reader (reply_at newest_rules s.limits (take e.edition s.batches) e.query))
 
 -- a reply has this line, which has no number that is read as a float: for such a number no text is
 -- laid down
@@ -78,17 +78,23 @@ agreed reply line = if has_line reply line then Ok reply else Err WrongReply
 abbrev pub last_of : List ℕ → ℕ → ℕ
 last_of last reader = slice_index last (reader - 1)
 
--- the editions of the readers' last replies, with that of an entry, or why it is refused
-abbrev pub after_entry : Profile → ObjectState → List ℕ → TranscriptLine → Result (List ℕ) WireFault
-after_entry p s last e =
+-- an entry that may be held against the object: its edition is one that its reader may be told, and
+-- its reply has no number that is read as a float
+abbrev pub checked : ObjectState → List ℕ → TranscriptLine → Result TranscriptLine WireFault
+checked s last e =
     known_edition (length s.batches) (last_of last e.reader) e.edition
-    >>= λ edition. agreed e.reply (line_due p s e)
+    >>= λ edition. if has_float e.reply then Err WrongReply else Ok e
+
+-- the editions of the readers' last replies, with that of an entry, or why it is refused
+abbrev pub after_entry : ObjectState → List ℕ → TranscriptLine → Result (List ℕ) WireFault
+after_entry s last e =
+    known_edition (length s.batches) (last_of last e.reader) e.edition
+    >>= λ edition. agreed e.reply (line_due s e)
     >>= λ reply. Ok (slice_set last (e.reader - 1) e.edition)
 
 -- the same for the object of a line
-abbrev pub after_object : Profile → ObjectState → Version → List ℕ → Data
-    → Result (List ℕ) LineFault
-after_object p s version last d = on_read (entry_in d >>= after_entry p s last) Ok
+abbrev pub after_object : ObjectState → Version → List ℕ → Data → Result (List ℕ) LineFault
+after_object s version last d = on_read (entry_in d >>= after_entry s last) Ok
 
 -- no reader has a reply
 abbrev pub no_replies : List ℕ
@@ -96,13 +102,13 @@ no_replies = replicate most_readers 0
 
 -- the editions of the readers' last replies after the lines of a transcript, or the first fault and
 -- the number of its line, counted from 1
-abbrev pub after_lines : Profile → ObjectState → List (List ℕ) → Result (List ℕ) (ℕ × LineFault)
-after_lines p s = in_turn (after_object p s) 1 (Some newest_version) no_replies
+abbrev pub after_lines : ObjectState → List (List ℕ) → Result (List ℕ) (ℕ × LineFault)
+after_lines s = in_turn (after_object s) 1 (Some newest_version) no_replies
 
 abbrev pub counted : ℕ → Result (List ℕ) (ℕ × LineFault) → Result ℕ (ℕ × LineFault)
 counted n (Ok last) = Ok n
 counted n (Err f) = Err f
 
 -- how many lines of a transcript agree, which is all of them, or the first fault
-abbrev pub agreed_lines : Profile → ObjectState → List (List ℕ) → Result ℕ (ℕ × LineFault)
-agreed_lines p s transcript = counted (length transcript) (after_lines p s transcript)
+abbrev pub agreed_lines : ObjectState → List (List ℕ) → Result ℕ (ℕ × LineFault)
+agreed_lines s transcript = counted (length transcript) (after_lines s transcript)

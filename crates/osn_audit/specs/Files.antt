@@ -1,6 +1,6 @@
 -- What an audit of two files gives.
 use Rattle.std.specs.Prelude.{◌≡◌, ◌⊎◌, ℕ, Bool, List, Option, Result, Ok, Err}
-use Rattle.osn_days.specs.Profile.{Profile}
+use Rattle.osn_days.specs.Profile.{newest_rules}
 use Rattle.osn_register.specs.declared.limits.Limits.{Limits}
 use Rattle.osn_core.specs.Sequential.{ObjectState}
 use Rattle.osn_files.specs.declared.fault.FileFault.{FileFault}
@@ -12,17 +12,17 @@ use Rattle.osn_audit.specs.Audit.{agreed_lines}
 -- The journal is read first, as a call that loads it does. Where that fails, its fault is the
 -- audit's, and nothing of the transcript is read. Where it gives an object, the transcript is read,
 -- up to the first line that does not agree with that.
-abbrev pub AuditsFiles : {R S : Type 0} → Profile → Limits → Result ℕ FileFault
+abbrev pub AuditsFiles : {R S : Type 0} → Limits → Result ℕ FileFault
     → (R → Option (List ℕ)) → (R → Bool) → R → R
     → (S → Option (List ℕ)) → (S → Bool) → S → S → Type 0
-AuditsFiles p limits result journal_remaining journal_failed journal_old journal_new
+AuditsFiles limits result journal_remaining journal_failed journal_old journal_new
     transcript_remaining transcript_failed transcript_old transcript_new =
     ((fault : FileFault) × (result ≡ Err fault)
-    × ReadsFile Journal (load p limits) (λ object. object) (Err fault)
+    × ReadsFile Journal (load newest_rules limits) (λ object. object) (Err fault)
     journal_remaining journal_failed journal_old journal_new
     × (transcript_new ≡ transcript_old))
     ⊎ ((object : ObjectState)
-    × ReadsFile Journal (load p limits) (λ object. object) (Ok object)
+    × ReadsFile Journal (load newest_rules limits) (λ object. object) (Ok object)
     journal_remaining journal_failed journal_old journal_new
-    × ReadsFile Transcript (agreed_lines p object) (λ n. n) result
+    × ReadsFile Transcript (agreed_lines object) (λ n. n) result
     transcript_remaining transcript_failed transcript_old transcript_new)

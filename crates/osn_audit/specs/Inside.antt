@@ -1,9 +1,15 @@
 -- A line of a transcript as it is read.
 use Rattle.serde_json.specs.View.{view}
+use Rattle.osn_register.specs.BorrowedQuery.{as_query}
 use Rattle.osn_audit.specs.declared.transcript_line.TranscriptLine.{TranscriptLine}
 use Rattle.osn_audit.specs.Audit as spec
 
 -- what a line that was read says
 abbrev pub entry_shown : TranscriptLine → spec.TranscriptLine
 entry_shown e =
-    record { reader = e.reader; query = e.query; edition = e.edition; reply = view e.reply.now }
+    record {
+      reader = e.reader;
+      query = as_query e.query;
+      edition = e.edition;
+      reply = view e.reply.now;
+    }

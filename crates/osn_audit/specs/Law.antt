@@ -4,7 +4,6 @@ use Rattle.std.specs.Prelude.{◌≡◌, ◌≤◌, ℕ, ◌==◌, if◌then◌e
 use Rattle.std.specs.Prelude.{false, Result, Ok, Err}
 use Rattle.std.specs.List.{All}
 use Rattle.serde_json.specs.Written.{has_float}
-use Rattle.osn_days.specs.Profile.{Profile}
 use Rattle.osn_core.specs.History.{NeverFalls}
 use Rattle.osn_core.specs.Sequential.{ObjectState}
 use Rattle.osn_format.specs.declared.wire_fault.WireFault.{WireFault}
@@ -19,12 +18,12 @@ entry_of line = object_of line >>= entry_in
 
 -- a line is a query with a reply, and the reply, written with no space, is the line of the object's
 -- reply to the query after the first batches, as many as the edition that it names
-pub record IsAnswered (p : Profile) (s : ObjectState) (line : List ℕ) : Type 0 where
+pub record IsAnswered (s : ObjectState) (line : List ℕ) : Type 0 where
   pub entry : TranscriptLine
   pub says : entry_of line ≡ Ok entry
   pub there : entry.edition ≤ length s.batches
   pub no_float : has_float entry.reply ≡ false
-  pub reply : line_of entry.reply ≡ line_due p s entry
+  pub reply : line_of entry.reply ≡ line_due s entry
 
 -- the editions that a reader is told in the lines, in order
 abbrev pub edition_told : ℕ → Result TranscriptLine WireFault → List ℕ
@@ -37,6 +36,6 @@ editions_told reader (line ∷ rest) =
     edition_told reader (entry_of line) ++ editions_told reader rest
 
 -- each line is answered, and no reader's editions fall
-pub record Agrees (p : Profile) (s : ObjectState) (lines : List (List ℕ)) : Type 0 where
-  pub answered : All (IsAnswered p s) lines
+pub record Agrees (s : ObjectState) (lines : List (List ℕ)) : Type 0 where
+  pub answered : All (IsAnswered s) lines
   pub forward : (reader : ℕ) → NeverFalls 0 (editions_told reader lines)

@@ -1,8 +1,10 @@
 //! A line of a transcript, held against the journal.
-ghost use Rattle.std.specs.Prelude.{◌≡◌, ◌<◌, ◌≤◌, ◌-◌, Ok, IfOk, IfErr, OnOk};
-ghost use Rattle.std.specs.Prelude.{length, slice_set, take};
+ghost use Rattle.std.specs.Prelude.{◌≡◌, ◌<◌, ◌≤◌, ◌-◌, Ok, Err, IfOk, IfErr, OnOk, is_ok};
+ghost use Rattle.std.specs.Prelude.{true, false, length, slice_set, take};
 ghost use Rattle.serde_json.specs.View.{view};
+ghost use Rattle.serde_json.specs.Written.{has_float as spec_has_float};
 ghost use Rattle.osn_days.specs.Profile.{newest_rules};
+ghost use Rattle.osn_register.specs.BorrowedQuery.{as_query};
 ghost use Rattle.osn_core.specs.Sequential.{reply_at};
 ghost use Rattle.osn_reply.specs.declared.outcome.Outcome.TheVariants.{Replied};
 ghost use Rattle.osn_request.specs.Request.{Fails};
@@ -20,13 +22,11 @@ use osn_request::RequestError;
 use serde_json::Value;
 use std::alloc::{AllocError, Global};
 
-/// Whether a reply, written with no space, has this line.
+/// Whether a reply with no float, written with no space, has this line.
 fn has_line(alloc: Global, reply: &Value, line: &[u8]) -> Result<bool, AllocError>
+    requires { spec_has_float (view reply.now) ≡ false }
     ensures { IfOk result (λ b. b ≡ spec.has_line (view reply.now) line.now) }
 {
-    if has_float(reply) {
-        return Ok(false);
-    }
     let mut text = reply.to_vec(alloc)?;
     text.push(b'\n')?;
     Ok(text.as_slice() == line)
@@ -41,12 +41,12 @@ fn outcome_due(followers: &mut Followers, entry: &TranscriptLine) -> Result<Outc
         ≡ Ok entry.now.edition }
     ensures outcome { IfOk result (λ o. o ≡ Replied entry.now.reader (reply_at newest_rules
         followers.old.object.limits (take entry.now.edition followers.old.object.batches)
-        entry.now.query)) }
+        (as_query entry.now.query))) }
     ensures last { OnOk result (followers.new.last
         ≡ slice_set followers.old.last (entry.now.reader - 1) entry.now.edition) }
     ensures object { followers.new.object ≡ followers.old.object }
 {
-    let reply = followers.ask(entry.reader, entry.edition, &entry.query)?;
+    let reply = followers.ask(entry.reader, entry.edition, entry.query)?;
     Ok(Outcome::Replied {
         reader: entry.reader,
         reply,
@@ -67,7 +67,7 @@ fn put_line_due(
         (spec.last_of followers.old.last entry.now.reader) entry.now.edition
         ≡ Ok entry.now.edition }
     ensures line { OnOk result (line.new.items
-        ≡ spec.line_due newest_rules followers.old.object (entry_shown entry.now)) }
+        ≡ spec.line_due followers.old.object (entry_shown entry.now)) }
     ensures last { OnOk result (followers.new.last
         ≡ slice_set followers.old.last (entry.now.reader - 1) entry.now.edition) }
     ensures object { followers.new.object ≡ followers.old.object }
@@ -77,10 +77,32 @@ fn put_line_due(
     push_reply(alloc, &outcome, line)
 }
 
+/// Whether an entry may be held against the journal: its edition is one that its reader may be told
+/// now, and its reply has no float. This takes no memory.
+fn check_entry(followers: &Followers, entry: &TranscriptLine) -> Result<(), WireFault>
+    requires counted { 0 < entry.now.reader }
+    requires known { entry.now.reader ≤ MOST_READERS }
+    ensures fault { IfErr result (λ f. spec.after_entry followers.now.object
+        followers.now.last (entry_shown entry.now) ≡ Err f) }
+    ensures checked { OnOk result (is_ok (spec.checked followers.now.object followers.now.last
+        (entry_shown entry.now)) ≡ true) }
+    ensures edition { OnOk result (spec.known_edition (length followers.now.object.batches)
+        (spec.last_of followers.now.last entry.now.reader) entry.now.edition
+        ≡ Ok entry.now.edition) }
+    ensures no_float { OnOk result (spec_has_float (view entry.now.reply.now) ≡ false) }
+{
+    followers.check(entry.reader, entry.edition)?;
+    if has_float(entry.reply) {
+        return Err(WireFault::WrongReply);
+    }
+    Ok(())
+}
+
 /// Holds an entry against the journal. The line that is due stands in the room of the one before.
 ///
 /// # Errors
-/// The entry's fault; want of memory, where its edition is one that its reader may be told.
+/// The entry's fault; want of memory, where its edition is one that its reader may be told and its
+/// reply has no float.
 pub(crate) fn take_entry(
     alloc: Global,
     followers: &mut Followers,
@@ -89,17 +111,15 @@ pub(crate) fn take_entry(
 ) -> Result<(), RequestError>
     requires counted { 0 < entry.now.reader }
     requires known { entry.now.reader ≤ MOST_READERS }
-    ensures ok { OnOk result (spec.after_entry newest_rules followers.old.object followers.old.last
+    ensures ok { OnOk result (spec.after_entry followers.old.object followers.old.last
         (entry_shown entry.now) ≡ Ok followers.new.last) }
-    ensures err { IfErr result (λ e. Fails e (spec.after_entry newest_rules followers.old.object
+    ensures err { IfErr result (λ e. Fails e (spec.after_entry followers.old.object
         followers.old.last (entry_shown entry.now))) }
-    ensures memory { IfErr result (λ e. e ≡ NoMemory
-        → spec.known_edition (length followers.old.object.batches)
-        (spec.last_of followers.old.last entry.now.reader) entry.now.edition
-        ≡ Ok entry.now.edition) }
+    ensures memory { IfErr result (λ e. e ≡ NoMemory → is_ok (spec.checked followers.old.object
+        followers.old.last (entry_shown entry.now)) ≡ true) }
     ensures object { OnOk result (followers.new.object ≡ followers.old.object) }
 {
-    followers.check(entry.reader, entry.edition)?;
+    check_entry(followers, entry)?;
     put_line_due(alloc, followers, due, entry)?;
     if !has_line(alloc, entry.reply, due)? {
         return Err(RequestError::Fault(WireFault::WrongReply));

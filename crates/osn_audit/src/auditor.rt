@@ -34,15 +34,18 @@ impl Auditor {
 }
 
 impl LineFold for Auditor {
-    ghost use Rattle.std.specs.Prelude.{ℕ, List};
-    ghost use Rattle.osn_days.specs.Profile.{newest_rules};
-    ghost use Rattle.osn_audit.specs.Audit.{after_object};
+    ghost use Rattle.std.specs.Prelude.{ℕ, List, is_ok};
+    ghost use Rattle.osn_request.specs.Field.{◌>>=◌};
+    ghost use Rattle.osn_audit.specs.Audit.{after_object, checked, entry_in};
 
     ghost State = { List ℕ };
 
     ghost state = { λ auditor. auditor.followers.last };
 
-    ghost step = { λ auditor. after_object newest_rules auditor.followers.object };
+    ghost step = { λ auditor. after_object auditor.followers.object };
+
+    ghost is_formed = { λ auditor _ d.
+        is_ok (entry_in d >>= checked auditor.followers.object auditor.followers.last) };
 
     fn take_object(
         &mut self,
@@ -50,7 +53,7 @@ impl LineFold for Auditor {
         _version: Version,
         object: &LineObject<'_>,
     ) -> Result<(), LineStop> {
-        let entry = entry_in(alloc, object)?;
+        let entry = entry_in(object)?;
         take_entry(alloc, &mut self.followers, &mut self.due, &entry)?;
         Ok(())
     }

@@ -1,12 +1,13 @@
 //! A register that goes on from edition to edition.
 ghost use Rattle.std.specs.Prelude.{◌≡◌, ◌≤◌, [], IfOk, OnOk, length, take};
 ghost use Rattle.osn_days.specs.Profile.{newest_rules};
+ghost use Rattle.osn_register.specs.BorrowedQuery.{as_query};
 ghost use Rattle.osn_register.specs.Plain.{applied_all, folded};
 ghost use Rattle.osn_core.specs.Sequential.{AreLawful, joined, reply_at};
 ghost use Rattle.osn_audit.specs.InsideFollower.{IsAt};
 
 use osn_core::{Batch, Object};
-use osn_register::{Answer, Edit, Limits, Query, Register};
+use osn_register::{Answer, BorrowedQuery, Edit, Limits, Register};
 use std::alloc::{AllocError, Global};
 use std::mem;
 
@@ -79,20 +80,20 @@ impl Follower {
         alloc: Global,
         object: &Object,
         edition: u32,
-        query: &Query,
+        query: BorrowedQuery<'_>,
     ) -> Result<Answer, AllocError>
         requires at { IsAt object.now.limits object.now.batches self.old }
         requires from { self.old.edition ≤ edition }
         requires there { edition ≤ length object.now.batches }
         ensures answer { IfOk result (λ a. a ≡ (reply_at newest_rules object.now.limits
-            (take edition object.now.batches) query.now).answer) }
+            (take edition object.now.batches) (as_query query.entry)).answer) }
         ensures edition { self.new.edition ≤ edition }
         ensures at { IsAt object.now.limits object.now.batches self.new }
     {
         let none = Follower::new(alloc, object.register().limits());
         let before = mem::replace(self, none);
         let after = before.at(object.batches(), edition)?;
-        let answer = after.register.answer(query)?;
+        let answer = after.register.answer_borrowed(query)?;
         *self = after;
         Ok(answer)
     }

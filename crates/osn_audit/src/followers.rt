@@ -3,13 +3,14 @@
 ghost use Rattle.std.specs.Prelude.{◌≡◌, ◌<◌, ◌≤◌, ◌-◌, Ok, Err, IfOk, OnOk, MatchResult, length};
 ghost use Rattle.std.specs.Prelude.{take, slice_set};
 ghost use Rattle.osn_days.specs.Profile.{newest_rules};
+ghost use Rattle.osn_register.specs.BorrowedQuery.{as_query};
 ghost use Rattle.osn_core.specs.Sequential.{reply_at};
 ghost use Rattle.osn_audit.specs.Audit.{known_edition, last_of, no_replies};
 
 use crate::follower::Follower;
 use osn_core::{MOST_READERS, Object, Reply};
 use osn_format::WireFault;
-use osn_register::{Answer, Query};
+use osn_register::{Answer, BorrowedQuery};
 use std::alloc::{AllocError, Global};
 use std::marker::Model;
 
@@ -87,11 +88,12 @@ impl Followers {
 
     /// The answer to a query under the edition of a reader's last reply, by the latest register
     /// where that is not after it, else by the reader's own.
-    fn answer(&mut self, reader: u32, query: &Query) -> Result<Answer, AllocError>
+    fn answer(&mut self, reader: u32, query: BorrowedQuery<'_>) -> Result<Answer, AllocError>
         requires counted { 0 < reader }
         requires known { reader ≤ MOST_READERS }
         ensures answer { IfOk result (λ a. a ≡ (reply_at newest_rules self.old.object.limits
-            (take (last_of self.old.last reader) self.old.object.batches) query.now).answer) }
+            (take (last_of self.old.last reader) self.old.object.batches)
+            (as_query query.entry)).answer) }
         ensures same { self.new ≡ self.old }
     {
         let place = &mut self.places[(reader - 1) as usize];
@@ -108,14 +110,14 @@ impl Followers {
         &mut self,
         reader: u32,
         edition: u32,
-        query: &Query,
+        query: BorrowedQuery<'_>,
     ) -> Result<Reply, AllocError>
         requires counted { 0 < reader }
         requires known { reader ≤ MOST_READERS }
         requires edition { known_edition (length self.old.object.batches)
             (last_of self.old.last reader) edition ≡ Ok edition }
         ensures reply { IfOk result (λ r. r ≡ reply_at newest_rules self.old.object.limits
-            (take edition self.old.object.batches) query.now) }
+            (take edition self.old.object.batches) (as_query query.entry)) }
         ensures last { OnOk result
             (self.new.last ≡ slice_set self.old.last (reader - 1) edition) }
         ensures object { self.new.object ≡ self.old.object }

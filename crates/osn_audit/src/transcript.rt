@@ -24,7 +24,7 @@ fn audit_lines<S: Source>(
     object: Object,
     transcript: &mut S,
 ) -> Result<u64, FileFault>
-    ensures { ReadsFile Transcript (spec.agreed_lines newest_rules object) (λ n. n) result
+    ensures { ReadsFile Transcript (spec.agreed_lines object) (λ n. n) result
         S.remaining S.has_failed transcript.old transcript.new }
 {
     let Ok(auditor) = Auditor::new(alloc, object) else {
@@ -58,7 +58,7 @@ pub fn audit<R: Source, S: Source>(
     journal: &mut R,
     transcript: &mut S,
 ) -> Result<u64, FileFault>
-    ensures files { AuditsFiles newest_rules limits result
+    ensures files { AuditsFiles limits result
         R.remaining R.has_failed journal.old journal.new
         S.remaining S.has_failed transcript.old transcript.new }
 
@@ -66,7 +66,7 @@ pub fn audit<R: Source, S: Source>(
     ensures agrees { IfOk result (λ n. IfSome (R.remaining journal.old) (λ edits.
         IfSome (S.remaining transcript.old) (λ told. (n ≡ length (lines told))
         × (object : ObjectState) × (load newest_rules limits (lines edits) ≡ Ok object)
-        × Agrees newest_rules object (lines told)))) }
+        × Agrees object (lines told)))) }
 {
     let object = load_journal(alloc, limits, journal)?;
     audit_lines(alloc, object, transcript)

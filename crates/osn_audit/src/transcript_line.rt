@@ -2,17 +2,15 @@
 ghost use Rattle.std.specs.Prelude.{◌≡◌, ◌<◌, ◌≤◌, MatchResult, IfOk, Ok, Err};
 ghost use Rattle.serde_json.specs.View.{view};
 ghost use Rattle.osn_request.specs.LineObject.{line_data};
-ghost use Rattle.osn_request.specs.Request.{Fails};
 ghost use Rattle.osn_audit.specs.Audit as spec;
 ghost use Rattle.osn_audit.specs.Inside.{entry_shown};
 
 use osn_core::MOST_READERS;
-use osn_files::question_in;
+use osn_files::borrowed_question_in;
 use osn_format::{Member, WireFault};
-use osn_register::Query;
-use osn_request::{LineObject, RequestError, whole_at};
+use osn_register::BorrowedQuery;
+use osn_request::{LineObject, whole_at};
 use serde_json::Value;
-use std::alloc::Global;
 
 /// A member that is an object.
 fn object_at<'a>(object: &'a LineObject<'_>, member: Member) -> Result<&'a Value, WireFault>
@@ -41,24 +39,21 @@ fn edition_of(reply: &Value) -> Result<u32, WireFault>
 #[derive(Drop)]
 pub(crate) struct TranscriptLine<'a> {
     pub(crate) reader: u32,
-    pub(crate) query: Query,
+    pub(crate) query: BorrowedQuery<'a>,
     pub(crate) edition: u32,
     pub(crate) reply: &'a Value,
 }
 
-/// What the object of a line says.
+/// What the object of a line says, which borrows from it.
 #[tactic(auto, unfolding(crate::specs::Audit::entry_in))]
-pub(crate) fn entry_in<'a>(
-    alloc: Global,
-    object: &'a LineObject<'_>,
-) -> Result<TranscriptLine<'a>, RequestError>
+pub(crate) fn entry_in<'a>(object: &'a LineObject<'_>) -> Result<TranscriptLine<'a>, WireFault>
     ensures entry { MatchResult result
         (λ e. spec.entry_in (line_data object.now) ≡ Ok (entry_shown e))
-        (λ e. Fails e (spec.entry_in (line_data object.now))) }
+        (λ f. spec.entry_in (line_data object.now) ≡ Err f) }
     ensures reader { IfOk result (λ e. (0 < e.reader) × (e.reader ≤ MOST_READERS)) }
 {
     let ask = object_at(object, Member::Ask)?;
-    let (reader, query) = question_in(alloc, ask)?;
+    let (reader, query) = borrowed_question_in(ask)?;
     let reply = object_at(object, Member::Reply)?;
     let edition = edition_of(reply)?;
     Ok(TranscriptLine {

@@ -14,6 +14,8 @@ mod easter_years;
 #[cfg(test)]
 mod gaps;
 #[cfg(test)]
+mod grammar;
+#[cfg(test)]
 mod labels;
 #[cfg(test)]
 mod lands;

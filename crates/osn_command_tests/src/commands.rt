@@ -2,10 +2,12 @@
 //! told.
 use crate::compare::same;
 use crate::printed::{Left, Wanted, is_left, left_by, sink};
-use osn_commands::{ServeResult, Status, run, serve_command, tell_no_words};
+use osn_commands::{run, tell_no_words};
 use osn_folder::{Disk, Folder};
 use osn_lines::Plain;
 use osn_register::Limits;
+use osn_report::Status;
+use osn_serve_commands::{ServeResult, serve_command};
 use osn_service::ServeRules;
 use osn_test_texts::joined;
 use std::alloc::Global;
@@ -90,7 +92,11 @@ fn served(alloc: Global, journal: Option<&str>, requests: &str) -> (Left, Option
     let (mut output, mut errors) = (sink(alloc), sink(alloc));
     let mut input = Plain::new(requests.as_bytes());
     let mut source = journal.map(|text| Plain::new(text.as_bytes()));
-    let ServeResult { status, journal } = serve_command(
+    let ServeResult {
+        status,
+        journal,
+        ..
+    } = serve_command(
         alloc,
         Limits::standard(),
         &mut source,

@@ -21,8 +21,14 @@ const DATES: [(Calendar, &str, u32); 8] = [
 ];
 
 /// That the date of a row is its day.
-fn is_day(rt: &impl Abort, calendar: Calendar, text: &str, number: u32) {
-    let day = match WrittenDate::parse(text) {
+fn is_day(
+    rt: &impl Abort,
+    alloc: Global,
+    calendar: Calendar,
+    text: &str,
+    number: u32,
+) -> Result<(), Fail> {
+    let day = match WrittenDate::parse(alloc, text)? {
         Ok(date) => day_of_written(calendar, date),
         Err(_) => None,
     };
@@ -31,13 +37,15 @@ fn is_day(rt: &impl Abort, calendar: Calendar, text: &str, number: u32) {
         None => 0,
     };
     same(rt, (text, found), (text, number));
+    Ok(())
 }
 
 #[test]
-fn dates_of_a_calendar_are_days(rt: HostRuntime) {
+fn dates_of_a_calendar_are_days(rt: HostRuntime) -> Result<(), Fail> {
     for (calendar, text, number) in &DATES {
-        is_day(&rt, *calendar, *text, *number);
+        is_day(&rt, rt.alloc(), *calendar, *text, *number)?;
     }
+    Ok(())
 }
 
 /// The number of a day, a weekday that is given, and the page.

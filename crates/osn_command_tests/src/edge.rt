@@ -4,9 +4,11 @@ use crate::commands::{RunRow, are_run, left_over};
 use crate::compare::same;
 use crate::files::{entered, has_text};
 use crate::printed::{left_by, sink};
-use osn_commands::{Status, run};
+use osn_commands::run;
 use osn_folder::Disk;
 use osn_lines::Plain;
+use osn_report::Status;
+use osn_test_texts::joined;
 use std::fs;
 use std::fs::Permissions;
 use std::io::{Read, Write};
@@ -154,19 +156,20 @@ fn write_transcript<R: Files + AllocGlobal>(rt: &R, path: &str, lines: u32) -> R
     Ok(())
 }
 
-/// What a terminal is told of an audit that agrees.
-fn told_of_an_audit<R: Files<File = fs::File> + Threads + Wait + AllocGlobal + Abort>(
+/// What a terminal is told of a run that ends well.
+fn told_of<R: Files<File = fs::File> + Threads + Wait + AllocGlobal + Abort>(
     rt: &R,
+    words: &[&str],
+    read: &str,
 ) -> Result<Vec<u8>, Fail> {
     let (mut output, mut errors) = (sink(rt.alloc()), sink(rt.alloc()));
     let mut told = Vec::new(rt.alloc());
-    let words = ["oldstyle", "audit", "a.journal", "a.transcript"];
     let mut disk = Disk::new(rt);
     let status = run(
         rt,
         &mut disk,
-        &words,
-        &mut Plain::new(b"".as_slice()),
+        words,
+        &mut Plain::new(read.as_bytes()),
         &mut output,
         &mut errors,
         Some(Plain::new(&mut told)),
@@ -176,16 +179,51 @@ fn told_of_an_audit<R: Files<File = fs::File> + Threads + Wait + AllocGlobal + A
     Ok(told)
 }
 
+const AUDIT: [&str; 4] = ["oldstyle", "audit", "a.journal", "a.transcript"];
+
 /// A terminal is told each 64 MiB, and nothing of a shorter transcript.
 #[test]
 fn a_terminal_is_told_how_far_an_audit_is(rt: HostRuntime) -> Result<(), Fail> {
     let folder = entered(&rt, "long", &HEAD)?;
     write_transcript(&rt, "a.transcript", 1023)?;
-    same(&rt, told_of_an_audit(&rt)?.len(), 0);
+    same(&rt, told_of(&rt, &AUDIT, "")?.len(), 0);
     write_transcript(&rt, "a.transcript", 1025)?;
-    let told = told_of_an_audit(&rt)?;
+    let told = told_of(&rt, &AUDIT, "")?;
     let line = "oldstyle: 64 MiB of the transcript read\n";
     same(&rt, str::from_utf8(&told)?, line);
+    fs::remove_dir_all(&rt, folder.as_path())?;
+    Ok(())
+}
+
+const FIRST: &str = r#"{"op":"add_land","code":"RM","name":"Rome","calendar":"julian",
+  "style":"january","rule":"julian"}
+{"op":"publish"}
+"#;
+
+const SECOND: &str = "{\"op\":\"add_exception\",\"code\":\"RM\",\"year\":1500,\"day\":547610}
+{\"op\":\"publish\"}
+";
+
+/// A terminal is told of editions that are saved nowhere, and of no others.
+#[test]
+fn a_terminal_is_told_of_editions_that_are_saved_nowhere(rt: HostRuntime) -> Result<(), Fail> {
+    let folder = entered(&rt, "unsaved", &HEAD)?;
+    let one = joined(rt.alloc(), FIRST)?;
+    let two = format!(in rt.alloc(); "{one}{SECOND}")?;
+    let serve = ["oldstyle", "serve"];
+    let told = told_of(&rt, &serve, one.as_str())?;
+    let line = "oldstyle: 1 edition was saved nowhere: --save or --keep would have kept it\n";
+    same(&rt, str::from_utf8(&told)?, line);
+    let told = told_of(&rt, &serve, two.as_str())?;
+    let line = "oldstyle: 2 editions were saved nowhere: --save or --keep would have kept them\n";
+    same(&rt, str::from_utf8(&told)?, line);
+    let save = ["oldstyle", "serve", "--save", "b.journal"];
+    same(&rt, told_of(&rt, &save, two.as_str())?.len(), 0);
+    same(
+        &rt,
+        told_of(&rt, &serve, "{\"op\":\"publish\"}\n")?.len(),
+        0,
+    );
     fs::remove_dir_all(&rt, folder.as_path())?;
     Ok(())
 }

@@ -20,8 +20,10 @@ const DAY: &str = "632287";
 
 const DUAL: &str = "11 February 1731/2";
 
-const ONE_DAY: [Row; 10] = [
+const ONE_DAY: [Row; 12] = [
     ("GB", "11 February 1731", Some("Friday"), (DAY, DUAL, "")),
+    ("GB", "11 Feb. 1731/32", None, (DAY, DUAL, "")),
+    ("GB", "Feb 11, 1731", Some("Friday"), (DAY, DUAL, "")),
     (" GB ", "\t1731-02-11 ", Some(" friDAY "), (DAY, DUAL, "")),
     (
         "GB",
@@ -109,7 +111,7 @@ const SEVERAL_DAYS: [Row; 5] = [
     ),
 ];
 
-const NO_DAY: [Row; 14] = [
+const NO_DAY: [Row; 16] = [
     ("GB", "3 September 1752", None, ("", "", "skipped")),
     ("GB", "10 January 1751", Some("Monday"), ("", "", "skipped")),
     ("SE", "29 February 1700", None, ("", "", "skipped")),
@@ -136,11 +138,13 @@ const NO_DAY: [Row; 14] = [
     ("GB", "11 February 1731/5", None, ("", "", "malformed date")),
     ("GB", "32 January 1731", None, ("", "", "malformed date")),
     ("GB", "", None, ("", "", "malformed date")),
+    ("GB", "[11 February 1731]", None, ("", "", "malformed date")),
+    ("GB", "11/2/1731", None, ("", "", "malformed date")),
     ("IE", "1731-02-11", None, ("", "", "unknown place")),
     ("gb", "1731-02-11", None, ("", "", "unknown place")),
     (
         "",
-        "11.2.1731",
+        "11 Febuary 1731",
         Some("Freitag"),
         ("", "", "malformed date; unknown place; malformed weekday"),
     ),

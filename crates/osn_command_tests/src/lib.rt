@@ -9,6 +9,8 @@ mod compare;
 #[cfg(test)]
 mod conversions;
 #[cfg(test)]
+mod date_forms;
+#[cfg(test)]
 mod edge;
 #[cfg(test)]
 mod files;

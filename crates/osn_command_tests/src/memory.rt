@@ -120,6 +120,11 @@ impl<R: Abort + AllocGlobal> Folder for MemoryFolder<'_, R> {
         Ok((kept, Plain::new(Cursor::new(given))))
     }
 
+    fn release(&mut self, path: &str, kept: MemoryFile) {
+        let text = String::from_utf8(kept.contents).expect(self.rt, "a journal is UTF-8");
+        self.leave(path, Some(text));
+    }
+
     fn lock_to_save(&mut self, _path: &str) -> Result<MemoryLock, KeepFault> {
         Ok(MemoryLock)
     }
@@ -337,8 +342,9 @@ fn nothing_is_opened_after_a_file_that_is_gone(rt: HostRuntime) -> Result<(), Fa
     are_gone(&rt, &GONE, "oldstyle: read fault\n")
 }
 
-/// Runs, and what a file holds then. A text is written beside its place, and moved from there.
-const SAVES: [(Row, &str, Option<&str>); 3] = [
+/// Runs, and what a file holds then. A text is written beside its place, and moved from there; a
+/// journal that is kept is there from the start, and is given back with what was added.
+const SAVES: [(Row, &str, Option<&str>); 4] = [
     (
         (
             (
@@ -378,7 +384,30 @@ const SAVES: [(Row, &str, Option<&str>); 3] = [
         "b.journal",
         None,
     ),
+    (
+        (
+            ("oldstyle serve --keep b.journal", ROME, (0, FIRST, "")),
+            "",
+            "b.journal b.journal",
+        ),
+        "b.journal",
+        Some(KEPT),
+    ),
 ];
+
+const ROME: &str = "{\"op\":\"add_land\",\"code\":\"RM\",\"name\":\"Rome\",\
+\"calendar\":\"julian\",\"style\":\"january\",\"rule\":\"julian\"}
+{\"op\":\"publish\"}
+";
+
+const FIRST: &str = r#"{"ok":"staged","pending":1}
+{"edition":1,"ok":"published"}
+"#;
+
+const KEPT: &str = r#"{"journal":2}
+{"calendar":"julian","code":"RM","name":"Rome","op":"add_land","rule":"julian","style":"january"}
+{"op":"publish"}
+"#;
 
 fn save<R: Threads + Wait + AllocGlobal + Abort>(
     rt: &R,

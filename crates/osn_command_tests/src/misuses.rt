@@ -11,7 +11,7 @@ use std::test::Fail;
 use std::thread::Threads;
 
 /// A row of a misuse: the words with a bar between two, and what is told.
-type Misused = (&'static str, &'static str);
+pub(crate) type Misused = (&'static str, &'static str);
 
 const DATES: [Misused; 12] = [
     (
@@ -328,7 +328,10 @@ fn is_run<R: Threads + Wait + AllocGlobal + Abort>(rt: &R, row: &RunRow) -> Resu
 }
 
 /// That each run leaves this.
-fn are_run<R: Threads + Wait + AllocGlobal + Abort>(rt: &R, rows: &[RunRow]) -> Result<(), Fail> {
+pub(crate) fn are_run<R: Threads + Wait + AllocGlobal + Abort>(
+    rt: &R,
+    rows: &[RunRow],
+) -> Result<(), Fail> {
     for row in rows {
         is_run(rt, row)?;
     }
@@ -336,7 +339,7 @@ fn are_run<R: Threads + Wait + AllocGlobal + Abort>(rt: &R, rows: &[RunRow]) -> 
 }
 
 /// That each misuse is told.
-fn are_misused<R: Threads + Wait + AllocGlobal + Abort>(
+pub(crate) fn are_misused<R: Threads + Wait + AllocGlobal + Abort>(
     rt: &R,
     rows: &[Misused],
 ) -> Result<(), Fail> {

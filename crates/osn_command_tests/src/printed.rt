@@ -1,10 +1,12 @@
 //! The commands that print what they make of files, over memory: the number of the status, what is
 //! written, and what standard error is told.
 use crate::compare::same;
-use osn_commands::{Status, audit_command, desk_command, page_command, replay_command};
+use osn_file_commands::{audit_command, desk_command, replay_command};
 use osn_invocation::PageWords;
 use osn_lines::Plain;
+use osn_page_commands::page_command;
 use osn_register::Limits;
+use osn_report::Status;
 use osn_test_texts::joined;
 use std::alloc::Global;
 use std::process::Abort;

@@ -291,7 +291,7 @@ Tuesday 1 April 1543/4    11 April 1544 Gregorian    1 April 1544 Julian    day 
 /// That the page of a row is its text.
 fn is_page(rt: &impl Abort, alloc: Global, register: &Register, row: &Row) -> Result<(), Fail> {
     let (code, text, weekday, wanted) = row;
-    let Ok(date) = WrittenDate::parse(text) else {
+    let Ok(date) = WrittenDate::parse(alloc, text)? else {
         same(rt, *text, "a date");
         return Ok(());
     };

@@ -1,12 +1,2 @@
-pub mod ReportLemmas
-pub mod FileLemmas
-pub mod PrintLemmas
-pub mod LineLemmas
-pub mod AuditLemmas
-pub mod LettersLemmas
 pub mod RunLemmas
 pub mod LimitsLemmas
-pub mod KeptFileLemmas
-pub mod KeepingLemmas
-pub mod ServingLemmas
-pub mod PageLemmas

@@ -6,16 +6,10 @@ use Rattle.std.specs.Str.{bytes_eq}
 use Rattle.std.specs.Str.Parse.{digits_value, without_leading_plus}
 use Rattle.osn_register.specs.Limits.{standard_limits}
 use Rattle.osn_register.specs.declared.limits.Limits.{Limits}
-use Rattle.osn_register.specs.declared.refusal.Refusal.{Refusal}
-use Rattle.osn_register.specs.declared.refusal.Refusal.TheVariants.{TooManyLands, TooManyChanges}
-use Rattle.osn_register.specs.declared.refusal.Refusal.TheVariants.{TooManyExceptions, JournalFull}
-use Rattle.osn_register.specs.declared.refusal.Refusal.TheVariants.{EditionsFull}
-use Rattle.osn_files.specs.declared.fault.LineFault.{LineFault}
-use Rattle.osn_files.specs.declared.fault.LineFault.TheVariants.{Wire, Register}
 use Rattle.osn_invocation.specs.Invocation.{is_number}
 use Rattle.osn_written.specs.WrittenDate.{parts_at}
-use Rattle.osn_commands.specs.declared.misuse.Misuse.{Misuse}
-use Rattle.osn_commands.specs.declared.misuse.Misuse.TheVariants as misuses
+use Rattle.osn_report.specs.declared.misuse.Misuse.{Misuse}
+use Rattle.osn_report.specs.declared.misuse.Misuse.TheVariants as misuses
 
 -- one part after another, where the first one is there
 infixl 10 ◌>>=◌
@@ -67,18 +61,3 @@ with_settings limits (text ∷ texts) = do
 abbrev pub limits_asked : Option (List ℕ) → Result Limits Misuse
 limits_asked None = Ok standard_limits
 limits_asked (Some text) = ok_or (with_settings standard_limits (settings text)) misuses.Limits
-
--- ---- what is refused at a limit
-
--- the option that allows more, of what is refused at a limit
-abbrev pub refusal_hint : Refusal → List ℕ
-refusal_hint TooManyLands = codes " (--limits lands=N allows more)"
-refusal_hint TooManyChanges = codes " (--limits changes=N allows more)"
-refusal_hint TooManyExceptions = codes " (--limits exceptions=N allows more)"
-refusal_hint JournalFull = codes " (--limits edits=N allows more)"
-refusal_hint EditionsFull = codes " (--limits editions=N allows more)"
-refusal_hint refusal = []
-
-abbrev pub limit_hint : LineFault → List ℕ
-limit_hint (Wire fault) = []
-limit_hint (Register refusal) = refusal_hint refusal

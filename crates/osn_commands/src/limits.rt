@@ -3,9 +3,8 @@ ghost use Rattle.std.specs.Prelude.{◌≡◌, option_map};
 ghost use Rattle.osn_register.specs.Limits.{standard_limits};
 ghost use Rattle.osn_commands.specs.Limits as spec;
 
-use crate::misuse::Misuse;
-use osn_files::LineFault;
-use osn_register::{Limits, Refusal};
+use osn_register::Limits;
+use osn_report::Misuse;
 use osn_written::parts_at;
 
 /// The number that a text is, 0 to 4,294,967,295, if it is one.
@@ -59,19 +58,5 @@ pub(crate) fn asked_limits(words: Option<&str>) -> Result<Limits, Misuse>
     match words {
         None => Ok(Limits::standard()),
         Some(text) => limits_of(text).ok_or(Misuse::Limits),
-    }
-}
-
-/// How more is allowed, where a line is refused at a limit.
-pub(crate) fn limit_hint(fault: LineFault) -> &'static str
-    ensures { result.now ≡ spec.limit_hint fault }
-{
-    match fault {
-        LineFault::Register(Refusal::TooManyLands) => " (--limits lands=N allows more)",
-        LineFault::Register(Refusal::TooManyChanges) => " (--limits changes=N allows more)",
-        LineFault::Register(Refusal::TooManyExceptions) => " (--limits exceptions=N allows more)",
-        LineFault::Register(Refusal::JournalFull) => " (--limits edits=N allows more)",
-        LineFault::Register(Refusal::EditionsFull) => " (--limits editions=N allows more)",
-        _ => "",
     }
 }

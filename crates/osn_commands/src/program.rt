@@ -1,23 +1,22 @@
 //! The program: the arguments are read, files are opened, and the command is called.
-ghost use Rattle.std.specs.Prelude.{◌≡◌, map, IfErr, IfOk, OnErr};
+ghost use Rattle.std.specs.Prelude.{◌≡◌, map, [], IfErr, IfOk, OnErr, option_map, unwrap_or};
 ghost use Rattle.osn_folder.specs.Folder.{CannotOpen, MayFail};
 ghost use Rattle.osn_invocation.specs.Invocation.{command_model, model_of};
-ghost use Rattle.osn_commands.specs.Run.{Runs, RunsArgs, RunsAsked, files_of, folders_of};
-ghost use Rattle.osn_commands.specs.Streams.{input_of, output_of};
+ghost use Rattle.osn_lines.specs.Streams.{input_of, output_of};
+ghost use Rattle.osn_report.specs.Folders.{folders_of};
+ghost use Rattle.osn_commands.specs.Run.{Runs, RunsArgs, RunsAsked, files_of};
 
-use crate::conversion::convert_command;
-use crate::in_folder::{audit, desk, letters, page, replay};
-use crate::kept_in_folder::serve_by;
-use crate::letters::asked_settings;
 use crate::limits::asked_limits;
-use crate::misuse::{as_typed, tell_misuse};
 use crate::shown::show;
-use crate::status::Status;
 use crate::unopened::{named_file, tell_unopened};
+use osn_file_commands::{audit_in_folder, desk_in_folder, replay_in_folder};
 use osn_folder::{Folder, OpenFailed};
 use osn_invocation::{CommandWords, Invocation, parse_args};
 use osn_lines::{Sink, Source};
+use osn_page_commands::{asked_settings, convert_command, letters_in_folder, page_in_folder};
 use osn_register::Limits;
+use osn_report::{Status, tell_misuse};
+use osn_serve_commands::serve_in_folder;
 use std::convert::AsStr;
 use std::sync::Wait;
 use std::thread::Threads;
@@ -26,7 +25,8 @@ use std::thread::Threads;
 /// answers how that ended. Files that are read are opened before the command begins, in the order
 /// of the arguments. The journal is saved where the service ended well, and nowhere else.
 ///
-/// A terminal, where there is one, is told how far a long audit or table of letters is.
+/// A terminal, where there is one, is told how far a long audit or table of letters is, and of
+/// editions that were published and saved nowhere.
 pub fn run<F, D: Folder, S: AsStr, R: Source, W: Sink, E: Sink, T: Sink + Drop>(
     rt: &F,
     folder: &mut D,
@@ -41,13 +41,23 @@ where
     ensures { RunsArgs (map S.text args.now) (MayFail D.File.has_failed)
         (folders_of D.known folder.old folder.new)
         (input_of R.remaining R.has_failed input.old input.new)
-        (output_of W.contents W.has_failed output.old output.new)
-        (output_of E.contents E.has_failed errors.old errors.new) result }
+        (output_of W.contents W.has_failed W.holds_back output.old output.new)
+        (output_of E.contents E.has_failed E.holds_back errors.old errors.new) result }
 {
     let alloc = rt.alloc();
     match parse_args(alloc, args) {
         Ok(invocation) => run_asked(rt, folder, invocation, input, output, errors, terminal),
         Err(shown) => show(alloc, &shown, output, errors),
+    }
+}
+
+/// A word as it was typed, and no text where it was not.
+fn as_typed<'a>(word: Option<&'a str>) -> &'a str
+    ensures { result.now ≡ unwrap_or (option_map (λ word. word.now) word.entry) [] }
+{
+    match word {
+        Some(word) => word,
+        None => "",
     }
 }
 
@@ -66,8 +76,8 @@ where
     ensures { RunsAsked (model_of invocation.entry) (MayFail D.File.has_failed)
         (folders_of D.known folder.old folder.new)
         (input_of R.remaining R.has_failed input.old input.new)
-        (output_of W.contents W.has_failed output.old output.new)
-        (output_of E.contents E.has_failed errors.old errors.new) result }
+        (output_of W.contents W.has_failed W.holds_back output.old output.new)
+        (output_of E.contents E.has_failed E.holds_back errors.old errors.new) result }
 {
     let alloc = rt.alloc();
     let limits = match asked_limits(invocation.limits) {
@@ -101,31 +111,31 @@ where
     ensures ok { IfOk result (Runs limits (command_model command.entry) (MayFail D.File.has_failed)
         (folders_of D.known folder.old folder.new)
         (input_of R.remaining R.has_failed input.old input.new)
-        (output_of W.contents W.has_failed output.old output.new)
-        (output_of E.contents E.has_failed errors.old errors.new)) }
+        (output_of W.contents W.has_failed W.holds_back output.old output.new)
+        (output_of E.contents E.has_failed E.holds_back errors.old errors.new)) }
     ensures err { OnErr result (CannotOpen (files_of (command_model command.entry))
         (D.known folder.old) (D.known folder.new)
         × (output.new ≡ output.old) × (errors.new ≡ errors.old)) }
 {
     let alloc = rt.alloc();
     match command {
-        CommandWords::Serve(options) => serve_by(
-            alloc, limits, folder, options, input, output, errors,
+        CommandWords::Serve(options) => serve_in_folder(
+            alloc, limits, folder, options, input, output, errors, terminal,
         ),
         CommandWords::Replay { readers, schedule } => {
-            replay(alloc, limits, folder, readers, schedule, output, errors)
+            replay_in_folder(alloc, limits, folder, readers, schedule, output, errors)
         }
         CommandWords::Desk { script, questions } => {
-            desk(rt, limits, folder, script, questions, output, errors)
+            desk_in_folder(rt, limits, folder, script, questions, output, errors)
         }
         CommandWords::Page {
             journal,
             page: words,
-        } => page(alloc, limits, folder, journal, words, output, errors),
+        } => page_in_folder(alloc, limits, folder, journal, words, output, errors),
         CommandWords::Audit {
             journal,
             transcript,
-        } => audit(
+        } => audit_in_folder(
             alloc, limits, folder, journal, transcript, output, errors, terminal,
         ),
         CommandWords::Letters {
@@ -135,7 +145,7 @@ where
             weekday,
             separator,
         } => match asked_settings(place, date, weekday, separator) {
-            Ok(settings) => letters(
+            Ok(settings) => letters_in_folder(
                 alloc, limits, folder, journal, settings, input, output, errors, terminal,
             ),
             Err(misuse) => {

@@ -2,15 +2,13 @@
 ghost use Rattle.std.specs.IoError.{error_kind};
 ghost use Rattle.clap.specs.Words.{kind_of};
 ghost use Rattle.osn_commands.specs.Run.{ShowsOrEnds};
-ghost use Rattle.osn_commands.specs.Streams.{output_of};
-ghost use Rattle.osn_commands.specs.Told.{TellsNoWords};
+ghost use Rattle.osn_lines.specs.Streams.{output_of};
+ghost use Rattle.osn_report.specs.Told.{TellsNoWords};
 
-use crate::fault::{tell_no_memory, write_line};
-use crate::printing::print;
-use crate::status::Status;
 use clap::Error;
 use clap::error::ErrorKind;
 use osn_lines::Sink;
+use osn_report::{Status, print, tell_no_memory, write_line};
 use std::alloc::Global;
 use std::io;
 
@@ -22,8 +20,8 @@ pub(crate) fn show<W: Sink, E: Sink>(
     errors: &mut E,
 ) -> Status
     ensures { ShowsOrEnds (kind_of shown.now)
-        (output_of W.contents W.has_failed output.old output.new)
-        (output_of E.contents E.has_failed errors.old errors.new) result }
+        (output_of W.contents W.has_failed W.holds_back output.old output.new)
+        (output_of E.contents E.has_failed E.holds_back errors.old errors.new) result }
 {
     let kind = shown.kind();
     if kind == ErrorKind::OutOfMemory {
@@ -33,9 +31,7 @@ pub(crate) fn show<W: Sink, E: Sink>(
         return tell_no_memory(errors);
     };
     match kind {
-        ErrorKind::DisplayHelp | ErrorKind::DisplayVersion => {
-            print(alloc, Ok(text), output, errors)
-        }
+        ErrorKind::DisplayHelp | ErrorKind::DisplayVersion => { print(Ok(text), output, errors) }
         _ => {
             write_line(errors, text.as_str());
             Status::Misused
@@ -46,7 +42,7 @@ pub(crate) fn show<W: Sink, E: Sink>(
 /// Tells standard error that the words of the command line could not be had: for want of memory, or
 /// where one of them is no text of UTF-8.
 pub fn tell_no_words<E: Sink>(why: &io::Error, errors: &mut E) -> Status
-    ensures { TellsNoWords (output_of E.contents E.has_failed errors.old errors.new)
+    ensures { TellsNoWords (output_of E.contents E.has_failed E.holds_back errors.old errors.new)
         (error_kind why.now) result }
 {
     if why.kind() == io::ErrorKind::OutOfMemory {

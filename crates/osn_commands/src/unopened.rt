@@ -2,14 +2,13 @@
 ghost use Rattle.std.specs.Prelude.{◌≡◌, IfOk, option_map, string_bytes};
 ghost use Rattle.osn_invocation.specs.Invocation.{command_model};
 ghost use Rattle.osn_commands.specs.Run.{TellsUnopened};
-ghost use Rattle.osn_commands.specs.Streams.{output_of};
+ghost use Rattle.osn_lines.specs.Streams.{output_of};
 ghost use Rattle.osn_commands.specs.Unopened as spec;
 
-use crate::fault::{CommandFault, report, tell_line};
-use crate::status::Status;
 use osn_folder::OpenFailed;
 use osn_invocation::{CommandWords, PageWords};
 use osn_lines::Sink;
+use osn_report::{CommandFault, Status, report, tell_line};
 use std::alloc::{AllocError, Global};
 
 /// The path that a command names where its file could not be opened, if it does.
@@ -58,10 +57,10 @@ pub(crate) fn tell_unopened<E: Sink>(
     cause: OpenFailed,
 ) -> Status
     ensures { TellsUnopened (option_map (λ path. path.now) named.entry)
-        (output_of E.contents E.has_failed errors.old errors.new) result }
+        (output_of E.contents E.has_failed E.holds_back errors.old errors.new) result }
 {
     match named {
         Some(path) => tell_line(errors, Status::ReadFault, unopened_line(alloc, path, cause)),
-        None => report(alloc, errors, CommandFault::ReadFault),
+        None => report(alloc, errors, CommandFault::NotOpened),
     }
 }

@@ -1,4 +1,5 @@
 pub mod FileLemmas
+pub mod TurnLemmas
 pub mod LoadFacts
 pub mod VersionFacts
 mod ReadLemmas
@@ -14,6 +15,8 @@ mod Utf8Facts
 mod OldFacts
 mod NewerFacts
 mod KeptFacts
+mod GreaterFacts
+mod Greater
 mod WholeLemmas
 mod MeasureLemmas
 mod LastLineLemmas

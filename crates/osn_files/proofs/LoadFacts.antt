@@ -1,5 +1,5 @@
 -- What the line of a change makes of a text that is loaded.
-use Rattle.std.proofs.Common.{◌≡◌, ◌+◌, ◌==◌, ◌∙◌, ℕ, Bool, true, false, cond, List, [], ◌∷◌, ◌++◌}
+use Rattle.std.proofs.Common.{◌≡◌, ◌+◌, ◌∙◌, ℕ, List, [], ◌∷◌, ◌++◌}
 use Rattle.std.proofs.Common.{Some, None, Result, Ok, Err, refl, sym, ap, subst, append-nil}
 use Rattle.std.proofs.Common.{append_assoc}
 use Rattle.serde_json.specs.Data.{Data}

@@ -1,8 +1,9 @@
 -- What comes of a file that is being read, by its lines and at their end.
-use Rattle.std.proofs.Common.{◌≡◌, ℕ, ◌+◌, List, [], ◌∷◌, ◌++◌, length, take, drop, unwrap_or, zero}
-use Rattle.std.proofs.Common.{suc, Option, Some, None, Result, Ok, Err, IfSome, refl, sym, ap}
-use Rattle.std.proofs.Common.{Bool, true, false, ◌∙◌, arith, append-nil, append_assoc}
+use Rattle.std.proofs.Common.{◌≡◌, ℕ, ◌+◌, ◌<◌, List, [], ◌∷◌, ◌++◌, length, take, drop, zero, suc}
+use Rattle.std.proofs.Common.{Option, Some, None, Result, Ok, Err, IfSome, IfErr, refl, sym, ap}
+use Rattle.std.proofs.Common.{unwrap_or, Bool, true, false, ◌∙◌, arith, append-nil, append_assoc}
 use Rattle.std.proofs.Common.{length-append, subst}
+use Rattle.std.proofs.lemmas.List.{take-append-drop}
 use Rattle.std.specs.Bool.{MatchBool}
 use Rattle.std.specs.Prelude.{slice_get}
 use Rattle.serde_json.specs.Data.{Data}
@@ -10,7 +11,8 @@ use Rattle.osn_lines.specs.Lines.{lines}
 use Rattle.osn_lines.specs.declared.fault.TakeFault.{TakeFault}
 use Rattle.osn_lines.specs.declared.fault.TakeFault.TheVariants as ends
 use Rattle.osn_lines.specs.Faults.{MatchFault, IsReadFault}
-use Rattle.osn_lines.specs.Taking.{TakesAll, StopsAfter}
+use Rattle.osn_lines.specs.Taking.{TakesAll, TakesFirst, TakesEnded, StopsAfter}
+use Rattle.osn_lines.specs.Taking.{HasKeptUp}
 use Rattle.osn_request.specs.declared.request.RequestError.{RequestError}
 use Rattle.osn_request.specs.declared.request.RequestError.TheVariants as errors
 use Rattle.osn_format.specs.declared.wire_fault.WireFault.{WireFault}
@@ -27,11 +29,12 @@ use Rattle.osn_files.specs.declared.stop.LineStop.TheVariants.{NoMemory, Fault}
 use Rattle.osn_files.specs.Files.{ReadsFile}
 use Rattle.osn_files.specs.Loaded.{IsOfVersion}
 use Rattle.osn_files.specs.ReadingInside.{taken, with_version, goes_on, IsKnownOf, Reads, Faults}
-use Rattle.osn_files.specs.ReadingInside.{StopsReading}
+use Rattle.osn_files.specs.ReadingInside.{Spares, StaysKnown, StopsReading}
 use Rattle.osn_files.specs.Stops.{Stops, stop_of, file_fault}
 use Rattle.osn_files.specs.Turns.{on_read, go_on, in_turn}
 use Rattle.osn_files.specs.Version.{version_in}
-use Rattle.osn_files.proofs.FileLemmas.{if_some}
+use Rattle.osn_files.proofs.FileLemmas.{if_some, spares_all, spares_most}
+use Rattle.osn_files.proofs.TurnLemmas.{faults_after}
 
 -- the rule of a fold
 abbrev Rule : Type 0 → Type 0 → Type 0
@@ -126,6 +129,30 @@ known-line step (Some version) new a b [] line one h = absurd h
 known-line step (Some version) new a b (head ∷ rest) line one h =
     subst (IsKnownOf (head ∷ (rest ++ line ∷ []))) (is_same line a b version new step one) h
 
+-- a version that is known stays by one line more
+stays-line : {A : Type 0} (step : Version → A → Data → Result A LineFault)
+    (begun old new : Option Version) (a b : A) (line : List ℕ)
+    → on_read (object_of line) (taken step old a) ≡ Ok (new, b)
+    → StaysKnown begun old → StaysKnown begun new
+stays-line step None old new a b line one h = tt
+stays-line step (Some v) None new a b line one h = absurd (cc)
+stays-line step (Some v) (Some w) new a b line one h =
+    sym (is_same line a b w new step one) ∙ h
+
+fresh_by : (begun now : Option Version) (lines : List (List ℕ))
+    → (begun ≡ None → IsKnownOf lines now) → StaysKnown begun now → now ≡ None → length lines ≡ 0
+fresh_by None now lines known stays none =
+    ap length (subst (IsKnownOf lines) none (known refl))
+fresh_by (Some v) now lines known stays none = absurd (cc)
+
+-- lines that were taken have no fault
+Reads-spares : {S A : Type 0} (step : Rule S A) (state : S → A) (begun now : Reading S)
+    (lines : List (List ℕ)) → Reads step state begun lines now → Spares step state begun lines
+Reads-spares step state begun now lines h = λ more.
+    subst (λ r. IfErr r (λ e. length lines < e.0)) (sym (h.0 more))
+    (faults_after (step now.fold) (length lines) now.version (state now.fold) more
+    (fresh_by begun.version now.version lines h.1 h.2))
+
 -- a line was taken
 pub Reads-line : {S A : Type 0} (step : Rule S A) (state : S → A) (begun old new : Reading S)
     (before : List (List ℕ)) (line : List ℕ) → Reads step state begun before old
@@ -145,6 +172,8 @@ Reads-line step state begun old new before line h one same = (
       (omega (arith, length-append before (line ∷ []))))))),
   λ none. known-line (step old.fold) old.version new.version (state old.fold) (state new.fold)
       before line one (h.1 none),
+  stays-line (step old.fold) begun.version old.version new.version (state old.fold)
+      (state new.fold) line one h.2,
 )
 
 -- a line stopped the reading
@@ -152,7 +181,8 @@ pub StopsReading-line : {S A : Type 0} (step : Rule S A) (state : S → A) (begu
     (before : List (List ℕ)) (line : List ℕ) (why : LineStop) → Reads step state begun before old
     → Stops (on_read (object_of line) (taken (step old.fold) old.version (state old.fold))) why
     → StopsReading step state begun before (Some line) why
-StopsReading-line step state begun old before line NoMemory h stop = tt
+StopsReading-line step state begun old before line NoMemory h stop =
+    Reads-spares step state begun old before h
 StopsReading-line step state begun old before line (Fault f) h stop = λ more.
     let n = length before + 1 in
     h.0 (line ∷ more)
@@ -190,10 +220,15 @@ pub same-taken : {A : Type 0} (t s : Version → A → Data → Result A LineFau
 same-taken t s version b a rule kept =
     ap (λ r. taken r version b) rule ∙ ap (taken s version) kept
 
+stays_so : (version : Option Version) → StaysKnown version version
+stays_so None = tt
+stays_so (Some version) = refl
+
 -- nothing was taken
 begun_so : {S A : Type 0} (step : Rule S A) (state : S → A) (begun : Reading S)
     → Reads step state begun [] begun
-begun_so step state begun = (λ more. refl, λ none. subst (IsKnownOf []) (sym none) refl)
+begun_so step state begun =
+    (λ more. refl, λ none. subst (IsKnownOf []) (sym none) refl, stays_so begun.version)
 
 -- where all lines were taken, what comes of them is what comes of none behind them
 ended : {S A : Type 0} (step : Rule S A) (state : S → A) (begun now : Reading S)
@@ -262,27 +297,75 @@ stopped_at step state begun (Some bytes) n taken (Some line) f faults count firs
     ap (goes_on step state begun 1) all
     ∙ (faults more ∙ ap (λ k. Err (k + 1, f)) (sym count))
 
+-- the first lines of an input have no fault
+spared_first : {S A : Type 0} (step : Rule S A) (state : S → A) (begun : Reading S)
+    (input : Option (List ℕ)) (n : ℕ) (taken : List (List ℕ)) → Spares step state begun taken
+    → n ≡ length taken → IfSome input (λ bytes. take n (lines bytes) ≡ taken)
+    → IfSome input (λ bytes. IfErr (goes_on step state begun 1 (lines bytes)) (λ e. n < e.0))
+spared_first step state begun input n taken spares count first =
+    if_some input
+    (λ bytes e.
+    let rest = drop n (lines bytes) in
+    let all : taken ++ rest ≡ lines bytes =
+    ap (λ l. l ++ rest) (sym e) ∙ take-append-drop n (lines bytes) in
+    subst (λ (m : ℕ). IfErr (goes_on step state begun 1 (lines bytes)) (λ x. m < x.0)) (sym count)
+    (subst (λ (ls : List (List ℕ)). IfErr (goes_on step state begun 1 ls)
+    (λ x. length taken < x.0)) all (spares rest)))
+    first
+
 -- where the lines ended early, the file has the fault that is told
 pub interrupted : {F A T S : Type 0} (step : Rule F A) (state : F → A) (begun now : Reading F)
-    (view : T → A) (role : Role) (n : ℕ) (cause : TakeFault LineStop) (P Q : Type 0)
+    (view : T → A) (role : Role) (n : ℕ) (cause : TakeFault LineStop)
     (remaining : S → Option (List ℕ)) (has_failed : S → Bool) (old new : S)
-    → MatchFault cause P Q (StopsAfter (Reads step state)
+    → MatchFault cause (TakesFirst (Reads step state) begun now (remaining old) n)
+    (TakesEnded (Reads step state) begun now (remaining old) (remaining new) n)
+    (StopsAfter (Reads step state)
     (λ b ls at _ stop. StopsReading step state b ls at stop) begun now (remaining old) n)
+    → HasKeptUp (remaining old) (remaining new) n
     → MatchFault cause (has_failed new ≡ has_failed old)
     (IsReadFault (has_failed new) (remaining old)) (λ _. has_failed new ≡ has_failed old)
     → ReadsFile role (goes_on step state begun 1) view (Err (file_fault role n cause)) remaining
     has_failed old new
-interrupted step state begun now view role n ends.NoMemory P Q remaining has_failed old new h
+interrupted step state begun now view role n ends.NoMemory remaining has_failed old new h recent
     reason =
-    record { made = tt; end = tt; sound = tt; fault = tt; reason = reason }
-interrupted step state begun now view role n ends.ReadFault P Q remaining has_failed old new h
+    record {
+      made = tt;
+      end = tt;
+      sound = tt;
+      fault =
+          spares_most (goes_on step state begun 1) (remaining old) (remaining new) n recent
+          (spared_first step state begun (remaining old) n h.taken
+          (Reads-spares step state begun now h.taken (h.takes begun [] (begun_so step state begun)))
+          h.count h.first);
+      reason = reason;
+    }
+interrupted step state begun now view role n ends.ReadFault remaining has_failed old new h recent
     reason =
-    record { made = tt; end = tt; sound = tt; fault = tt; reason = reason }
-interrupted step state begun now view role n (ends.Stopped NoMemory) P Q remaining has_failed old
-    new h reason =
-    record { made = tt; end = tt; sound = tt; fault = tt; reason = reason }
-interrupted step state begun now view role n (ends.Stopped (Fault f)) P Q remaining has_failed old
-    new h reason =
+    record {
+      made = tt;
+      end = tt;
+      sound = tt;
+      fault =
+          spares_all (goes_on step state begun 1) (remaining old) (remaining new) n h.read
+          (spared_first step state begun (remaining old) n h.first.taken
+          (Reads-spares step state begun now h.first.taken
+          (h.first.takes begun [] (begun_so step state begun))) h.first.count h.first.first);
+      reason = reason;
+    }
+interrupted step state begun now view role n (ends.Stopped NoMemory) remaining has_failed old new h
+    recent reason =
+    record {
+      made = tt;
+      end = tt;
+      sound = tt;
+      fault =
+          spares_most (goes_on step state begun 1) (remaining old) (remaining new) n recent
+          (spared_first step state begun (remaining old) n h.taken
+          (h.stops begun [] (begun_so step state begun)) h.count h.first);
+      reason = reason;
+    }
+interrupted step state begun now view role n (ends.Stopped (Fault f)) remaining has_failed old new h
+    recent reason =
     record {
       made = tt;
       end = tt;

@@ -1,12 +1,23 @@
 -- What a call that reads a file of lines gives.
-use Rattle.std.specs.Prelude.{◌≡◌, ⊤, ℕ, Bool, List, Option, Result, Ok, Err, IfOk, IfErr, IfSome}
-use Rattle.std.specs.Prelude.{OnOk}
-use Rattle.std.specs.Io.KnownBytes.{IsAtEnd}
+use Rattle.std.specs.Prelude.{◌≡◌, ◌≤◌, ℕ, Bool, List, [], ◌∷◌, ◌++◌, length, Option, Result, Ok}
+use Rattle.std.specs.Prelude.{Err, IfOk, IfErr, IfSome, OnOk}
+use Rattle.std.specs.Io.KnownBytes.{Consumes, IsAtEnd}
 use Rattle.osn_lines.specs.Lines.{lines}
 use Rattle.osn_files.specs.declared.fault.FileFault.{FileFault}
 use Rattle.osn_files.specs.declared.fault.LineFault.{LineFault}
 use Rattle.osn_files.specs.declared.fault.Role.{Role}
 use Rattle.osn_files.specs.Faults.{MatchFileFault, FailsAsTold}
+
+-- Of the bytes that were read of a source, but for the last ones, which are at most so many, the
+-- rule refuses no line that ended in them.
+pub record SparesRead {A : Type 0} (rule : List (List ℕ) → Result A (ℕ × LineFault))
+    (old new : Option (List ℕ)) (most : ℕ) : Type 0 where
+  pub earlier : List ℕ
+  pub last : List ℕ
+  pub consumed : Consumes old new (earlier ++ last)
+  pub few : length last ≤ most
+  pub spared : IfSome old (λ input. IfErr (rule (lines input)) (λ refused.
+      length (lines (earlier ++ 10 ∷ [])) ≤ refused.0))
 
 -- A file of this role is read by a rule, which says what lines make, or the first fault and the
 -- number of its line, counted from 1. What is made has this view. The source stood so before, and
@@ -20,8 +31,12 @@ pub record ReadsFile {A T S : Type 0} (role : Role)
   -- all of the source was read, and it didn't fail
   pub end : OnOk result (IsAtEnd (remaining new))
   pub sound : OnOk result (has_failed new ≡ has_failed old)
-  -- a line that is told is one of this file, and the first that the rule refuses, with its fault
-  pub fault : IfErr result (λ fault. MatchFileFault fault ⊤ ⊤ (λ named line why.
+  -- a line that is told is one of this file, and the first that the rule refuses, with its fault; a
+  -- read fault is told only where none of those that had ended is refused, and want of memory only
+  -- where none is that had ended before the last 65,536 bytes were read
+  pub fault : IfErr result (λ fault. MatchFileFault fault
+      (SparesRead rule (remaining old) (remaining new) 65536)
+      (SparesRead rule (remaining old) (remaining new) 0) (λ named line why.
       (named ≡ role)
       × IfSome (remaining old) (λ input. rule (lines input) ≡ Err (line, why))))
   -- the source failed where a read fault says so, or gave no end in 4,294,967,295 reads, and

@@ -13,6 +13,7 @@ pub mod ReadingInside
 pub mod QuestionsInside
 pub mod Kept
 pub mod Loaded
+pub mod GreaterLimits
 pub mod LastLine
 pub mod LastLineInside
 pub mod WholePart

@@ -1,6 +1,6 @@
 -- A file that is being read, as what takes lines.
-use Rattle.std.specs.Prelude.{◌≡◌, ◌+◌, ℕ, List, [], ◌∷◌, ◌++◌, length, Option, Some, None}
-use Rattle.std.specs.Prelude.{Result, Ok, Err}
+use Rattle.std.specs.Prelude.{◌≡◌, ◌+◌, ◌<◌, ℕ, List, [], ◌∷◌, ◌++◌, length, Option, Some, None}
+use Rattle.std.specs.Prelude.{Result, Ok, Err, IfErr}
 use Rattle.serde_json.specs.Data.{Data}
 use Rattle.osn_format.specs.declared.wire_fault.WireFault.TheVariants.{BadHead}
 use Rattle.osn_request.specs.Field.{or_fault}
@@ -35,14 +35,20 @@ abbrev pub IsKnownOf : List (List ℕ) → Option Version → Type 0
 IsKnownOf lines None = lines ≡ []
 IsKnownOf lines (Some version) = IsOfVersion version lines
 
--- what was begun is now, once it took these lines: the same comes of it by whatever stands behind
--- them, and the version is known where it wasn't
+-- a version that is known stays
+abbrev pub StaysKnown : Option Version → Option Version → Type 0
+StaysKnown None now = Unit {0}
+StaysKnown (Some version) now = now ≡ Some version
+
+-- what was begun is now, once it took these lines: the same comes of it by whatever stands after
+-- them, and the version is known where it wasn't, and stays where it was
 abbrev pub Reads : {S A : Type 0} → (S → Version → A → Data → Result A LineFault) → (S → A)
     → Reading S → List (List ℕ) → Reading S → Type 0
 Reads step state begun lines now =
     ((more : List (List ℕ))
     → goes_on step state begun 1 (lines ++ more) ≡ goes_on step state now (length lines + 1) more)
     × (begun.version ≡ None → IsKnownOf lines now.version)
+    × StaysKnown begun.version now.version
 
 -- what was begun took these lines and met a fault at the next, whatever stands behind it
 abbrev pub Faults : {S A : Type 0} → (S → Version → A → Data → Result A LineFault) → (S → A)
@@ -52,7 +58,15 @@ Faults step state begun lines (Some line) f =
     (more : List (List ℕ))
     → goes_on step state begun 1 (lines ++ line ∷ more) ≡ Err (length lines + 1, f)
 
+-- what was begun has no fault in these lines, whatever stands after them
+abbrev pub Spares : {S A : Type 0} → (S → Version → A → Data → Result A LineFault) → (S → A)
+    → Reading S → List (List ℕ) → Type 0
+Spares step state begun lines =
+    (more : List (List ℕ))
+    → IfErr (goes_on step state begun 1 (lines ++ more)) (λ e. length lines < e.0)
+
+-- where memory ran out the lines that were taken have no fault; a fault is that of the next
 abbrev pub StopsReading : {S A : Type 0} → (S → Version → A → Data → Result A LineFault)
     → (S → A) → Reading S → List (List ℕ) → Option (List ℕ) → LineStop → Type 0
-StopsReading step state begun lines at NoMemory = Unit {0}
+StopsReading step state begun lines at NoMemory = Spares step state begun lines
 StopsReading step state begun lines at (Fault f) = Faults step state begun lines at f

@@ -1,6 +1,6 @@
 //! The command of a line of a journal or a script.
 ghost use Rattle.osn_request.specs.LineObject.{line_data};
-ghost use Rattle.osn_request.specs.Request.{Gives};
+ghost use Rattle.osn_request.specs.Request.{GivesLast};
 ghost use Rattle.osn_format.specs.Version.{rules_of};
 ghost use Rattle.osn_files.specs.Commands as spec;
 
@@ -12,13 +12,13 @@ use std::alloc::Global;
 /// The command of a line's object by the rules of a version.
 ///
 /// # Errors
-/// The first fault of the object, or want of memory.
+/// The first fault of the object; want of memory, once nothing was found at fault.
 pub(crate) fn command_in(
     alloc: Global,
     version: Version,
     object: &LineObject<'_>,
 ) -> Result<Command, RequestError>
-    ensures { Gives result (spec.command_in (rules_of version) (line_data object.now)) }
+    ensures { GivesLast result (spec.command_in (rules_of version) (line_data object.now)) }
 {
     match op_of(object)? {
         Op::Edit(op) => Ok(Command::Stage(edit_of(alloc, version, op, object)?)),

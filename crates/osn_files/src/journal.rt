@@ -3,6 +3,7 @@ ghost use Rattle.std.specs.Prelude.{ℕ, List, IfOk, IfSome};
 ghost use Rattle.osn_days.specs.Profile.{newest_rules};
 ghost use Rattle.osn_lines.specs.Lines.{lines};
 ghost use Rattle.osn_files.specs.Files.{ReadsFile};
+ghost use Rattle.osn_files.specs.GreaterLimits.{LoadsUnderGreater};
 ghost use Rattle.osn_files.specs.Journal.{load};
 ghost use Rattle.osn_files.specs.Kept.{KeepsEditions};
 ghost use Rattle.osn_files.specs.Loaded.{IsOfVersion};
@@ -26,7 +27,7 @@ use std::alloc::Global;
 ///
 /// `BadLine` for the first line that is refused, or for line 1 where there is no line; `ReadFault`
 /// where the source failed, or gave no end within 4,294,967,295 reads; `NoMemory`.
-#[tactic(auto, using(crate::proofs::KeptFacts::keeps_editions))]
+#[tactic(auto, using(crate::proofs::KeptFacts::keeps_editions, crate::proofs::Greater::loads_same))]
 pub fn load_journal<R: Source>(
     alloc: Global,
     limits: Limits,
@@ -38,6 +39,10 @@ pub fn load_journal<R: Source>(
     // Whatever the lines: a journal of the first version that the first rules load, the newest
     // rules load too, and each of its editions is the same register under both.
     ensures kept { (journal : List (List ℕ)) → KeepsEditions limits journal }
+
+    // Whatever the lines: a journal that these limits load, greater ones load too, as the same
+    // object but for its limits. Each of its editions has the same territories under both.
+    ensures greater { (journal : List (List ℕ)) → LoadsUnderGreater limits journal }
 {
     let (object, _) = load_with_version(alloc, limits, source)?;
     Ok(object)

@@ -1,25 +1,43 @@
 //! The query of a line of a question file.
-ghost use Rattle.std.specs.Prelude.{◌≤◌, IfOk};
-ghost use Rattle.osn_request.specs.Request.{Gives};
+ghost use Rattle.std.specs.Prelude.{◌≡◌, ◌≤◌, IfOk, MatchResult, Ok, Err};
+ghost use Rattle.osn_register.specs.BorrowedQuery.{as_query};
+ghost use Rattle.osn_request.specs.Request.{GivesLast};
 ghost use Rattle.osn_files.specs.Questions as spec;
 
 use osn_core::MOST_READERS;
 use osn_format::WireFault;
-use osn_register::Query;
-use osn_request::{JsonObject, Op, RequestError, op_of, query_of};
+use osn_register::{BorrowedQuery, Query};
+use osn_request::{JsonObject, Op, RequestError, borrowed_query_of, op_of};
 use std::alloc::Global;
+
+/// The reader who asks, from 1 to 64, and the query, of the object of a request, whose code stays
+/// where it is in the object.
+///
+/// # Errors
+/// The first fault of the object, which is that of a request, and `NotAQuery` for an edit or a
+/// publish.
+pub fn borrowed_question_in<O: JsonObject>(
+    object: &O,
+) -> Result<(u32, BorrowedQuery<'_>), WireFault>
+    ensures question { MatchResult result
+        (λ asked. spec.question_in (O.value object.now) ≡ Ok (asked.0, as_query asked.1))
+        (λ f. spec.question_in (O.value object.now) ≡ Err f) }
+    ensures among { IfOk result (λ asked. (1 ≤ asked.0) × (asked.0 ≤ MOST_READERS)) }
+{
+    match op_of(object)? {
+        Op::Query(op) => borrowed_query_of(MOST_READERS, op, object),
+        Op::Edit(_) | Op::Publish => Err(WireFault::NotAQuery),
+    }
+}
 
 /// The reader who asks, from 1 to 64, and the query, of the object of a request.
 ///
 /// # Errors
-/// The first fault of the object, which is that of a request, and `NotAQuery` for an edit or a
-/// publish; want of memory.
+/// As `borrowed_question_in`; want of memory, once nothing was found at fault.
 pub fn question_in<O: JsonObject>(alloc: Global, object: &O) -> Result<(u32, Query), RequestError>
-    ensures question { Gives result (spec.question_in (O.value object.now)) }
+    ensures question { GivesLast result (spec.question_in (O.value object.now)) }
     ensures among { IfOk result (λ asked. (1 ≤ asked.0) × (asked.0 ≤ MOST_READERS)) }
 {
-    match op_of(object)? {
-        Op::Query(op) => query_of(alloc, MOST_READERS, op, object),
-        Op::Edit(_) | Op::Publish => Err(RequestError::Fault(WireFault::NotAQuery)),
-    }
+    let (reader, query) = borrowed_question_in(object)?;
+    Ok((reader, query.to_query(alloc)?))
 }

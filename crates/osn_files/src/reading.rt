@@ -1,6 +1,6 @@
 //! The lines of a file, taken one after another.
 ghost use Rattle.std.specs.Prelude.{◌≡◌, ◌<◌, ◌^◌, Result, Ok, IfOk, IfErr, IfSome, OnOk};
-ghost use Rattle.std.specs.Prelude.{length, List, ℕ, None};
+ghost use Rattle.std.specs.Prelude.{length, List, ℕ, Bool, true, Some, None};
 ghost use Rattle.std.specs.Bool.{MatchBool};
 ghost use Rattle.serde_json.specs.Data.{Data};
 ghost use Rattle.serde_json.specs.Read.{read};
@@ -13,6 +13,7 @@ ghost use Rattle.osn_files.specs.Files.{ReadsFile};
 ghost use Rattle.osn_files.specs.Loaded.{IsOfVersion};
 ghost use Rattle.osn_files.specs.Stops.{Stops, file_fault};
 ghost use Rattle.osn_files.specs.Turns.{in_turn, on_read};
+ghost use Rattle.osn_files.specs.declared.stop.LineStop.TheVariants.{NoMemory};
 
 use crate::fault::{FileFault, LineFault, Role};
 use crate::stop::LineStop;
@@ -34,11 +35,15 @@ pub trait LineFold {
     // What the object of a line makes of that by the rules of a version, or the line's fault.
     ghost step: { Self → LineVersion → State → Data → Result State Fault };
 
+    // Whether the object of a line has what is asked of it before memory is taken.
+    ghost is_formed: { Self → LineVersion → Data → Bool };
+
     /// Takes the object of a line, which is read by the rules of a version.
     ///
     /// # Errors
     ///
-    /// The line's fault, or want of memory. No further line is given to it then.
+    /// The line's fault; or want of memory, where the object has what is asked of it before memory
+    /// is taken. No further line is given to it then.
     fn take_object(
         &mut self,
         alloc: Global,
@@ -49,6 +54,8 @@ pub trait LineFold {
             (step self.old version (state self.old) (line_data object.now) ≡ Ok (state self.new)) }
         ensures err { IfErr result
             (Stops (step self.old version (state self.old) (line_data object.now))) }
+        ensures memory { IfErr result (λ stop. stop ≡ NoMemory
+            → is_formed self.old version (line_data object.now) ≡ true) }
 
         // The rule stays the same.
         ensures same { OnOk result (step self.new ≡ step self.old) };

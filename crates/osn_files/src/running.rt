@@ -45,8 +45,11 @@ fn run(object: &mut Object, command: Command) -> Result<(), LineStop>
 }
 
 impl LineFold for Object {
+    ghost use Rattle.std.specs.Prelude.{is_ok};
     ghost use Rattle.osn_days.specs.Profile.{newest_rules};
     ghost use Rattle.osn_core.specs.Sequential.{ObjectState};
+    ghost use Rattle.osn_format.specs.Version.{rules_of};
+    ghost use Rattle.osn_files.specs.Commands.{command_in};
     ghost use Rattle.osn_files.specs.Journal.{after_object};
 
     ghost State = { ObjectState };
@@ -54,6 +57,8 @@ impl LineFold for Object {
     ghost state = { λ object. object };
 
     ghost step = { λ _. after_object newest_rules };
+
+    ghost is_formed = { λ _ version d. is_ok (command_in (rules_of version) d) };
 
     fn take_object(
         &mut self,

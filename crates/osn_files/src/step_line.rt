@@ -1,7 +1,7 @@
 //! The step of a line of a schedule.
 ghost use Rattle.std.specs.Prelude.{◌≡◌};
 ghost use Rattle.osn_request.specs.LineObject.{line_data};
-ghost use Rattle.osn_request.specs.Request.{Gives};
+ghost use Rattle.osn_request.specs.Request.{GivesLast};
 ghost use Rattle.osn_format.specs.Version.{rules_of};
 ghost use Rattle.osn_files.specs.Schedule as spec;
 
@@ -59,7 +59,7 @@ fn reader_of(readers: u32, object: &LineObject<'_>) -> Result<u32, WireFault>
 }
 
 fn look_of(alloc: Global, readers: u32, object: &LineObject<'_>) -> Result<Step, RequestError>
-    ensures { Gives result (spec.look_of readers (line_data object.now)) }
+    ensures { GivesLast result (spec.look_of readers (line_data object.now)) }
 {
     match op_of(object)? {
         Op::Query(op) => {
@@ -71,7 +71,7 @@ fn look_of(alloc: Global, readers: u32, object: &LineObject<'_>) -> Result<Step,
 }
 
 fn stage_of(alloc: Global, version: Version, object: &LineObject<'_>) -> Result<Step, RequestError>
-    ensures { Gives result (spec.stage_of (rules_of version) (line_data object.now)) }
+    ensures { GivesLast result (spec.stage_of (rules_of version) (line_data object.now)) }
 {
     match op_of(object)? {
         Op::Edit(op) => Ok(Step::Stage(edit_of(alloc, version, op, object)?)),
@@ -87,7 +87,8 @@ fn step_by(
     kind: StepKind,
     object: &LineObject<'_>,
 ) -> Result<Step, RequestError>
-    ensures { Gives result (spec.step_by (rules_of version) readers (line_data object.now) kind) }
+    ensures { GivesLast result
+        (spec.step_by (rules_of version) readers (line_data object.now) kind) }
 {
     match kind {
         StepKind::Look => look_of(alloc, readers, object),
@@ -113,14 +114,14 @@ fn step_by(
 /// The step of a line's object by the rules of a version, where there are so many readers.
 ///
 /// # Errors
-/// The first fault of the object, or want of memory.
+/// The first fault of the object; want of memory, once nothing was found at fault.
 pub(crate) fn step_in(
     alloc: Global,
     version: Version,
     readers: u32,
     object: &LineObject<'_>,
 ) -> Result<Step, RequestError>
-    ensures { Gives result (spec.step_in (rules_of version) readers (line_data object.now)) }
+    ensures { GivesLast result (spec.step_in (rules_of version) readers (line_data object.now)) }
 {
     step_by(alloc, version, readers, kind_of(object)?, object)
 }

@@ -125,6 +125,12 @@ abbrev pub CannotKeep : List ℕ → KeepFault → Known → Known → Type 0
 CannotKeep path Held k n = Stays k n × (k.paths.is_held path ≡ true)
 CannotKeep path NotOpened k n = Fails k n ⊎ (Stays k n × (k.paths.is_stream path ≡ true))
 
+-- the file of this path holds this from now on, where that is known, and nothing else was changed
+abbrev pub Leaves : List ℕ → Option (List ℕ) → Known → Known → Type 0
+Leaves path contents k n =
+    KeepsOthers path k n × (n.has_failed ≡ k.has_failed)
+    × IfSome contents (λ bytes. n.at path ≡ Some bytes)
+
 -- ---- what is saved
 
 -- the file of this path, or the name where there is none, is locked, and no other run has it

@@ -46,6 +46,9 @@ impl<'a, R: Files<File = File> + AllocGlobal> Folder for Disk<'a, R> {
         keep_file(self.files, path)
     }
 
+    // The lock goes with the file.
+    fn release(&mut self, _path: &str, _kept: DiskFile<'a, R>) {}
+
     fn lock_to_save(&mut self, path: &str) -> Result<DiskLock, KeepFault> {
         lock_file(self.files, path)
     }

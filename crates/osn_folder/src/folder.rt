@@ -4,6 +4,7 @@ ghost use Rattle.std.specs.Prelude.{◌≡◌, ◌∷◌, [], ℕ, List, Option,
 ghost use Rattle.std.specs.Prelude.{IfSome, OnOk, OnErr, false, string_bytes};
 ghost use Rattle.osn_folder.specs.Folder.{Known, Changes, Stays, Fails, IsFileOf, HasNoFile, Opens};
 ghost use Rattle.osn_folder.specs.Folder.{KeepsOthers, Becomes, IsKeptAt, Keeps, CannotKeep};
+ghost use Rattle.osn_folder.specs.Folder.{Leaves};
 ghost use Rattle.osn_folder.specs.Folder.{Locks, CannotLock, IsPlaceOf, LeavesAll, WritesBeside};
 ghost use Rattle.osn_folder.specs.Folder.{Compares, Moves, CannotMove, Spoils};
 
@@ -56,6 +57,11 @@ pub trait Folder {
         ensures ok { OnOk result (Changes (Keeps path.now) (known self.old) (known self.new)) }
         ensures err { IfErr result
             (λ why. Changes (CannotKeep path.now why) (known self.old) (known self.new)) };
+
+    /// Gives back a file that was kept, by its path: other runs may keep it from now on.
+    fn release(&mut self, path: &str, kept: Self::Kept)
+        ensures { Changes (Leaves path.now (Self.Kept.contents kept))
+            (known self.old) (known self.new) };
 
     /// Locks the file of a path, through links, to save a text to it later. Where nothing is there,
     /// the lock remembers that. What is no file, as a pipe, takes no lock.

@@ -40,10 +40,13 @@ fn text_in_field(bytes: &[u8]) -> Option<&str>
 }
 
 /// The date of a field, if it is one.
-fn date_in(field: &[u8]) -> Option<WrittenDate>
-    ensures { result ≡ spec.date_in field.now }
+fn date_in(alloc: Global, field: &[u8]) -> Result<Option<WrittenDate>, AllocError>
+    ensures { IfOk result (λ date. date ≡ spec.date_in field.now) }
 {
-    WrittenDate::parse(text_in_field(field)?).ok()
+    match text_in_field(field) {
+        Some(text) => Ok(WrittenDate::parse(alloc, text)?.ok()),
+        None => Ok(None),
+    }
 }
 
 /// The territory of a code, if some territory has it.
@@ -173,7 +176,7 @@ pub fn letter_fields(
     ensures { IfOk result (λ fields. fields_of fields ≡ spec.letter_fields newest_rules
         register.now.lands edition place.now date.now (option_map (λ w. w.now) weekday.entry)) }
 {
-    let date = date_in(date);
+    let date = date_in(alloc, date)?;
     let territory = territory_in(register, place);
     if let (Some(date), Some(territory)) = (date, territory) {
         return fields_in(alloc, edition, territory, date, weekday);

@@ -1,6 +1,6 @@
 -- What follows for the whole input, where it is known, and for each way to end early.
-use Rattle.std.proofs.Common.{◌≡◌, ℕ, ◌+◌, List, [], ◌∷◌, ◌++◌, Option, None, Some, Result, Err}
-use Rattle.std.proofs.Common.{IfSome, IfErr, length, take, refl, sym, ap, subst, ◌∙◌, append-nil}
+use Rattle.std.proofs.Common.{◌≡◌, ◌≤◌, ℕ, ◌+◌, List, [], ◌∷◌, ◌++◌, Option, None, Some, Result}
+use Rattle.std.proofs.Common.{Err, IfSome, IfErr, length, take, refl, sym, ap, subst, ◌∙◌, append-nil}
 use Rattle.std.proofs.Common.{append_assoc, length-append, arith}
 use Rattle.std.specs.Prelude.{slice_get}
 use Rattle.std.specs.Io.KnownBytes.{Consumes, IsAtEnd}
@@ -12,7 +12,7 @@ use Rattle.osn_lines.specs.Faults.{MatchFault}
 use Rattle.osn_lines.specs.Inside.{IsKept, IsTaken, IsStopped}
 use Rattle.osn_lines.specs.Lines.{lines}
 use Rattle.osn_lines.specs.Taking.{Takes, Stops, TakesAll, TakesFirst, StopsAfter, HasRead}
-use Rattle.osn_lines.specs.Taking.{TakesEnded}
+use Rattle.osn_lines.specs.Taking.{TakesEnded, HasKeptUp}
 use Rattle.osn_lines.proofs.LineLemmas.{lines-feed}
 use Rattle.osn_lines.proofs.TakeLemmas.{Takes-then}
 
@@ -74,21 +74,60 @@ TakesFirst-from after s t a b bytes n Left h consumed = record {
 }
 
 -- of what was read so many lines have ended
-HasRead-from : {S : Type 0} (after : S → List (List ℕ) → S → Type 0) (s t : S)
+ended_of : {S : Type 0} (after : S → List (List ℕ) → S → Type 0) (s t : S) (bytes : List ℕ)
+    (kept : Kept) (n : ℕ) → IsTaken after s t bytes 0 n (IsKept kept) →
+    length (lines (bytes ++ 10 ∷ [])) ≡ n + 1
+ended_of after s t bytes kept n h =
+    omega (
+      arith,
+      h.count,
+      ap length (h.cuts.whole (10 ∷ []) ∙ ap (λ l. h.taken ++ l) (lines-feed h.left [] h.rest.1)),
+      length-append h.taken (h.left ∷ []),
+    )
+
+pub HasRead-from : {S : Type 0} (after : S → List (List ℕ) → S → Type 0) (s t : S)
     (a b : Option (List ℕ)) (bytes : List ℕ) (kept : Kept) (n : ℕ) →
     IsTaken after s t bytes 0 n (IsKept kept) → Consumes a b bytes → HasRead a b n
 HasRead-from after s t a b bytes kept n h consumed = record {
   read = bytes;
   consumed = consumed;
-  ended =
-      omega (
-        arith,
-        h.count,
-        ap length (h.cuts.whole (10 ∷ [])
-            ∙ ap (λ l. h.taken ++ l) (lines-feed h.left [] h.rest.1)),
-        length-append h.taken (h.left ∷ []),
-      );
+  ended = ended_of after s t bytes kept n h;
 }
+
+-- each of them was taken
+pub HasKeptUp-all : (a b : Option (List ℕ)) (n : ℕ) → HasRead a b n → HasKeptUp a b n
+HasKeptUp-all a b n h = record {
+  earlier = h.read;
+  last = [];
+  consumed = subst (Consumes a b) (sym (append-nil h.read)) h.consumed;
+  few = omega arith;
+  ended = omega (arith, h.ended);
+}
+
+-- where the last line was to be taken
+pub HasKeptUp-at_end : (a b : Option (List ℕ)) (m n : ℕ) → HasRead a b m → n ≡ m → HasKeptUp a b n
+HasKeptUp-at_end a b m n h same =
+    HasKeptUp-all a b n (subst (λ (i : ℕ). HasRead a b i) (sym same) h)
+
+-- and of one read more some may be
+pub HasKeptUp-more : {S : Type 0} (after : S → List (List ℕ) → S → Type 0) (s t : S)
+    (a b : Option (List ℕ)) (bytes more : List ℕ) (kept : Kept) (m n : ℕ) →
+    IsTaken after s t bytes 0 m (IsKept kept) → Consumes a b (bytes ++ more) →
+    length more ≤ 65536 → m ≤ n → HasKeptUp a b n
+HasKeptUp-more after s t a b bytes more kept m n h consumed few le = record {
+  earlier = bytes;
+  last = more;
+  consumed = consumed;
+  few = few;
+  ended = omega (arith, ended_of after s t bytes kept m h, le);
+}
+
+-- of the causes for which lines that were read may end, one
+pub counts_on : {W : Type 0} (fault : TakeFault W) (n m : ℕ)
+    → MatchFault fault (n ≤ m) ⊥ (λ why. n ≤ m) → n ≤ m
+counts_on NoMemory n m h = h
+counts_on ReadFault n m h = absurd h
+counts_on (Stopped why) n m h = h
 
 -- where no more is read than was taken and kept
 pub TakesEnded-from : {S : Type 0} (after : S → List (List ℕ) → S → Type 0) (s t : S)

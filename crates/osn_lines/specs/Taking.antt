@@ -1,6 +1,6 @@
 -- What became of a taker of lines, by its own words `after` and `stopped`.
-use Rattle.std.specs.Prelude.{◌≡◌, ℕ, ◌+◌, List, [], ◌∷◌, ◌++◌, length, take, slice_get, Option}
-use Rattle.std.specs.Prelude.{Some, IfSome}
+use Rattle.std.specs.Prelude.{◌≡◌, ◌≤◌, ℕ, ◌+◌, List, [], ◌∷◌, ◌++◌, length, take, slice_get}
+use Rattle.std.specs.Prelude.{Option, Some, IfSome}
 use Rattle.std.specs.Io.KnownBytes.{Consumes}
 use Rattle.osn_lines.specs.Lines.{lines}
 
@@ -62,3 +62,12 @@ pub record TakesEnded {S : Type 0} (after : S → List (List ℕ) → S → Type
     (old new : Option (List ℕ)) (n : ℕ) : Type 0 where
   pub first : TakesFirst after s t old n
   pub read : HasRead old new n
+
+-- Of the bytes that were read each line is among the first n that ended before the last ones, which
+-- are at most what one read gives.
+pub record HasKeptUp (old new : Option (List ℕ)) (n : ℕ) : Type 0 where
+  pub earlier : List ℕ
+  pub last : List ℕ
+  pub consumed : Consumes old new (earlier ++ last)
+  pub few : length last ≤ 65536
+  pub ended : length (lines (earlier ++ 10 ∷ [])) ≤ n + 1

@@ -6,7 +6,7 @@ ghost use Rattle.osn_lines.specs.Faults.{MatchFault, IsReadFault};
 ghost use Rattle.osn_lines.specs.Inside.{IsKept};
 ghost use Rattle.osn_lines.specs.Lines.{lines};
 ghost use Rattle.osn_lines.specs.Taking.{Takes, Stops, TakesAll, TakesFirst, TakesEnded};
-ghost use Rattle.osn_lines.specs.Taking.{StopsAfter};
+ghost use Rattle.osn_lines.specs.Taking.{HasKeptUp, StopsAfter};
 
 use crate::cut::{take_line, take_piece};
 use crate::fault::{Interrupted, TakeFault};
@@ -69,6 +69,10 @@ pub fn take_lines<T: LineTaker, R: Source>(
         (TakesEnded T.after taker.old taker.new (R.remaining source.old) (R.remaining source.new)
         end.lines)
         (StopsAfter T.after T.stopped taker.old taker.new (R.remaining source.old) end.lines)) }
+
+    // Each line that ended before the last 65,536 bytes that were read was taken.
+    ensures recent { IfErr result (λ end.
+        HasKeptUp (R.remaining source.old) (R.remaining source.new) end.lines) }
 
     // A further line can be counted.
     ensures few { IfErr result (λ end. end.lines < 2 ^ 63) }

@@ -1,5 +1,5 @@
 -- The words of a day by a calendar are the written date of that day.
-use Rattle.std.proofs.Common.{◌≡◌, ◌≤◌, ◌<◌, ℕ, ◌^◌, Bool, true, false, List, Ok, None, refl, ap}
+use Rattle.std.proofs.Common.{◌≡◌, ◌≤◌, ◌<◌, ℕ, ◌^◌, false, Ok, None, refl, ap}
 use Rattle.std.proofs.Common.{◌∙◌, arith, ℤ, pos, negsuc, ◌≤ℤ◌, unsigned_abs, sym}
 use Rattle.std.proofs.lemmas.Int.{ints}
 use Rattle.std.specs.Fmt.{decimal}
@@ -9,7 +9,7 @@ use Rattle.osn_days.specs.Profile.{newest_rules}
 use Rattle.osn_days.proofs.LineFacts.{date_of_line, day_of_date}
 use Rattle.osn_written.specs.declared.written_date.WrittenDate.{WrittenDate}
 use Rattle.osn_written.specs.WrittenDate.{written_date}
-use Rattle.osn_written.proofs.LawFacts.{words_read, date_read, year_text_read}
+use Rattle.osn_written.proofs.LawFacts.{words_read, date_read, year_text_read, usual_read}
 use Rattle.osn_pages.specs.Words.{words_of_date, calendar_words}
 use Rattle.osn_pages.specs.Conversion.{numbered_date}
 use Rattle.osn_pages.specs.Law.{AreCalendarWordsWritten}
@@ -37,9 +37,10 @@ numbers_read (pos n) month day low high some most first few =
     let small : n < 10 ^ 9 = omega (arith, ints, high) in
     let years = year_text_read n n small small false (λ e. absurd (cc)) in
     record {
-      is = date_read day month (decimal n) (omega (arith, few))
+      is = usual_read (words_of_date (record { year = pos n; month = month; day = day }))
+          (single n month day) (date_read day month (decimal n) (omega (arith, few))
           ∙ words_read day month n false (decimal n) (omega (arith, ints, high)) some most first
-          few years;
+          few years);
       numbers = refl;
     }
 numbers_read (negsuc n) month day low high some most first few =

@@ -1,3 +1,4 @@
+mod FewLemmas
 mod FlatLemmas
 mod QueryLemmas
 mod TextLemmas

@@ -1,11 +1,13 @@
 //! Reads one line into a request, or names its first fault.
 ghost use Rattle.std.specs.Prelude.{◌≡◌, ◌<◌, ℕ, List, length, MatchResult, IfErr, IfOk, Ok, Err};
-ghost use Rattle.std.specs.Prelude.{Some};
+ghost use Rattle.std.specs.Prelude.{Some, ◌≤◌, true, is_ok};
+ghost use Rattle.json.specs.Scratch.{room};
 ghost use Rattle.std.specs.Str.{IsUtf8};
 ghost use Rattle.serde_json.specs.Read.{read};
 ghost use Rattle.serde_json.specs.View.{view};
 ghost use Rattle.osn_days.specs.Profile.{newest_rules};
 ghost use Rattle.osn_lines.specs.Lines.{IsLine};
+ghost use Rattle.osn_request.specs.Flat.{is_flat};
 ghost use Rattle.osn_request.specs.LineObject.{line_data};
 ghost use Rattle.osn_request.specs.Request as spec;
 ghost use Rattle.osn_request.specs.declared.request.RequestError.TheVariants.{NoMemory};
@@ -31,7 +33,7 @@ pub use op::{EditOp, Op, QueryOp, op_of};
 use osn_format::WireFault;
 use osn_lines::{LONGEST_LINE, Line};
 use osn_register::{Edit, Query};
-pub use query::{query_of, reader_in};
+pub use query::{borrowed_query_of, query_of, reader_in};
 use serde_json::Value;
 use std::alloc::{AllocError, Global};
 use std::str;
@@ -114,7 +116,8 @@ fn tree_of(alloc: Global, text: &str) -> Result<Value, RequestError>
 /// the longest one; the object may borrow from it.
 ///
 /// # Errors
-/// `NotJson` and `NotObject`; memory is taken for a text alone that is not empty.
+/// `NotJson` and `NotObject`; memory is taken for a text alone that is not empty, and where the
+/// scratch has room for it not for a flat object.
 pub fn object_in<'a>(
     alloc: Global,
     scratch: &'a mut Scratch,
@@ -126,6 +129,8 @@ pub fn object_in<'a>(
     ensures text { MatchResult result
         (λ _. 0 < length text.now)
         (λ e. e ≡ NoMemory → 0 < length text.now) }
+    ensures memory { IfErr result (λ e. e ≡ NoMemory → is_flat text.now ≡ true →
+        room scratch.old < length text.now) }
 {
     match flat_object_of(text, scratch)? {
         Some(object) => Ok(LineObject::Flat(object)),
@@ -156,6 +161,8 @@ pub fn text_of<'a>(line: Line<'a>) -> Result<&'a str, WireFault>
         (λ f. spec.object_of whole ≡ Err f) }
     ensures readable { (whole : List ℕ) → IsLine line.entry whole →
         IfOk result (λ text. 0 < length text.now → spec.IsReadable whole) }
+    ensures text { (whole : List ℕ) → IsLine line.entry whole →
+        IfOk result (λ text. text.now ≡ whole) }
 {
     match line {
         Line::Whole(bytes) => text_of_whole(bytes),
@@ -179,6 +186,8 @@ pub fn object_of<'a>(
     ensures memory { (whole : List ℕ) → IsLine line.entry whole → MatchResult result
         (λ _. spec.IsReadable whole)
         (λ e. e ≡ NoMemory → spec.IsReadable whole) }
+    ensures flat { (whole : List ℕ) → IsLine line.entry whole → IfErr result (λ e.
+        e ≡ NoMemory → is_flat whole ≡ true → room scratch.old < length whole) }
 {
     let text = text_of(line)?;
     object_in(alloc, scratch, text)
@@ -189,7 +198,8 @@ pub fn object_of<'a>(
 ///
 /// # Errors
 /// The first fault of the line; or want of memory, for a line alone that is a text, not an empty
-/// one and not too long.
+/// one and not too long. A flat object, for which the scratch has room, wants memory for the texts
+/// of the request alone, once nothing was found at fault.
 pub fn request_of_line(
     alloc: Global,
     scratch: &mut Scratch,
@@ -200,6 +210,9 @@ pub fn request_of_line(
         spec.Gives result (spec.request newest_rules readers whole) }
     ensures memory { (whole : List ℕ) → IsLine line.entry whole →
         IfErr result (λ e. e ≡ NoMemory → spec.IsReadable whole) }
+    ensures last { (whole : List ℕ) → IsLine line.entry whole → IfErr result (λ e.
+        e ≡ NoMemory → is_flat whole ≡ true → length whole ≤ room scratch.old →
+        is_ok (spec.request newest_rules readers whole) ≡ true) }
 {
     let object = object_of(alloc, scratch, line)?;
     Ok(line_request_of(alloc, readers, &object)?.to_request(alloc)?)

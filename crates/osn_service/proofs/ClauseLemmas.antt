@@ -1,7 +1,7 @@
 -- What a service has done, by what was taken and what was written after that.
-use Rattle.std.proofs.Common.{◌≡◌, ◌≤◌, ◌<◌, ◌-◌, ◌∙◌, ℕ, Bool, false, List, [], ◌∷◌, ◌++◌, Option}
+use Rattle.std.proofs.Common.{◌≡◌, ◌<◌, ◌-◌, ◌∙◌, ℕ, Bool, false, List, [], ◌∷◌, ◌++◌, Option}
 use Rattle.std.proofs.Common.{Ok, Err, IfSome, length, take, drop, refl, sym, ap, subst}
-use Rattle.std.proofs.Common.{length-append, length-take, arith, ⊎_elim, inl, inr}
+use Rattle.std.proofs.Common.{append_assoc, length-append, length-take, arith, ⊎_elim, inl, inr}
 use Rattle.std.proofs.lemmas.List.{take-append-drop, take_all}
 use Rattle.std.specs.Io.KnownBytes.{Appends}
 use Rattle.std.specs.Prelude.{⊤}
@@ -18,6 +18,7 @@ use Rattle.osn_service.specs.declared.fault.ServiceFault.{ServiceFault}
 use Rattle.osn_service.specs.declared.fault.ServiceFault.TheVariants.{Serve, NotKept}
 use Rattle.osn_service.specs.declared.rules.ServeRules.{ServeRules}
 use Rattle.osn_service.specs.declared.service.End.TheVariants.{AtEnd, AtRefusal, ByFault}
+use Rattle.osn_service.specs.Faults.{HasLongReply}
 use Rattle.osn_service.specs.Refusals.{NoneRefused}
 use Rattle.osn_service.specs.Served.{line_text, outputs, after_lines, WritesAll, WritesFirst}
 use Rattle.osn_service.specs.Served.{WritesInPart, StandsAfter, StandsAt, StandsNear}
@@ -30,7 +31,7 @@ use Rattle.osn_service.specs.TakingInside.{output_since}
 use Rattle.osn_service.proofs.PartLemmas.{InPart-more}
 use Rattle.osn_service.proofs.ServeLemmas.{Failing-from}
 use Rattle.osn_service.proofs.TakingLemmas.{IfSome-weaker, IfSome-both, AnswersInPart-from}
-use Rattle.osn_service.proofs.WaitLemmas.{replies-append, Waits-written}
+use Rattle.osn_service.proofs.WaitLemmas.{Waits-written}
 
 -- no reply is empty
 some_text : (rules : ServeRules) (s : ObjectState) (line : List ℕ) →
@@ -62,22 +63,23 @@ module _ {rules : ServeRules} {begun now : Moment} {n : ℕ} (i : Input)
       (InPart-more (line_text rules) (line_after rules) (some_text rules) begun.object now.object
       h.taken (drop (length h.taken) all) _ _ n h.part)
 
-  -- what is written of the replies, as a text
-  long : 4294967295 ≤ length (outputs rules begun.object h.taken) →
-      IfSome i.bytes (λ bytes. 4294967295 ≤ length (outputs rules begun.object (lines bytes)))
-  long le =
+  -- the reply to one of them is too long
+  long : HasLongReply rules begun.object h.taken →
+      IfSome i.bytes (λ bytes. HasLongReply rules begun.object (lines bytes))
+  long k =
       IfSome-weaker i.bytes (λ bytes. take (length h.taken) (lines bytes) ≡ h.taken)
-      (λ bytes. 4294967295 ≤ length (outputs rules begun.object (lines bytes)))
+      (λ bytes. HasLongReply rules begun.object (lines bytes))
       (λ bytes e.
       let rest = drop (length h.taken) (lines bytes) in
-      omega (
-        arith,
-        le,
-        ap (λ l. length (outputs rules begun.object l)) (whole (lines bytes) e),
-        ap length (replies-append (line_text rules) (line_after rules) begun.object h.taken rest),
-        length-append (outputs rules begun.object h.taken)
-            (outputs rules (after_lines rules begun.object h.taken) rest),
-      ))
+      record {
+        before = k.before;
+        line = k.line;
+        rest = k.rest ++ rest;
+        split =
+            sym (whole (lines bytes) e)
+            ∙ (ap (λ l. l ++ rest) k.split ∙ append_assoc k.before (k.line ∷ k.rest) rest);
+        long = k.long;
+      })
       h.first
 
   -- what the service has done then

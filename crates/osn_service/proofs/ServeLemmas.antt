@@ -1,25 +1,66 @@
 -- How serving lines goes on from one moment to the next.
-use Rattle.std.proofs.Common.{◌≡◌, ◌≤◌, ◌∙◌, ℕ, Bool, false, List, [], ◌∷◌, ◌++◌, length, fold}
-use Rattle.std.proofs.Common.{refl, sym, ap, subst, length-append, arith, ⊎_elim, inl, inr}
+use Rattle.std.proofs.Common.{◌≡◌, ◌≤◌, ◌<◌, ◌-◌, ◌∙◌, ℕ, Bool, false, List, [], ◌∷◌, ◌++◌, length}
+use Rattle.std.proofs.Common.{fold, Option, refl, sym, ap, subst, length-append, arith}
+use Rattle.std.proofs.Common.{⊎_elim, inl, inr}
 use Rattle.osn_core.specs.Sequential.{ObjectState}
 use Rattle.osn_lines.specs.Faults.{WriteFails}
 use Rattle.osn_reply.specs.Outcome.{is_refused}
+use Rattle.osn_service.specs.declared.reply_buffer.ReplyBuffer.{ReplyBuffer}
 use Rattle.osn_service.specs.declared.rules.ServeRules.{ServeRules}
+use Rattle.osn_service.specs.Faults.{HasLongReply, RepliesFail}
 use Rattle.osn_service.specs.Refusals.{NoneRefused}
-use Rattle.osn_service.specs.Served.{line_text, outputs, after_lines}
-use Rattle.osn_service.specs.ServiceInside.{InPart}
+use Rattle.osn_service.specs.Served.{line_text, after_lines}
+use Rattle.osn_service.specs.ServiceInside.{full, InPart, Adds, Settles}
 use Rattle.osn_service.specs.Session.{line_after, line_outcome}
 use Rattle.osn_service.specs.SessionInside.{Moment, Answered, Settled, Unwritten, TakenBack}
-use Rattle.osn_service.specs.SessionInside.{Serving, Failing, Unkept}
+use Rattle.osn_service.specs.SessionInside.{IsShort, Serving, Failing, Unkept}
 use Rattle.osn_service.proofs.PartLemmas.{PartOf-from}
-use Rattle.osn_service.proofs.WaitLemmas.{length-ends, Waits-nothing, Waits-add, Waits-all}
+use Rattle.osn_service.proofs.WaitLemmas.{length-ends, Waits-nothing, Waits-add}
 use Rattle.osn_service.proofs.WaitLemmas.{Waits-settle, Waits-written, after_one}
 
--- a failed write of what waits is one of the replies
-WriteFails-all : (old mid new : Bool) (some all : List ℕ) → mid ≡ old → length some ≤ length all →
-    WriteFails mid new some → WriteFails old new all
-WriteFails-all old mid new some all same le h =
-    ⊎_elim (λ k. inl k) (λ k. inr (k.0 ∙ same, omega (arith, k.1))) h
+-- what waits is too long for the writes that are made, and so is the reply to one of the lines
+long_of : (rules : ServeRules) (s : ObjectState) (lines : List (List ℕ)) (text : List ℕ) →
+    IsShort rules s lines text → 4294967295 ≤ length text → HasLongReply rules s lines
+long_of rules s lines text (inl less) le = absurd (omega (arith, less, le))
+long_of rules s lines text (inr k) le = record {
+  before = k.before;
+  line = k.line;
+  rest = k.rest;
+  split = k.split;
+  long = omega (arith, k.long, le);
+}
+
+-- a failed write of what waits
+RepliesFail-from : (rules : ServeRules) (s : ObjectState) (lines : List (List ℕ))
+    (text : List ℕ) (old mid new : Bool) → mid ≡ old → IsShort rules s lines text →
+    WriteFails mid new text → RepliesFail rules s old new lines
+RepliesFail-from rules s lines text old mid new same short h =
+    ⊎_elim (λ k. inl k) (λ k. inr (k.0 ∙ same, long_of rules s lines text short k.1)) h
+
+-- a reply more, where less waited than with which it is written
+reply_more : (old new reply : List ℕ) → new ≡ old ++ reply → length old < full →
+    length new - 65535 ≤ length reply
+reply_more old new reply more less = omega (arith, ap length more, length-append old reply, less)
+
+-- a reply alone
+reply_alone : (new reply : List ℕ) → new ≡ reply → length new - 65535 ≤ length reply
+reply_alone new reply is = omega (arith, ap length is)
+
+-- a reply that was added
+reply_added : {S : Type 0} (s u : S) (reply : List ℕ) (a b : Option (List ℕ)) (w w' : ReplyBuffer)
+    → length w.text.items < full → Adds s u reply a b w w' →
+    length w'.text.items - 65535 ≤ length reply
+reply_added s u reply a b w w' less adds =
+    ⊎_elim (λ k. reply_more w.text.items w'.text.items reply k.2.text less)
+    (λ k. reply_alone w'.text.items reply k.1) adds
+
+-- what waits still, or nothing
+IsShort-settled : (rules : ServeRules) (s : ObjectState) (lines : List (List ℕ))
+    (a b : Option (List ℕ)) (w w' : ReplyBuffer) → IsShort rules s lines w.text.items →
+    Settles a b w w' → IsShort rules s lines w'.text.items
+IsShort-settled rules s lines a b w w' short settles =
+    ⊎_elim (λ k. subst (IsShort rules s lines) (sym k.1) short)
+    (λ k. subst (IsShort rules s lines) (sym k.text) (inl (omega arith))) settles
 
 -- nothing is answered yet
 pub Serving-nothing : (rules : ServeRules) (s : Moment) → s.waiting.text.items ≡ [] →
@@ -27,6 +68,7 @@ pub Serving-nothing : (rules : ServeRules) (s : Moment) → s.waiting.text.items
 Serving-nothing rules s text ends = record {
   waits =
       Waits-nothing (line_text rules) (line_after rules) s.object s.written s.waiting text ends;
+  short = subst (IsShort rules s.object []) (sym text) (inl (omega arith));
   sound = refl;
 }
 
@@ -37,17 +79,32 @@ module _ {rules : ServeRules} {begun s t : Moment} {lines : List (List ℕ)} whe
     waits =
         Waits-settle (line_text rules) (line_after rules) begun.object s.object t.object lines
         begun.written s.written t.written s.waiting t.waiting h.waits k.settles k.object;
+    short =
+        IsShort-settled rules begun.object lines s.written t.written s.waiting t.waiting h.short
+        k.settles;
     sound = k.sound ∙ h.sound;
   }
 
   -- a line was answered
-  pub Serving-answered : (line : List ℕ) → Serving rules begun lines s →
+  pub Serving-answered : (line : List ℕ) → length s.waiting.text.items < full →
+      Serving rules begun lines s →
       Answered (line_outcome rules s.object line) (line_after rules s.object line) s t →
       Serving rules begun (lines ++ line ∷ []) t
-  Serving-answered line h k = record {
+  Serving-answered line less h k = record {
     waits =
         Waits-add (line_text rules) (line_after rules) begun.object s.object t.object _ lines line
         begun.written s.written t.written s.waiting t.waiting h.waits k.adds refl k.object;
+    short = inr (record {
+      before = lines;
+      line = line;
+      rest = [];
+      split = refl;
+      long =
+          subst (λ (o : ObjectState). length t.waiting.text.items - 65535
+          ≤ length (line_text rules o line)) h.waits.reached
+          (reply_added s.object t.object (line_text rules s.object line) s.written t.written
+          s.waiting t.waiting less k.adds);
+    });
     sound = k.sound ∙ h.sound;
   }
 
@@ -59,16 +116,13 @@ module _ {rules : ServeRules} {begun s t : Moment} {lines : List (List ℕ)} whe
       let after = line_after rules in
       let part = PartOf-from text after begun.object s.object lines begun.written s.written
       t.written s.waiting unwritten h.waits k.some in
-      let all = Waits-all text after begun.object s.object lines begun.written s.written s.waiting
-      h.waits in
-      let size = length-append (outputs rules begun.object h.waits.done) s.waiting.text.items in
       record {
         whole = part.n;
         count = part.count;
         part =
             subst (λ (o : ObjectState). InPart text after begun.object o lines begun.written
             t.written part.n) (sym k.object) part.part;
-        reason = WriteFails-all _ _ _ _ _ h.sound (omega (arith, ap length all, size)) k.reason;
+        reason = RepliesFail-from _ _ _ _ _ _ _ h.sound h.short k.reason;
       }
 
   -- the change of a line was not kept

@@ -1,6 +1,6 @@
 -- How a session goes on.
-use Rattle.std.proofs.Common.{◌≡◌, ◌∙◌, ℕ, Bool, true, false, List, [], ◌∷◌, ◌++◌, Option, Some, Ok}
-use Rattle.std.proofs.Common.{Err, refl, sym, ap, subst}
+use Rattle.std.proofs.Common.{◌≡◌, ◌<◌, ◌∙◌, ℕ, Bool, true, false, List, [], ◌∷◌, ◌++◌, length}
+use Rattle.std.proofs.Common.{Option, Some, Ok, Err, refl, sym, ap, subst}
 use Rattle.osn_core.specs.Sequential.{ObjectState}
 use Rattle.osn_reply.specs.Outcome.{is_refused}
 use Rattle.osn_service.specs.declared.rules.ServeRules.{ServeRules}
@@ -10,6 +10,7 @@ use Rattle.osn_service.specs.declared.stop.Stop.TheVariants.{NoMemory, WriteFail
 use Rattle.osn_service.specs.declared.stop.Stop.TheVariants.{Refused}
 use Rattle.osn_service.specs.declared.stop.UnwrittenReplies.{UnwrittenReplies}
 use Rattle.osn_service.specs.Served.{after_lines}
+use Rattle.osn_service.specs.ServiceInside.{full}
 use Rattle.osn_service.specs.Session.{line_outcome, line_after}
 use Rattle.osn_service.specs.SessionInside.{Moment, moment_of, Answered, Settled, Unwritten}
 use Rattle.osn_service.specs.SessionInside.{TakenBack, Answers, Serving, IsSame, HasServed}
@@ -78,7 +79,8 @@ module _ {W S F : Type 0} (contents : W → Option (List ℕ)) (has_failed holds
     }
 
     -- a line, once nothing was written or all that waited
-    module _ (mid : Moment) (line : List ℕ) (room : Settled (now_of s) mid) where
+    module _ (mid : Moment) (line : List ℕ) (room : Settled (now_of s) mid)
+        (less : length mid.waiting.text.items < full) where
       -- that was so before the line
       ready : Serving begun.rules (now_of begun) before mid
       ready = Serving-settled h.serving room
@@ -103,7 +105,7 @@ module _ {W S F : Type 0} (contents : W → Option (List ℕ)) (has_failed holds
       answered : {refused : Bool} → Replies refused →
           Serving begun.rules (now_of begun) (before ++ line ∷ []) (now_of t)
       answered {refused} k =
-          Serving-answered line ready
+          Serving-answered line less ready
           (subst (λ (r : ServeRules). Answered (line_outcome r mid.object line)
           (line_after r mid.object line) mid (now_of t)) h.same.rules k.2)
 

@@ -1,10 +1,10 @@
 -- What holds where answering lines ended, by its end, and why a write fails.
-use Rattle.std.specs.Prelude.{◌≡◌, ◌≤◌, ◌⊎◌, ℕ, Bool, true, false, List, Option, IfSome, length}
-use Rattle.std.specs.Prelude.{Result, Ok, Err}
+use Rattle.std.specs.Prelude.{◌≡◌, ◌≤◌, ◌⊎◌, ℕ, Bool, true, false, List, ◌∷◌, ◌++◌, length}
+use Rattle.std.specs.Prelude.{Option, IfSome, Result, Ok, Err}
 use Rattle.osn_lines.specs.declared.fault.Interrupted.{Interrupted}
 use Rattle.osn_lines.specs.Lines.{lines}
 use Rattle.osn_core.specs.Sequential.{ObjectState}
-use Rattle.osn_service.specs.Served.{outputs}
+use Rattle.osn_service.specs.Served.{line_text, after_lines}
 use Rattle.osn_service.specs.declared.fault.ServeFault.{ServeFault}
 use Rattle.osn_service.specs.declared.fault.ServiceFault.{ServiceFault}
 use Rattle.osn_service.specs.declared.fault.ServiceFault.TheVariants.{Serve, NotKept}
@@ -42,9 +42,26 @@ MatchService (Err end) P Q R =
     MatchServiceFault end.cause (λ fault. P (Err (record { lines = end.lines; cause = fault })))
     (R end.lines)
 
--- the sink failed, or it may take the replies to all lines of the input in more writes than the
--- 4,294,967,295 that are made
+-- the reply to one of the lines has as many bytes, or more
+pub record HasReply (rules : ServeRules) (s : ObjectState) (lines : List (List ℕ)) (bytes : ℕ)
+    : Type 0 where
+  pub before : List (List ℕ)
+  pub line : List ℕ
+  pub rest : List (List ℕ)
+  pub split : lines ≡ before ++ line ∷ rest
+  pub long : bytes ≤ length (line_text rules (after_lines rules s before) line)
+
+-- The reply to one of the lines, with the 65,535 bytes that may wait before it, has 4,294,967,295
+-- bytes: a sink may take them in more writes than are made.
+abbrev pub HasLongReply : ServeRules → ObjectState → List (List ℕ) → Type 0
+HasLongReply rules s lines = HasReply rules s lines 4294901760
+
+-- the sink failed, or it is as sound as it was and the reply to one of the lines is that long
+abbrev pub RepliesFail : ServeRules → ObjectState → Bool → Bool → List (List ℕ) → Type 0
+RepliesFail rules s old new lines =
+    (new ≡ true) ⊎ ((new ≡ old) × HasLongReply rules s lines)
+
+-- the sink failed, or the reply to one line of the input is that long
 abbrev pub IsUnwritten : ServeRules → ObjectState → Option (List ℕ) → Bool → Type 0
 IsUnwritten rules s input failed =
-    (failed ≡ true)
-    ⊎ IfSome input (λ bytes. 4294967295 ≤ length (outputs rules s (lines bytes)))
+    (failed ≡ true) ⊎ IfSome input (λ bytes. HasLongReply rules s (lines bytes))

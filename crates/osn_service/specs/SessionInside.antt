@@ -1,6 +1,6 @@
 -- A session as what takes lines: what it has answered, and what of that waits.
-use Rattle.std.specs.Prelude.{◌≡◌, ◌+◌, ℕ, Bool, true, false, List, [], ◌∷◌, ◌++◌, Option}
-use Rattle.std.specs.Prelude.{Some, length, Result, Ok, Err}
+use Rattle.std.specs.Prelude.{◌≡◌, ◌+◌, ◌-◌, ◌<◌, ◌⊎◌, ℕ, Bool, true, false, List, [], ◌∷◌}
+use Rattle.std.specs.Prelude.{◌++◌, Option, Some, length, Result, Ok, Err}
 use Rattle.std.specs.Io.KnownBytes.{Appends}
 use Rattle.osn_lines.specs.Faults.{WriteFails}
 use Rattle.osn_lines.specs.Lines.{lines}
@@ -12,9 +12,10 @@ use Rattle.osn_service.specs.declared.rules.ServeRules.{ServeRules}
 use Rattle.osn_service.specs.declared.session.Session.{Session}
 use Rattle.osn_service.specs.declared.stop.Stop.{Stop}
 use Rattle.osn_reply.specs.Outcome.{is_refused}
+use Rattle.osn_service.specs.Faults.{HasReply, RepliesFail}
 use Rattle.osn_service.specs.Refusals.{NoneRefused}
 use Rattle.osn_service.specs.Served.{line_text, outputs, after_lines}
-use Rattle.osn_service.specs.ServiceInside.{Waits, InPart, Adds, Settles, WritesSome}
+use Rattle.osn_service.specs.ServiceInside.{full, Waits, InPart, Adds, Settles, WritesSome}
 use Rattle.osn_service.specs.Session.{line_after, line_outcome}
 use Rattle.osn_service.specs.Stop.{MatchStop}
 use Rattle.osn_service.specs.Store.{KeepsSince}
@@ -89,11 +90,17 @@ Answers lends kept not_kept outcome after s t holds_back old new (Err stop) =
 
 -- ---- all lines so far
 
+-- what waits is less than with which it is written, but for the reply to one of the lines
+abbrev pub IsShort : ServeRules → ObjectState → List (List ℕ) → List ℕ → Type 0
+IsShort rules s lines text =
+    (length text < full) ⊎ HasReply rules s lines (length text - 65535)
+
 -- lines were answered, and the replies to the last of them wait
 pub record Serving (rules : ServeRules) (begun : Moment) (lines : List (List ℕ)) (now : Moment)
     : Type 0 where
   pub waits : Waits (line_text rules) (line_after rules) begun.object now.object lines
       begun.written now.written now.waiting
+  pub short : IsShort rules begun.object lines now.waiting.text.items
   pub sound : now.failed ≡ begun.failed
 
 -- lines were answered, and a write failed with this many of their replies not written whole
@@ -103,7 +110,7 @@ pub record Failing (rules : ServeRules) (begun : Moment) (lines : List (List ℕ
   pub count : whole + unwritten ≡ length lines
   pub part : InPart (line_text rules) (line_after rules) begun.object now.object lines
       begun.written now.written whole
-  pub reason : WriteFails begun.failed now.failed (outputs rules begun.object lines)
+  pub reason : RepliesFail rules begun.object begun.failed now.failed lines
 
 -- lines were answered and their replies written, and the change of the line after them was not kept
 pub record Unkept (rules : ServeRules) (begun : Moment) (lines : List (List ℕ)) (line : List ℕ)

@@ -7,7 +7,7 @@ use Rattle.osn_core.specs.Sequential.{ObjectState}
 use Rattle.osn_lines.specs.declared.fault.Interrupted.{Interrupted}
 use Rattle.osn_lines.specs.declared.fault.TakeFault.{TakeFault}
 use Rattle.osn_lines.specs.declared.fault.TakeFault.TheVariants as take
-use Rattle.osn_lines.specs.Faults.{IsReadFault, WriteFails}
+use Rattle.osn_lines.specs.Faults.{IsReadFault}
 use Rattle.osn_lines.specs.Lines.{lines}
 use Rattle.osn_lines.specs.Streams.{Input, Output}
 use Rattle.osn_lines.specs.Taking.{HasRead}
@@ -20,9 +20,9 @@ use Rattle.osn_service.specs.declared.service.End.TheVariants.{AtEnd, AtRefusal,
 use Rattle.osn_service.specs.declared.service.LinesTaken.{LinesTaken}
 use Rattle.osn_service.specs.declared.stop.Stop.{Stop}
 use Rattle.osn_service.specs.declared.stop.Stop.TheVariants as stop
-use Rattle.osn_service.specs.Faults.{MatchFault, MatchServiceFault}
+use Rattle.osn_service.specs.Faults.{MatchFault, MatchServiceFault, RepliesFail}
 use Rattle.osn_service.specs.Refusals.{NoneRefused, IsFirstRefused}
-use Rattle.osn_service.specs.Served.{outputs, after_lines}
+use Rattle.osn_service.specs.Served.{after_lines}
 use Rattle.osn_service.specs.Serves.{ServesUnkept}
 use Rattle.osn_service.specs.ServiceInside.{InPart}
 use Rattle.osn_service.specs.Served.{line_text}
@@ -66,7 +66,7 @@ pub record AnswersInPart (rules : ServeRules) (begun now : Moment) (input : Opti
   pub taken : List (List ℕ)
   pub part : InPart (line_text rules) (line_after rules) begun.object now.object taken begun.written
       now.written n
-  pub reason : WriteFails begun.failed now.failed (outputs rules begun.object taken)
+  pub reason : RepliesFail rules begun.object begun.failed now.failed taken
   pub first : IfSome input (λ bytes. take (length taken) (lines bytes) ≡ taken)
 
 -- where a refusal is to be the end, none of the first n lines was refused

@@ -26,11 +26,11 @@ use Rattle.osn_lands.proofs.LabelFacts.{style_year_range}
 use Rattle.osn_written.specs.declared.written_date.WrittenDate.{WrittenDate}
 use Rattle.osn_written.specs.Law.{AreDualTextsWritten, AreNamedDaysWritten, weekday_of}
 use Rattle.osn_written.specs.Meaning.{label_of}
-use Rattle.osn_written.specs.WrittenDate.{written_date, plain_date, weekday_named, date_in}
+use Rattle.osn_written.specs.WrittenDate.{usual_date, plain_date, weekday_named, date_in}
 use Rattle.osn_written.specs.WrittenDate.{date_after, on_weekday}
 use Rattle.osn_written.specs.Text.{written_text}
 use Rattle.osn_written.proofs.LawFacts.{lacks, parts_around, words, words_read, date_read}
-use Rattle.osn_written.proofs.LawFacts.{year_text_read}
+use Rattle.osn_written.proofs.LawFacts.{year_text_read, usual_read}
 
 -- ---- years
 
@@ -69,7 +69,7 @@ year_written n m false is next = rw (is, le-ltb n n (omega arith)) refl
 record IsPlain (dated : Label) (january_year : ℤ) (text : List ℕ) : Type 0 where
   pub date : WrittenDate
   pub is : plain_date text ≡ Ok date
-  pub first : written_date text ≡ plain_date text
+  pub first : usual_date text ≡ plain_date text
   pub written : written_text date ≡ text
   pub label : label_of date ≡ dated
   pub double : date.is_double ≡ int_lt dated.year january_year
@@ -132,7 +132,7 @@ dual_texts_written r d on =
     let read = dual_read r d on in
     record {
       date = read.date;
-      is = read.first ∙ read.is;
+      is = usual_read (dual_text newest_rules r d) read.date (read.first ∙ read.is);
       written = read.written;
       label = read.label;
       double = read.double;
@@ -157,7 +157,7 @@ weekday_word Saturday = (refl, refl)
 
 -- a weekday, a space and a date
 named_read : (w : Weekday) (text : List ℕ)
-    → written_date (weekday_name w ++ 32 ∷ text) ≡ on_weekday w (plain_date text)
+    → usual_date (weekday_name w ++ 32 ∷ text) ≡ on_weekday w (plain_date text)
 named_read w text =
     let word = weekday_word w in
     let whole = weekday_name w ++ 32 ∷ text in
@@ -169,9 +169,11 @@ unfolding AreNamedDaysWritten written_text
 named_days_written r d on =
     let read = dual_read r d on in
     let w = weekday_of d in
+    let named = record read.date { weekday = Some w } in
     record {
-      date = record read.date { weekday = Some w };
-      is = named_read w (dual_text newest_rules r d) ∙ ap (on_weekday w) read.is;
+      date = named;
+      is = usual_read (weekday_name w ++ 32 ∷ dual_text newest_rules r d) named
+          (named_read w (dual_text newest_rules r d) ∙ ap (on_weekday w) read.is);
       written = read.written;
       label = read.label;
       double = read.double;

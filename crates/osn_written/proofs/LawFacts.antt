@@ -21,7 +21,11 @@ use Rattle.osn_lands.specs.Dual.{later_digits}
 use Rattle.osn_lands.proofs.YearDigits.{last_digit_differs, earlier_digit_differs}
 use Rattle.osn_written.specs.WrittenDate.{parts_at, with_first, number_of, years_of}
 use Rattle.osn_written.specs.WrittenDate.{weekday_named, in_words, plain_date, date_of_numbers}
-use Rattle.osn_written.specs.WrittenDate.{written_date, plain_date_in, date_in, date_after}
+use Rattle.osn_written.specs.WrittenDate.{usual_date, written_date, plain_date_in, date_in}
+use Rattle.osn_written.specs.WrittenDate.{date_after}
+use Rattle.osn_written.specs.WrittenDate.{or_else}
+use Rattle.osn_written.specs.OtherForms.{other_date}
+use Rattle.osn_written.specs.declared.written_date.WrittenDate.{WrittenDate}
 use Rattle.osn_written.proofs.Grammar.{number_is}
 
 -- ---- parts
@@ -295,7 +299,7 @@ digits_no_weekday (d ∷ ds) h =
 
 -- a date with no weekday before it
 pub date_read : (day month : ℕ) (years : List ℕ) → day < 10 ^ 9
-    → written_date (words day month years) ≡ plain_date (words day month years)
+    → usual_date (words day month years) ≡ plain_date (words day month years)
 date_read day month years small =
     let rest = month_name month ++ 32 ∷ years in
     let text = words day month years in
@@ -303,3 +307,8 @@ date_read day month years small =
     ap (date_in text) (parts_around 32 (decimal day) rest
     (digits_lack 32 (omega arith) (decimal day) digits))
     ∙ ap (date_after text rest) (digits_no_weekday (decimal day) digits)
+
+-- a date in the usual forms is the date of the text
+pub usual_read : (text : List ℕ) (date : WrittenDate) → usual_date text ≡ Ok date
+    → written_date text ≡ Ok date
+usual_read text date is = ap (λ read. or_else read (other_date text)) is

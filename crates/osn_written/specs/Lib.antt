@@ -1,3 +1,4 @@
+pub mod OtherForms
 pub mod WrittenDate
 pub mod Text
 pub mod Meaning

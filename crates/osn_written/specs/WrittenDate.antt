@@ -1,5 +1,6 @@
--- Dates as people write them: 1731-02-11, 11 February 1731 and 11 February 1731/2, each with a
--- weekday before it or none. Letters may be capital or small. This project's profile.
+-- Dates as people write them. The usual forms are 1731-02-11, 11 February 1731 and
+-- 11 February 1731/2, each with a weekday before it or none. Letters may be capital or small. This
+-- project's profile.
 use Rattle.std.specs.Prelude.{ℕ, Bool, true, false, ◌&&◌, not, nat_le, nat_lt, ◌==◌, ◌+◌, ◌%◌, ◌^◌}
 use Rattle.std.specs.Prelude.{if◌then◌else◌, List, [], ◌∷◌, length, find}
 use Rattle.std.specs.Prelude.{Option, Some, None, option_map, Result, Ok, Err}
@@ -13,6 +14,7 @@ use Rattle.osn_days.specs.Weekday.{weekday_name, weekday_numbered}
 use Rattle.osn_written.specs.declared.written_date.WrittenDate.{WrittenDate}
 use Rattle.osn_written.specs.declared.written_date.DateFault.{DateFault}
 use Rattle.osn_written.specs.declared.written_date.DateFault.TheVariants as faults
+use Rattle.osn_written.specs.OtherForms.{other_date}
 
 -- ---- parts
 
@@ -136,6 +138,21 @@ abbrev pub date_in : List ℕ → Option (List ℕ × List ℕ) → Result Writt
 date_in text None = plain_date text
 date_in text (Some parts) = date_after text parts.1 (weekday_named parts.0)
 
+-- the date that a text is in the usual forms, or why it is none
+abbrev pub usual_date : List ℕ → Result WrittenDate DateFault
+usual_date text = date_in text (parts_at 32 text)
+
+-- a date in another form, or its fault: where it has none, that of the usual forms
+abbrev pub else_fault : DateFault → Result WrittenDate DateFault → Result WrittenDate DateFault
+else_fault fault (Err faults.Malformed) = Err fault
+else_fault fault date = date
+
+-- a date in the usual forms, or else that in another form
+abbrev pub or_else : Result WrittenDate DateFault → Result WrittenDate DateFault
+    → Result WrittenDate DateFault
+or_else (Ok date) other = Ok date
+or_else (Err fault) other = else_fault fault other
+
 -- the date that a text is, or why it is none
 abbrev pub written_date : List ℕ → Result WrittenDate DateFault
-written_date text = date_in text (parts_at 32 text)
+written_date text = or_else (usual_date text) (other_date text)

@@ -4,6 +4,7 @@
 
 mod absence;
 mod meaning;
+mod reading;
 mod written_date;
 mod written_text;
 

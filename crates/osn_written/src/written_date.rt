@@ -1,8 +1,6 @@
-//! Dates as people write them.
+//! Dates as people write them, and the usual forms of one.
 ghost use Rattle.std.specs.Prelude.{◌≡◌, ◌<◌, ◌≤◌, ◌+◌, ◌%◌, ◌^◌, ◌==◌, IfSome, find, option_map};
 ghost use Rattle.std.specs.Str.{all_ascii_digits};
-ghost use Rattle.osn_days.specs.Profile.{newest_rules};
-ghost use Rattle.osn_written.specs.Law.{AreDualTextsWritten, AreNamedDaysWritten};
 ghost use Rattle.osn_written.specs.WrittenDate as spec;
 
 use osn_days::{Weekday, month_named};
@@ -19,11 +17,10 @@ pub struct WrittenDate {
     pub weekday: Option<Weekday>,
 }
 
-/// What is wrong with a text that is no date.
+/// Why a text is no written date.
 #[derive(Clone, Copy, Debug, PartialEq, Eq)]
 pub enum DateFault {
-    /// A date is written `1731-02-11`, `11 February 1731` or `11 February 1731/2`. A weekday and a
-    /// space may stand before it.
+    /// The text has none of the forms of a date.
     Malformed,
     /// After the `/` stand the last digits of the year that follows, one digit or more.
     LaterYear,
@@ -33,30 +30,22 @@ pub enum DateFault {
     Month,
     /// A day is 1 to 31.
     Day,
-}
-
-impl WrittenDate {
-    /// The date that a text is: `1731-02-11`, `11 February 1731` or `11 February 1731/2`. A weekday
-    /// and a space may stand before it. A number has 1 to 9 digits, zeros before it included. The
-    /// letters of names may be capital or small.
-    ///
-    /// # Errors
-    ///
-    /// The fault of the text, if it is no date.
-    #[tactic(auto, using(crate::proofs::DualLaw::dual_laws))]
-    pub fn parse(text: &str) -> Result<WrittenDate, DateFault>
-        ensures value { result ≡ spec.written_date text.now }
-        // as a law: the dual text of each day of the line, under each regime, is a date with the
-        // label of the day, and a double one where the day has both years
-        ensures dual { AreDualTextsWritten newest_rules }
-        // as a law: so it is with the day's weekday before it, which is then the date's
-        ensures named { AreNamedDaysWritten newest_rules }
-    {
-        match parts_at(text, ' ') {
-            None => plain_date(text),
-            Some((first, rest)) => date_after(text, rest, weekday_named(first)),
-        }
-    }
+    /// The text is empty or says that there is no date, as `n.d.`.
+    NoDate,
+    /// It is a month, a year, a range or a bound.
+    NotOneDay,
+    /// More is said of the day than which it is: `about`, `?`, `[ ]`, `O.S.` or `N.S.`.
+    Qualifier,
+    /// A year of one or two digits has its zeros, as `0045`.
+    ShortYear,
+    /// `11/2/1731` may be 11 February or 2 November.
+    DayOrMonth,
+    /// In `11/22 February 1731` the day is that of both calendars.
+    TwoDays,
+    /// The text names a feast.
+    Feast,
+    /// A number is Roman.
+    RomanNumeral,
 }
 
 /// The parts before and after the first such character.
@@ -215,4 +204,16 @@ fn date_after(text: &str, rest: &str, weekday: Option<Weekday>) -> Result<Writte
     }
     let date = plain_date(rest)?;
     Ok(WrittenDate { weekday, ..date })
+}
+
+/// The date that a text is in the usual forms: `1731-02-11`, `11 February 1731` or
+/// `11 February 1731/2`. A weekday and a space may stand before it. A number has 1 to 9 digits,
+/// zeros before it included. The letters of names may be capital or small.
+pub(crate) fn usual_date(text: &str) -> Result<WrittenDate, DateFault>
+    ensures { result ≡ spec.usual_date text.now }
+{
+    match parts_at(text, ' ') {
+        None => plain_date(text),
+        Some((first, rest)) => date_after(text, rest, weekday_named(first)),
+    }
 }

@@ -4,7 +4,7 @@ ghost use Rattle.osn_days.specs.Profile.{newest_rules};
 ghost use Rattle.osn_request.specs.declared.request.RequestError.TheVariants.{NoMemory};
 ghost use Rattle.osn_request.specs.LineRequest.{as_request, is_edit};
 ghost use Rattle.osn_request.specs.Op.{op_of as asked_of};
-ghost use Rattle.osn_request.specs.Request.{request_of, Fails};
+ghost use Rattle.osn_request.specs.Request.{request_of, FailsLast};
 
 use crate::request::edit::edit_of;
 use crate::request::json_object::JsonObject;
@@ -49,7 +49,8 @@ impl<'a> LineRequest<'a> {
 /// The request of a line's object by the newest rules, where there are so many readers.
 ///
 /// # Errors
-/// The first fault of the object. Memory is taken for the texts of an edit alone.
+/// The first fault of the object. Memory is taken for the texts of an edit alone, once every member
+/// was found good.
 pub fn line_request_of<O: JsonObject>(
     alloc: Global,
     readers: u32,
@@ -57,7 +58,7 @@ pub fn line_request_of<O: JsonObject>(
 ) -> Result<LineRequest<'_>, RequestError>
     ensures request { MatchResult result
         (λ r. request_of newest_rules readers (O.value object.now) ≡ Ok (as_request r))
-        (λ e. Fails e (request_of newest_rules readers (O.value object.now))) }
+        (λ e. FailsLast e (request_of newest_rules readers (O.value object.now))) }
     ensures memory { IfErr result
         (λ e. e ≡ NoMemory → is_edit (asked_of (O.value object.now)) ≡ true) }
 {

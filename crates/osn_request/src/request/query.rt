@@ -4,7 +4,7 @@ ghost use Rattle.std.specs.Prelude.{◌≡◌, ◌≤◌, true, Ok, Err, MatchRe
 ghost use Rattle.osn_register.specs.BorrowedQuery.{as_query};
 ghost use Rattle.osn_request.specs.declared.request.RequestError.TheVariants.{NoMemory};
 ghost use Rattle.osn_request.specs.QueryRequest as spec;
-ghost use Rattle.osn_request.specs.Request.{Gives};
+ghost use Rattle.osn_request.specs.Request.{GivesLast};
 
 use crate::request::RequestError;
 use crate::request::field::{text_at, whole_at};
@@ -90,7 +90,7 @@ fn query_by<O: JsonObject>(op: QueryOp, object: &O) -> Result<BorrowedQuery<'_>,
 /// The number of the reader who asks, and the query of a line's object, whose code stays where it
 /// is in the object.
 #[tactic(auto, unfolding(crate::specs::QueryRequest::query_of))]
-pub(crate) fn borrowed_query_of<O: JsonObject>(
+pub fn borrowed_query_of<O: JsonObject>(
     readers: u32,
     op: QueryOp,
     object: &O,
@@ -111,14 +111,14 @@ pub(crate) fn borrowed_query_of<O: JsonObject>(
 /// readers.
 ///
 /// # Errors
-/// Memory is taken for the code of a query that has one.
+/// Memory is taken for the code of a query that has one, once every member was found good.
 pub fn query_of<O: JsonObject>(
     alloc: Global,
     readers: u32,
     op: QueryOp,
     object: &O,
 ) -> Result<(u32, Query), RequestError>
-    ensures query { Gives result (spec.query_of readers op (O.value object.now)) }
+    ensures query { GivesLast result (spec.query_of readers op (O.value object.now)) }
     ensures among { IfOk result (λ asked. (1 ≤ asked.0) × (asked.0 ≤ readers)) }
     ensures memory { IfErr result (λ e. e ≡ NoMemory → spec.has_code op ≡ true) }
 {

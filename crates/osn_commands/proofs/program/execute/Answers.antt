@@ -1,38 +1,38 @@
 use Rattle.std.proofs.Common.{option_map, refl}
 use Rattle.std.proofs.lemmas.Result.{IfOk-weaker}
-use Rattle.osn_commands.proofs.LettersLemmas.{letters_ran}
-use Rattle.osn_commands.proofs.RunLemmas.{ran}
+use Rattle.osn_lines.specs.Streams.{output_of}
+use Rattle.osn_commands.proofs.RunLemmas.{letters_ran, ran}
 use Rattle.osn_commands.proofs.program.execute.Goals as goal
 
 pub returns-in-Serve-clause-ok : goal.returns-in-Serve-clause-ok
 returns-in-Serve-clause-ok g c =
-    IfOk-weaker c.serve_by.result _ _
+    IfOk-weaker c.serve_in_folder.result _ _
     (λ status h. ran c.args.limits c.args.command _ _ _ _ _ _ status c.in-Serve.is h)
-    c.serve_by.ensures.ok
+    c.serve_in_folder.ensures.ok
 
 pub returns-in-Replay-clause-ok : goal.returns-in-Replay-clause-ok
 returns-in-Replay-clause-ok g c =
-    IfOk-weaker c.replay.result _ _
+    IfOk-weaker c.replay_in_folder.result _ _
     (λ status h. ran c.args.limits c.args.command _ _ _ _ _ _ status c.in-Replay.is h)
-    c.replay.ensures.ok
+    c.replay_in_folder.ensures.ok
 
 pub returns-in-Desk-clause-ok : goal.returns-in-Desk-clause-ok
 returns-in-Desk-clause-ok g c =
-    IfOk-weaker c.desk.result _ _
+    IfOk-weaker c.desk_in_folder.result _ _
     (λ status h. ran c.args.limits c.args.command _ _ _ _ _ _ status c.in-Desk.is h)
-    c.desk.ensures.ok
+    c.desk_in_folder.ensures.ok
 
 pub returns-in-Page-clause-ok : goal.returns-in-Page-clause-ok
 returns-in-Page-clause-ok g c =
-    IfOk-weaker c.page.result _ _
+    IfOk-weaker c.page_in_folder.result _ _
     (λ status h. ran c.args.limits c.args.command _ _ _ _ _ _ status c.in-Page.is h)
-    c.page.ensures.ok
+    c.page_in_folder.ensures.ok
 
 pub returns-in-Audit-clause-ok : goal.returns-in-Audit-clause-ok
 returns-in-Audit-clause-ok g c =
-    IfOk-weaker c.audit.result _ _
+    IfOk-weaker c.audit_in_folder.result _ _
     (λ status h. ran c.args.limits c.args.command _ _ _ _ _ _ status c.in-Audit.is h)
-    c.audit.ensures.ok
+    c.audit_in_folder.ensures.ok
 
 pub returns-in-Convert-clause-ok : goal.returns-in-Convert-clause-ok
 returns-in-Convert-clause-ok g c =
@@ -41,10 +41,15 @@ returns-in-Convert-clause-ok g c =
 
 pub returns-in-Ok-clause-ok : goal.returns-in-Ok-clause-ok
 returns-in-Ok-clause-ok g c =
-    IfOk-weaker c.letters.result _ _
-    (λ status h. ran c.args.limits c.args.command _ _ _ _ _ _ status c.in-Letters.is
+    let new = c.letters_in_folder.new in
+    let wrote = output_of g.W.Sink.contents g.W.Sink.has_failed g.W.Sink.holds_back
+    c.args.output.now new.output in
+    let told = output_of g.E.Sink.contents g.E.Sink.has_failed g.E.Sink.holds_back
+    c.args.errors.now new.errors in
+    IfOk-weaker c.letters_in_folder.result _ _
+    (λ status h. ran c.args.limits c.args.command _ _ _ _ wrote told status c.in-Letters.is
     (letters_ran c.args.limits c.in-Letters.journal.now c.in-Letters.place.now c.in-Letters.date.now
     (option_map (λ name. name.now) c.in-Letters.weekday)
     (option_map (λ word. word.now) c.in-Letters.separator)
-    _ _ _ _ _ _ _ status c.in-Ok.ensures.ok h))
-    c.letters.ensures.ok
+    _ _ _ _ _ wrote told status c.in-Ok.ensures.ok h))
+    c.letters_in_folder.ensures.ok

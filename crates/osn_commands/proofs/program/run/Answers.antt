@@ -1,6 +1,6 @@
 use Rattle.std.proofs.Common.{map, refl}
 use Rattle.osn_folder.specs.Folder.{MayFail}
-use Rattle.osn_commands.specs.Streams.{input_of}
+use Rattle.osn_lines.specs.Streams.{input_of}
 use Rattle.osn_commands.proofs.RunLemmas.{shown_ran}
 use Rattle.osn_commands.proofs.program.run.Goals as goal
 

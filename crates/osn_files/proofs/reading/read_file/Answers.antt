@@ -23,8 +23,8 @@ returns-in-None-clause-file g c = record {
 pub returns-in-Err-clause-file : goal.returns-in-Err-clause-file
 returns-in-Err-clause-file g c =
     rw c.fault_of.ensures
-    (interrupted _ _ _ _ _ c.args.role c.in-Err.end.lines c.in-Err.end.cause _ _ _ _ _ _
-    c.in-Err.ensures.fault c.in-Err.ensures.reason)
+    (interrupted _ _ _ _ _ c.args.role c.in-Err.end.lines c.in-Err.end.cause _ _ _ _
+    c.in-Err.ensures.fault c.in-Err.ensures.recent c.in-Err.ensures.reason)
 
 pub returns-in-Some-clause-version : goal.returns-in-Some-clause-version
 returns-in-Some-clause-version g c = λ none.

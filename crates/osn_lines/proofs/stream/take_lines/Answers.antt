@@ -1,11 +1,13 @@
-use Rattle.std.proofs.Common.{◌≡◌, ◌<◌, ◌∙◌, [], ◌++◌, length, take, refl, sym, ap, arith}
+use Rattle.std.proofs.Common.{◌≡◌, ◌<◌, ◌≤◌, ◌∙◌, [], ◌++◌, length, take, refl, sym, ap}
+use Rattle.std.proofs.Common.{arith}
 use Rattle.std.proofs.lemmas.List.{take_at, length-take, length-append}
 use Rattle.std.proofs.lemmas.Result.{IfOk-weaker, IfErr-weaker}
 use Rattle.osn_lines.specs.Inside.{IsKept}
 use Rattle.osn_lines.proofs.ByteLemmas.{Consumes-nothing, Consumes-then, Consumes-end}
 use Rattle.osn_lines.proofs.ByteLemmas.{Consumes-keeps}
 use Rattle.osn_lines.proofs.InputLemmas.{MatchFault-weaker, TakesAll-from, TakesEnded-from}
-use Rattle.osn_lines.proofs.InputLemmas.{TakesFirst-from, TakesFirst-at_end}
+use Rattle.osn_lines.proofs.InputLemmas.{TakesFirst-from, TakesFirst-at_end, HasRead-from}
+use Rattle.osn_lines.proofs.InputLemmas.{HasKeptUp-all, HasKeptUp-at_end, HasKeptUp-more, counts_on}
 use Rattle.osn_lines.proofs.InputLemmas.{StopsAfter-at_end, StopsAfter-from}
 use Rattle.osn_lines.proofs.TakeLemmas.{Takes-nothing, IsTaken-rests, IsTaken-then, IsStopped-then}
 use Rattle.osn_lines.proofs.stream.take_lines.Goals as goal
@@ -188,3 +190,54 @@ pub returns-clause-fault : goal.returns-clause-fault
 returns-clause-fault g c =
     let inv = c.loop-call.invariant.taken in
     TakesEnded-from g.T.LineTaker.after _ _ _ _ inv.0 c.loop-call.kept _ inv.3 inv.2
+
+pub returns-in-Err-clause-recent : goal.returns-in-Err-clause-recent
+returns-in-Err-clause-recent g c =
+    let inv = c.loop-call.invariant.taken in
+    HasKeptUp-all _ _ _ (HasRead-from g.T.LineTaker.after _ _ _ _ inv.0 c.loop-call.kept _ inv.3
+    inv.2)
+
+pub returns-in_default-read-clause-recent : goal.returns-in_default-read-clause-recent
+returns-in_default-read-clause-recent g c =
+    let inv = c.loop-call.invariant.taken in
+    HasKeptUp-all _ _ _ (HasRead-from g.T.LineTaker.after _ _ _ _ inv.0 c.loop-call.kept _ inv.3
+    (Consumes-keeps _ _ _ inv.0 inv.2 c.in_default-read.ensures.bytes))
+
+pub returns-then-read-eq0-clause-recent : goal.returns-then-read-eq0-clause-recent
+returns-then-read-eq0-clause-recent g c =
+    let inv = c.loop-call.invariant.taken in
+    let consumed =
+    Consumes-end _ _ _ inv.0 c.read.new.buffer c.in-Ok-read.read c.if-read-eq0.true inv.2
+    c.in-Ok-read.ensures.bytes.0 in
+    let before = HasRead-from g.T.LineTaker.after _ _ _ _ inv.0 c.loop-call.kept _ inv.3 consumed
+    in
+    IfErr-weaker c.take_rest.result _ _
+    (λ last h. HasKeptUp-at_end _ _ _ last.lines before h.0)
+    c.take_rest.ensures.fault
+
+pub returns-in-Err-take_piece-clause-recent : goal.returns-in-Err-take_piece-clause-recent
+returns-in-Err-take_piece-clause-recent g c =
+    let inv = c.loop-call.invariant.taken in
+    let got = take c.in-Ok-read.read c.read.new.buffer in
+    let few : length got ≤ 65536 =
+    omega (
+      arith,
+      length-take c.in-Ok-read.read c.read.new.buffer,
+      c.loop-call.invariant.buffer,
+      ap length c.deref_mut.ensures.value,
+      c.read.auto.buffer,
+    ) in
+    let le =
+    counts_on c.in-Err-take_piece.cause c.loop-call.lines c.take_piece.new.lines
+    (MatchFault-weaker c.in-Err-take_piece.cause _ _ _ _ _ _
+    (λ h. omega (arith, (h inv.3.left inv.3.rest).count)) (λ k. k)
+    (λ why h. omega (arith, (h inv.3.left inv.3.rest).count))
+    c.in-Err-take_piece.ensures.fault) in
+    HasKeptUp-more g.T.LineTaker.after _ _ _ _ inv.0 got c.loop-call.kept c.loop-call.lines _ inv.3
+    (Consumes-then _ _ _ inv.0 got inv.2 c.in-Ok-read.ensures.bytes.0) few le
+
+pub returns-clause-recent : goal.returns-clause-recent
+returns-clause-recent g c =
+    let inv = c.loop-call.invariant.taken in
+    HasKeptUp-all _ _ _ (HasRead-from g.T.LineTaker.after _ _ _ _ inv.0 c.loop-call.kept _ inv.3
+    inv.2)

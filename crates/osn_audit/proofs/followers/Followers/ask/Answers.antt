@@ -1,5 +1,6 @@
 use Rattle.std.proofs.Common.{◌-◌, ◌∙◌, ap, arith, refl, set}
 use Rattle.std.proofs.lemmas.List.{map-set}
+use Rattle.osn_register.specs.BorrowedQuery.{as_query}
 use Rattle.osn_audit.specs.declared.followers.Place.{Place}
 use Rattle.osn_audit.proofs.FollowLemmas.{reply_set}
 use Rattle.osn_audit.proofs.followers.Followers.ask.Goals as goal
@@ -8,7 +9,7 @@ pub returns-clause-reply : goal.returns-clause-reply
 returns-clause-reply c =
     let s = c.self.inside in
     reply_set c.args.self.now.object s.object s.places.items (c.args.reader - 1) _ c.args.edition
-    c.args.query.now _ c.in_ok-answer.answer (ap (λ t. t.object) c.self.view_is) refl
+    (as_query c.args.query) _ c.in_ok-answer.answer (ap (λ t. t.object) c.self.view_is) refl
     (omega (arith, c.self.invariant.count, c.requires.counted, c.requires.known))
     c.requires.edition c.in_ok-answer.ensures.answer
 

@@ -29,7 +29,8 @@ returns-in_err-refused-clause-stop g c =
     if_err_at _ result err.0 c.in_err-refused.field-0.0 err.1 err.2
     (λ whole is begun before h. Stopped-unanswered _ _ _ _ _ _ _ begun c.args.self.now _ before h
     (record { rules = refl; store = refl; sink = refl }) mid whole
-    (record { settles = room.ok; object = refl; sound = room.sound }) c.in_err-refused.field-0.0
+    (record { settles = room.ok; object = refl; sound = room.sound }) room.room
+    c.in_err-refused.field-0.0
     (c.in_err-refused.ensures whole is))
 
 pub returns-then-self-clause-stop : goal.returns-then-self-clause-stop
@@ -39,7 +40,7 @@ returns-then-self-clause-stop g c whole is begun before h =
     c.args.self.now.store.now c.make_room.new.sink c.make_room.new.waiting in
     Stopped-refused _ _ _ _ _ _ _ begun c.args.self.now _ before h
     (record { rules = refl; store = refl; sink = refl }) mid whole
-    (record { settles = room.ok; object = refl; sound = room.sound })
+    (record { settles = room.ok; object = refl; sound = room.sound }) room.room
     (c.in_ok-refused.ensures whole is) c.if-refused.true c.if-self.true
 
 pub returns-clause-taken : goal.returns-clause-taken
@@ -55,5 +56,5 @@ returns-clause-taken g c whole is begun before h =
     ] in
     Served-answered _ _ _ _ _ _ _ begun c.args.self.now _ before h
     (record { rules = refl; store = refl; sink = refl }) mid whole
-    (record { settles = room.ok; object = refl; sound = room.sound })
+    (record { settles = room.ok; object = refl; sound = room.sound }) room.room
     (c.in_ok-refused.ensures whole is) goes_on

@@ -1,0 +1,297 @@
+//! Dates as people write them. Each row is a text and what it says, in a short text of our own: the
+//! numbers of year, month and day, `+` after a double year, then what is said beside the day.
+use crate::compare::same;
+use osn_grammar::{DateFault, DateOrder, Extent, SimpleDate, Written, WrittenDate, Year, parse};
+use std::alloc::Global;
+use std::fmt::{self, Display, Formatter, Write};
+use std::process::Abort;
+use std::test::Fail;
+
+/// A year, with `+` where it is double.
+#[derive(Clone, Copy)]
+struct ShownYear(Year);
+
+impl Display for ShownYear {
+    fn fmt<W: Write>(&self, f: &mut Formatter<W>) -> fmt::Result {
+        write!(
+            f,
+            "{}{}",
+            self.0.first,
+            if self.0.is_double { "+" } else { "" }
+        )
+    }
+}
+
+/// A day, a month or a year.
+#[derive(Clone, Copy)]
+struct ShownDate(SimpleDate);
+
+impl Display for ShownDate {
+    fn fmt<W: Write>(&self, f: &mut Formatter<W>) -> fmt::Result {
+        match self.0 {
+            SimpleDate::Day { year, month, day } => {
+                write!(f, "{} {month} {day}", ShownYear(year))
+            }
+            SimpleDate::Month { year, month } => write!(f, "{} {month}", ShownYear(year)),
+            SimpleDate::Year(year) => write!(f, "{}", ShownYear(year)),
+        }
+    }
+}
+
+/// From when to when a date may be.
+#[derive(Clone, Copy)]
+struct ShownExtent(Extent);
+
+impl Display for ShownExtent {
+    fn fmt<W: Write>(&self, f: &mut Formatter<W>) -> fmt::Result {
+        match self.0 {
+            Extent::On(date) => write!(f, "{}", ShownDate(date)),
+            Extent::FromTo(first, last) => {
+                write!(f, "{} to {}", ShownDate(first), ShownDate(last))
+            }
+            Extent::Before(date) => write!(f, "before {}", ShownDate(date)),
+            Extent::NotAfter(date) => write!(f, "not after {}", ShownDate(date)),
+            Extent::After(date) => write!(f, "after {}", ShownDate(date)),
+            Extent::NotBefore(date) => write!(f, "not before {}", ShownDate(date)),
+        }
+    }
+}
+
+/// A date, and what is said beside its day.
+#[derive(Clone, Copy)]
+struct ShownWritten(WrittenDate);
+
+impl Display for ShownWritten {
+    fn fmt<W: Write>(&self, f: &mut Formatter<W>) -> fmt::Result {
+        let date = &self.0;
+        write!(f, "{}", ShownExtent(date.extent))?;
+        if let Some(weekday) = date.weekday {
+            write!(f, ", {}", weekday.name())?;
+        }
+        if let Some(reckoning) = date.reckoning {
+            write!(f, ", {reckoning:?}")?;
+        }
+        f.write_str(if date.is_approximate { ", about" } else { "" })?;
+        f.write_str(if date.is_uncertain { ", in doubt" } else { "" })?;
+        f.write_str(if date.is_supplied { ", supplied" } else { "" })
+    }
+}
+
+/// What a text says, or why it is no date.
+#[derive(Clone, Copy)]
+struct Shown(Result<Written, DateFault>);
+
+impl Display for Shown {
+    fn fmt<W: Write>(&self, f: &mut Formatter<W>) -> fmt::Result {
+        match self.0 {
+            Ok(Written::NoDate) => f.write_str("no date"),
+            Ok(Written::Date(date)) => write!(f, "{}", ShownWritten(date)),
+            Err(fault) => write!(f, "{fault:?}"),
+        }
+    }
+}
+
+fn are_read(
+    rt: &impl Abort,
+    alloc: Global,
+    order: DateOrder,
+    rows: &[(&'static str, &'static str)],
+) -> Result<(), Fail> {
+    for (text, wanted) in rows {
+        let read = parse(alloc, text, order)?;
+        let shown = format!(in alloc; "{}", Shown(read))?;
+        same(rt, (*text, shown.as_str()), (*text, *wanted));
+    }
+    Ok(())
+}
+
+const DAYS: [(&str, &str); 28] = [
+    ("11 February 1731", "1731 2 11"),
+    ("February 11, 1731", "1731 2 11"),
+    ("1731 February 11", "1731 2 11"),
+    ("1731-02-11", "1731 2 11"),
+    ("11.2.1731", "1731 2 11"),
+    ("11. 2. 1731", "Malformed"),
+    ("the 11th of February, 1731.", "1731 2 11"),
+    ("Feb. 1st 1731", "1731 2 1"),
+    ("11.Feb.1731", "1731 2 11"),
+    ("11-Feb-1731", "1731 2 11"),
+    ("11 February 1731/2", "1731+ 2 11"),
+    ("11 FEBRUARY 1731/32", "1731+ 2 11"),
+    ("11 february 1731/1732", "1731+ 2 11"),
+    ("1731/2-02-11", "1731+ 2 11"),
+    ("11.2.1731/2", "1731+ 2 11"),
+    ("1731/2 Feb 11", "1731+ 2 11"),
+    ("Feb 11 1731/2", "1731+ 2 11"),
+    ("0045-05-11", "45 5 11"),
+    ("Friday 11 February 1731", "1731 2 11, Friday"),
+    ("11 February 1731, Friday", "1731 2 11, Friday"),
+    ("Fri, 11 February 1731 O.S.", "1731 2 11, Friday, OldStyle"),
+    ("11 February 1731 (new style)", "1731 2 11, NewStyle"),
+    ("11 February 1731 NS", "1731 2 11, NewStyle"),
+    ("29 8ber 1640", "1640 10 29"),
+    ("Xbris 5 1640", "1640 12 5"),
+    ("5 7bris 1640", "1640 9 5"),
+    ("5 9ber 1640", "1640 11 5"),
+    ("13-13-1640", "DayOrMonth"),
+];
+
+#[test]
+fn days(rt: HostRuntime) -> Result<(), Fail> {
+    are_read(&rt, rt.alloc(), DateOrder::Unknown, &DAYS)
+}
+
+const LANGUAGES: [(&str, &str); 14] = [
+    ("3 Martii 1640", "1640 3 3"),
+    ("le 3 août 1640", "1640 8 3"),
+    ("3 AOÛT 1640", "1640 8 3"),
+    ("3 FÉVRIER 1640", "1640 2 3"),
+    ("3 fevrier 1640", "1640 2 3"),
+    ("Freitag, den 3. März 1640", "1640 3 3, Friday"),
+    ("3 maart 1640", "1640 3 3"),
+    ("venerdì 3 maggio 1640", "1640 5 3, Friday"),
+    ("miércoles 3 de mayo de 1640", "1640 5 3, Wednesday"),
+    ("3 de março de 1640", "1640 3 3"),
+    ("lördag 3 augusti 1640", "1640 8 3, Saturday"),
+    ("mardi 3 mars 1640", "1640 3 3, Tuesday"),
+    ("3 Mar 1640", "1640 3 3"),
+    ("Dienstag 3 Dezember 1640", "1640 12 3, Tuesday"),
+];
+
+#[test]
+fn languages(rt: HostRuntime) -> Result<(), Fail> {
+    are_read(&rt, rt.alloc(), DateOrder::Unknown, &LANGUAGES)
+}
+
+const MONTHS_AND_YEARS: [(&str, &str); 11] = [
+    ("February 1731", "1731 2"),
+    ("1731 February", "1731 2"),
+    ("1731-02", "1731 2"),
+    ("1731-02-XX", "1731 2"),
+    ("February 1731/2", "1731+ 2"),
+    ("1731/2-02", "1731+ 2"),
+    ("1731", "1731"),
+    ("1731-XX-XX", "1731"),
+    ("1731/2", "1731+"),
+    ("anno 1640", "1640"),
+    ("10000", "10000"),
+];
+
+#[test]
+fn months_and_years(rt: HostRuntime) -> Result<(), Fail> {
+    are_read(&rt, rt.alloc(), DateOrder::Unknown, &MONTHS_AND_YEARS)
+}
+
+const RANGES: [(&str, &str); 25] = [
+    ("3-10 May 1640", "1640 5 3 to 1640 5 10"),
+    ("3–10 May 1640", "1640 5 3 to 1640 5 10"),
+    ("3 to 10 May 1640", "1640 5 3 to 1640 5 10"),
+    ("11 or 12 February 1731", "1731 2 11 to 1731 2 12"),
+    ("28 February - 3 March 1640", "1640 2 28 to 1640 3 3"),
+    ("May 3 to 10 May 1640", "1640 5 3 to 1640 5 10"),
+    ("between 3 and 10 May 1640", "1640 5 3 to 1640 5 10"),
+    ("from 3 May 1640 to 1 June 1641", "1640 5 3 to 1641 6 1"),
+    ("March to May 1640", "1640 3 to 1640 5"),
+    ("December 1640 - January 1641", "1640 12 to 1641 1"),
+    ("1640-1645", "1640 to 1645"),
+    ("1640 to 1645", "1640 to 1645"),
+    ("1640-11", "1640 11"),
+    ("1640-05-03/1640-05-10", "1640 5 3 to 1640 5 10"),
+    ("1640-05/1640-06", "1640 5 to 1640 6"),
+    ("1640-05-03 - 1640-05-10", "1640 5 3 to 1640 5 10"),
+    ("3 to 10 February 1731/2", "1731+ 2 3 to 1731+ 2 10"),
+    ("before 1640", "before 1640"),
+    ("after 3 May 1640", "after 1640 5 3"),
+    ("not before May 1640", "not before 1640 5"),
+    ("not after 1640", "not after 1640"),
+    ("by 3 May 1640", "not after 1640 5 3"),
+    ("../1640-05-03", "not after 1640 5 3"),
+    ("1640/..", "not before 1640"),
+    ("3 and 10 May 1640", "Malformed"),
+];
+
+#[test]
+fn ranges(rt: HostRuntime) -> Result<(), Fail> {
+    are_read(&rt, rt.alloc(), DateOrder::Unknown, &RANGES)
+}
+
+const CERTAINTY: [(&str, &str); 13] = [
+    ("about 1640", "1640, about"),
+    ("c. 1640", "1640, about"),
+    ("ca. May 1640", "1640 5, about"),
+    ("circa 1640", "1640, about"),
+    ("~1640", "1640, about"),
+    ("1640~", "1640, about"),
+    ("1640?", "1640, in doubt"),
+    ("3 May 1640 (?)", "1640 5 3, in doubt"),
+    ("probably May 1640", "1640 5, in doubt"),
+    ("perhaps 1640", "1640, in doubt"),
+    ("[3 May 1640]", "1640 5 3, supplied"),
+    ("[c. 1640?]", "1640, about, in doubt, supplied"),
+    ("3 [May] 1640", "1640 5 3, supplied"),
+];
+
+#[test]
+fn certainty(rt: HostRuntime) -> Result<(), Fail> {
+    are_read(&rt, rt.alloc(), DateOrder::Unknown, &CERTAINTY)
+}
+
+const NOTHING: [(&str, &str); 7] = [
+    ("", "no date"),
+    ("  ", "no date"),
+    ("n.d.", "no date"),
+    ("S.D.", "no date"),
+    ("[n.d.]", "no date"),
+    ("undated", "no date"),
+    ("no date", "no date"),
+];
+
+#[test]
+fn nothing(rt: HostRuntime) -> Result<(), Fail> {
+    are_read(&rt, rt.alloc(), DateOrder::Unknown, &NOTHING)
+}
+
+const FAULTS: [(&str, &str); 27] = [
+    ("11/2/1731", "DayOrMonth"),
+    ("2/11/1731", "DayOrMonth"),
+    ("11-2-1731", "DayOrMonth"),
+    ("11/22 February 1731", "TwoDays"),
+    ("11/22 February 1731/2", "TwoDays"),
+    ("11 February 31", "ShortYear"),
+    ("45-05-11", "ShortYear"),
+    ("1731-2", "ShortYear"),
+    ("11 February 10001", "Year"),
+    ("1731-13-11", "Month"),
+    ("1731-00-11", "Month"),
+    ("1731-02-32", "Day"),
+    ("0 February 1731", "Day"),
+    ("1731/3", "LaterYear"),
+    ("11 February 1731/2/3", "Malformed"),
+    ("1640/1645", "LaterYear"),
+    ("11 February", "Malformed"),
+    ("Monday", "Malformed"),
+    ("Monday or Tuesday 3 May 1640", "Malformed"),
+    ("3 May 1640 OS NS", "Malformed"),
+    ("Easter 1640", "Feast"),
+    ("Lady Day 1640", "Feast"),
+    ("xi February 1731", "RomanNumeral"),
+    ("XI.II.MDCCXXXI", "RomanNumeral"),
+    ("3 Brumaire 1640", "Malformed"),
+    ("1234567890", "Malformed"),
+    ("32 to 33 May 1640", "Day"),
+];
+
+#[test]
+fn faults(rt: HostRuntime) -> Result<(), Fail> {
+    are_read(&rt, rt.alloc(), DateOrder::Unknown, &FAULTS)
+}
+
+const DAY_FIRST: [(&str, &str); 2] = [("11/2/1731", "1731 2 11"), ("11-2-1731", "1731 2 11")];
+
+const MONTH_FIRST: [(&str, &str); 2] = [("2/11/1731", "1731 2 11"), ("11.2.1731", "1731 2 11")];
+
+#[test]
+fn orders(rt: HostRuntime) -> Result<(), Fail> {
+    are_read(&rt, rt.alloc(), DateOrder::DayMonth, &DAY_FIRST)?;
+    are_read(&rt, rt.alloc(), DateOrder::MonthDay, &MONTH_FIRST)
+}

@@ -1,0 +1,2 @@
+pub mod AuditLemmas
+pub mod LineLemmas

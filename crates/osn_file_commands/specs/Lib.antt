@@ -1,0 +1,3 @@
+pub mod Audit
+pub mod Replay
+pub mod Transcript

@@ -1,0 +1,38 @@
+-- A journal stays good when limits are raised: what is loaded under limits is loaded under greater
+-- ones, as the same object. This project's profile.
+use Rattle.std.specs.Prelude.{◌≡◌, ◌≤◌, ℕ, List, [], ◌++◌, take, Ok}
+use Rattle.osn_days.specs.Profile.{newest_rules}
+use Rattle.osn_register.specs.declared.edit.Edit.{Edit}
+use Rattle.osn_register.specs.declared.limits.Limits.{Limits}
+use Rattle.osn_register.specs.Plain.{applied_all}
+use Rattle.osn_core.specs.Sequential.{ObjectState, joined}
+use Rattle.osn_files.specs.Journal.{load}
+
+-- the second limits are greater than the first, or the same, in each of the five numbers
+pub record AreGreater (limits greater : Limits) : Type 0 where
+  pub lands : limits.lands ≤ greater.lands
+  pub changes : limits.changes ≤ greater.changes
+  pub exceptions : limits.exceptions ≤ greater.exceptions
+  pub edits : limits.edits ≤ greater.edits
+  pub editions : limits.editions ≤ greater.editions
+
+-- an object under other limits, with the same batches and the same pending edits
+abbrev pub with_limits : ObjectState → Limits → ObjectState
+with_limits s limits = record s { limits = limits }
+
+-- edits in turn make the same territories under both limits
+abbrev pub MakeSameLands : Limits → Limits → List Edit → Type 0
+MakeSameLands limits greater es =
+    applied_all newest_rules limits [] es ≡ applied_all newest_rules greater [] es
+
+-- Lines that are loaded as an object under limits are loaded under greater ones as the same object
+-- but for its limits: its batches and its pending edits are the same. And each of its editions,
+-- which is that of the first batches, has the same territories under both limits. So have all its
+-- edits, the pending ones included.
+unfoldable pub LoadsUnderGreater : Limits → List (List ℕ) → Type 0
+LoadsUnderGreater limits lines =
+    (greater : Limits) → AreGreater limits greater → (object : ObjectState)
+    → load newest_rules limits lines ≡ Ok object
+    → (load newest_rules greater lines ≡ Ok (with_limits object greater))
+    × ((edition : ℕ) → MakeSameLands limits greater (joined (take edition object.batches)))
+    × MakeSameLands limits greater (joined object.batches ++ object.pending)

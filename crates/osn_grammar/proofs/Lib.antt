@@ -1,0 +1,3 @@
+mod Digits
+mod NameFacts
+mod Scanned

@@ -1,0 +1,132 @@
+-- From when to when a date may be: one date, a range of two, or a bound. This project's profile.
+use Rattle.std.specs.Prelude.{ℕ, Bool, true, false, if◌then◌else◌, List, [], ◌∷◌, ◌++◌, Result, Ok, Err}
+use Rattle.osn_grammar.specs.declared.extent.Beginning.{Beginning}
+use Rattle.osn_grammar.specs.declared.extent.Beginning.TheVariants as begins
+use Rattle.osn_grammar.specs.declared.extent.Joining.{Joining}
+use Rattle.osn_grammar.specs.declared.extent.Joining.TheVariants as joins
+use Rattle.osn_grammar.specs.declared.part.Numeral.{Numeral}
+use Rattle.osn_grammar.specs.declared.part.Part.{Part}
+use Rattle.osn_grammar.specs.declared.part.Part.TheVariants.{Number, Month, Dash, Slash, Open, To}
+use Rattle.osn_grammar.specs.declared.part.Part.TheVariants.{Or, And, Between, From, Before, After}
+use Rattle.osn_grammar.specs.declared.part.Part.TheVariants.{Not, By}
+use Rattle.osn_grammar.specs.declared.written.DateFault.{DateFault}
+use Rattle.osn_grammar.specs.declared.written.DateFault.TheVariants as faults
+use Rattle.osn_grammar.specs.declared.written.DateOrder.{DateOrder}
+use Rattle.osn_grammar.specs.declared.written.Extent.{Extent}
+use Rattle.osn_grammar.specs.declared.written.Extent.TheVariants as extent
+use Rattle.osn_grammar.specs.declared.written.SimpleDate.{SimpleDate}
+use Rattle.osn_grammar.specs.declared.written.SimpleDate.TheVariants as date
+use Rattle.osn_grammar.specs.Simple.{◌>>=◌, is_long, month_in, day_in, date_in_digits, simple_date}
+
+-- ---- ranges
+
+-- what the first date of a range says by itself: `3`, `28 February`, `February 28`, `March`, and
+-- else a whole date
+abbrev pub lone_day : Numeral → Beginning
+lone_day d = if is_long d then begins.Whole else begins.Day d.value
+
+abbrev pub day_of_month : ℕ → Numeral → Beginning
+day_of_month m d = if is_long d then begins.Whole else begins.DayOfMonth m d.value
+
+abbrev pub beginning_of : List Part → Beginning
+beginning_of (Number d ∷ []) = lone_day d
+beginning_of (Number d ∷ Month m ∷ []) = day_of_month m d
+beginning_of (Month m ∷ Number d ∷ []) = day_of_month m d
+beginning_of (Month m ∷ []) = begins.Month m
+beginning_of _ = begins.Whole
+
+-- the first date of a range gets from the last one what it lacks: a day before a day its month and
+-- year, a day of a month its year, and a month before a month its year
+abbrev pub first_date : Result SimpleDate DateFault → Beginning → SimpleDate
+    → Result SimpleDate DateFault
+first_date whole (begins.Day d) (date.Day year month day) = day_in year month d
+first_date whole (begins.DayOfMonth m d) (date.Day year month day) = day_in year m d
+first_date whole (begins.Month m) (date.Month year month) = month_in year m
+first_date whole beginning last = whole
+
+abbrev pub range : DateOrder → List Part → List Part → Result Extent DateFault
+range o first last = do
+  end ← simple_date o last
+  start ← first_date (simple_date o first) (beginning_of first) end
+  Ok (extent.FromTo start end)
+
+abbrev pub is_open : List Part → Bool
+is_open (Open ∷ []) = true
+is_open _ = false
+
+-- with a `/` the dates are in digits, and two full stops are an open end: 1640-05/1640-07, ../1640,
+-- 1640/..
+abbrev pub not_after : DateOrder → List Part → Result Extent DateFault
+not_after o last = do
+  end ← simple_date o last
+  Ok (extent.NotAfter end)
+
+abbrev pub not_before : DateOrder → List Part → Result Extent DateFault
+not_before o first = do
+  start ← simple_date o first
+  Ok (extent.NotBefore start)
+
+abbrev pub range_in_digits : List Part → List Part → Result Extent DateFault
+range_in_digits first last = do
+  start ← date_in_digits first
+  end ← date_in_digits last
+  Ok (extent.FromTo start end)
+
+abbrev pub slashed_range : DateOrder → List Part → List Part → Result Extent DateFault
+slashed_range o first last =
+    if is_open first then not_after o last
+    else (if is_open last then not_before o first
+    else range_in_digits first last)
+
+-- what joins two dates: `to`, `or`, a dash and a `/`, after `from` only `to` or a dash, and after
+-- `between` only `and`
+abbrev pub joined : DateOrder → Joining → List Part → Part → List Part → Result Extent DateFault
+joined o joins.Any first Slash last = slashed_range o first last
+joined o joins.Any first To last = range o first last
+joined o joins.Any first Or last = range o first last
+joined o joins.Any first Dash last = range o first last
+joined o joins.To first To last = range o first last
+joined o joins.To first Dash last = range o first last
+joined o joins.And first And last = range o first last
+joined o joining first part last = Err faults.Malformed
+
+-- the first of two readings that is one, or else the first fault other than want of a form
+abbrev pub first_read : Result Extent DateFault → Result Extent DateFault
+    → Result Extent DateFault
+first_read (Ok e) other = Ok e
+first_read (Err f) (Ok e) = Ok e
+first_read (Err faults.Malformed) (Err f) = Err f
+first_read (Err f) (Err g) = Err f
+
+-- the range that parts are after some others, at the first part that joins two dates
+abbrev pub range_after : DateOrder → Joining → List Part → List Part → Result Extent DateFault
+range_after o joining before [] = Err faults.Malformed
+range_after o joining before (part ∷ rest) =
+    first_read (joined o joining before part rest)
+    (range_after o joining (before ++ part ∷ []) rest)
+
+-- ---- one date, a range or a bound
+
+abbrev pub range_unless : DateOrder → List Part → Result SimpleDate DateFault
+    → Result Extent DateFault
+range_unless o parts (Ok d) = Ok (extent.On d)
+range_unless o parts (Err faults.Malformed) = range_after o joins.Any [] parts
+range_unless o parts (Err f) = Err f
+
+-- a text that has no form of one date may be a range
+abbrev pub date_or_range : DateOrder → List Part → Result Extent DateFault
+date_or_range o parts = range_unless o parts (simple_date o parts)
+
+abbrev pub extent_of : DateOrder → List Part → Result Extent DateFault
+extent_of o (Before ∷ parts) = do
+  d ← simple_date o parts
+  Ok (extent.Before d)
+extent_of o (After ∷ parts) = do
+  d ← simple_date o parts
+  Ok (extent.After d)
+extent_of o (Not ∷ Before ∷ parts) = not_before o parts
+extent_of o (Not ∷ After ∷ parts) = not_after o parts
+extent_of o (By ∷ parts) = not_after o parts
+extent_of o (Between ∷ parts) = range_after o joins.And [] parts
+extent_of o (From ∷ parts) = range_after o joins.To [] parts
+extent_of o parts = date_or_range o parts

@@ -1,0 +1,35 @@
+-- Which part a name is, by the table of names.
+use Rattle.std.specs.Prelude.{◌≡◌, ℕ, Bool, true, not, ◌&&◌, if◌then◌else◌, List, [], ◌∷◌, map, Option, Some, None}
+use Rattle.std.specs.Borrow.{Bor}
+use Rattle.std.specs.List.{list_any}
+use Rattle.std.specs.Str.{bytes_eq}
+use Rattle.osn_grammar.specs.declared.names.TheConstants.{NAMES}
+use Rattle.osn_grammar.specs.declared.part.Part.{Part}
+
+-- the part of the first such name
+abbrev pub first_named : List (List ℕ × Part) → List ℕ → Option Part
+first_named [] word = None
+first_named (entry ∷ rest) word =
+    if bytes_eq entry.0 word then Some entry.1 else first_named rest word
+
+-- names with what they point to
+abbrev pub plain : List (Bor (List ℕ) × Part) → List (List ℕ × Part)
+plain = map (λ e. (e.0.now, e.1))
+
+-- the names, each with its part
+unfoldable pub names : List (List ℕ × Part)
+names = map (λ e. (e.0.now, e.1)) NAMES
+
+-- the part that a name in small letters is
+abbrev pub part_named : List ℕ → Option Part
+part_named word = first_named names word
+
+-- no name stands before itself
+abbrev pub are_distinct : List (List ℕ × Part) → Bool
+are_distinct [] = true
+are_distinct (entry ∷ rest) =
+    not (list_any (λ (other : List ℕ × Part). bytes_eq other.0 entry.0) rest) && are_distinct rest
+
+-- as a law: no name stands twice, so none is of two months, nor of a month and a weekday
+unfoldable pub AreNamesDistinct : Type 0
+AreNamesDistinct = are_distinct names ≡ true

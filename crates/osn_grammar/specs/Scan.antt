@@ -1,0 +1,94 @@
+-- How a text is cut into its parts: words, which are runs of letters and digits, and marks. It is
+-- told by its characters. This project's profile.
+use Rattle.std.specs.Prelude.{ℕ, Bool, true, false, not, ◌&&◌, ◌||◌, nat_le, nat_lt, ◌==◌, ◌+◌}
+use Rattle.std.specs.Prelude.{if◌then◌else◌, List, [], ◌∷◌, ◌++◌, Option, Some, None, length}
+use Rattle.std.specs.Prelude.{chars, encode_utf8}
+use Rattle.std.specs.Option.{option_to_list}
+use Rattle.std.specs.Str.{all_ascii_digits}
+use Rattle.osn_grammar.specs.declared.part.Part.{Part}
+use Rattle.osn_grammar.specs.declared.part.Part.TheVariants as part
+use Rattle.osn_grammar.specs.Parts.{part_of}
+
+-- a character from one to another
+abbrev pub is_from_to : ℕ → ℕ → ℕ → Bool
+is_from_to low high c = nat_le low c && nat_le c high
+
+-- a digit
+abbrev pub is_digit : ℕ → Bool
+is_digit c = is_from_to 48 57 c
+
+-- a letter: of ASCII, or any other character but the dash U+2013
+abbrev pub is_letter : ℕ → Bool
+is_letter c =
+    is_from_to 65 90 c || (is_from_to 97 122 c || (nat_lt 127 c && not (c == 8211)))
+
+-- the small letter of a capital one of ASCII, or of U+00C0 to U+00DE
+abbrev pub small : ℕ → ℕ
+small c = if is_from_to 65 90 c || is_from_to 192 222 c then c + 32 else c
+
+-- the next character, where there is one that passes
+abbrev pub next_is : (ℕ → Bool) → Option ℕ → Bool
+next_is test None = false
+next_is test (Some c) = test c
+
+-- a word that is no number and is not empty
+abbrev pub is_name : List ℕ → Bool
+is_name word = not (all_ascii_digits word)
+
+-- a word of digits
+abbrev pub is_number : List ℕ → Bool
+is_number word = not (length word == 0) && all_ascii_digits word
+
+-- of full stops, two in a row are an open end, and one between two digits is a mark
+abbrev pub mark_of_stop : List ℕ → Option ℕ → Option Part
+mark_of_stop word next =
+    if next_is (λ c. c == 46) next then Some part.Open
+    else (if is_number word && next_is is_digit next then Some part.Dot else None)
+
+-- the mark that a character is, after a word and before the next character. Spaces, commas and round
+-- brackets are none
+abbrev pub mark_of : List ℕ → ℕ → Option ℕ → Option Part
+mark_of word c next =
+    if c == 45 || c == 8211 then Some part.Dash
+    else (if c == 47 then Some part.Slash
+    else (if c == 63 then Some part.Doubt
+    else (if c == 126 then Some part.About
+    else (if c == 91 || c == 93 then Some part.Bracket
+    else (if c == 46 then mark_of_stop word next
+    else (if c == 32 || (c == 9 || (c == 44 || (c == 40 || c == 41))) then None
+    else Some part.Unknown))))))
+
+-- the part of a word, which may be empty
+abbrev pub part_of_run : List ℕ → Option Part
+part_of_run word = if length word == 0 then None else Some (part_of word)
+
+-- a full stop between two letters is passed over: `O.S.` is `OS`
+abbrev pub is_passed_over : List ℕ → ℕ → Option ℕ → Bool
+is_passed_over word c next = c == 46 && (is_name word && next_is is_letter next)
+
+-- the word so far, after one more character
+abbrev pub word_after : List ℕ → ℕ → Option ℕ → List ℕ
+word_after word c next =
+    if is_letter c || is_digit c then word ++ encode_utf8 (small c)
+    else (if is_passed_over word c next then word else [])
+
+-- the parts that end with a character: a word, and the mark after it
+abbrev pub parts_ended : List ℕ → ℕ → Option ℕ → List Part
+parts_ended word c next =
+    if is_letter c || (is_digit c || is_passed_over word c next) then []
+    else option_to_list (part_of_run word) ++ option_to_list (mark_of word c next)
+
+-- the first character
+abbrev pub first_of : List ℕ → Option ℕ
+first_of [] = None
+first_of (c ∷ rest) = Some c
+
+-- the parts of a word so far and of the characters after it
+abbrev pub parts_after : List ℕ → List ℕ → List Part
+parts_after word [] = option_to_list (part_of_run word)
+parts_after word (c ∷ rest) =
+    parts_ended word c (first_of rest) ++ parts_after (word_after word c (first_of rest)) rest
+
+-- the parts of a text
+abbrev pub parts_in : List ℕ → List Part
+parts_in text = parts_after [] (chars text)

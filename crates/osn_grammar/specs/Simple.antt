@@ -1,0 +1,179 @@
+-- Simple dates, a day, a month or a year, and the forms in which they are written. This project's
+-- profile.
+use Rattle.std.specs.Prelude.{ℕ, Bool, true, false, ◌&&◌, not, nat_le, nat_lt, ◌==◌, ◌+◌, ◌%◌, ◌^◌}
+use Rattle.std.specs.Prelude.{if◌then◌else◌, List, [], ◌∷◌, Option, Some, None, is_some}
+use Rattle.std.specs.Prelude.{Result, Ok, Err}
+use Rattle.osn_grammar.specs.declared.part.Numeral.{Numeral}
+use Rattle.osn_grammar.specs.declared.part.Part.{Part}
+use Rattle.osn_grammar.specs.declared.part.Part.TheVariants.{Number, Month, Dash, Slash, Dot, Blank}
+use Rattle.osn_grammar.specs.declared.simple.YearNumbers.{YearNumbers}
+use Rattle.osn_grammar.specs.declared.written.DateFault.{DateFault}
+use Rattle.osn_grammar.specs.declared.written.DateFault.TheVariants as faults
+use Rattle.osn_grammar.specs.declared.written.DateOrder.{DateOrder}
+use Rattle.osn_grammar.specs.declared.written.DateOrder.TheVariants as order
+use Rattle.osn_grammar.specs.declared.written.SimpleDate.{SimpleDate}
+use Rattle.osn_grammar.specs.declared.written.SimpleDate.TheVariants as date
+use Rattle.osn_grammar.specs.declared.written.Year.{Year}
+
+-- one reading after another, where the first one is there
+infixl 10 ◌>>=◌
+abbrev pub ◌>>=◌ : {A B : Type 0} → Result A DateFault → (A → Result B DateFault)
+    → Result B DateFault
+(Ok x) >>= f = f x
+(Err e) >>= f = Err e
+
+-- ---- years
+
+-- a year of one number, or of two with a `/` between them
+abbrev pub one : Numeral → YearNumbers
+one first = record { first = first; later = None }
+
+abbrev pub two : Numeral → Numeral → YearNumbers
+two first later = record { first = first; later = Some later }
+
+-- a number of three digits or more is a year
+abbrev pub is_long : Numeral → Bool
+is_long n = nat_le 3 n.digits
+
+-- the last digits of the year that follows: one digit or more, and zeros may stand before all of it
+abbrev pub ends_next_year : ℕ → Numeral → Bool
+ends_next_year year later = later.value == (year + 1) % 10 ^ later.digits
+
+abbrev pub has_its_later : Numeral → Option Numeral → Bool
+has_its_later first None = true
+has_its_later first (Some later) = ends_next_year first.value later
+
+abbrev pub has_its_later_year : YearNumbers → Bool
+has_its_later_year years = has_its_later years.first years.later
+
+-- a year is 0 to 10000, and one of fewer than three digits has its zeros
+abbrev pub year_of : YearNumbers → Result Year DateFault
+year_of years =
+    if not (is_long years.first) then Err faults.ShortYear
+    else (if nat_lt 10000 years.first.value then Err faults.Year
+    else (if not (has_its_later_year years) then Err faults.LaterYear
+    else Ok (record { first = years.first.value; is_double = is_some years.later })))
+
+-- ---- dates of numbers
+
+-- a number from a least to a greatest one
+abbrev pub is_between : ℕ → ℕ → ℕ → Bool
+is_between low high n = nat_le low n && nat_le n high
+
+-- a month is 1 to 12
+abbrev pub month_in : Year → ℕ → Result SimpleDate DateFault
+month_in year month =
+    if not (is_between 1 12 month) then Err faults.Month else Ok (date.Month year month)
+
+-- a day is 1 to 31
+abbrev pub day_in : Year → ℕ → ℕ → Result SimpleDate DateFault
+day_in year month day =
+    if not (is_between 1 12 month) then Err faults.Month
+    else (if not (is_between 1 31 day) then Err faults.Day
+    else Ok (date.Day year month day))
+
+abbrev pub whole_year : YearNumbers → Result SimpleDate DateFault
+whole_year years = do
+  year ← year_of years
+  Ok (date.Year year)
+
+abbrev pub month_of : YearNumbers → ℕ → Result SimpleDate DateFault
+month_of years month = do
+  year ← year_of years
+  month_in year month
+
+abbrev pub day_of : YearNumbers → ℕ → ℕ → Result SimpleDate DateFault
+day_of years month day = do
+  year ← year_of years
+  day_in year month day
+
+-- three numbers that end with the year are open between day and month, unless their order is known
+abbrev pub by_order : DateOrder → Numeral → Numeral → Numeral → Result SimpleDate DateFault
+by_order order.Unknown a b year = Err faults.DayOrMonth
+by_order order.DayMonth a b year = day_of (one year) b.value a.value
+by_order order.MonthDay a b year = day_of (one year) a.value b.value
+
+-- with dashes, they end with the year where that is long and the first one is not
+abbrev pub with_dashes : DateOrder → Numeral → Numeral → Numeral → Result SimpleDate DateFault
+with_dashes order a b c =
+    if is_long c && not (is_long a) then by_order order a b c
+    else day_of (one a) b.value c.value
+
+-- of two numbers with a month between them the first one is the year if it is long
+abbrev pub around_month : Numeral → ℕ → Numeral → Result SimpleDate DateFault
+around_month a month b =
+    if is_long a then day_of (one a) month b.value else day_of (one b) month a.value
+
+-- `1640-11` is a month, `1640-1645` and `1731-2` are none
+abbrev pub year_and_month : Numeral → Numeral → Result SimpleDate DateFault
+year_and_month year month =
+    if month.digits == 2 then month_of (one year) month.value else Err faults.Malformed
+
+-- `1640 November` is a month, `11 November` lacks its year
+abbrev pub year_and_name : Numeral → ℕ → Result SimpleDate DateFault
+year_and_name year month =
+    if is_long year then month_of (one year) month else Err faults.Malformed
+
+-- `1731/2 February 11` has a double year, `11/22 February 1731` the day by both calendars
+abbrev pub double_year_or_days : Numeral → Numeral → ℕ → Numeral → Result SimpleDate DateFault
+double_year_or_days a b month c =
+    if is_long a then day_of (two a b) month c.value else Err faults.TwoDays
+
+-- ---- the forms
+
+-- a day in numbers: 1731-02-11, 1731/2-02-11, 11.2.1731, 11.2.1731/2, 11/2/1731
+abbrev pub day_in_numbers : DateOrder → List Part → Result SimpleDate DateFault
+day_in_numbers o (Number a ∷ Dash ∷ Number b ∷ Dash ∷ Number c ∷ []) = with_dashes o a b c
+day_in_numbers o (Number y ∷ Slash ∷ Number l ∷ Dash ∷ Number m ∷ Dash ∷ Number d ∷ []) =
+    day_of (two y l) m.value d.value
+day_in_numbers o (Number d ∷ Dot ∷ Number m ∷ Dot ∷ Number y ∷ []) =
+    day_of (one y) m.value d.value
+day_in_numbers o (Number d ∷ Dot ∷ Number m ∷ Dot ∷ Number y ∷ Slash ∷ Number l ∷ []) =
+    day_of (two y l) m.value d.value
+day_in_numbers o (Number a ∷ Slash ∷ Number b ∷ Slash ∷ Number y ∷ []) = by_order o a b y
+day_in_numbers o _ = Err faults.Malformed
+
+-- a day with its month's name: 11 February 1731, 11-Feb-1731, 1731 February 11, February 11 1731, and
+-- with 1731/2
+abbrev pub day_in_words : List Part → Result SimpleDate DateFault
+day_in_words (Number a ∷ Month m ∷ Number b ∷ []) = around_month a m b
+day_in_words (Number a ∷ Dash ∷ Month m ∷ Dash ∷ Number b ∷ []) = around_month a m b
+day_in_words (Number d ∷ Month m ∷ Number y ∷ Slash ∷ Number l ∷ []) = day_of (two y l) m d.value
+day_in_words (Number a ∷ Slash ∷ Number b ∷ Month m ∷ Number c ∷ []) = double_year_or_days a b m c
+day_in_words (Number a ∷ Slash ∷ Number b ∷ Month m ∷ Number y ∷ Slash ∷ Number l ∷ []) =
+    Err faults.TwoDays
+day_in_words (Month m ∷ Number d ∷ Number y ∷ []) = day_of (one y) m d.value
+day_in_words (Month m ∷ Number d ∷ Number y ∷ Slash ∷ Number l ∷ []) = day_of (two y l) m d.value
+day_in_words _ = Err faults.Malformed
+
+-- a month or a year: February 1731, 1731 February, 1731-02, 1731-02-XX, 1731-XX-XX, 1731, and with
+-- 1731/2
+abbrev pub month_or_year : List Part → Result SimpleDate DateFault
+month_or_year (Month m ∷ Number y ∷ []) = month_of (one y) m
+month_or_year (Month m ∷ Number y ∷ Slash ∷ Number l ∷ []) = month_of (two y l) m
+month_or_year (Number y ∷ Month m ∷ []) = year_and_name y m
+month_or_year (Number y ∷ Slash ∷ Number l ∷ Month m ∷ []) = month_of (two y l) m
+month_or_year (Number y ∷ Dash ∷ Number m ∷ []) = year_and_month y m
+month_or_year (Number y ∷ Slash ∷ Number l ∷ Dash ∷ Number m ∷ []) = month_of (two y l) m.value
+month_or_year (Number y ∷ Dash ∷ Number m ∷ Dash ∷ Blank ∷ []) = month_of (one y) m.value
+month_or_year (Number y ∷ Dash ∷ Blank ∷ Dash ∷ Blank ∷ []) = whole_year (one y)
+month_or_year (Number y ∷ []) = whole_year (one y)
+month_or_year (Number y ∷ Slash ∷ Number l ∷ []) = whole_year (two y l)
+month_or_year _ = Err faults.Malformed
+
+-- a day or a month in digits with its year first: 1731-02-11, 1731-02
+abbrev pub date_in_digits : List Part → Result SimpleDate DateFault
+date_in_digits (Number y ∷ Dash ∷ Number m ∷ Dash ∷ Number d ∷ []) = day_of (one y) m.value d.value
+date_in_digits (Number y ∷ Dash ∷ Number m ∷ []) = year_and_month y m
+date_in_digits _ = Err faults.Malformed
+
+-- a reading, or where it has no form another one
+abbrev pub or_else : Result SimpleDate DateFault → Result SimpleDate DateFault
+    → Result SimpleDate DateFault
+or_else (Err faults.Malformed) other = other
+or_else read other = read
+
+-- a date in one of the forms
+abbrev pub simple_date : DateOrder → List Part → Result SimpleDate DateFault
+simple_date o parts =
+    or_else (day_in_numbers o parts) (or_else (day_in_words parts) (month_or_year parts))

@@ -1,0 +1,221 @@
+//! From when to when a date may be: one date, a range of two, or a bound.
+ghost use Rattle.std.specs.Prelude.{◌≡◌, []};
+ghost use Rattle.osn_grammar.specs.Extent as spec;
+
+use crate::part::Numeral;
+use crate::part::Part::{
+    self, After, And, Before, Between, By, Dash, From, Month, Not, Number, Open, Or, Slash, To,
+};
+use crate::simple::{date_in_digits, day_in, is_long, month_in, simple_date};
+use crate::written::{DateFault, DateOrder, Extent, SimpleDate};
+
+/// By which parts the two dates of a range are joined.
+#[derive(Clone, Copy, Debug, PartialEq, Eq)]
+enum Joining {
+    /// By `to`, `or`, a dash or a `/`.
+    Any,
+    /// By `to` or a dash, after `from`.
+    To,
+    /// By `and`, after `between`.
+    And,
+}
+
+/// What the first date of a range says by itself.
+#[derive(Clone, Copy, Debug, PartialEq, Eq)]
+enum Beginning {
+    Day(u32),
+    DayOfMonth { month: u8, day: u32 },
+    Month(u8),
+    /// A date that lacks nothing, or none.
+    Whole,
+}
+
+/// A day, or of a number that can only be a year a whole date.
+fn lone_day(day: Numeral) -> Beginning
+    ensures { result ≡ spec.lone_day day }
+{
+    if is_long(day) {
+        Beginning::Whole
+    } else {
+        Beginning::Day(day.value)
+    }
+}
+
+/// A day of a month, or of a number that can only be a year a whole date.
+fn day_of_month(month: u8, day: Numeral) -> Beginning
+    ensures { result ≡ spec.day_of_month month day }
+{
+    if is_long(day) {
+        Beginning::Whole
+    } else {
+        Beginning::DayOfMonth {
+            month,
+            day: day.value,
+        }
+    }
+}
+
+/// What the first date of a range says by itself.
+fn beginning_of(parts: &[Part]) -> Beginning
+    ensures { result ≡ spec.beginning_of parts.now }
+{
+    match parts {
+        [Number(d)] => lone_day(*d),
+        [Number(d), Month(m)] => day_of_month(*m, *d),
+        [Month(m), Number(d)] => day_of_month(*m, *d),
+        [Month(m)] => Beginning::Month(*m),
+        _ => Beginning::Whole,
+    }
+}
+
+/// The first date of a range, which gets what it lacks from the last one.
+fn first_date(
+    whole: Result<SimpleDate, DateFault>,
+    beginning: Beginning,
+    last: SimpleDate,
+) -> Result<SimpleDate, DateFault>
+    ensures { result ≡ spec.first_date whole beginning last }
+{
+    match (beginning, last) {
+        (Beginning::Day(day), SimpleDate::Day { year, month, .. }) => {
+            day_in(year, u32::from(month), day)
+        }
+        (Beginning::DayOfMonth { month, day }, SimpleDate::Day { year, .. }) => {
+            day_in(year, u32::from(month), day)
+        }
+        (Beginning::Month(month), SimpleDate::Month { year, .. }) => {
+            month_in(year, u32::from(month))
+        }
+        _ => whole,
+    }
+}
+
+/// The range of two dates.
+fn range(order: DateOrder, first: &[Part], last: &[Part]) -> Result<Extent, DateFault>
+    ensures { result ≡ spec.range order first.now last.now }
+{
+    let last = simple_date(order, last)?;
+    let first = first_date(simple_date(order, first), beginning_of(first), last)?;
+    Ok(Extent::FromTo(first, last))
+}
+
+/// Whether parts are an open end.
+fn is_open(parts: &[Part]) -> bool
+    ensures { result ≡ spec.is_open parts.now }
+{
+    matches!(parts, [Open])
+}
+
+/// A date that is the last possible one.
+fn not_after(order: DateOrder, last: &[Part]) -> Result<Extent, DateFault>
+    ensures { result ≡ spec.not_after order last.now }
+{
+    Ok(Extent::NotAfter(simple_date(order, last)?))
+}
+
+/// A date that is the first possible one.
+fn not_before(order: DateOrder, first: &[Part]) -> Result<Extent, DateFault>
+    ensures { result ≡ spec.not_before order first.now }
+{
+    Ok(Extent::NotBefore(simple_date(order, first)?))
+}
+
+/// The range of two dates in digits.
+fn range_in_digits(first: &[Part], last: &[Part]) -> Result<Extent, DateFault>
+    ensures { result ≡ spec.range_in_digits first.now last.now }
+{
+    let first = date_in_digits(first)?;
+    let last = date_in_digits(last)?;
+    Ok(Extent::FromTo(first, last))
+}
+
+/// The range of two dates with a `/` between them. Either end may be open.
+fn slashed_range(order: DateOrder, first: &[Part], last: &[Part]) -> Result<Extent, DateFault>
+    ensures { result ≡ spec.slashed_range order first.now last.now }
+{
+    if is_open(first) {
+        not_after(order, last)
+    } else if is_open(last) {
+        not_before(order, first)
+    } else {
+        range_in_digits(first, last)
+    }
+}
+
+/// The range that a part joins, if it is one that joins.
+fn joined(
+    order: DateOrder,
+    joining: Joining,
+    first: &[Part],
+    part: Part,
+    last: &[Part],
+) -> Result<Extent, DateFault>
+    ensures { result ≡ spec.joined order joining first.now part last.now }
+{
+    match (joining, part) {
+        (Joining::Any, Slash) => slashed_range(order, first, last),
+        (Joining::Any, To | Or | Dash) => range(order, first, last),
+        (Joining::To, To | Dash) => range(order, first, last),
+        (Joining::And, And) => range(order, first, last),
+        _ => Err(DateFault::Malformed),
+    }
+}
+
+/// The first of two readings that is one, or else the first fault other than want of a form.
+fn first_read(
+    first: Result<Extent, DateFault>,
+    other: Result<Extent, DateFault>,
+) -> Result<Extent, DateFault>
+    ensures { result ≡ spec.first_read first other }
+{
+    match (first, other) {
+        (Ok(extent), _) => Ok(extent),
+        (Err(_), Ok(extent)) => Ok(extent),
+        (Err(DateFault::Malformed), Err(fault)) => Err(fault),
+        (Err(fault), Err(_)) => Err(fault),
+    }
+}
+
+/// The range that parts are, at the first part that joins two dates.
+fn range_in(order: DateOrder, joining: Joining, parts: &[Part]) -> Result<Extent, DateFault>
+    ensures { result ≡ spec.range_after order joining [] parts.now }
+{
+    let mut read = Err(DateFault::Malformed);
+    let mut place = parts.len();
+    while place > 0 {
+        place -= 1;
+        let last = &parts[place + 1..];
+        read = first_read(
+            joined(order, joining, &parts[..place], parts[place], last),
+            read,
+        );
+    }
+    read
+}
+
+/// One date, or a range of two.
+fn date_or_range(order: DateOrder, parts: &[Part]) -> Result<Extent, DateFault>
+    ensures { result ≡ spec.date_or_range order parts.now }
+{
+    match simple_date(order, parts) {
+        Ok(date) => Ok(Extent::On(date)),
+        Err(DateFault::Malformed) => range_in(order, Joining::Any, parts),
+        Err(fault) => Err(fault),
+    }
+}
+
+/// From when to when parts say that a date may be.
+pub fn extent_of(order: DateOrder, parts: &[Part]) -> Result<Extent, DateFault>
+    ensures { result ≡ spec.extent_of order parts.now }
+{
+    match parts {
+        [Before, date @ ..] => Ok(Extent::Before(simple_date(order, date)?)),
+        [After, date @ ..] => Ok(Extent::After(simple_date(order, date)?)),
+        [Not, Before, date @ ..] => not_before(order, date),
+        [Not, After, date @ ..] => not_after(order, date),
+        [By, date @ ..] => not_after(order, date),
+        [Between, dates @ ..] => range_in(order, Joining::And, dates),
+        [From, dates @ ..] => range_in(order, Joining::To, dates),
+        _ => date_or_range(order, parts),
+    }
+}

@@ -1,0 +1,170 @@
+//! A text is read: what it says of a date, or why it is none.
+ghost use Rattle.std.specs.Prelude.{◌≡◌, None, IfOk};
+ghost use Rattle.std.specs.List.{list_any};
+ghost use Rattle.osn_grammar.specs.Laws.{AreCountedNamesKnown, AreEnglishNamesKnown};
+ghost use Rattle.osn_grammar.specs.Names.{AreNamesDistinct};
+ghost use Rattle.osn_grammar.specs.Reading as spec;
+
+use crate::extent::extent_of;
+use crate::part::Part;
+use crate::scan::parts_in;
+use crate::written::{DateFault, DateOrder, Reckoning, Written, WrittenDate};
+use osn_days::Weekday;
+use std::alloc::{AllocError, Global};
+
+/// The weekday so far, with that of one more part. No two may be named.
+fn with_weekday(found: Option<Weekday>, part: Part) -> Result<Option<Weekday>, DateFault>
+    ensures { result ≡ spec.with_weekday found part }
+{
+    match (found, part) {
+        (Some(_), Part::Weekday(_)) => Err(DateFault::Malformed),
+        (None, Part::Weekday(weekday)) => Ok(Some(weekday)),
+        _ => Ok(found),
+    }
+}
+
+/// The weekday that parts name, if one does.
+fn weekday_of(parts: &[Part]) -> Result<Option<Weekday>, DateFault>
+    ensures { result ≡ spec.weekday_after None parts.now }
+{
+    let mut found = None;
+    for part in parts {
+        found = with_weekday(found, *part)?;
+    }
+    Ok(found)
+}
+
+/// The calendar so far, with that of one more part. No two may be named.
+fn with_reckoning(found: Option<Reckoning>, part: Part) -> Result<Option<Reckoning>, DateFault>
+    ensures { result ≡ spec.with_reckoning found part }
+{
+    match (found, part) {
+        (Some(_), Part::Reckoning(_)) => Err(DateFault::Malformed),
+        (None, Part::Reckoning(reckoning)) => Ok(Some(reckoning)),
+        _ => Ok(found),
+    }
+}
+
+/// The calendar that parts name, if one does.
+fn reckoning_of(parts: &[Part]) -> Result<Option<Reckoning>, DateFault>
+    ensures { result ≡ spec.reckoning_after None parts.now }
+{
+    let mut found = None;
+    for part in parts {
+        found = with_reckoning(found, *part)?;
+    }
+    Ok(found)
+}
+
+/// Whether a part says that a date is approximate.
+fn is_approximate(parts: &[Part]) -> bool
+    ensures { result ≡ list_any spec.is_about parts.now }
+{
+    parts.iter().any(|part| matches!(part, Part::About))
+}
+
+/// Whether a part says that a date is in doubt.
+fn is_uncertain(parts: &[Part]) -> bool
+    ensures { result ≡ list_any spec.is_doubt parts.now }
+{
+    parts.iter().any(|part| matches!(part, Part::Doubt))
+}
+
+/// Whether a part says that an editor supplied a date.
+fn is_supplied(parts: &[Part]) -> bool
+    ensures { result ≡ list_any spec.is_bracket parts.now }
+{
+    parts.iter().any(|part| matches!(part, Part::Bracket))
+}
+
+/// Whether a part names a feast.
+fn has_feast(parts: &[Part]) -> bool
+    ensures { result ≡ list_any spec.is_feast parts.now }
+{
+    parts.iter().any(|part| matches!(part, Part::Feast))
+}
+
+/// Whether a part is a Roman numeral.
+fn has_roman_numeral(parts: &[Part]) -> bool
+    ensures { result ≡ list_any spec.is_roman_numeral parts.now }
+{
+    parts.iter().any(|part| matches!(part, Part::RomanNumeral))
+}
+
+/// The fault of a part that is told and not read, if there is one.
+fn unread(parts: &[Part]) -> Option<DateFault>
+    ensures { result ≡ spec.unread parts.now }
+{
+    if has_feast(parts) {
+        Some(DateFault::Feast)
+    } else if has_roman_numeral(parts) {
+        Some(DateFault::RomanNumeral)
+    } else {
+        None
+    }
+}
+
+/// The date that parts say, of which some tell the time.
+fn date_of(order: DateOrder, parts: &[Part], timed: &[Part]) -> Result<WrittenDate, DateFault>
+    ensures { result ≡ spec.date_of order parts.now timed.now }
+{
+    let weekday = weekday_of(parts)?;
+    let reckoning = reckoning_of(parts)?;
+    let extent = extent_of(order, timed)?;
+    Ok(WrittenDate {
+        extent,
+        weekday,
+        reckoning,
+        is_approximate: is_approximate(parts),
+        is_uncertain: is_uncertain(parts),
+        is_supplied: is_supplied(parts),
+    })
+}
+
+/// Whether parts say that there is no date.
+fn is_undated(timed: &[Part]) -> bool
+    ensures { result ≡ spec.is_undated timed.now }
+{
+    matches!(timed, [Part::Undated])
+}
+
+/// What parts say, of which some tell the time.
+fn said(order: DateOrder, parts: &[Part], timed: &[Part]) -> Result<Written, DateFault>
+    ensures { result ≡ spec.said order parts.now timed.now }
+{
+    if parts.is_empty() || is_undated(timed) {
+        return Ok(Written::NoDate);
+    }
+    if let Some(fault) = unread(parts) {
+        return Err(fault);
+    }
+    Ok(Written::Date(date_of(order, parts, timed)?))
+}
+
+/// What a text says of a date, in one of the forms that `docs/DATES.md` tells.
+///
+/// # Errors
+///
+/// Want of memory. What is wrong with a text that is no date is the result within.
+#[tactic(auto, using(crate::proofs::NameFacts::name_laws))]
+pub fn parse(
+    alloc: Global,
+    text: &str,
+    order: DateOrder,
+) -> Result<Result<Written, DateFault>, AllocError>
+    ensures value { IfOk result (λ read. read ≡ spec.written order text.now) }
+    // as a law: no name stands twice in the table of names
+    ensures names { AreNamesDistinct }
+    // as a law: it has the English months and weekdays
+    ensures english { AreEnglishNamesKnown }
+    // as a law: it has `8ber` and its like, which count the months from March on
+    ensures counted { AreCountedNamesKnown }
+{
+    let parts = parts_in(alloc, text)?;
+    let timed: Vec<Part> = parts
+        .iter()
+        .copied()
+        .filter(|part| part.tells_time())
+        .collect(alloc)?;
+    Ok(said(order, parts.as_slice(), timed.as_slice()))
+}

@@ -1,0 +1,307 @@
+//! Simple dates: a day, a month or a year, by the forms in which they are written.
+ghost use Rattle.std.specs.Prelude.{◌≡◌, ◌+◌, ◌%◌, ◌^◌, ◌==◌, ◌<◌, ◌≤◌};
+ghost use Rattle.osn_grammar.specs.Simple as spec;
+
+use crate::part::Numeral;
+use crate::part::Part::{self, Blank, Dash, Dot, Month, Number, Slash};
+use crate::written::{DateFault, DateOrder, SimpleDate, Year};
+
+/// The numbers of a year: its own, and what stands after a `/`.
+#[derive(Clone, Copy, Debug, PartialEq, Eq)]
+struct YearNumbers {
+    first: Numeral,
+    later: Option<Numeral>,
+}
+
+/// A year of one number.
+fn one(first: Numeral) -> YearNumbers
+    ensures { result ≡ spec.one first }
+{
+    YearNumbers { first, later: None }
+}
+
+/// A year of two numbers.
+fn two(first: Numeral, later: Numeral) -> YearNumbers
+    ensures { result ≡ spec.two first later }
+{
+    YearNumbers {
+        first,
+        later: Some(later),
+    }
+}
+
+/// Whether a number can only be a year: it has three digits or more.
+pub fn is_long(number: Numeral) -> bool
+    ensures { result ≡ spec.is_long number }
+{
+    number.digits >= 3
+}
+
+/// Whether `later` is the last `digits` digits of the year that follows.
+fn ends_next_year(year: u32, later: u32, digits: u32) -> bool
+    requires { year ≤ 10000 }
+    ensures { result ≡ (later == (year + 1) % 10 ^ digits) }
+{
+    later == (year + 1) % 10u32.pow(digits.min(5))
+}
+
+/// Whether the number after the `/` belongs there, if there is one.
+fn has_its_later_year(years: YearNumbers) -> bool
+    requires { years.first.value ≤ 10000 }
+    ensures { result ≡ spec.has_its_later_year years }
+{
+    match years.later {
+        None => true,
+        Some(later) => { ends_next_year(years.first.value, later.value, u32::from(later.digits)) }
+    }
+}
+
+/// The year of these numbers.
+fn year_of(years: YearNumbers) -> Result<Year, DateFault>
+    ensures { result ≡ spec.year_of years }
+{
+    if !is_long(years.first) {
+        return Err(DateFault::ShortYear);
+    }
+    if years.first.value > 10000 {
+        return Err(DateFault::Year);
+    }
+    if !has_its_later_year(years) {
+        return Err(DateFault::LaterYear);
+    }
+    Ok(Year {
+        first: years.first.value as u16,
+        is_double: years.later.is_some(),
+    })
+}
+
+/// The month of a number in a year.
+pub fn month_in(year: Year, month: u32) -> Result<SimpleDate, DateFault>
+    ensures { result ≡ spec.month_in year month }
+{
+    if month < 1 || month > 12 {
+        return Err(DateFault::Month);
+    }
+    Ok(SimpleDate::Month {
+        year,
+        month: month as u8,
+    })
+}
+
+/// The day of these numbers in a year.
+pub fn day_in(year: Year, month: u32, day: u32) -> Result<SimpleDate, DateFault>
+    ensures { result ≡ spec.day_in year month day }
+{
+    if month < 1 || month > 12 {
+        return Err(DateFault::Month);
+    }
+    if day < 1 || day > 31 {
+        return Err(DateFault::Day);
+    }
+    Ok(SimpleDate::Day {
+        year,
+        month: month as u8,
+        day: day as u8,
+    })
+}
+
+/// The date that is a year.
+fn whole_year(years: YearNumbers) -> Result<SimpleDate, DateFault>
+    ensures { result ≡ spec.whole_year years }
+{
+    Ok(SimpleDate::Year(year_of(years)?))
+}
+
+/// The date that is a month.
+fn month_of(years: YearNumbers, month: u32) -> Result<SimpleDate, DateFault>
+    ensures { result ≡ spec.month_of years month }
+{
+    month_in(year_of(years)?, month)
+}
+
+/// The date that is a day.
+fn day_of(years: YearNumbers, month: u32, day: u32) -> Result<SimpleDate, DateFault>
+    ensures { result ≡ spec.day_of years month day }
+{
+    day_in(year_of(years)?, month, day)
+}
+
+/// The date of three numbers that ends with its year.
+fn by_order(
+    order: DateOrder,
+    first: Numeral,
+    second: Numeral,
+    year: Numeral,
+) -> Result<SimpleDate, DateFault>
+    ensures { result ≡ spec.by_order order first second year }
+{
+    match order {
+        DateOrder::Unknown => Err(DateFault::DayOrMonth),
+        DateOrder::DayMonth => day_of(one(year), second.value, first.value),
+        DateOrder::MonthDay => day_of(one(year), first.value, second.value),
+    }
+}
+
+/// The date of three numbers with dashes between them, which begins with its year or ends with it.
+fn with_dashes(
+    order: DateOrder,
+    first: Numeral,
+    second: Numeral,
+    third: Numeral,
+) -> Result<SimpleDate, DateFault>
+    ensures { result ≡ spec.with_dashes order first second third }
+{
+    if is_long(third) && !is_long(first) {
+        by_order(order, first, second, third)
+    } else {
+        day_of(one(first), second.value, third.value)
+    }
+}
+
+/// The date of a month's name between two numbers, of which one is the year.
+fn around_month(first: Numeral, month: u8, last: Numeral) -> Result<SimpleDate, DateFault>
+    ensures { result ≡ spec.around_month first month last }
+{
+    if is_long(first) {
+        day_of(one(first), u32::from(month), last.value)
+    } else {
+        day_of(one(last), u32::from(month), first.value)
+    }
+}
+
+/// The month of a year, where the month has two digits.
+fn year_and_month(year: Numeral, month: Numeral) -> Result<SimpleDate, DateFault>
+    ensures { result ≡ spec.year_and_month year month }
+{
+    if month.digits == 2 {
+        month_of(one(year), month.value)
+    } else {
+        Err(DateFault::Malformed)
+    }
+}
+
+/// The date of a year and the name of a month after it.
+fn year_and_name(year: Numeral, month: u8) -> Result<SimpleDate, DateFault>
+    ensures { result ≡ spec.year_and_name year month }
+{
+    if is_long(year) {
+        month_of(one(year), u32::from(month))
+    } else {
+        Err(DateFault::Malformed)
+    }
+}
+
+/// The date of two numbers with a `/` between them before a month: they are a double year, or two
+/// days.
+fn double_year_or_days(
+    first: Numeral,
+    second: Numeral,
+    month: u8,
+    day: Numeral,
+) -> Result<SimpleDate, DateFault>
+    ensures { result ≡ spec.double_year_or_days first second month day }
+{
+    if is_long(first) {
+        day_of(two(first, second), u32::from(month), day.value)
+    } else {
+        Err(DateFault::TwoDays)
+    }
+}
+
+/// A day in a form of numbers alone.
+fn day_in_numbers(order: DateOrder, parts: &[Part]) -> Result<SimpleDate, DateFault>
+    ensures { result ≡ spec.day_in_numbers order parts.now }
+{
+    match parts {
+        [Number(a), Dash, Number(b), Dash, Number(c)] => with_dashes(order, *a, *b, *c),
+        [
+            Number(y),
+            Slash,
+            Number(l),
+            Dash,
+            Number(m),
+            Dash,
+            Number(d),
+        ] => { day_of(two(*y, *l), m.value, d.value) }
+        [Number(d), Dot, Number(m), Dot, Number(y)] => day_of(one(*y), m.value, d.value),
+        [Number(d), Dot, Number(m), Dot, Number(y), Slash, Number(l)] => {
+            day_of(two(*y, *l), m.value, d.value)
+        }
+        [Number(a), Slash, Number(b), Slash, Number(y)] => by_order(order, *a, *b, *y),
+        _ => Err(DateFault::Malformed),
+    }
+}
+
+/// A day in a form with the name of its month.
+fn day_in_words(parts: &[Part]) -> Result<SimpleDate, DateFault>
+    ensures { result ≡ spec.day_in_words parts.now }
+{
+    match parts {
+        [Number(a), Month(m), Number(b)] => around_month(*a, *m, *b),
+        [Number(a), Dash, Month(m), Dash, Number(b)] => around_month(*a, *m, *b),
+        [Number(d), Month(m), Number(y), Slash, Number(l)] => {
+            day_of(two(*y, *l), u32::from(*m), d.value)
+        }
+        [Number(a), Slash, Number(b), Month(m), Number(c)] => {
+            double_year_or_days(*a, *b, *m, *c)
+        }
+        [
+            Number(_),
+            Slash,
+            Number(_),
+            Month(_),
+            Number(_),
+            Slash,
+            Number(_),
+        ] => { Err(DateFault::TwoDays) }
+        [Month(m), Number(d), Number(y)] => day_of(one(*y), u32::from(*m), d.value),
+        [Month(m), Number(d), Number(y), Slash, Number(l)] => {
+            day_of(two(*y, *l), u32::from(*m), d.value)
+        }
+        _ => Err(DateFault::Malformed),
+    }
+}
+
+/// A month or a year.
+fn month_or_year(parts: &[Part]) -> Result<SimpleDate, DateFault>
+    ensures { result ≡ spec.month_or_year parts.now }
+{
+    match parts {
+        [Month(m), Number(y)] => month_of(one(*y), u32::from(*m)),
+        [Month(m), Number(y), Slash, Number(l)] => month_of(two(*y, *l), u32::from(*m)),
+        [Number(y), Month(m)] => year_and_name(*y, *m),
+        [Number(y), Slash, Number(l), Month(m)] => month_of(two(*y, *l), u32::from(*m)),
+        [Number(y), Dash, Number(m)] => year_and_month(*y, *m),
+        [Number(y), Slash, Number(l), Dash, Number(m)] => month_of(two(*y, *l), m.value),
+        [Number(y), Dash, Number(m), Dash, Blank] => month_of(one(*y), m.value),
+        [Number(y), Dash, Blank, Dash, Blank] => whole_year(one(*y)),
+        [Number(y)] => whole_year(one(*y)),
+        [Number(y), Slash, Number(l)] => whole_year(two(*y, *l)),
+        _ => Err(DateFault::Malformed),
+    }
+}
+
+/// A date in digits with its year first: a day or a month.
+pub fn date_in_digits(parts: &[Part]) -> Result<SimpleDate, DateFault>
+    ensures { result ≡ spec.date_in_digits parts.now }
+{
+    match parts {
+        [Number(y), Dash, Number(m), Dash, Number(d)] => day_of(one(*y), m.value, d.value),
+        [Number(y), Dash, Number(m)] => year_and_month(*y, *m),
+        _ => Err(DateFault::Malformed),
+    }
+}
+
+/// The date of parts that are one date.
+pub fn simple_date(order: DateOrder, parts: &[Part]) -> Result<SimpleDate, DateFault>
+    ensures { result ≡ spec.simple_date order parts.now }
+{
+    match day_in_numbers(order, parts) {
+        Err(DateFault::Malformed) => {}
+        read => return read,
+    }
+    match day_in_words(parts) {
+        Err(DateFault::Malformed) => month_or_year(parts),
+        read => read,
+    }
+}

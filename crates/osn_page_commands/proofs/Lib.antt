@@ -1,0 +1,3 @@
+pub mod LettersLemmas
+pub mod PageLemmas
+pub mod ConversionLemmas

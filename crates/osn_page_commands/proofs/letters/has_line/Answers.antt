@@ -1,0 +1,9 @@
+use Rattle.std.proofs.Common.{◌≡◌, codes, string_bytes, subst, IfOk}
+use Rattle.osn_page_commands.specs.Letters.{column_line}
+use Rattle.osn_page_commands.proofs.letters.has_line.Goals as goal
+
+pub returns : goal.returns
+returns c =
+    subst (λ name. IfOk c.column_line.result (λ told. string_bytes told
+    ≡ column_line c.args.line name (codes "is there already: take it out or rename it")))
+    c.name-name.ensures c.column_line.ensures

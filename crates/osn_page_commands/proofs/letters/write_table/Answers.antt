@@ -1,0 +1,19 @@
+use Rattle.std.proofs.Common.{sym, inr, ap, length}
+use Rattle.osn_letters.specs.Columns.{names_of}
+use Rattle.osn_lines.specs.Streams.{input_of, output_of}
+use Rattle.osn_page_commands.proofs.LettersLemmas.{ended_table}
+use Rattle.osn_page_commands.proofs.letters.write_table.Goals as goal
+
+pub returns-in-Err : goal.returns-in-Err
+returns-in-Err g c =
+    let ended = c.in-Err.ensures in
+    let new = c.write_letters.new in
+    let wrote =
+    ended_table c.args.object.now (names_of c.args.settings.names) c.args.settings.separator _ _
+    (input_of g.R.Source.remaining g.R.Source.has_failed c.args.input.now new.source)
+    (output_of g.W.Sink.contents g.W.Sink.has_failed g.W.Sink.holds_back c.args.output.now
+    new.sink)
+    c.in-Err.fault (sym c.register-register.ensures.lands)
+    (sym (ap length c.batches-edition.ensures.value)) ended.early
+    (ended.source.0, ended.source.1, ended.sink) in
+    inr (c.in-Err.fault, c.tell_table.ensures, wrote.0, wrote.1)

@@ -1,0 +1,16 @@
+use Rattle.std.proofs.Common.{refl}
+use Rattle.osn_lines.specs.Streams.{output_of}
+use Rattle.osn_page_commands.specs.Page.{asked_text, refusal_line}
+use Rattle.osn_page_commands.proofs.PageLemmas.{page_made, page_unmade, page_refused}
+use Rattle.osn_page_commands.proofs.page.print_page.Goals as goal
+
+pub returns-in-Ok : goal.returns-in-Ok
+returns-in-Ok g c =
+    let s = c.args.object.now in
+    let wrote = output_of g.W.Sink.contents g.W.Sink.has_failed g.W.Sink.holds_back
+    c.args.output.now c.print.new.output in
+    let told = output_of g.E.Sink.contents g.E.Sink.has_failed g.E.Sink.holds_back
+    c.args.errors.now c.print.new.errors in
+    page_made s c.args.path.now c.args.code.now c.args.asked.now wrote told c.print.result
+    c.in-Ok.ensures.lawful
+    (c.print.ensures (asked_text s c.args.code.now c.args.asked.now) c.in-Ok.ensures.text)

@@ -1,0 +1,166 @@
+-- What a command has written of a table of letters where it ends.
+use Rattle.std.specs.Prelude.{◌≡◌, ◌⊎◌, ◌≤◌, ◌++◌, ℕ, true, if◌then◌else◌, List, length, codes}
+use Rattle.std.specs.Prelude.{Option, Some, None, IfSome, Result, Ok, Err, is_some, unwrap_or}
+use Rattle.std.specs.Fmt.{decimal}
+use Rattle.std.specs.Str.{bytes_eq}
+use Rattle.osn_days.specs.Profile.{newest_rules}
+use Rattle.osn_register.specs.declared.limits.Limits.{Limits}
+use Rattle.osn_core.specs.Sequential.{ObjectState}
+use Rattle.osn_lines.specs.Streams.{Input, Output}
+use Rattle.osn_files.specs.declared.fault.FileFault.{FileFault}
+use Rattle.osn_files.specs.declared.fault.FileFault.TheVariants as file_faults
+use Rattle.osn_letters.specs.AddedColumns.{added_name}
+use Rattle.osn_letters.specs.Columns.{NameTexts}
+use Rattle.osn_letters.specs.Faults.{EndsStream, is_read_fault, is_write_fault}
+use Rattle.osn_letters.specs.Table.{Written, letters_written, IsWhole, EndsEarly, EndsRead, IsLong}
+use Rattle.osn_letters.specs.declared.added_column.AddedColumn.{AddedColumn}
+use Rattle.osn_letters.specs.declared.fault.Column.{Column}
+use Rattle.osn_letters.specs.declared.fault.Column.TheVariants as column
+use Rattle.osn_letters.specs.declared.fault.LettersFault.{LettersFault}
+use Rattle.osn_letters.specs.declared.fault.LettersFault.TheVariants as ends
+use Rattle.osn_letters.specs.declared.separator.Separator.{Separator}
+use Rattle.osn_letters.specs.declared.separator.Separator.TheVariants.{Comma, Semicolon, Tab}
+use Rattle.osn_page_commands.specs.Page.{published}
+use Rattle.osn_report.specs.Journal.{MakesObject, MakesNoObject}
+use Rattle.osn_report.specs.Printing.{PrintsNone}
+use Rattle.osn_report.specs.Told.{Ends, EndsBy, Tells, TellsIfMade}
+use Rattle.osn_report.specs.declared.fault.CommandFault.TheVariants.{File, WriteFault, NoMemory}
+use Rattle.osn_report.specs.declared.misuse.Misuse.{Misuse}
+use Rattle.osn_report.specs.declared.misuse.Misuse.TheVariants as misuses
+use Rattle.osn_report.specs.declared.status.Status.{Status}
+use Rattle.osn_report.specs.declared.status.Status.TheVariants as statuses
+
+-- ---- what the words ask for
+
+-- what separates the fields, by its word, if there is one
+abbrev pub separator_asked : Option (List ℕ) → Result (Option Separator) Misuse
+separator_asked None = Ok None
+separator_asked (Some word) =
+    if bytes_eq word (codes "comma") then Ok (Some Comma)
+    else (if bytes_eq word (codes "semicolon") then Ok (Some Semicolon)
+    else (if bytes_eq word (codes "tab") then Ok (Some Tab)
+    else Err misuses.Separator))
+
+-- the name of the column of weekdays, which has to be there where it is named
+abbrev pub weekday_column : Option (List ℕ) → List ℕ
+weekday_column name = unwrap_or name (codes "weekday")
+
+abbrev pub names_asked : List ℕ → List ℕ → Option (List ℕ) → NameTexts
+names_asked place date weekday = record {
+  place = place;
+  date = date;
+  weekday = weekday_column weekday;
+  needs_weekday = is_some weekday;
+}
+
+-- the settings are what these words ask for
+abbrev pub AreAsked : List ℕ → List ℕ → Option (List ℕ) → Option (List ℕ) → NameTexts
+    → Option Separator → Type 0
+AreAsked place date weekday word names separator =
+    (names ≡ names_asked place date weekday) × (separator_asked word ≡ Ok separator)
+
+-- ---- what is told of a table that ends early
+
+-- the line on a record
+abbrev pub record_line : ℕ → List ℕ → List ℕ
+record_line line text =
+    codes "oldstyle: letters line " ++ (decimal line ++ (codes ": " ++ (text ++ codes "\n")))
+
+-- the name by which a column was looked for, and the option that names it
+abbrev pub name_of : NameTexts → Column → List ℕ
+name_of names column.Place = names.place
+name_of names column.Date = names.date
+name_of names column.Weekday = names.weekday
+
+abbrev pub option_of : Column → List ℕ
+option_of column.Place = codes "--place"
+option_of column.Date = codes "--date"
+option_of column.Weekday = codes "--weekday"
+
+-- the line on a header that lacks a column and has these
+abbrev pub lacks_line : NameTexts → Column → ℕ → List ℕ → List ℕ
+lacks_line names missing line found = codes "oldstyle: letters line "
+    ++ (decimal line
+    ++ (codes ": no column "
+    ++ (name_of names missing
+    ++ (codes ": the columns are "
+    ++ (found ++ (codes ": name yours by " ++ (option_of missing ++ codes "\n")))))))
+
+-- the line on a column of a header
+abbrev pub column_line : ℕ → List ℕ → List ℕ → List ℕ
+column_line line name text = codes "oldstyle: letters line "
+    ++ (decimal line
+    ++ (codes ": the column " ++ (name ++ (codes " " ++ (text ++ codes "\n")))))
+
+-- the line on a header that has one of the added columns already
+abbrev pub has_line : ℕ → AddedColumn → List ℕ
+has_line line added =
+    column_line line (added_name added) (codes "is there already: take it out or rename it")
+
+-- standard error was told why the table ended early
+abbrev pub TellsTable : NameTexts → Output → LettersFault → Status → Type 0
+TellsTable names e ends.NoHeader status = TellsIfMade e statuses.Refused
+    (record_line 1 (codes "no header: the first line has the names of the columns")) status
+TellsTable names e (ends.LacksColumn missing line found) status =
+    TellsIfMade e statuses.Refused (lacks_line names missing line found) status
+TellsTable names e (ends.HasColumn line added) status =
+    TellsIfMade e statuses.Refused (has_line line added) status
+TellsTable names e (ends.BadRecord line) status = TellsIfMade e statuses.Refused
+    (record_line line (codes "another number of fields than the header")) status
+TellsTable names e (ends.TooLong line) status = TellsIfMade e statuses.Refused
+    (record_line line (codes "a record of more than 65536 bytes")) status
+TellsTable names e (ends.OpenQuote line) status = TellsIfMade e statuses.Refused
+    (record_line line (codes "a quote that opens in this record is never closed")) status
+TellsTable names e (ends.TextAfterQuote line) status = TellsIfMade e statuses.Refused
+    (record_line line (codes "text follows a closing quote")) status
+TellsTable names e ends.ReadFault status = Tells e (File file_faults.ReadFault) status
+TellsTable names e ends.WriteFault status = Tells e WriteFault status
+TellsTable names e ends.NoMemory status = EndsBy e NoMemory status
+
+-- ---- what was written
+
+-- the table that is written of a text, by what an object has published
+abbrev pub table_of : ObjectState → NameTexts → Option Separator → List ℕ → Written
+table_of s names separator = letters_written (record {
+  rules = newest_rules;
+  lands = published s;
+  edition = length s.batches;
+  names = names;
+  separator = separator;
+})
+
+-- a beginning of the table was written by the time of this end, and all that stands before a record
+-- that ended it
+abbrev pub EndsTable : (List ℕ → Written) → Input → Output → LettersFault → Type 0
+EndsTable table i o ended = IfSome i.bytes (λ text. EndsEarly o.old o.new (table text) ended)
+
+-- the input failed or gave no end where a read fault says so, and then all was written of what was
+-- read; and the output failed, or the table may take more writes than are made, where a write fault
+-- says so
+abbrev pub IsReason : (List ℕ → Written) → Input → Output → LettersFault → Type 0
+IsReason table i o ended =
+    EndsStream (is_read_fault ended) i.unread_before i.unread
+    (IfSome i.bytes (λ text. 4294967295 ≤ length text))
+    × (is_read_fault ended ≡ true → EndsRead i.bytes i.rest o.old o.new table)
+    × EndsStream (is_write_fault ended) o.unwritten_before o.unwritten
+    (IfSome i.bytes (λ text. IsLong (table text)))
+
+-- what was written and told, by what an object has published: the table whole; or a part of it, and
+-- why it ended there
+abbrev pub WritesTable : ObjectState → NameTexts → Option Separator → Input → Output → Output
+    → Status → Type 0
+WritesTable s names separator i o e status =
+    (Ends e None status
+    × IfSome i.bytes (λ text. IsWhole o.old o.new (table_of s names separator text)))
+    ⊎ ((ended : LettersFault) × TellsTable names e ended status
+    × EndsTable (table_of s names separator) i o ended
+    × IsReason (table_of s names separator) i o ended)
+
+-- how the command ends: the journal is refused, and nothing was written; or it makes an object, and
+-- that was done
+abbrev pub PrintsLetters : Limits → Input → NameTexts → Option Separator → Input → Output → Output
+    → Status → Type 0
+PrintsLetters limits journal names separator i o e status =
+    ((fault : FileFault) × MakesNoObject limits journal fault × PrintsNone (File fault) o e status)
+    ⊎ ((s : ObjectState) × MakesObject limits journal.bytes s
+    × WritesTable s names separator i o e status)

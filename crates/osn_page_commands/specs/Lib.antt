@@ -1,0 +1,4 @@
+pub mod PageWords
+pub mod Page
+pub mod Conversion
+pub mod Letters

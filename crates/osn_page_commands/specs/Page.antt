@@ -1,0 +1,103 @@
+-- The page that a command prints, and why there is none.
+use Rattle.std.specs.Prelude.{◌≡◌, ◌⊎◌, ◌++◌, ℕ, pos, List, length, codes, Option, None, Some, true}
+use Rattle.std.specs.Prelude.{MatchResult}
+use Rattle.std.specs.Option.{MatchOption}
+use Rattle.osn_almanac.specs.Almanac.{almanac, almanac_refusal}
+use Rattle.osn_days.specs.Profile.{newest_rules}
+use Rattle.osn_register.specs.Plain.{LandModel, code_refusal}
+use Rattle.osn_register.specs.declared.limits.Limits.{Limits}
+use Rattle.osn_register.specs.declared.refusal.Refusal.{Refusal}
+use Rattle.osn_register.specs.declared.refusal.Refusal.TheVariants.{BadCode, UnknownLand}
+use Rattle.osn_core.specs.Sequential.{ObjectState, lands_of}
+use Rattle.osn_lines.specs.Streams.{Input, Output}
+use Rattle.osn_files.specs.declared.fault.FileFault.{FileFault}
+use Rattle.osn_invocation.specs.Invocation.{PageWordsModel}
+use Rattle.osn_pages.specs.Page.{page_text}
+use Rattle.osn_pages.specs.Territory.{territories_page}
+use Rattle.osn_pages.specs.declared.page.Published.{Published}
+use Rattle.osn_page_commands.specs.PageWords.{page_asked, takes_memory, code_of, wrong_word}
+use Rattle.osn_page_commands.specs.declared.page_words.Asked.{Asked}
+use Rattle.osn_page_commands.specs.declared.page_words.Asked.TheVariants.{Year, Land, Lands}
+use Rattle.osn_report.specs.Fault.{numbered_line}
+use Rattle.osn_report.specs.Journal.{MakesObject, MakesNoObject}
+use Rattle.osn_report.specs.Printing.{PrintsIfMade, PrintsNone}
+use Rattle.osn_report.specs.Told.{EndsBy, TellsIfMade, TellsMisuse}
+use Rattle.osn_report.specs.declared.fault.CommandFault.TheVariants.{File, NoMemory}
+use Rattle.osn_report.specs.declared.status.Status.{Status}
+use Rattle.osn_report.specs.declared.status.Status.TheVariants as statuses
+
+-- the territories that an object has published
+abbrev pub published : ObjectState → List LandModel
+published s = lands_of newest_rules s.limits s.batches
+
+-- the edition of them, and how many edits wait
+abbrev pub edition_of : ObjectState → Published
+edition_of s = record { edition = length s.batches; pending = length s.pending }
+
+-- ---- the page
+
+-- the text of what was asked for, of what an object has published
+abbrev pub asked_text : ObjectState → List ℕ → Asked → List ℕ
+asked_text s code (Year year) = almanac newest_rules (published s) code (pos year)
+asked_text s code (Land page) = page_text newest_rules (published s) code (edition_of s) page
+asked_text s code Lands = territories_page (published s) (length s.batches) (length s.pending)
+
+-- why it is refused
+abbrev pub asked_refusal : List LandModel → List ℕ → Asked → Option Refusal
+asked_refusal lands code (Year year) = almanac_refusal newest_rules lands code (pos year)
+asked_refusal lands code (Land page) = code_refusal lands code
+asked_refusal lands code Lands = None
+
+-- ---- what is told of a refusal
+
+-- the line on a refusal of a page on a territory: what was typed, and what to do
+abbrev pub land_refusal_line : List ℕ → List ℕ → Refusal → List ℕ
+land_refusal_line path code BadCode = codes "oldstyle: "
+    ++ (code ++ codes ": a code is 2 to 8 capital letters or digits, the first a letter\n")
+land_refusal_line path code UnknownLand = codes "oldstyle: no territory has the code "
+    ++ (code ++ (codes ": see oldstyle territory " ++ (path ++ codes "\n")))
+land_refusal_line path code refusal = numbered_line refusal
+
+-- the line on a refusal; that of an almanac has its number and name
+abbrev pub refusal_line : List ℕ → List ℕ → Asked → Refusal → List ℕ
+refusal_line path code (Year year) refusal = numbered_line refusal
+refusal_line path code (Land page) refusal = land_refusal_line path code refusal
+refusal_line path code Lands refusal = numbered_line refusal
+
+-- ---- how the command ends
+
+-- nothing was written, and standard error was told of the refusal
+abbrev pub IsRefused : List ℕ → List ℕ → Asked → Refusal → Output → Output → Status → Type 0
+IsRefused path code asked refusal o e status =
+    (o.new ≡ o.old) × TellsIfMade e statuses.Refused (refusal_line path code asked refusal) status
+
+-- of an object: the page was printed, unless what was asked for is refused, or memory ran out
+abbrev pub PrintsPageOf : ObjectState → List ℕ → List ℕ → Asked → Output → Output → Status → Type 0
+PrintsPageOf s path code asked o e status = MatchOption (asked_refusal (published s) code asked)
+    (PrintsIfMade (asked_text s code asked) o e status)
+    (λ refusal. IsRefused path code asked refusal o e status)
+
+-- of a journal: it is refused; or it makes an object, and that was done
+abbrev pub PrintsAsked : Limits → List ℕ → Input → List ℕ → Asked → Output → Output → Status
+    → Type 0
+PrintsAsked limits path journal code asked o e status =
+    ((fault : FileFault) × MakesNoObject limits journal fault × PrintsNone (File fault) o e status)
+    ⊎ ((s : ObjectState) × MakesObject limits journal.bytes s
+    × PrintsPageOf s path code asked o e status)
+
+-- of words: that, or a word is not what its place asks for
+abbrev pub PrintsOfWords : Limits → List ℕ → Input → PageWordsModel → Output → Output → Status
+    → Type 0
+PrintsOfWords limits path journal words o e status = MatchResult (page_asked words)
+    (λ asked. PrintsAsked limits path journal (code_of words) asked o e status)
+    (λ misuse. (o.new ≡ o.old) × TellsMisuse e misuse (wrong_word words misuse) status)
+
+-- there was no memory to read the words, which was told
+abbrev pub LacksMemory : PageWordsModel → Output → Output → Status → Type 0
+LacksMemory words o e status =
+    (takes_memory words ≡ true) × (o.new ≡ o.old) × EndsBy e NoMemory status
+
+-- by what it printed and told: one of these
+abbrev pub PrintsPage : Limits → List ℕ → Input → PageWordsModel → Output → Output → Status → Type 0
+PrintsPage limits path journal words o e status =
+    LacksMemory words o e status ⊎ PrintsOfWords limits path journal words o e status

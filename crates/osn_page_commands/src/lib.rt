@@ -1,0 +1,15 @@
+//! The commands that print pages, and the one that writes tables of letters. What the crate promises
+//! to those above: a command writes what its definition says of what it reads, ends with the status
+//! of what happened, and tells standard error in one line why it ended early.
+#![tactic(auto)]
+
+mod conversion;
+mod in_folder;
+mod letters;
+mod page;
+mod page_words;
+
+pub use conversion::convert_command;
+pub use in_folder::{letters_in_folder, page_in_folder};
+pub use letters::{asked_settings, letters_command};
+pub use page::page_command;

@@ -1,0 +1,153 @@
+//! The commands that print a page on what a journal published.
+ghost use Rattle.std.specs.Prelude.{◌≡◌, IfOk, IfErr, OnOk, None, string_bytes};
+ghost use Rattle.osn_invocation.specs.Invocation.{page_words};
+ghost use Rattle.osn_lines.specs.Streams.{input_of, output_of};
+ghost use Rattle.osn_register.specs.Refusal.{IsRefusalOrNoMemory};
+ghost use Rattle.osn_page_commands.specs.Page as spec;
+
+use crate::page_words::{Asked, asked_page, code_of, wrong_word};
+use osn_almanac::almanac_text;
+use osn_core::Object;
+use osn_files::load_journal;
+use osn_invocation::PageWords;
+use osn_lines::{Sink, Source};
+use osn_pages::{Published, page_text, territories_page};
+use osn_register::{Limits, Refusal};
+use osn_report::{
+    CommandFault, Status, print, refused, report, tell_line, tell_misuse, tell_no_memory,
+};
+use std::alloc::{AllocError, Global};
+
+/// The page that was asked for, on what an object has published.
+fn text_of(alloc: Global, object: &Object, code: &str, asked: &Asked) -> Result<String, Refusal>
+    ensures lawful { OnOk result
+        (spec.asked_refusal (spec.published object.now) code.now asked.now ≡ None) }
+    ensures text { IfOk result (λ text.
+        string_bytes text ≡ spec.asked_text object.now code.now asked.now) }
+    ensures refused { IfErr result (IsRefusalOrNoMemory
+        (spec.asked_refusal (spec.published object.now) code.now asked.now)) }
+{
+    let register = object.register();
+    let published = Published {
+        edition: object.batches().len(),
+        pending: object.pending().len(),
+    };
+    match *asked {
+        Asked::Year(year) => almanac_text(alloc, register, code, i64::from(year)),
+        Asked::Land(page) => page_text(alloc, register, code, published, page),
+        Asked::Lands => Ok(territories_page(alloc, register, published)?),
+    }
+}
+
+/// The line on a refusal of a page on a territory.
+fn land_refusal_line(
+    alloc: Global,
+    path: &str,
+    code: &str,
+    refusal: Refusal,
+) -> Result<String, AllocError>
+    ensures { IfOk result (λ line.
+        string_bytes line ≡ spec.land_refusal_line path.now code.now refusal) }
+{
+    match refusal {
+        Refusal::BadCode => format!(in alloc;
+            "oldstyle: {code}: a code is 2 to 8 capital letters or digits, the first a letter\n"
+        ),
+        Refusal::UnknownLand => format!(in alloc;
+            "oldstyle: no territory has the code {code}: see oldstyle territory {path}\n"
+        ),
+        _ => refused(alloc, refusal.number(), refusal.name()),
+    }
+}
+
+/// The line on a refusal of what was asked for.
+fn refusal_line(
+    alloc: Global,
+    path: &str,
+    code: &str,
+    asked: &Asked,
+    refusal: Refusal,
+) -> Result<String, AllocError>
+    ensures { IfOk result (λ line.
+        string_bytes line ≡ spec.refusal_line path.now code.now asked.now refusal) }
+{
+    match asked {
+        Asked::Land(_) => land_refusal_line(alloc, path, code, refusal),
+        Asked::Year(_) | Asked::Lands => refused(alloc, refusal.number(), refusal.name()),
+    }
+}
+
+/// Prints the page that was asked for, on what an object has published.
+fn print_page<W: Sink, E: Sink>(
+    alloc: Global,
+    object: &Object,
+    path: &str,
+    code: &str,
+    asked: &Asked,
+    output: &mut W,
+    errors: &mut E,
+) -> Status
+    ensures { spec.PrintsPageOf object.now path.now code.now asked.now
+        (output_of W.contents W.has_failed W.holds_back output.old output.new)
+        (output_of E.contents E.has_failed E.holds_back errors.old errors.new) result }
+{
+    match text_of(alloc, object, code, asked) {
+        Ok(text) => print(Ok(text), output, errors),
+        Err(Refusal::NoMemory) => tell_no_memory(errors),
+        Err(refusal) => {
+            let line = refusal_line(alloc, path, code, asked, refusal);
+            tell_line(errors, Status::Refused, line)
+        }
+    }
+}
+
+/// Prints the page that was asked for, on what a journal published.
+fn print_asked<J: Source, W: Sink, E: Sink>(
+    alloc: Global,
+    limits: Limits,
+    path: &str,
+    journal: &mut J,
+    code: &str,
+    asked: &Asked,
+    output: &mut W,
+    errors: &mut E,
+) -> Status
+    ensures { spec.PrintsAsked limits path.now
+        (input_of J.remaining J.has_failed journal.old journal.new) code.now asked.now
+        (output_of W.contents W.has_failed W.holds_back output.old output.new)
+        (output_of E.contents E.has_failed E.holds_back errors.old errors.new) result }
+{
+    match load_journal(alloc, limits, journal) {
+        Ok(object) => print_page(alloc, &object, path, code, asked, output, errors),
+        Err(fault) => report(alloc, errors, CommandFault::File(fault)),
+    }
+}
+
+/// The commands `almanac`, `read`, `day`, `month` and `territory`: prints the page that the words
+/// ask for, on what the journal of this path published under these limits. The words are read
+/// first, and the journal whole before anything is printed.
+///
+/// Where there is no page, standard error is told in a line why, and the status says it.
+pub fn page_command<J: Source, W: Sink, E: Sink>(
+    alloc: Global,
+    limits: Limits,
+    path: &str,
+    journal: &mut J,
+    words: PageWords<'_>,
+    output: &mut W,
+    errors: &mut E,
+) -> Status
+    ensures { spec.PrintsPage limits path.now
+        (input_of J.remaining J.has_failed journal.old journal.new) (page_words words.entry)
+        (output_of W.contents W.has_failed W.holds_back output.old output.new)
+        (output_of E.contents E.has_failed E.holds_back errors.old errors.new) result }
+{
+    match asked_page(alloc, words) {
+        Ok(Ok(asked)) => {
+            let code = code_of(words);
+            print_asked(alloc, limits, path, journal, code, &asked, output, errors)
+        }
+        Ok(Err(misuse)) => tell_misuse(alloc, errors, misuse, wrong_word(words, misuse)),
+        Err(_) => tell_no_memory(errors),
+    }
+}

@@ -1,0 +1,10 @@
+pub mod Status
+pub mod LimitHint
+pub mod Misuse
+pub mod Fault
+pub mod Told
+pub mod Printing
+pub mod Files
+pub mod Journal
+pub mod Folders
+pub mod ProgressSource

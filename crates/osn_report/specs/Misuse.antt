@@ -1,0 +1,58 @@
+-- What a word of the command line is told that is not what its place asks for. This project's
+-- profile.
+use Rattle.std.specs.Prelude.{ℕ, List, ◌++◌, codes}
+use Rattle.osn_days.specs.CalendarWords.{calendar_word}
+use Rattle.osn_days.specs.Weekday.{weekday_name}
+use Rattle.osn_written.specs.declared.written_date.DateFault.{DateFault}
+use Rattle.osn_written.specs.declared.written_date.DateFault.TheVariants as faults
+use Rattle.osn_report.specs.declared.misuse.Misuse.{Misuse}
+use Rattle.osn_report.specs.declared.misuse.Misuse.TheVariants.{Date, Weekday, OtherWeekday}
+use Rattle.osn_report.specs.declared.misuse.Misuse.TheVariants.{Calendar, DayNumber, DoubleDate}
+use Rattle.osn_report.specs.declared.misuse.Misuse.TheVariants.{NoSuchDate, Month, Limits}
+use Rattle.osn_report.specs.declared.misuse.Misuse.TheVariants.{Separator}
+
+-- what a date asks for
+abbrev pub date_text : DateFault → List ℕ
+date_text faults.Malformed =
+    codes "a date is written 1731-02-11, \"11 February 1731\" or \"11 February 1731/2\", "
+    ++ codes "with a weekday before it or without"
+date_text faults.LaterYear =
+    codes "after the / stands the year that follows, in full or its last digits, "
+    ++ codes "as 1731/2, 1731/32 or 1731/1732"
+date_text faults.Year = codes "a year is 0 to 10000"
+date_text faults.Month = codes "a month is 1 to 12"
+date_text faults.Day = codes "a day of a month is 1 to 31"
+date_text faults.NoDate = codes "it says no date: write a day, as \"11 February 1731\""
+date_text faults.NotOneDay = codes
+    "a month, a year or a range is not one day: write the day, as \"11 February 1731\""
+date_text faults.Qualifier = codes
+    "about, ?, [ ], O.S. and their like say more than the day: write the day alone"
+date_text faults.ShortYear = codes "a year of one or two digits needs its zeros, as 0045"
+date_text faults.DayOrMonth = codes
+    "11/2/1731 may be 11 February or 2 November: write the month by its name"
+date_text faults.TwoDays = codes
+    "11/22 February 1731 is a day by two calendars: write it by one of them"
+date_text faults.Feast = codes "a feast is not read: write its day"
+date_text faults.RomanNumeral = codes "a Roman numeral is not read: write the number in digits"
+
+-- what the place of the word asks for
+abbrev pub misuse_text : Misuse → List ℕ
+misuse_text (Date fault) = date_text fault
+misuse_text Weekday = codes "a weekday is written by its English name, as Friday"
+misuse_text (OtherWeekday named) = codes "the date names "
+    ++ (weekday_name named ++ codes ": write one weekday, or the same one twice")
+misuse_text Calendar = codes
+    "a calendar is gregorian, julian or swedish; after the word day, write a day number"
+misuse_text DayNumber = codes "a day number is 1 to 3652059"
+misuse_text DoubleDate = codes "a date with both years is a territory's: use oldstyle read"
+misuse_text (NoSuchDate calendar) = codes "the "
+    ++ (calendar_word calendar ++ codes " calendar has no such date in the years 1 to 9999")
+misuse_text Month = codes "a month is 1 to 12 or its English name"
+misuse_text Limits = codes
+    "limits are some of lands=N,changes=N,exceptions=N,edits=N,editions=N, with a comma between"
+misuse_text Separator = codes "a separator is comma, semicolon or tab"
+
+-- the line on standard error, which begins with the word as it was typed
+abbrev pub misuse_line : Misuse → List ℕ → List ℕ
+misuse_line misuse typed =
+    codes "oldstyle: " ++ (typed ++ (codes ": " ++ (misuse_text misuse ++ codes "\n")))

@@ -1,0 +1,6 @@
+-- What a watched source shows.
+use Rattle.osn_report.specs.declared.progress.ProgressSource.{ProgressSource}
+
+-- the source that is watched
+abbrev pub source_of : {S P : Type 0} → ProgressSource S P → S
+source_of w = w.source

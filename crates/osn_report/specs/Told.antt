@@ -1,0 +1,56 @@
+-- What standard error is told, and the status that goes with it.
+use Rattle.std.specs.Prelude.{◌≡◌, ◌≢◌, ◌⊎◌, ℕ, List, Option, Some, None, codes}
+use Rattle.std.specs.declared.io.ErrorKind.{ErrorKind}
+use Rattle.std.specs.declared.io.ErrorKind.TheVariants.{OutOfMemory}
+use Rattle.std.specs.Io.KnownBytes.{Appends}
+use Rattle.osn_lines.specs.Faults.{WriteFails}
+use Rattle.osn_lines.specs.Streams.{Output}
+use Rattle.osn_report.specs.Fault.{fault_status, fault_line}
+use Rattle.osn_report.specs.Misuse.{misuse_line}
+use Rattle.osn_report.specs.declared.fault.CommandFault.{CommandFault}
+use Rattle.osn_report.specs.declared.fault.CommandFault.TheVariants.{NoMemory}
+use Rattle.osn_report.specs.declared.misuse.Misuse.{Misuse}
+use Rattle.osn_report.specs.declared.status.Status.{Status}
+use Rattle.osn_report.specs.declared.status.Status.TheVariants.{Done, Refused, Misused}
+
+-- the line was written whole, or the sink failed or took it in too many writes
+abbrev pub WritesLine : Output → List ℕ → Type 0
+WritesLine e line = Appends e.old e.new line ⊎ WriteFails e.unwritten_before e.unwritten line
+
+-- a line was told, with the status that goes with it
+abbrev pub TellsLine : Output → Status → List ℕ → Status → Type 0
+TellsLine e given line status = (status ≡ given) × WritesLine e line
+
+-- standard error was told this fault, and this is its status
+abbrev pub EndsBy : Output → CommandFault → Status → Type 0
+EndsBy e fault status = TellsLine e (fault_status fault) (fault_line fault) status
+
+-- a line was told that takes memory; or that there was none for it
+abbrev pub TellsIfMade : Output → Status → List ℕ → Status → Type 0
+TellsIfMade e given line status = TellsLine e given line status ⊎ EndsBy e NoMemory status
+
+-- standard error was told why a command ended early: this fault, or of a refusal, whose line takes
+-- memory, that there was none for it
+abbrev pub Tells : Output → CommandFault → Status → Type 0
+Tells e fault status =
+    EndsBy e fault status ⊎ ((fault_status fault ≡ Refused) × EndsBy e NoMemory status)
+
+-- standard error was told nothing
+abbrev pub TellsNothing : Output → Type 0
+TellsNothing e = (e.new ≡ e.old) × (e.unwritten ≡ e.unwritten_before)
+
+-- a command ended by this fault, which was told, or did all that it was to do, and told nothing
+abbrev pub Ends : Output → Option CommandFault → Status → Type 0
+Ends e None status = (status ≡ Done) × TellsNothing e
+Ends e (Some fault) status = Tells e fault status
+
+-- it was told of a word, as it was typed, what its place asks for
+abbrev pub TellsMisuse : Output → Misuse → List ℕ → Status → Type 0
+TellsMisuse e misuse typed status = TellsIfMade e Misused (misuse_line misuse typed) status
+
+-- standard error was told why the words of the command line could not be had, by the kind of error
+abbrev pub TellsNoWords : Output → ErrorKind → Status → Type 0
+TellsNoWords e kind status =
+    ((kind ≡ OutOfMemory) × EndsBy e NoMemory status)
+    ⊎ ((kind ≢ OutOfMemory)
+    × TellsLine e Misused (codes "error: a word of the command line is not UTF-8\n") status)

@@ -1,0 +1,78 @@
+//! Why a command ended early.
+ghost use Rattle.std.specs.Prelude.{◌≡◌};
+ghost use Rattle.osn_report.specs.Fault.{by_read};
+ghost use Rattle.osn_report.specs.declared.fault.CommandFault.{CommandFault};
+
+use osn_files::FileFault;
+use osn_folder::{KeepFault, KeptFileFault};
+use osn_format::Version;
+use osn_lines::ReadAllFault;
+use osn_live::DeskFault;
+use osn_register::Refusal;
+use osn_service::ServeFault;
+use std::alloc::AllocError;
+
+/// Why a command ended early. It holds the fault that the command met, as it is.
+#[derive(Debug, Drop)]
+pub enum CommandFault {
+    /// A file could not be read, or one of its lines is refused.
+    File(FileFault),
+    /// Not all lines could be answered.
+    Service(ServeFault),
+    /// What the words ask for is refused.
+    Refused(Refusal),
+    /// A desk answered nothing.
+    Desk(DeskFault),
+    /// A journal is to be kept, and another one to begin with or to be saved.
+    KeptWithOther,
+    /// A file could not be locked, to be kept or to save a journal to it.
+    Keep(KeepFault),
+    /// The journal that is kept could not be changed, or is another file now.
+    KeptFile(KeptFileFault),
+    /// A journal of this version, which is not the newest, is not kept.
+    OlderVersion(Version),
+    /// The line of this number was refused, and was to be the last to be answered. Lines are
+    /// counted from 1.
+    RefusedLine(u64),
+    /// A file that is named nowhere could not be opened.
+    NotOpened,
+    /// A text could not be written.
+    WriteFault,
+    /// Memory ran out.
+    NoMemory,
+}
+
+impl From<FileFault> for CommandFault {
+    ghost from_gives = { λ fault given. given ≡ CommandFault.File fault };
+
+    fn from(fault: FileFault) -> CommandFault {
+        CommandFault::File(fault)
+    }
+}
+
+impl From<ReadAllFault> for CommandFault {
+    ghost from_gives = { λ fault given. given ≡ by_read fault };
+
+    fn from(fault: ReadAllFault) -> CommandFault {
+        match fault {
+            ReadAllFault::NoMemory => CommandFault::NoMemory,
+            ReadAllFault::ReadFault => CommandFault::File(FileFault::ReadFault),
+        }
+    }
+}
+
+impl From<KeptFileFault> for CommandFault {
+    ghost from_gives = { λ fault given. given ≡ CommandFault.KeptFile fault };
+
+    fn from(fault: KeptFileFault) -> CommandFault {
+        CommandFault::KeptFile(fault)
+    }
+}
+
+impl From<AllocError> for CommandFault {
+    ghost from_gives = { λ _ given. given ≡ CommandFault.NoMemory };
+
+    fn from(_error: AllocError) -> CommandFault {
+        CommandFault::NoMemory
+    }
+}

@@ -1,0 +1,226 @@
+//! How standard error is told why a command ended early.
+ghost use Rattle.std.specs.Prelude.{◌≡◌, ◌++◌, codes, ℕ, List, IfOk, string_bytes};
+ghost use Rattle.osn_lines.specs.Streams.{output_of};
+ghost use Rattle.osn_report.specs.Fault.{bad_line, older_line, refused_line, refusal_end, role_name};
+ghost use Rattle.osn_report.specs.Told.{WritesLine, EndsBy, Tells, TellsIfMade};
+ghost use Rattle.osn_report.specs.declared.fault.CommandFault.{CommandFault};
+
+use crate::fault::CommandFault;
+use crate::limit_hint::limit_hint;
+use crate::status::Status;
+use osn_files::{FileFault, LineFault, Role};
+use osn_folder::{KeepFault, KeptFileFault};
+use osn_format::Version;
+use osn_lines::{Sink, write_all};
+use osn_live::DeskFault;
+use osn_register::Refusal;
+use osn_service::ServeFault;
+use std::alloc::{AllocError, Global};
+
+const READ_FAULT: &str = "oldstyle: read fault\n";
+
+const WRITE_FAULT: &str = "oldstyle: write fault\n";
+
+const NO_MEMORY: &str = "oldstyle: no memory\n";
+
+const KEPT_WITH_OTHER: &str = "oldstyle: --keep goes with neither --journal nor --save\n";
+
+const KEPT_ELSEWHERE: &str = "oldstyle: another run of the program keeps that journal\n";
+
+const KEPT_REPLACED: &str = "oldstyle: another program moved, replaced or changed the journal: \
+no more is kept in it\n";
+
+/// Writes a line. Where standard error fails too, the status alone tells.
+pub fn write_line<E: Sink>(errors: &mut E, line: &str)
+    ensures { WritesLine
+        (output_of E.contents E.has_failed E.holds_back errors.old errors.new) line.now }
+{
+    let _ = write_all(errors, line.as_bytes());
+}
+
+/// Tells a line that takes no memory, and answers this status.
+fn tell<E: Sink>(errors: &mut E, status: Status, line: &str) -> Status
+    ensures status { result ≡ status }
+    ensures line { WritesLine
+        (output_of E.contents E.has_failed E.holds_back errors.old errors.new) line.now }
+{
+    write_line(errors, line);
+    status
+}
+
+/// Tells standard error that memory ran out. Answers the status.
+pub fn tell_no_memory<E: Sink>(errors: &mut E) -> Status
+    ensures { EndsBy (output_of E.contents E.has_failed E.holds_back errors.old errors.new)
+        CommandFault.NoMemory result }
+{
+    tell(errors, Status::NoMemory, NO_MEMORY)
+}
+
+/// Tells standard error that a write failed. Answers the status.
+pub(crate) fn tell_write_fault<E: Sink>(errors: &mut E) -> Status
+    ensures { EndsBy (output_of E.contents E.has_failed E.holds_back errors.old errors.new)
+        CommandFault.WriteFault result }
+{
+    tell(errors, Status::WriteFault, WRITE_FAULT)
+}
+
+/// Tells a line, and answers this status; or tells that there was no memory for the line.
+pub fn tell_line<E: Sink>(
+    errors: &mut E,
+    status: Status,
+    line: Result<String, AllocError>,
+) -> Status
+    // Whatever text it is, if it is one.
+    ensures { (wanted : List ℕ) → IfOk line (λ text. string_bytes text ≡ wanted) → TellsIfMade
+        (output_of E.contents E.has_failed E.holds_back errors.old errors.new)
+        status wanted result }
+{
+    match line {
+        Ok(line) => tell(errors, status, line.as_str()),
+        Err(_) => tell_no_memory(errors),
+    }
+}
+
+fn name_of(role: Role) -> &'static str
+    ensures { result.now ≡ role_name role }
+{
+    match role {
+        Role::Journal => "journal",
+        Role::Script => "script",
+        Role::Questions => "questions",
+        Role::Schedule => "schedule",
+        Role::Transcript => "transcript",
+    }
+}
+
+/// The line on a refused line of a file.
+fn bad_line(alloc: Global, role: Role, line: u64, fault: LineFault) -> Result<String, AllocError>
+    ensures { IfOk result (λ text. string_bytes text ≡ bad_line role line fault) }
+{
+    let file = name_of(role);
+    let number = fault.number();
+    let name = fault.name();
+    let hint = limit_hint(fault);
+    format!(in alloc; "oldstyle: {file} line {line}: {number} {name}{hint}\n")
+}
+
+/// The line on a journal of a version that is not kept.
+fn older_version(alloc: Global, version: Version) -> Result<String, AllocError>
+    ensures { IfOk result (λ text. string_bytes text ≡ older_line version) }
+{
+    let number = version.number();
+    format!(in alloc;
+        "oldstyle: a journal of version {number} is not kept: save it anew by --journal and \
+--save\n"
+    )
+}
+
+/// The line on a refused line that the service ended at.
+fn refused_at(alloc: Global, line: u64) -> Result<String, AllocError>
+    ensures { IfOk result (λ text. string_bytes text ≡ refused_line line) }
+{
+    format!(in alloc; "oldstyle: line {line} is refused, and no line after it was answered\n")
+}
+
+/// The line on what is refused by this number and name.
+pub fn refused(alloc: Global, number: u8, name: &'static str) -> Result<String, AllocError>
+    ensures { IfOk result (λ text. string_bytes text
+        ≡ codes "oldstyle: " ++ refusal_end number name.now) }
+{
+    format!(in alloc; "oldstyle: {number} {name}\n")
+}
+
+fn report_file<E: Sink>(alloc: Global, errors: &mut E, fault: FileFault) -> Status
+    ensures { Tells (output_of E.contents E.has_failed E.holds_back errors.old errors.new)
+        (CommandFault.File fault) result }
+{
+    match fault {
+        FileFault::NoMemory => tell_no_memory(errors),
+        FileFault::ReadFault => tell(errors, Status::ReadFault, READ_FAULT),
+        FileFault::BadLine { role, line, fault } => {
+            tell_line(errors, Status::Refused, bad_line(alloc, role, line, fault))
+        }
+    }
+}
+
+fn report_service<E: Sink>(errors: &mut E, fault: ServeFault) -> Status
+    ensures { EndsBy (output_of E.contents E.has_failed E.holds_back errors.old errors.new)
+        (CommandFault.Service fault) result }
+{
+    match fault {
+        ServeFault::NoMemory => tell(errors, Status::NoMemory, NO_MEMORY),
+        ServeFault::ReadFault => tell(errors, Status::ReadFault, READ_FAULT),
+        ServeFault::WriteFault => tell(errors, Status::WriteFault, WRITE_FAULT),
+    }
+}
+
+fn report_refusal<E: Sink>(alloc: Global, errors: &mut E, refusal: Refusal) -> Status
+    ensures { Tells (output_of E.contents E.has_failed E.holds_back errors.old errors.new)
+        (CommandFault.Refused refusal) result }
+{
+    match refusal {
+        Refusal::NoMemory => tell_no_memory(errors),
+        _ => {
+            let line = refused(alloc, refusal.number(), refusal.name());
+            tell_line(errors, Status::Refused, line)
+        }
+    }
+}
+
+fn report_desk<E: Sink>(alloc: Global, errors: &mut E, fault: DeskFault) -> Status
+    ensures { Tells (output_of E.contents E.has_failed E.holds_back errors.old errors.new)
+        (CommandFault.Desk fault) result }
+{
+    match fault {
+        DeskFault::NoMemory => tell_no_memory(errors),
+        _ => {
+            let line = refused(alloc, fault.number(), fault.name());
+            tell_line(errors, Status::Refused, line)
+        }
+    }
+}
+
+fn report_keep<E: Sink>(errors: &mut E, fault: KeepFault) -> Status
+    ensures { EndsBy (output_of E.contents E.has_failed E.holds_back errors.old errors.new)
+        (CommandFault.Keep fault) result }
+{
+    match fault {
+        KeepFault::Held => tell(errors, Status::ReadFault, KEPT_ELSEWHERE),
+        KeepFault::NotOpened => tell(errors, Status::ReadFault, READ_FAULT),
+    }
+}
+
+fn report_kept_file<E: Sink>(errors: &mut E, fault: KeptFileFault) -> Status
+    ensures { EndsBy (output_of E.contents E.has_failed E.holds_back errors.old errors.new)
+        (CommandFault.KeptFile fault) result }
+{
+    match fault {
+        KeptFileFault::ChangeFailed => tell(errors, Status::WriteFault, WRITE_FAULT),
+        KeptFileFault::Replaced => tell(errors, Status::WriteFault, KEPT_REPLACED),
+    }
+}
+
+/// Tells standard error in a line why a command ended early. Answers the status.
+pub fn report<E: Sink>(alloc: Global, errors: &mut E, fault: CommandFault) -> Status
+    ensures { Tells (output_of E.contents E.has_failed E.holds_back errors.old errors.new)
+        fault result }
+{
+    match fault {
+        CommandFault::File(fault) => report_file(alloc, errors, fault),
+        CommandFault::Service(fault) => report_service(errors, fault),
+        CommandFault::Refused(refusal) => report_refusal(alloc, errors, refusal),
+        CommandFault::Desk(fault) => report_desk(alloc, errors, fault),
+        CommandFault::KeptWithOther => tell(errors, Status::Misused, KEPT_WITH_OTHER),
+        CommandFault::Keep(fault) => report_keep(errors, fault),
+        CommandFault::KeptFile(fault) => report_kept_file(errors, fault),
+        CommandFault::OlderVersion(version) => {
+            tell_line(errors, Status::Refused, older_version(alloc, version))
+        }
+        CommandFault::RefusedLine(line) => {
+            tell_line(errors, Status::Refused, refused_at(alloc, line))
+        }
+        CommandFault::NotOpened => tell(errors, Status::ReadFault, READ_FAULT),
+        CommandFault::WriteFault => tell_write_fault(errors),
+        CommandFault::NoMemory => tell_no_memory(errors),
+    }
+}

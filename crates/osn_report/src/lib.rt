@@ -1,0 +1,19 @@
+//! How a command of the program ends: its status, what standard error is told, and the text that it
+//! prints. What the crate promises to those above: each fault has one status and one line, and is
+//! told by that line; a refusal, whose line takes memory, may be told as want of memory.
+#![tactic(auto)]
+
+mod fault;
+mod fault_report;
+mod limit_hint;
+mod misuse;
+mod printing;
+mod progress;
+mod status;
+
+pub use fault::CommandFault;
+pub use fault_report::{refused, report, tell_line, tell_no_memory, write_line};
+pub use misuse::{Misuse, tell_misuse};
+pub use printing::print;
+pub use progress::{ProgressSource, ReadProgress};
+pub use status::Status;

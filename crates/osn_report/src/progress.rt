@@ -1,0 +1,87 @@
+//! How far a long run is, for whoever waits at a terminal.
+
+use osn_letters::Progress;
+use osn_lines::{ReadFailed, Sink, Source, write_all};
+use std::alloc::Global;
+
+const MEBIBYTE: u64 = 1 << 20;
+
+/// It is said again after so many mebibytes.
+const STEP: u64 = 64;
+
+/// How much of an input was read, which a terminal is told where there is one. Nothing rests on
+/// what is told, so it is left out where it can't be.
+#[derive(Drop)]
+pub struct ReadProgress<P> {
+    alloc: Global,
+    /// What is read, as the terminal is told.
+    what: &'static str,
+    /// The bytes that were read.
+    read: u64,
+    terminal: Option<P>,
+}
+
+impl<P: Sink> ReadProgress<P> {
+    /// Of an input of which nothing was read.
+    pub fn new(alloc: Global, what: &'static str, terminal: Option<P>) -> ReadProgress<P> {
+        ReadProgress {
+            alloc,
+            what,
+            read: 0,
+            terminal,
+        }
+    }
+}
+
+impl<P: Sink> Progress for ReadProgress<P> {
+    fn count(&mut self, bytes: usize) {
+        let before = self.read / MEBIBYTE / STEP;
+        self.read = self.read.saturating_add(bytes as u64);
+        let read = self.read / MEBIBYTE;
+        if read / STEP == before {
+            return;
+        }
+        let what = self.what;
+        let line = format!(in self.alloc; "oldstyle: {read} MiB of the {what} read\n");
+        if let (Some(terminal), Ok(line)) = (&mut self.terminal, line) {
+            let _ = write_all(terminal, line.as_bytes());
+        }
+    }
+}
+
+/// A source of which it is told how much was read.
+#[derive(Drop)]
+pub struct ProgressSource<S, P> {
+    source: S,
+    progress: ReadProgress<P>,
+}
+
+impl<S, P: Sink> ProgressSource<S, P> {
+    ghost use Rattle.std.specs.Prelude.{◌≡◌};
+    ghost use Rattle.osn_report.specs.ProgressSource.{source_of};
+
+    /// One that tells this progress.
+    pub fn new(source: S, progress: ReadProgress<P>) -> ProgressSource<S, P>
+        ensures { source_of result ≡ source }
+    {
+        ProgressSource { source, progress }
+    }
+}
+
+impl<S: Source, P: Sink> Source for ProgressSource<S, P> {
+    ghost use Rattle.osn_report.specs.ProgressSource.{source_of};
+
+    ghost remaining = { λ w. S.remaining (source_of w) };
+
+    ghost has_failed = { λ w. S.has_failed (source_of w) };
+
+    fn read(&mut self, buffer: &mut [u8]) -> Result<usize, ReadFailed> {
+        let bytes = self.source.read(buffer)?;
+        self.progress.count(bytes);
+        Ok(bytes)
+    }
+
+    fn failed(&self) -> bool {
+        self.source.failed()
+    }
+}

@@ -1,0 +1,35 @@
+//! How a run of the program ended, as a number.
+ghost use Rattle.std.specs.Prelude.{◌≡◌};
+ghost use Rattle.osn_report.specs.Status.{status_code};
+
+/// How a run of the program ended, as the shell is told.
+#[derive(Clone, Copy, Debug, PartialEq, Eq, Hash)]
+pub enum Status {
+    /// All was done, or help was asked for and shown.
+    Done,
+    /// The input was refused.
+    Refused,
+    /// The words of the command line ask for nothing that the program does.
+    Misused,
+    /// A read failed, or a file could not be opened, or is kept by another run of the program.
+    ReadFault,
+    /// A write failed.
+    WriteFault,
+    /// Memory ran out.
+    NoMemory,
+}
+
+impl Status {
+    /// The number that the shell is told.
+    pub fn code(self) -> u8
+        ensures { result ≡ status_code self }
+    {
+        match self {
+            Status::Done => 0,
+            Status::Refused => 1,
+            Status::Misused => 2,
+            Status::ReadFault | Status::WriteFault => 3,
+            Status::NoMemory => 4,
+        }
+    }
+}

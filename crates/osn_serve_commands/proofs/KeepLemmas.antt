@@ -1,0 +1,171 @@
+-- The parts of a service that keeps a file did what their contracts say.
+use Rattle.std.proofs.Common.{◌≡◌, ◌≢◌, ◌==◌, ◌≤◌, ◌∙◌, ℕ, zero, suc, Bool, true, false}
+use Rattle.std.proofs.Common.{List, [], ◌∷◌, length, cond, take, Option, Some, Result, Ok, Err}
+use Rattle.std.proofs.Common.{IfSome, IfErr, refl, sym, ap, subst, inl, inr, arith, length-take}
+use Rattle.osn_days.specs.Profile.{newest_rules}
+use Rattle.osn_register.specs.declared.limits.Limits.{Limits}
+use Rattle.osn_core.specs.Sequential.{ObjectState}
+use Rattle.osn_lines.specs.Bytes.{rest_of}
+use Rattle.osn_lines.specs.Faults.{IsReadFault}
+use Rattle.osn_lines.specs.Lines.{lines}
+use Rattle.osn_lines.specs.Streams.{Input}
+use Rattle.osn_lines.specs.Whole.{WhyNotRead}
+use Rattle.osn_lines.specs.declared.bytes.Bytes.{Bytes}
+use Rattle.osn_lines.specs.declared.whole.ReadAllFault.{ReadAllFault}
+use Rattle.osn_lines.specs.declared.whole.ReadAllFault.TheVariants as read_faults
+use Rattle.osn_files.specs.Faults.{MatchFileFault}
+use Rattle.osn_files.specs.Files.{ReadsFile}
+use Rattle.osn_folder.specs.declared.fault.KeptFileFault.{KeptFileFault}
+use Rattle.osn_format.specs.Version.{newest_version}
+use Rattle.osn_format.specs.declared.version.Version.{Version}
+use Rattle.osn_files.specs.Journal.{load}
+use Rattle.osn_files.specs.Loaded.{IsOfVersion}
+use Rattle.osn_files.specs.WholePart.{IsWholePart, by_last, ended_length, last_line_of}
+use Rattle.osn_files.specs.WholePart.{whole_bytes, whole_length, with_byte}
+use Rattle.osn_files.specs.declared.fault.FileFault.{FileFault}
+use Rattle.osn_files.specs.declared.fault.FileFault.TheVariants as file_faults
+use Rattle.osn_files.specs.declared.fault.LineFault.{LineFault}
+use Rattle.osn_files.specs.declared.fault.Role.TheVariants.{Journal}
+use Rattle.osn_files.specs.declared.last_line.LastLine.{LastLine}
+use Rattle.osn_files.specs.declared.last_line.LastLine.TheVariants.{Ended, LacksFeed, Unfinished}
+use Rattle.osn_files.specs.declared.whole_lines.WholePart.{WholePart}
+use Rattle.osn_journal.specs.Kept.{FileState}
+use Rattle.osn_report.proofs.FileLemmas.{file_fault}
+use Rattle.osn_report.specs.Fault.{by_read}
+use Rattle.osn_report.specs.Journal.{MakesNoObject}
+use Rattle.osn_report.specs.declared.fault.CommandFault.{CommandFault}
+use Rattle.osn_report.specs.declared.fault.CommandFault.TheVariants.{File, NoMemory, OlderVersion}
+use Rattle.osn_serve_commands.specs.Keep.{object_of, kept_object}
+use Rattle.osn_serve_commands.specs.Keep.{SaysVersion, HoldsNoObject, HoldsOlder, IsUnread}
+
+-- ---- the object
+
+-- the object that bytes make of which there are some is loaded from them, or none is
+pub some_loaded : (limits : Limits) (read bytes : List ℕ)
+    (r : Result ObjectState (ℕ × LineFault)) → read ≡ bytes → (length bytes == 0) ≡ false
+    → load newest_rules limits (lines read) ≡ r → object_of limits bytes ≡ r
+some_loaded limits read [] r is some h = absurd (cc)
+some_loaded limits read (b ∷ bs) r is some h =
+    subst (λ l. load newest_rules limits (lines l) ≡ r) is h
+
+-- and its version is the one that they say
+pub some_said : (version : Version) (read bytes : List ℕ) → read ≡ bytes
+    → (length bytes == 0) ≡ false → IsOfVersion version (lines read) → SaysVersion version bytes
+some_said version read [] is some h = absurd (cc)
+some_said version read (b ∷ bs) is some h = subst (λ l. IsOfVersion version (lines l)) is h
+
+-- a source of known bytes, read through, that has not failed
+abbrev source_of : List ℕ → List ℕ → Input
+source_of read rest = record {
+  bytes = Some read;
+  rest = Some rest;
+  unread_before = false;
+  unread = false;
+}
+
+-- none was loaded from the lines that count
+pub not_loaded : (limits : Limits) (read bytes held rest : List ℕ) (why : FileFault)
+    → read ≡ bytes → (length bytes == 0) ≡ false → bytes ≡ whole_bytes held
+    → MakesNoObject limits (source_of read rest) why
+    → IsUnread limits held false why
+not_loaded limits read bytes held rest (file_faults.BadLine role line why) is some whole h = (
+  h.0,
+  subst (λ l. object_of limits l ≡ Err (line, why)) whole
+      (some_loaded limits read bytes (Err (line, why)) is some h.1),
+)
+not_loaded limits read bytes held rest file_faults.ReadFault is some whole (spared, inl h) = inl h
+not_loaded limits read bytes held rest file_faults.ReadFault is some whole (spared, inr h) =
+    inr (omega (arith, h, ap length is, ap length whole, length-take (whole_length held) held))
+not_loaded limits read bytes held rest file_faults.NoMemory is some whole h = tt
+
+-- the same of what read the bytes
+pub object_refused : {T : Type 0} (limits : Limits) (lines : List ℕ) (view : T → ObjectState)
+    (r : Result T FileFault) (old new : Bytes) → rest_of old ≡ lines → (length lines == 0) ≡ false
+    → ReadsFile Journal (load newest_rules limits) view r (λ b. Some (rest_of b)) (λ _. false) old
+    new
+    → IfErr r (λ why. (held : List ℕ) → lines ≡ whole_bytes held → IsUnread limits held false why)
+object_refused limits lines view (Ok x) old new is some h = tt
+object_refused limits lines view (Err why) old new is some h = λ held whole.
+    not_loaded limits (rest_of old) lines held (rest_of new) why is some whole (file_fault why h)
+
+-- a file makes no object, whether a read of it failed or not
+pub none_held : (limits : Limits) (held : List ℕ) (failed : Bool) (why : FileFault)
+    → IsUnread limits held false why → IsUnread limits held failed why
+none_held limits held failed (file_faults.BadLine role line why) h = h
+none_held limits held failed file_faults.ReadFault (inl h) = absurd (cc)
+none_held limits held failed file_faults.ReadFault (inr h) = inr h
+none_held limits held failed file_faults.NoMemory h = h
+
+-- it is told by the fault itself
+pub unread_told : (limits : Limits) (held : List ℕ) (failed : Bool) (why : FileFault)
+    (fault : CommandFault) → fault ≡ File why → IsUnread limits held failed why
+    → HoldsNoObject limits held failed fault
+unread_told limits held failed why fault is h = inl (why, is, h)
+
+-- the file was not read
+pub not_read : (limits : Limits) (held : List ℕ) (before failed : Bool)
+    (why : ReadAllFault) (fault : CommandFault) → fault ≡ by_read why
+    → WhyNotRead why before failed (Some held) → HoldsNoObject limits held failed fault
+not_read limits held before failed read_faults.NoMemory fault is h = inr (inr is)
+not_read limits held before failed read_faults.ReadFault fault is h =
+    inl (file_faults.ReadFault, is, h)
+
+-- nor measured
+pub not_measured : (limits : Limits) (read held : List ℕ) (failed : Bool)
+    (P : Type 0) (why : FileFault) → read ≡ held
+    → MatchFileFault why P (IsReadFault false (Some read)) (λ _ _ _. ⊥)
+    → IsUnread limits held failed why
+not_measured limits read held failed P file_faults.NoMemory is h = tt
+not_measured limits read held failed P file_faults.ReadFault is (inl h) = absurd (cc)
+not_measured limits read held failed P file_faults.ReadFault is (inr h) =
+    inr (subst (λ l. 4294967295 ≤ length l) is h)
+not_measured limits read held failed P (file_faults.BadLine role line why) is h = absurd h
+
+-- the bytes of the lines that count, of what was read
+pub whole_read : (part : WholePart) (read held : List ℕ) → read ≡ held
+    → IsWholePart part read → take part.bytes read ≡ whole_bytes held
+whole_read part read held is whole =
+    subst (λ l. take part.bytes read ≡ whole_bytes l) is
+    (ap (λ (n : ℕ). take n read) whole.bytes)
+
+-- they are no more than were read
+byte_within : (b n m : ℕ) → n ≤ m → with_byte b n ≤ suc m
+byte_within b zero m low =
+    elim (b == 10) as (λ (t : Bool). cond t 1 0 ≤ suc m) [
+      | true ↦ omega arith
+      | false ↦ omega arith
+    ]
+byte_within b (suc n) m low = omega (arith, low)
+
+ended_within : (xs : List ℕ) → ended_length xs ≤ length xs
+ended_within [] = omega arith
+ended_within (x ∷ xs) = byte_within x (ended_length xs) (length xs) (ended_within xs)
+
+by_last_within : (last : LastLine) (ended all : ℕ) → ended ≤ all → by_last last ended all ≤ all
+by_last_within Ended ended all h = h
+by_last_within LacksFeed ended all h = omega arith
+by_last_within Unfinished ended all h = h
+
+pub whole_within : (part : WholePart) (read : List ℕ) → IsWholePart part read
+    → part.bytes ≤ length read
+whole_within part read whole =
+    subst (λ (n : ℕ). n ≤ length read) (sym whole.bytes)
+    (by_last_within (last_line_of read) (ended_length read) (length read) (ended_within read))
+
+-- the file holds an object in a journal of an older version
+pub older_kept : (limits : Limits) (held : List ℕ) (failed : Bool) (s : ObjectState)
+    (version : Version) (fault : CommandFault) → fault ≡ OlderVersion version
+    → version ≢ newest_version
+    → (kept_object limits held ≡ Ok s) × SaysVersion version (whole_bytes held)
+    → HoldsNoObject limits held failed fault
+older_kept limits held failed s version fault is older read =
+    inr (inl (version, is, (read.1, older, s, read.0)))
+
+-- a file that was made ready is so
+abbrev file_state : Option (List ℕ) → Option (List ℕ) → Option KeptFileFault → FileState
+file_state contents synced fault = record { contents = contents; synced = synced; fault = fault }
+
+pub is_ready : (contents synced known disk : Option (List ℕ)) (fault before : Option KeptFileFault)
+    → contents ≡ known → synced ≡ disk → fault ≡ before
+    → file_state contents synced fault ≡ file_state known disk before
+is_ready contents synced known disk fault before a b c = rw (a, b, c) refl

@@ -1,0 +1,6 @@
+pub mod ResultLemmas
+pub mod KeptFileLemmas
+pub mod KeepLemmas
+pub mod ServeLemmas
+pub mod SaveLemmas
+pub mod OptionLemmas

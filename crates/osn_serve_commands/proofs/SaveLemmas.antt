@@ -1,0 +1,333 @@
+-- The service over the files of a folder did what its contract says, by what the service of streams
+-- did and what was saved.
+use Rattle.std.proofs.Common.{◌≡◌, ◌⊎◌, ℕ, Bool, true, false, List, [], ◌∷◌, Option, Some, None}
+use Rattle.std.proofs.Common.{Result, Ok, Err, IfSome, is_some, option_map, ap, refl, sym, subst}
+use Rattle.std.proofs.Common.{inl, inr, ◌∙◌, if◌then◌else◌, bytes_eq}
+use Rattle.std.specs.Option.{option_map_or}
+use Rattle.std.proofs.lemmas.Option.{same_Some}
+use Rattle.std.specs.declared.convert.Infallible.{Infallible}
+use Rattle.osn_core.specs.Sequential.{ObjectState}
+use Rattle.osn_register.specs.declared.limits.Limits.{Limits}
+use Rattle.osn_files.specs.JournalText.{journal_text}
+use Rattle.osn_folder.specs.Folder.{Known, Changes, Saves, CannotSave, CannotOpen, IsFileIf}
+use Rattle.osn_folder.specs.Folder.{IsFileOf, MayFail, Opens, path_if}
+use Rattle.osn_folder.specs.declared.fault.SaveFault.{SaveFault}
+use Rattle.osn_lines.specs.Streams.{Input, Output, output_of}
+use Rattle.osn_lines.specs.Whole.{WhyNotRead}
+use Rattle.osn_lines.specs.declared.fault.Interrupted.{Interrupted}
+use Rattle.osn_lines.specs.declared.whole.ReadAllFault.{ReadAllFault}
+use Rattle.osn_lines.specs.declared.whole.ReadAllFault.TheVariants as read_faults
+use Rattle.osn_service.specs.declared.fault.ServiceFault.{ServiceFault}
+use Rattle.osn_service.specs.declared.fault.ServiceFault.TheVariants.{Serve, NotKept}
+use Rattle.osn_service.specs.declared.rules.ServeRules.{ServeRules}
+use Rattle.osn_service.specs.declared.service.Served.{Served}
+use Rattle.osn_report.specs.Fault.{by_read}
+use Rattle.osn_report.specs.Folders.{Folders}
+use Rattle.osn_report.specs.Printing.{PrintsNone}
+use Rattle.osn_report.specs.Told.{Ends, EndsBy, Tells, TellsNothing}
+use Rattle.osn_report.specs.declared.fault.CommandFault.{CommandFault}
+use Rattle.osn_report.specs.declared.fault.CommandFault.TheVariants.{File, NoMemory, RefusedLine}
+use Rattle.osn_report.specs.declared.fault.CommandFault.TheVariants.{Service}
+use Rattle.osn_report.specs.declared.status.Status.{Status}
+use Rattle.osn_serve_commands.specs.InFolder.{CanFailIf, EndsSaving, EndsServing, IsNotReadWhole}
+use Rattle.osn_serve_commands.specs.InFolder.{RunsService, replaced_path}
+use Rattle.osn_serve_commands.specs.Saving.{LocksIf, TellsUnsaved}
+use Rattle.osn_serve_commands.specs.SavingInside.{ReplacesRead}
+use Rattle.osn_serve_commands.specs.Serve.{EndsServed, LeavesJournal, Serves, input_if}
+
+-- how the service ended, in other words of what came of that
+module _ {F : Type 0} (e f : Output) (was is : Status) (Done Did Rest Rested : Type 0)
+    (Lost : F → Type 0) (done : Done → Did) (rest : Rest → Rested)
+    (told : Rest → (fault : CommandFault) → Tells e fault was → Tells f fault is) where
+  by_served : (refused : Bool) (n : ℕ)
+      → EndsServed {F = F} (Ok (record { lines = n; refused = refused })) e was Done Rest Lost
+      → EndsServed {F = F} (Ok (record { lines = n; refused = refused })) f is Did Rested Lost
+  by_served false n h = done h
+  by_served true n h = (rest h.0, told h.0 (RefusedLine n) h.1)
+
+  by_cause : (n : ℕ) (cause : ServiceFault F)
+      → EndsServed {F = F} (Err (record { lines = n; cause = cause })) e was Done Rest Lost
+      → EndsServed {F = F} (Err (record { lines = n; cause = cause })) f is Did Rested Lost
+  by_cause n (Serve why) h = (rest h.0, told h.0 (Service why) h.1)
+  by_cause n (NotKept why) h = h
+
+  pub ended_so : (result : Result Served (Interrupted (ServiceFault F)))
+      → EndsServed result e was Done Rest Lost → EndsServed result f is Did Rested Lost
+  ended_so (Ok served) h = by_served served.refused served.lines h
+  ended_so (Err end) h = by_cause end.lines end.cause h
+
+-- ---- how a run of the service ended, after the journal that was saved or not
+
+-- where nothing more was told, it ended as before
+told_all : {E : Type 0} (contents : E → Option (List ℕ)) (has_failed holds_back : E → Bool)
+    (old mid new : E) (was is : Status) (Told : Output → Status → Type 0) → is ≡ was → new ≡ mid
+    → Told (output_of contents has_failed holds_back old mid) was
+    → Told (output_of contents has_failed holds_back old new) is
+told_all contents has_failed holds_back old mid new was is Told e same h =
+    subst (λ s. Told (output_of contents has_failed holds_back old new) s) (sym e)
+    (subst (λ x. Told (output_of contents has_failed holds_back old x) was) (sym same) h)
+
+-- where no journal is left in one form, none is in another
+none_left : {A B : Type 0} (f : A → B) (journal : Option A) → option_map f journal ≡ None
+    → journal ≡ None
+none_left f None h = refl
+none_left f (Some x) h = absurd (cc)
+
+module _ {E D J P : Type 0} (contents : E → Option (List ℕ)) (has_failed holds_back : E → Bool)
+    (known : D → Option Known) (bytes : J → List ℕ) (now : P → List ℕ)
+    (loaded : Option (List ℕ)) (old mid new : E) (opened after : D) (was is : Status) where
+  -- what was told before anything was saved, and in all
+  abbrev before : Output
+  before = output_of contents has_failed holds_back old mid
+
+  abbrev in_all : Output
+  in_all = output_of contents has_failed holds_back old new
+
+  -- nothing was done where no journal is left
+  abbrev Unsaved : Option J → Type 0
+  Unsaved journal = journal ≡ None → (is ≡ was) × (new ≡ mid) × (after ≡ opened)
+
+  -- what is done with a journal that is left, and a path
+  abbrev SavesOne : P → J → Type 0
+  SavesOne path text =
+      ((is ≡ was) × (new ≡ mid)
+      × Changes (Saves (now path) loaded (bytes text)) (known opened) (known after))
+      ⊎ ((fault : SaveFault)
+      × Changes (CannotSave (now path) loaded (bytes text) fault) (known opened) (known after)
+      × TellsUnsaved (output_of contents has_failed holds_back mid new) fault is)
+
+  abbrev SavesBoth : Option P → Option J → Type 0
+  SavesBoth save journal = IfSome save (λ path. IfSome journal (SavesOne path))
+
+  -- that nothing was told before does not count
+  unsaved_told : (fault : SaveFault) → TellsNothing before
+      → TellsUnsaved (output_of contents has_failed holds_back mid new) fault is
+      → TellsUnsaved in_all fault is
+  unsaved_told fault same told =
+      subst (λ c. TellsUnsaved (record {
+        old = c;
+        new = contents new;
+        unwritten_before = has_failed old;
+        unwritten = has_failed new;
+        holds_back = holds_back new;
+      }) fault is) same.0
+      (subst (λ b. TellsUnsaved (record {
+        old = contents mid;
+        new = contents new;
+        unwritten_before = b;
+        unwritten = has_failed new;
+        holds_back = holds_back new;
+      }) fault is) same.1 told)
+
+  -- a journal that is left was saved
+  one_saved : (t : ObjectState) (path : P) (text : J)
+      → bytes text ≡ journal_text t → Ends before None was → SavesOne path text
+      → EndsSaving (Some (now path)) loaded t (known opened) (known after) in_all is
+  one_saved t path text same h (inl saved) =
+      inr (inl (
+        told_all contents has_failed holds_back old mid new was is (λ e status. Ends e None status)
+            saved.0 saved.1 h,
+        subst (λ l. Changes (Saves (now path) loaded l) (known opened) (known after)) same saved.2,
+      ))
+  one_saved t path text same h (inr told) =
+      inr (inr (
+        told.0,
+        subst (λ l. Changes (CannotSave (now path) loaded l told.0) (known opened) (known after))
+            same told.1,
+        unsaved_told told.0 h.1 told.2,
+      ))
+
+  -- of an object all of whose lines were answered
+  left_saved : (t : ObjectState) (save : Option P) (journal : Option J)
+      → LeavesJournal (is_some save) t (option_map bytes journal) before was
+      → Unsaved journal → SavesBoth save journal
+      → EndsSaving (option_map now save) loaded t (known opened) (known after) in_all is
+  left_saved t None journal (inl left) unsaved saved =
+      let same = unsaved (none_left bytes journal left.0) in (
+        ap known same.2,
+        told_all contents has_failed holds_back old mid new was is (λ e status. Ends e None status)
+            same.0 same.1 left.1,
+      )
+  left_saved t None journal (inr memory) unsaved saved = absurd (cc)
+  left_saved t (Some path) (Some text) (inl left) unsaved saved =
+      one_saved t path text (same_Some _ _ left.0) left.1 saved
+  left_saved t (Some path) None (inl left) unsaved saved = absurd (cc)
+  left_saved t (Some path) journal (inr memory) unsaved saved =
+      let same = unsaved (none_left bytes journal memory.1) in
+      inl (
+        ap known same.2,
+        told_all contents has_failed holds_back old mid new was is (λ e status. EndsBy e NoMemory
+            status) same.0 same.1 memory.2,
+      )
+
+  -- the service ended so, and what it left was saved
+  pub served_and_saved : (limits : Limits) (rules : ServeRules) (begun : Option Input)
+      (saves : Bool) (i : Input) (o : Output) (save : Option P) (journal : Option J)
+      (editions : ℕ)
+      → saves ≡ is_some save
+      → Serves limits rules begun saves i o before (option_map bytes journal) editions was
+      → Unsaved journal → SavesBoth save journal
+      → EndsServing limits (option_map now save) rules begun loaded (known opened) (known after) i
+      o in_all is
+  served_and_saved limits rules begun saves i o save journal editions by (inl none) unsaved saved =
+      let same = unsaved (none_left bytes journal none.2) in
+      inl (
+        none.0,
+        none.1,
+        ap known same.2,
+        told_all contents has_failed holds_back old mid new was is (λ e status. PrintsNone (File
+            none.0) o e status) same.0 same.1 none.4,
+      )
+  served_and_saved limits rules begun saves i o save journal editions by (inr (s, begins, lines))
+      unsaved saved =
+      inr (record {
+        first = s;
+        last = lines.object;
+        result = lines.result;
+        begins = begins;
+        serves = lines.serves;
+        ended =
+            ended_so before in_all was is _ _ _ _ (λ never. ⊥)
+            (λ left. left_saved lines.object save journal
+            (subst (λ b. LeavesJournal b lines.object (option_map bytes journal) before was) by
+            left) unsaved saved)
+            (λ none. ap known (unsaved (none_left bytes journal none)).2)
+            (λ none fault told.
+            let same = unsaved (none_left bytes journal none) in
+            told_all contents has_failed holds_back old mid new was is
+            (λ e status. Tells e fault status) same.0 same.1 told)
+            lines.result lines.ended;
+      })
+
+-- a file that could not be opened once another was locked
+pub locked_first : (save : Option (List ℕ)) (paths : List (List ℕ))
+    (before locked after : Option Known) → LocksIf save before locked
+    → CannotOpen paths locked after → CannotOpen paths before after
+locked_first None paths before locked after same h =
+    subst (λ k. CannotOpen paths k after) same h
+locked_first (Some path) paths None locked after lock h = (h.0, tt)
+locked_first (Some path) paths (Some k) None after lock h = absurd lock
+locked_first (Some path) paths (Some k) (Some m) after lock h =
+    subst (λ n. CannotOpen paths (Some n) after) lock.0 h
+
+-- ---- over the files of a folder
+
+-- of a file that may be there, a read failed only where one of its kind can
+pub may_fail_if : {S : Type 0} (remaining : S → Option (List ℕ)) (has_failed : S → Bool)
+    (old new : Option S) → CanFailIf (MayFail has_failed) (input_if remaining has_failed old new)
+may_fail_if remaining has_failed None new = tt
+may_fail_if remaining has_failed (Some old) None = λ e. absurd (cc)
+may_fail_if remaining has_failed (Some old) (Some new) = λ e. (new, e)
+
+-- what it will give
+pub given_if : {S : Type 0} (remaining : S → Option (List ℕ)) (has_failed : S → Bool)
+    (known : Option Known) (path : Option (List ℕ)) (old new : Option S)
+    → IsFileIf known path (option_map remaining old)
+    → IsFileIf known path
+    (option_map (λ journal. journal.bytes) (input_if remaining has_failed old new))
+given_if remaining has_failed known path None new h = h
+given_if remaining has_failed known path (Some old) new h = h
+
+-- the path that is replaced is that of the journal
+of_journal : (journal save path : List ℕ)
+    → (if bytes_eq journal save then Some journal else None) ≡ Some path → journal ≡ path
+of_journal journal save path h = by (bytes_eq journal save) h
+  where
+    by : (same : Bool) → (if same then Some journal else None) ≡ Some path → journal ≡ path
+    by true h = same_Some _ _ h
+    by false h = absurd (cc)
+
+replaces_journal : (journal save : Option (List ℕ)) (path : List ℕ)
+    → replaced_path journal save ≡ Some path → journal ≡ Some path
+replaces_journal None save path h = absurd (cc)
+replaces_journal (Some journal) None path h = absurd (cc)
+replaces_journal (Some journal) (Some save) path h = ap Some (of_journal journal save path h)
+
+-- what is known of bytes is that they are so
+known_is : (bytes : Option (List ℕ)) → IfSome bytes (λ held. bytes ≡ Some held)
+known_is None = tt
+known_is (Some held) = refl
+
+-- what was read whole is what the file holds
+read_whole : (known : Option Known) (path held : List ℕ) (bytes begun : Option (List ℕ))
+    → IsFileOf known path bytes → IfSome bytes (λ given. held ≡ given) → begun ≡ Some held
+    → IsFileOf known path begun
+read_whole None path held bytes begun is read same = tt
+read_whole (Some k) path held None begun is read same = absurd (cc)
+read_whole (Some k) path held (Some given) begun is read same = (
+  same ∙ ap Some read ∙ is.0,
+  ap is_some same,
+)
+
+module _ (limits : Limits) (journal save found : Option (List ℕ)) (given rules : ServeRules)
+    (CanFail : Bool → Type 0) (d : Folders) (i : Input) (o e : Output) (status : Status)
+    (opened : Option Known) (named : found ≡ save) (by : given ≡ rules) where
+  -- what was done with the path and the rules that were found
+  as_asked : (begun : Option Input) (loaded : Option (List ℕ))
+      → EndsServing limits found given begun loaded opened d.after i o e status
+      → EndsServing limits save rules begun loaded opened d.after i o e status
+  as_asked begun loaded h =
+      subst (λ s. EndsServing limits s rules begun loaded opened d.after i o e status) named
+      (subst (λ r. EndsServing limits found r begun loaded opened d.after i o e status) by h)
+
+  -- the service was run, and no file is replaced
+  pub service_ran : (begun : Option Input) → replaced_path journal save ≡ None
+      → IsFileIf d.before journal (option_map (λ journal. journal.bytes) begun)
+      → CanFailIf CanFail begun → Changes (Opens (path_if journal)) d.before opened
+      → EndsServing limits found given begun None opened d.after i o e status
+      → RunsService limits journal save rules CanFail d i o e status
+  service_ran begun none file fails opens h = record {
+    begun = begun;
+    opened = opened;
+    loaded = None;
+    file = file;
+    fails = fails;
+    opens = opens;
+    stands = rw none refl;
+    ended = inr (as_asked begun None h);
+  }
+
+  -- it was run, and the file that it began with is replaced
+  pub replacing_ran : (path : List ℕ) (file : Input) → replaced_path journal save ≡ Some path
+      → IsFileOf d.before path file.bytes → CanFail file.unread → CanFail false
+      → Changes (Opens (path ∷ [])) d.before opened
+      → ReplacesRead limits found given file opened d.after i o e status
+      → RunsService limits journal save rules CanFail d i o e status
+  replacing_ran path file is given_file fails sound opens (inl none) =
+      let journal_is = replaces_journal journal save path is in record {
+        begun = Some file;
+        opened = opened;
+        loaded = file.bytes;
+        file = rw journal_is (file.bytes, refl, given_file);
+        fails = fails;
+        opens = rw journal_is opens;
+        stands = rw is (known_is file.bytes);
+        ended = inl (rw is none);
+      }
+  replacing_ran path file is given_file fails sound opens (inr (held, begun, whole, h)) =
+      let journal_is = replaces_journal journal save path is in record {
+        begun = Some begun;
+        opened = opened;
+        loaded = Some held;
+        file = rw journal_is (
+          begun.bytes,
+          refl,
+          read_whole d.before path held file.bytes begun.bytes given_file whole.read whole.bytes,
+        );
+        fails = subst CanFail (sym whole.sound) sound;
+        opens = rw journal_is opens;
+        stands = rw (is, whole.bytes) refl;
+        ended = inr (as_asked (Some begun) (Some held) h);
+      }
+
+-- a journal was not read whole
+pub not_read_whole : (why : ReadAllFault) (fault : CommandFault) (journal : Input)
+    → fault ≡ by_read why → WhyNotRead why journal.unread_before journal.unread journal.bytes
+    → IsNotReadWhole journal fault
+not_read_whole read_faults.NoMemory fault journal is h = inl is
+not_read_whole read_faults.ReadFault fault journal is h = inr (is, h)
+
+-- bytes in memory never fail
+pub never_failed : {S : Type 0} (source : Option S) → option_map_or (λ _. false) source false ≡ false
+never_failed None = refl
+never_failed (Some source) = refl

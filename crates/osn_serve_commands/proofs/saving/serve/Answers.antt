@@ -1,0 +1,41 @@
+use Rattle.std.proofs.Common.{inr, ap, sym, subst, option_map, ◌∙◌}
+use Rattle.osn_folder.specs.Folder.{MayFail}
+use Rattle.osn_lines.specs.Streams.{input_of}
+use Rattle.osn_serve_commands.specs.Saving.{LocksIf}
+use Rattle.osn_serve_commands.specs.Serve.{input_if}
+use Rattle.osn_serve_commands.proofs.SaveLemmas.{given_if, may_fail_if, replacing_ran, service_ran}
+use Rattle.osn_serve_commands.proofs.saving.serve.Goals as goal
+
+pub returns-in_ok-file-in-Some-clause-ok : goal.returns-in_ok-file-in-Some-clause-ok
+returns-in_ok-file-in-Some-clause-ok g c =
+    let found = c.in_ok-file-in-Some in
+    let left = c.serve_replacing.new.journal in
+    inr (
+      g.D.Folder.known c.lock_if.new.folder,
+      subst (λ path. LocksIf path (g.D.Folder.known c.args.folder.now)
+          (g.D.Folder.known c.lock_if.new.folder)) c.in-Ok.ensures.path c.in-Ok.ensures.ok,
+      replacing_ran c.args.limits _ _ _ _ _ (MayFail g.D.File.Source.has_failed) _ _ _ _ _ _
+          c.in-Ok.ensures.path c.rules_of-rules.ensures c.in-Some.path.now
+          (input_of g.D.File.Source.remaining g.D.File.Source.has_failed found.file left)
+          (sym c.replaced_path.ensures ∙ ap (option_map (λ path. path.now)) c.in-Some.is)
+          found.ensures.file (λ yes. (left, yes)) (λ yes. absurd (cc)) found.ensures.ok
+          c.serve_replacing.ensures,
+    )
+
+pub returns-in_ok-source-in-None-clause-ok : goal.returns-in_ok-source-in-None-clause-ok
+returns-in_ok-source-in-None-clause-ok g c =
+    let found = c.in_ok-source-in-None in
+    let file = g.D.File.Source in
+    let left = c.serve_opened.new.journal in
+    inr (
+      g.D.Folder.known c.lock_if.new.folder,
+      subst (λ path. LocksIf path (g.D.Folder.known c.args.folder.now)
+          (g.D.Folder.known c.lock_if.new.folder)) c.in-Ok.ensures.path c.in-Ok.ensures.ok,
+      service_ran c.args.limits _ _ _ _ _ (MayFail file.has_failed) _ _ _ _ _ _
+          c.in-Ok.ensures.path c.rules_of-rules.ensures
+          (input_if file.remaining file.has_failed found.source left)
+          (sym c.replaced_path.ensures ∙ ap (option_map (λ path. path.now)) c.in-None.is)
+          (given_if file.remaining file.has_failed _ _ found.source left found.ensures.file)
+          (may_fail_if file.remaining file.has_failed found.source left) found.ensures.ok
+          c.serve_opened.ensures,
+    )

@@ -1,0 +1,166 @@
+-- What the service has done over the files of a folder: the one that a journal is loaded from, the
+-- one that it is saved to, and the one that it is kept in.
+use Rattle.std.specs.Prelude.{◌≡◌, ◌⊎◌, Bool, List, [], ℕ, Option, Some, None, IfSome, option_map}
+use Rattle.std.specs.Prelude.{Result, if◌then◌else◌}
+use Rattle.std.specs.Str.{bytes_eq}
+use Rattle.std.specs.declared.convert.Infallible.{Infallible}
+use Rattle.osn_core.specs.Sequential.{ObjectState}
+use Rattle.osn_register.specs.declared.limits.Limits.{Limits}
+use Rattle.osn_lines.specs.Faults.{IsReadFault}
+use Rattle.osn_lines.specs.Streams.{Input, Output}
+use Rattle.osn_lines.specs.declared.fault.Interrupted.{Interrupted}
+use Rattle.osn_files.specs.JournalText.{journal_text}
+use Rattle.osn_files.specs.declared.fault.FileFault.{FileFault}
+use Rattle.osn_files.specs.declared.fault.FileFault.TheVariants.{ReadFault}
+use Rattle.osn_folder.specs.Folder.{Known, Changes, IsFileIf, Opens, Saves, CannotSave, path_if}
+use Rattle.osn_folder.specs.Folder.{Keeps, CannotKeep, IsKeptAt, Leaves}
+use Rattle.osn_folder.specs.declared.fault.KeepFault.{KeepFault}
+use Rattle.osn_folder.specs.declared.fault.SaveFault.{SaveFault}
+use Rattle.osn_invocation.specs.Invocation.{ServiceModel}
+use Rattle.osn_journal.specs.Kept.{FileState}
+use Rattle.osn_service.specs.Serves.{ServesStore}
+use Rattle.osn_service.specs.declared.fault.ServiceFault.{ServiceFault}
+use Rattle.osn_service.specs.declared.rules.ServeRules.{ServeRules}
+use Rattle.osn_service.specs.declared.service.Served.{Served}
+use Rattle.osn_report.specs.Folders.{Folders}
+use Rattle.osn_report.specs.Journal.{Begins, BeginsNot}
+use Rattle.osn_report.specs.Printing.{PrintsNone}
+use Rattle.osn_report.specs.Told.{Ends, EndsBy}
+use Rattle.osn_report.specs.declared.fault.CommandFault.{CommandFault}
+use Rattle.osn_report.specs.declared.fault.CommandFault.TheVariants.{File, Keep, KeptWithOther}
+use Rattle.osn_report.specs.declared.fault.CommandFault.TheVariants.{NoMemory}
+use Rattle.osn_report.specs.declared.status.Status.{Status}
+use Rattle.osn_serve_commands.specs.Keep.{EndsKept}
+use Rattle.osn_serve_commands.specs.Saving.{LocksIf, CannotLockIf, TellsUnsaved}
+use Rattle.osn_serve_commands.specs.Serve.{EndsServed}
+
+-- what the lines of the service may do, and when it ends, by what is asked for
+abbrev pub rules_of : ServiceModel → ServeRules
+rules_of asked = record {
+  readers = asked.readers;
+  read_only = asked.read_only;
+  stop_at_refusal = asked.stop_at_refusal;
+}
+
+-- ---- the service that keeps no file
+
+-- the path that the journal is loaded from and saved to, if it is one
+abbrev pub replaced_path : Option (List ℕ) → Option (List ℕ) → Option (List ℕ)
+replaced_path (Some journal) (Some save) = if bytes_eq journal save then Some journal else None
+replaced_path journal save = None
+
+-- what the file has to hold still that the journal is saved to: what was loaded, where that was
+-- loaded from the same path and is known
+abbrev pub IsToStand : Option (List ℕ) → Option Input → Option (List ℕ) → Type 0
+IsToStand None begun loaded = loaded ≡ None
+IsToStand (Some path) begun loaded =
+    IfSome begun (λ journal. IfSome journal.bytes (λ bytes. loaded ≡ Some bytes))
+
+-- the journal of an object was saved to a path, if to any; or standard error was told why it is not
+-- saved for sure. Else nothing was written in the folder
+abbrev pub EndsSaving : Option (List ℕ) → Option (List ℕ) → ObjectState → Option Known
+    → Option Known → Output → Status → Type 0
+EndsSaving None loaded t opened after e status = (after ≡ opened) × Ends e None status
+EndsSaving (Some path) loaded t opened after e status =
+    ((after ≡ opened) × EndsBy e NoMemory status)
+    ⊎ ((Ends e None status × Changes (Saves path loaded (journal_text t)) opened after)
+    ⊎ ((fault : SaveFault) × Changes (CannotSave path loaded (journal_text t) fault) opened after
+    × TellsUnsaved e fault status))
+
+-- The journal, if any, makes an object, and the lines were answered from it. Where all were, its
+-- journal was saved.
+pub record ServesAndSaves (limits : Limits) (save : Option (List ℕ)) (rules : ServeRules)
+    (begun : Option Input) (loaded : Option (List ℕ)) (opened after : Option Known) (i : Input)
+    (o e : Output) (status : Status) : Type 0 where
+  pub first : ObjectState
+  pub last : ObjectState
+  pub result : Result Served (Interrupted (ServiceFault Infallible))
+  pub begins : Begins limits begun first
+  pub serves : ServesStore rules first last i o result
+  pub ended : EndsServed result e status (EndsSaving save loaded last opened after e status)
+      (after ≡ opened) (λ never. ⊥)
+
+-- a read of the journal, if there is one, failed only where one of its kind can
+abbrev pub CanFailIf : (Bool → Type 0) → Option Input → Type 0
+CanFailIf CanFail begun = IfSome begun (λ journal. CanFail journal.unread)
+
+-- how a run of the service ended: it had no object to begin with, and wrote nothing; or it answered
+-- the lines, and its journal was saved
+abbrev pub EndsServing : Limits → Option (List ℕ) → ServeRules → Option Input → Option (List ℕ)
+    → Option Known → Option Known → Input → Output → Output → Status → Type 0
+EndsServing limits save rules begun loaded opened after i o e status =
+    ((fault : FileFault) × BeginsNot limits begun fault × (after ≡ opened)
+    × PrintsNone (File fault) o e status)
+    ⊎ ServesAndSaves limits save rules begun loaded opened after i o e status
+
+-- a journal was to be read whole, and a read of it failed, or there was no memory for it
+abbrev pub IsNotReadWhole : Input → CommandFault → Type 0
+IsNotReadWhole journal fault =
+    (fault ≡ NoMemory)
+    ⊎ ((fault ≡ File ReadFault) × IsReadFault journal.unread journal.bytes)
+
+-- a journal that is to be replaced is read whole first: it could not be, and nothing was done
+abbrev pub CannotReplace : Option (List ℕ) → Option Input → Option Known → Option Known → Output
+    → Output → Status → Type 0
+CannotReplace None begun opened after o e status = ⊥
+CannotReplace (Some path) begun opened after o e status =
+    (fault : CommandFault) × IfSome begun (λ journal. IsNotReadWhole journal fault)
+    × (after ≡ opened) × PrintsNone fault o e status
+
+-- The service was run, from what the journal holds, and the journal that it left was saved.
+pub record RunsService (limits : Limits) (journal save : Option (List ℕ)) (rules : ServeRules)
+    (CanFail : Bool → Type 0) (d : Folders) (i : Input) (o e : Output) (status : Status) : Type 0
+  where
+    pub begun : Option Input
+    pub opened : Option Known
+    pub loaded : Option (List ℕ)
+    pub file : IsFileIf d.before journal (option_map (λ journal. journal.bytes) begun)
+    pub fails : CanFailIf CanFail begun
+    pub opens : Changes (Opens (path_if journal)) d.before opened
+    pub stands : IsToStand (replaced_path journal save) begun loaded
+    pub ended : CannotReplace (replaced_path journal save) begun opened d.after o e status
+        ⊎ EndsServing limits save rules begun loaded opened d.after i o e status
+
+-- the file that the journal is to be saved to could not be locked; or it was, and the service was
+-- run
+abbrev pub EndsService : Limits → Option (List ℕ) → Option (List ℕ) → ServeRules → (Bool → Type 0)
+    → Folders → Input → Output → Output → Status → Type 0
+EndsService limits journal save rules CanFail d i o e status =
+    ((fault : KeepFault) × CannotLockIf save fault d.before d.after
+    × PrintsNone (Keep fault) o e status)
+    ⊎ ((locked : Option Known) × LocksIf save d.before locked
+    × RunsService limits journal save rules CanFail
+    (record { before = locked; after = d.after }) i o e status)
+
+-- ---- the service of a journal that is kept
+
+-- the file of this path could not be kept; or it is, no change of it had failed before, and the
+-- service was run with what it holds. The folder has then what the service left in the file
+abbrev pub EndsKeeping : Limits → List ℕ → ServeRules → (Bool → Type 0) → Folders → Input → Output
+    → Output → Status → Type 0
+EndsKeeping limits path rules CanFail d i o e status =
+    ((fault : KeepFault) × Changes (CannotKeep path fault) d.before d.after
+    × PrintsNone (Keep fault) o e status)
+    ⊎ ((held : Option Known) × Changes (Keeps path) d.before held
+    × (begun : FileState) × IsKeptAt d.before path begun.contents × (begun.fault ≡ None)
+    × (given : Input) × (given.bytes ≡ begun.contents) × CanFail given.unread
+    × (file : FileState) × EndsKept limits rules begun file given i o e status
+    × Changes (Leaves path file.contents) held d.after)
+
+-- the paths of the files that are opened to be read
+abbrev pub opened_by : Option (List ℕ) → Option (List ℕ) → List (List ℕ)
+opened_by journal None = path_if journal
+opened_by journal (Some kept) = []
+
+-- the service was run, with a journal that is kept or without: a journal that is kept goes with no
+-- other
+abbrev pub RunsServing : Limits → Option (List ℕ) → Option (List ℕ) → Option (List ℕ)
+    → ServiceModel → (Bool → Type 0) → Folders → Input → Output → Output → Status → Type 0
+RunsServing limits journal save None service CanFail d i o e status =
+    EndsService limits journal save (rules_of service) CanFail d i o e status
+RunsServing limits None None (Some path) service CanFail d i o e status =
+    EndsKeeping limits path (rules_of service) CanFail d i o e status
+RunsServing limits (Some journal) save (Some path) service CanFail d i o e status =
+    (d.after ≡ d.before) × PrintsNone KeptWithOther o e status
+RunsServing limits None (Some save) (Some path) service CanFail d i o e status =
+    (d.after ≡ d.before) × PrintsNone KeptWithOther o e status

@@ -1,0 +1,210 @@
+-- What the service has done that keeps its journal in a file: which object it began with, what it
+-- wrote and told, and what the file holds then.
+use Rattle.std.specs.Prelude.{◌≡◌, ◌≢◌, ◌+◌, ◌⊎◌, ⊤, ℕ, Bool, List, [], ◌∷◌, ◌++◌}
+use Rattle.std.specs.Prelude.{take, Option, Some, None, Result, Ok, Err, codes}
+use Rattle.std.specs.Fmt.{decimal}
+use Rattle.osn_days.specs.Profile.{newest_rules}
+use Rattle.osn_register.specs.declared.limits.Limits.{Limits}
+use Rattle.osn_core.specs.Sequential.{ObjectState, opened}
+use Rattle.osn_lines.specs.Faults.{IsReadFault}
+use Rattle.osn_lines.specs.Lines.{lines}
+use Rattle.osn_lines.specs.Streams.{Input, Output}
+use Rattle.osn_lines.specs.declared.fault.Interrupted.{Interrupted}
+use Rattle.osn_format.specs.Version.{newest_version}
+use Rattle.osn_format.specs.declared.version.Version.{Version}
+use Rattle.osn_files.specs.Faults.{MatchFileFault}
+use Rattle.osn_files.specs.Journal.{load}
+use Rattle.osn_files.specs.JournalText.{line_text}
+use Rattle.osn_files.specs.Loaded.{IsOfVersion}
+use Rattle.osn_files.specs.Version.{head_data}
+use Rattle.osn_files.specs.WholePart.{last_line_of, whole_bytes, whole_count}
+use Rattle.osn_files.specs.declared.fault.FileFault.{FileFault}
+use Rattle.osn_files.specs.declared.fault.LineFault.{LineFault}
+use Rattle.osn_files.specs.declared.fault.Role.TheVariants.{Journal}
+use Rattle.osn_files.specs.declared.last_line.LastLine.{LastLine}
+use Rattle.osn_files.specs.declared.last_line.LastLine.TheVariants.{Ended, LacksFeed, Unfinished}
+use Rattle.osn_folder.specs.declared.fault.KeptFileFault.{KeptFileFault}
+use Rattle.osn_service.specs.Serves.{ServesStore}
+use Rattle.osn_service.specs.declared.fault.ServiceFault.{ServiceFault}
+use Rattle.osn_service.specs.declared.rules.ServeRules.{ServeRules}
+use Rattle.osn_service.specs.declared.service.Served.{Served}
+use Rattle.osn_journal.specs.Kept.{FileState, KeepsFile}
+use Rattle.osn_report.specs.Told.{WritesLine, Ends, Tells}
+use Rattle.osn_report.specs.declared.fault.CommandFault.{CommandFault}
+use Rattle.osn_report.specs.declared.fault.CommandFault.TheVariants.{File, KeptFile, OlderVersion}
+use Rattle.osn_report.specs.declared.fault.CommandFault.TheVariants.{NoMemory}
+use Rattle.osn_report.specs.declared.status.Status.{Status}
+use Rattle.osn_serve_commands.specs.Serve.{EndsServed}
+
+-- ---- what the file holds
+
+-- the object that lines make: an empty one where there are none
+abbrev pub object_of : Limits → List ℕ → Result ObjectState (ℕ × LineFault)
+object_of limits [] = Ok (opened limits)
+object_of limits (b ∷ bs) = load newest_rules limits (lines (b ∷ bs))
+
+-- the object that a file holds, by its lines that count, or the first fault and the number of its
+-- line
+abbrev pub kept_object : Limits → List ℕ → Result ObjectState (ℕ × LineFault)
+kept_object limits held = object_of limits (whole_bytes held)
+
+-- lines say a version: the first of them does, and where there is none it is the newest
+abbrev pub SaysVersion : Version → List ℕ → Type 0
+SaysVersion version [] = version ≡ newest_version
+SaysVersion version (b ∷ bs) = IsOfVersion version (lines (b ∷ bs))
+
+-- a file holds this object for the service, in a journal of the newest version
+pub record HoldsObject (limits : Limits) (held : List ℕ) (s : ObjectState) : Type 0
+  where
+    pub object : kept_object limits held ≡ Ok s
+    pub version : SaysVersion newest_version (whole_bytes held)
+
+-- the head that is missing: that of a journal where there is no line
+abbrev pub missing_head : List ℕ → List ℕ
+missing_head [] = line_text (head_data newest_version)
+missing_head (b ∷ bs) = []
+
+-- what is missing after these lines, the last of which stands so: its line feed, or the head
+abbrev pub missing_end : LastLine → List ℕ → List ℕ
+missing_end Ended bytes = missing_head bytes
+missing_end LacksFeed bytes = 10 ∷ []
+missing_end Unfinished bytes = missing_head bytes
+
+-- what is missing after the lines of a file that count
+abbrev pub missing_text : List ℕ → List ℕ
+missing_text held = missing_end (last_line_of held) (whole_bytes held)
+
+-- what the file holds once the service begins: its lines that count, and what is missing there
+abbrev pub kept_text : List ℕ → List ℕ
+kept_text held = whole_bytes held ++ missing_text held
+
+-- this line, if the last one was not finished
+abbrev pub if_unfinished : LastLine → ℕ → Option ℕ
+if_unfinished Ended line = None
+if_unfinished LacksFeed line = None
+if_unfinished Unfinished line = Some line
+
+-- the number of the last line where that was not finished
+abbrev pub unfinished_line : List ℕ → Option ℕ
+unfinished_line held = if_unfinished (last_line_of held) (whole_count held + 1)
+
+-- ---- what standard error is told
+
+-- the line on a line that was cut off
+abbrev pub cut_line : ℕ → List ℕ
+cut_line line = codes "oldstyle: journal line "
+    ++ (decimal line ++ codes " was not finished, and is cut off\n")
+
+-- which line was cut off was told, if one was
+abbrev pub TellsCut : Output → Option ℕ → Type 0
+TellsCut e None = e.new ≡ e.old
+TellsCut e (Some line) = WritesLine e (cut_line line)
+
+-- ---- why the service did not begin
+
+-- the file holds no object for it, by its first fault, or was not read
+abbrev pub IsUnread : Limits → List ℕ → Bool → FileFault → Type 0
+IsUnread limits held failed why =
+    MatchFileFault why ⊤ (IsReadFault failed (Some held))
+    (λ role line said. (role ≡ Journal) × (kept_object limits held ≡ Err (line, said)))
+
+-- it holds an object in a journal of this older version
+abbrev pub HoldsOlder : Limits → List ℕ → Version → Type 0
+HoldsOlder limits held version =
+    SaysVersion version (whole_bytes held) × (version ≢ newest_version)
+    × (s : ObjectState) × (kept_object limits held ≡ Ok s)
+
+-- why a file makes no object for the service, given whether a read of it has failed
+abbrev pub HoldsNoObject : Limits → List ℕ → Bool → CommandFault → Type 0
+HoldsNoObject limits held failed fault =
+    ((why : FileFault) × (fault ≡ File why) × IsUnread limits held failed why)
+    ⊎ (((version : Version) × (fault ≡ OlderVersion version) × HoldsOlder limits held version)
+    ⊎ (fault ≡ NoMemory))
+
+-- the file could not be changed, or is another one now, as it tells; or there was no memory
+abbrev pub IsChangeFault : CommandFault → Option KeptFileFault → Type 0
+IsChangeFault fault told =
+    ((why : KeptFileFault) × (told ≡ Some why) × (fault ≡ KeptFile why)) ⊎ (fault ≡ NoMemory)
+
+-- the file is as it was; or its last line was cut off, if it was not finished, and after the lines
+-- that count a front of what is missing may stand
+abbrev pub IsLeft : List ℕ → Option ℕ → Option (List ℕ) → Type 0
+IsLeft held cut contents =
+    ((cut ≡ None) × (contents ≡ Some held))
+    ⊎ ((cut ≡ unfinished_line held)
+    × (n : ℕ) × (contents ≡ Some (whole_bytes held ++ take n (missing_text held))))
+
+-- the service did not begin by this fault: there was no object, and the file is as it was; or there
+-- was one, and the file could not be made ready
+abbrev pub DoesNotBegin : Limits → List ℕ → Bool → Option ℕ → FileState → CommandFault → Type 0
+DoesNotBegin limits held failed cut file fault =
+    (HoldsNoObject limits held failed fault × (cut ≡ None) × (file.contents ≡ Some held))
+    ⊎ (IsChangeFault fault file.fault × IsLeft held cut file.contents
+    × (s : ObjectState) × HoldsObject limits held s)
+
+-- ---- the command
+
+-- a fact of what a file held that is kept, where that is known, and its source gave it
+abbrev pub IfHeld : FileState → Option (List ℕ) → (List ℕ → Type 0) → Type 0
+IfHeld old given P = (held : List ℕ) → old.contents ≡ Some held → given ≡ Some held → P held
+
+-- a file that holds this text, all of it on the disk, and that has failed for this reason before,
+-- if at all
+abbrev pub ready_file : List ℕ → Option KeptFileFault → FileState
+ready_file text before = record { contents = Some text; synced = Some text; fault = before }
+
+-- the service began with this object, and the file was ready then: its last line was cut off, if
+-- that was not finished
+abbrev pub Begins : Limits → List ℕ → Option KeptFileFault → Option ℕ → ObjectState → FileState
+    → Type 0
+Begins limits held before cut s ready =
+    HoldsObject limits held s × (cut ≡ unfinished_line held)
+    × (ready ≡ ready_file (kept_text held) before)
+
+-- what standard error was told while the service began, and what after that
+abbrev pub told_first : Output → Option (List ℕ) → Bool → Bool → Output
+told_first e between failed held = record {
+  old = e.old;
+  new = between;
+  unwritten_before = e.unwritten_before;
+  unwritten = failed;
+  holds_back = held;
+}
+
+abbrev pub told_then : Output → Option (List ℕ) → Bool → Output
+told_then e between failed = record {
+  old = between;
+  new = e.new;
+  unwritten_before = failed;
+  unwritten = e.unwritten;
+  holds_back = e.holds_back;
+}
+
+-- The service began, answered the lines of the input and kept the file.
+pub record KeepsLines (rules : ServeRules) (s : ObjectState) (ready file : FileState) (i : Input)
+    (o e : Output) (status : Status) : Type 0 where
+  pub object : ObjectState
+  pub result : Result Served (Interrupted (ServiceFault KeptFileFault))
+  pub serves : ServesStore rules s object i o result
+  pub kept : KeepsFile rules s object i.bytes ready file result
+  pub ended : EndsServed result e status (Ends e None status) ⊤
+      (λ why. Tells e (KeptFile why) status)
+
+-- How a run of the service ended that keeps a file, which was `old` and is `file` then, and which a
+-- source gave.
+pub record EndsKept (limits : Limits) (rules : ServeRules) (old file : FileState) (given i : Input)
+    (o e : Output) (status : Status) : Type 0 where
+  -- which line was cut off was told first, if one was
+  pub cut : Option ℕ
+  pub between : Option (List ℕ)
+  pub failed : Bool
+  pub held_back : Bool
+  pub told : TellsCut (told_first e between failed held_back) cut
+  -- the service did not begin, and nothing was written; or it began
+  pub ended : ((fault : CommandFault) × (o.new ≡ o.old)
+      × Tells (told_then e between failed) fault status
+      × IfHeld old given.bytes
+      (λ held. DoesNotBegin limits held given.unread cut file fault))
+      ⊎ ((s : ObjectState) × (ready : FileState)
+      × IfHeld old given.bytes (λ held. Begins limits held old.fault cut s ready)
+      × KeepsLines rules s ready file i o (told_then e between failed) status)

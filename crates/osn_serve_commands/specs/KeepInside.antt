@@ -1,0 +1,50 @@
+-- What the parts of a service have done that keeps a file.
+use Rattle.std.specs.Prelude.{◌≡◌, ℕ, Bool, List, ◌++◌, take, Option, Some, IfSome}
+use Rattle.osn_register.specs.declared.limits.Limits.{Limits}
+use Rattle.osn_core.specs.Sequential.{ObjectState}
+use Rattle.osn_files.specs.WholePart.{IsWholePart, whole_bytes}
+use Rattle.osn_files.specs.declared.whole_lines.WholePart.{WholePart}
+use Rattle.osn_report.specs.declared.fault.CommandFault.{CommandFault}
+use Rattle.osn_serve_commands.specs.Keep.{kept_text, missing_text, unfinished_line}
+use Rattle.osn_serve_commands.specs.Keep.{HoldsObject, HoldsNoObject, IsLeft}
+
+-- this part of the file counts, and makes this object
+abbrev pub IsReadKept : Limits → Option (List ℕ) → WholePart → ObjectState → Type 0
+IsReadKept limits given part s =
+    IfSome given (λ held. IsWholePart part held × HoldsObject limits held s)
+
+-- the file makes no object, and a read of it failed or not
+abbrev pub IsUnreadKept : Limits → Option (List ℕ) → Bool → CommandFault → Type 0
+IsUnreadKept limits given failed fault =
+    IfSome given (λ held. HoldsNoObject limits held failed fault)
+
+-- the last line was cut off, if it was not finished
+abbrev pub IsCut : WholePart → Option ℕ → Option (List ℕ) → Option (List ℕ) → Type 0
+IsCut part cut old new =
+    (held : List ℕ) → old ≡ Some held → IsWholePart part held
+    → (cut ≡ unfinished_line held) × (new ≡ Some (whole_bytes held))
+
+-- what is missing was appended, and all is on the disk
+abbrev pub IsCompleted : WholePart → Option (List ℕ) → Option (List ℕ) → Option (List ℕ) → Type 0
+IsCompleted part old new synced =
+    (held : List ℕ) → old ≡ Some (whole_bytes held) → IsWholePart part held
+    → (new ≡ Some (kept_text held)) × (synced ≡ Some (kept_text held))
+
+-- a front of what is missing was appended
+abbrev pub IsCompletedInPart : WholePart → Option (List ℕ) → Option (List ℕ) → Type 0
+IsCompletedInPart part old new =
+    (held : List ℕ) → old ≡ Some (whole_bytes held) → IsWholePart part held
+    → (n : ℕ) × (new ≡ Some (whole_bytes held ++ take n (missing_text held)))
+
+-- the file is ready for the service
+abbrev pub IsReady : WholePart → Option ℕ → Option (List ℕ) → Option (List ℕ) → Option (List ℕ)
+    → Type 0
+IsReady part cut old new synced =
+    (held : List ℕ) → old ≡ Some held → IsWholePart part held
+    → (cut ≡ unfinished_line held) × (new ≡ Some (kept_text held))
+    × (synced ≡ Some (kept_text held))
+
+-- it could not be made ready
+abbrev pub IsUnready : WholePart → Option ℕ → Option (List ℕ) → Option (List ℕ) → Type 0
+IsUnready part cut old new =
+    (held : List ℕ) → old ≡ Some held → IsWholePart part held → IsLeft held cut new

@@ -1,0 +1,6 @@
+pub mod Serve
+pub mod Keep
+pub mod KeepInside
+pub mod Saving
+pub mod InFolder
+pub mod SavingInside

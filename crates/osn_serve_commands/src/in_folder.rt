@@ -1,0 +1,128 @@
+//! The command `serve` over the files of a folder, by its options: with a journal that is kept, or
+//! without.
+ghost use Rattle.std.specs.Prelude.{◌≡◌, ◌||◌, IfOk, OnErr, Some, is_some, option_map};
+ghost use Rattle.osn_folder.specs.Folder.{CannotOpen, MayFail};
+ghost use Rattle.osn_invocation.specs.Invocation.{service_model};
+ghost use Rattle.osn_lines.specs.Streams.{input_of, output_of};
+ghost use Rattle.osn_report.specs.Folders.{folders_of};
+ghost use Rattle.osn_serve_commands.specs.InFolder.{EndsKeeping, RunsServing, opened_by};
+
+use crate::keep::keep_command;
+use crate::saving::{rules_of, serve};
+use osn_folder::{Folder, OpenFailed};
+use osn_invocation::ServeOptions;
+use osn_lines::{Sink, Source};
+use osn_register::Limits;
+use osn_report::{CommandFault, Status, report};
+use osn_service::ServeRules;
+use std::alloc::Global;
+
+/// Whether one of two paths is given.
+fn is_given(one: Option<&str>, other: Option<&str>) -> bool
+    ensures { result ≡ (is_some one.entry || is_some other.entry) }
+{
+    one.is_some() || other.is_some()
+}
+
+/// Opens what is to be read, answers the request lines as `serve_command` or `keep_command` does,
+/// and keeps or saves the journal. A terminal, where there is one, is told of editions that were
+/// published and saved nowhere.
+///
+/// # Errors
+///
+/// Why the journal could not be opened. Nothing was read or written then.
+pub fn serve_in_folder<D: Folder, R: Source, W: Sink, E: Sink, T: Sink + Drop>(
+    alloc: Global,
+    limits: Limits,
+    folder: &mut D,
+    options: ServeOptions,
+    input: &mut R,
+    output: &mut W,
+    errors: &mut E,
+    terminal: Option<T>,
+) -> Result<Status, OpenFailed>
+    ensures ok { IfOk result (RunsServing limits
+        (option_map (λ path. path.now) options.entry.journal)
+        (option_map (λ path. path.now) options.entry.save)
+        (option_map (λ path. path.now) options.entry.keep) (service_model options.entry)
+        (MayFail D.File.has_failed)
+        (folders_of D.known folder.old folder.new)
+        (input_of R.remaining R.has_failed input.old input.new)
+        (output_of W.contents W.has_failed W.holds_back output.old output.new)
+        (output_of E.contents E.has_failed E.holds_back errors.old errors.new)) }
+    ensures err { OnErr result (CannotOpen (opened_by
+        (option_map (λ path. path.now) options.entry.journal)
+        (option_map (λ path. path.now) options.entry.keep))
+        (D.known folder.old) (D.known folder.new)
+        × (output.new ≡ output.old) × (errors.new ≡ errors.old)) }
+{
+    match options.keep {
+        None => serve(
+            alloc, limits, folder, options, input, output, errors, terminal,
+        ),
+        Some(path) => Ok(keep_alone(alloc, limits, folder, path, options, input, output, errors)),
+    }
+}
+
+/// Keeps the journal of a path, where no other option names a journal.
+fn keep_alone<D: Folder, R: Source, W: Sink, E: Sink>(
+    alloc: Global,
+    limits: Limits,
+    folder: &mut D,
+    path: &str,
+    options: ServeOptions,
+    input: &mut R,
+    output: &mut W,
+    errors: &mut E,
+) -> Status
+    ensures { RunsServing limits
+        (option_map (λ path. path.now) options.entry.journal)
+        (option_map (λ path. path.now) options.entry.save) (Some path.now)
+        (service_model options.entry) (MayFail D.File.has_failed)
+        (folders_of D.known folder.old folder.new)
+        (input_of R.remaining R.has_failed input.old input.new)
+        (output_of W.contents W.has_failed W.holds_back output.old output.new)
+        (output_of E.contents E.has_failed E.holds_back errors.old errors.new) result }
+{
+    if is_given(options.journal, options.save) {
+        return report(alloc, errors, CommandFault::KeptWithOther);
+    }
+    let rules = rules_of(options);
+    keep(alloc, limits, folder, path, rules, input, output, errors)
+}
+
+/// Keeps the file of a path, answers the request lines from what it holds, and appends each change.
+fn keep<D: Folder, R: Source, W: Sink, E: Sink>(
+    alloc: Global,
+    limits: Limits,
+    folder: &mut D,
+    path: &str,
+    rules: ServeRules,
+    input: &mut R,
+    output: &mut W,
+    errors: &mut E,
+) -> Status
+    ensures { EndsKeeping limits path.now rules (MayFail D.File.has_failed)
+        (folders_of D.known folder.old folder.new)
+        (input_of R.remaining R.has_failed input.old input.new)
+        (output_of W.contents W.has_failed W.holds_back output.old output.new)
+        (output_of E.contents E.has_failed E.holds_back errors.old errors.new) result }
+{
+    match folder.keep(path) {
+        Ok((mut kept, mut journal)) => {
+            let status = keep_command(
+                alloc,
+                limits,
+                &mut kept,
+                &mut journal,
+                rules,
+                input,
+                output,
+                errors,
+            );
+            folder.release(path, kept);
+            status
+        }
+        Err(fault) => report(alloc, errors, CommandFault::Keep(fault)),
+    }
+}

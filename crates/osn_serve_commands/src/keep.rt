@@ -1,0 +1,291 @@
+//! The command `serve` with a journal that is kept: the service begins with what the file holds,
+//! and each change is in it before its reply goes out.
+ghost use Rattle.std.specs.Prelude.{◌≡◌, ◌≢◌, ◌^◌, ◌<◌, ℕ, List, Option, Ok, IfOk, IfErr, OnOk};
+ghost use Rattle.std.specs.Prelude.{None, false, string_bytes, ◌+◌, option_map, take};
+ghost use Rattle.osn_format.specs.Version.{newest_version};
+ghost use Rattle.osn_files.specs.WholePart.{IsWholePart, whole_bytes};
+ghost use Rattle.osn_journal.specs.Kept.{file_of};
+ghost use Rattle.osn_lines.specs.Streams.{input_of, output_of};
+ghost use Rattle.osn_report.specs.Told.{WritesLine};
+ghost use Rattle.osn_report.specs.declared.fault.CommandFault.{CommandFault};
+ghost use Rattle.osn_serve_commands.specs.Keep.{IsUnread, SaysVersion, cut_line, missing_head};
+ghost use Rattle.osn_serve_commands.specs.Keep.{missing_text, object_of, TellsCut, IsChangeFault};
+ghost use Rattle.osn_serve_commands.specs.Keep.{Begins, DoesNotBegin, EndsKept, IfHeld, KeepsLines};
+ghost use Rattle.osn_serve_commands.specs.KeepInside.{IsReadKept, IsUnreadKept, IsCut};
+ghost use Rattle.osn_serve_commands.specs.KeepInside.{IsCompleted, IsCompletedInPart};
+ghost use Rattle.osn_serve_commands.specs.KeepInside.{IsReady, IsUnready};
+ghost use Rattle.osn_service.specs.Faults.{MatchServiceFault};
+
+use osn_core::Object;
+use osn_files::{FileFault, LastLine, WholePart, head_line, load_with_version, whole_part};
+use osn_folder::{KeptFile, KeptFileFault};
+use osn_format::Version;
+use osn_journal::serve_kept;
+use osn_lines::{Bytes, Sink, Source, read_all};
+use osn_register::Limits;
+use osn_report::{CommandFault, Status, report, write_line};
+use osn_service::{ServeRules, ServiceFault};
+use std::alloc::{AllocError, Global};
+
+/// The room that a head gets at first.
+const HEAD_ROOM: usize = 32;
+
+/// The object of the lines of a journal that count, and the version that they say; or an empty one
+/// and the newest where there are none.
+fn kept_object(alloc: Global, limits: Limits, lines: &[u8]) -> Result<(Object, Version), FileFault>
+    ensures object { IfOk result (λ read. object_of limits lines.now ≡ Ok read.0) }
+    ensures version { IfOk result (λ read. SaysVersion read.1 lines.now) }
+    // Whatever stands after the lines that count.
+    ensures err { IfErr result (λ fault. (held : List ℕ) → lines.now ≡ whole_bytes held →
+        IsUnread limits held false fault) }
+{
+    if lines.is_empty() {
+        return Ok((Object::new(alloc, limits), Version::newest()));
+    }
+    load_with_version(alloc, limits, &mut Bytes::new(lines))
+}
+
+/// Refuses a version that is not the newest: a journal of it has no line for what it lacks.
+fn newest_alone(version: Version) -> Result<(), CommandFault>
+    ensures ok { OnOk result (version ≡ newest_version) }
+    ensures err { IfErr result (λ fault. (fault ≡ CommandFault.OlderVersion version)
+        × (version ≢ newest_version)) }
+{
+    if version == Version::newest() {
+        Ok(())
+    } else {
+        Err(CommandFault::OlderVersion(version))
+    }
+}
+
+/// The object that a kept file holds, and how much of it counts. It is read once, then measured and
+/// loaded.
+fn read_kept<J: Source>(
+    alloc: Global,
+    limits: Limits,
+    journal: &mut J,
+) -> Result<(Object, WholePart), CommandFault>
+    ensures few { IfOk result (λ read. read.1.lines < 2 ^ 63) }
+    ensures ok { IfOk result (λ read.
+        IsReadKept limits (J.remaining journal.old) read.1 read.0) }
+    ensures err { IfErr result (λ fault. IsUnreadKept limits
+        (J.remaining journal.old) (J.has_failed journal.new) fault) }
+{
+    let held = read_all(alloc, journal)?;
+    let part = whole_part(alloc, &mut Bytes::new(&held))?;
+    let (object, version) = kept_object(alloc, limits, &held[..part.bytes as usize])?;
+    newest_alone(version)?;
+    Ok((object, part))
+}
+
+/// The line on a line that is cut off.
+fn cut_text(alloc: Global, line: u64) -> Result<String, AllocError>
+    ensures { IfOk result (λ text. string_bytes text ≡ cut_line line) }
+{
+    format!(in alloc; "oldstyle: journal line {line} was not finished, and is cut off\n")
+}
+
+/// Cuts off the last line of a kept file, which was not finished, and tells standard error so.
+fn cut_last<K: KeptFile, E: Sink>(
+    alloc: Global,
+    part: WholePart,
+    keeper: &mut K,
+    errors: &mut E,
+) -> Result<(), CommandFault>
+    requires { part.lines < 2 ^ 63 }
+    ensures sound { OnOk result (K.fault keeper.new ≡ K.fault keeper.old) }
+    ensures ok { OnOk result (
+        (K.contents keeper.new ≡ option_map (take part.bytes) (K.contents keeper.old))
+        × WritesLine (output_of E.contents E.has_failed E.holds_back errors.old errors.new)
+        (cut_line (part.lines + 1))) }
+    ensures err { IfErr result (λ fault. IsChangeFault fault (K.fault keeper.new)
+        × (E.contents errors.new ≡ E.contents errors.old)
+        × (K.contents keeper.new ≡ K.contents keeper.old)) }
+{
+    let told = cut_text(alloc, part.lines + 1)?;
+    keeper.cut(part.bytes)?;
+    write_line(errors, told.as_str());
+    Ok(())
+}
+
+/// Cuts off the last line of a kept file, if it was not finished, and tells standard error so.
+fn cut_unfinished<K: KeptFile, E: Sink>(
+    alloc: Global,
+    part: WholePart,
+    keeper: &mut K,
+    errors: &mut E,
+) -> Result<(), CommandFault>
+    requires { part.lines < 2 ^ 63 }
+    ensures sound { OnOk result (K.fault keeper.new ≡ K.fault keeper.old) }
+    ensures ok { OnOk result ((cut : Option ℕ)
+        × TellsCut (output_of E.contents E.has_failed E.holds_back errors.old errors.new) cut
+        × IsCut part cut (K.contents keeper.old) (K.contents keeper.new)) }
+    ensures err { IfErr result (λ fault. IsChangeFault fault (K.fault keeper.new)
+        × (E.contents errors.new ≡ E.contents errors.old)
+        × (K.contents keeper.new ≡ K.contents keeper.old)) }
+{
+    match part.last {
+        LastLine::Ended | LastLine::LacksFeed => Ok(()),
+        LastLine::Unfinished => cut_last(alloc, part, keeper, errors),
+    }
+}
+
+/// The head of a journal, where no line counts, and else nothing.
+fn missing_head(alloc: Global, part: WholePart) -> Result<Vec<u8>, AllocError>
+    ensures { IfOk result (λ head. (held : List ℕ) → IsWholePart part held
+        → head.items ≡ missing_head (whole_bytes held)) }
+{
+    if part.bytes == 0 {
+        return head_line(alloc, HEAD_ROOM);
+    }
+    Ok(Vec::new(alloc))
+}
+
+/// What is missing after the lines of a kept file that count: the line feed of the last one, or
+/// the head where there is none.
+fn missing_text(alloc: Global, part: WholePart) -> Result<Vec<u8>, AllocError>
+    ensures { IfOk result (λ text. (held : List ℕ) → IsWholePart part held
+        → text.items ≡ missing_text held) }
+{
+    match part.last {
+        LastLine::LacksFeed => vec![in alloc; b'\n'; 1],
+        LastLine::Ended | LastLine::Unfinished => missing_head(alloc, part),
+    }
+}
+
+/// Appends to a kept file of lines that count what is missing after them, and has all on the disk.
+fn append_missing<K: KeptFile>(
+    alloc: Global,
+    part: WholePart,
+    keeper: &mut K,
+) -> Result<(), CommandFault>
+    ensures sound { OnOk result (K.fault keeper.new ≡ K.fault keeper.old) }
+    ensures ok { OnOk result (IsCompleted part (K.contents keeper.old) (K.contents keeper.new)
+        (K.synced keeper.new)) }
+    ensures err { IfErr result (λ fault. IsChangeFault fault (K.fault keeper.new)
+        × IsCompletedInPart part (K.contents keeper.old) (K.contents keeper.new)) }
+{
+    let text = missing_text(alloc, part)?;
+    keeper.append(&text)?;
+    keeper.sync()?;
+    Ok(())
+}
+
+/// Makes a kept file ready for the service: it holds the lines that count, each with its line feed,
+/// and a head then, and all of it is on the disk.
+fn make_ready<K: KeptFile, E: Sink>(
+    alloc: Global,
+    part: WholePart,
+    keeper: &mut K,
+    errors: &mut E,
+) -> Result<(), CommandFault>
+    requires { part.lines < 2 ^ 63 }
+    ensures sound { OnOk result (K.fault keeper.new ≡ K.fault keeper.old) }
+    ensures ok { OnOk result ((cut : Option ℕ)
+        × TellsCut (output_of E.contents E.has_failed E.holds_back errors.old errors.new) cut
+        × IsReady part cut (K.contents keeper.old) (K.contents keeper.new) (K.synced keeper.new)) }
+    ensures err { IfErr result (λ fault. IsChangeFault fault (K.fault keeper.new)
+        × (cut : Option ℕ)
+        × TellsCut (output_of E.contents E.has_failed E.holds_back errors.old errors.new) cut
+        × IsUnready part cut (K.contents keeper.old) (K.contents keeper.new)) }
+{
+    cut_unfinished(alloc, part, keeper, errors)?;
+    append_missing(alloc, part, keeper)
+}
+
+/// The object that a kept file holds, once the file is ready for the service.
+fn begin<K: KeptFile, J: Source, E: Sink>(
+    alloc: Global,
+    limits: Limits,
+    keeper: &mut K,
+    journal: &mut J,
+    errors: &mut E,
+) -> Result<Object, CommandFault>
+    ensures ok { IfOk result (λ object. (cut : Option ℕ)
+        × TellsCut (output_of E.contents E.has_failed E.holds_back errors.old errors.new) cut
+        × IfHeld (file_of K.contents K.synced K.fault keeper.old) (J.remaining journal.old)
+        (λ held. Begins limits held (K.fault keeper.old) cut object
+        (file_of K.contents K.synced K.fault keeper.new))) }
+    ensures err { IfErr result (λ fault. (cut : Option ℕ)
+        × TellsCut (output_of E.contents E.has_failed E.holds_back errors.old errors.new) cut
+        × IfHeld (file_of K.contents K.synced K.fault keeper.old) (J.remaining journal.old)
+        (λ held. DoesNotBegin limits held (J.has_failed journal.new) cut
+        (file_of K.contents K.synced K.fault keeper.new) fault)) }
+{
+    let (object, part) = read_kept(alloc, limits, journal)?;
+    make_ready(alloc, part, keeper, errors)?;
+    Ok(object)
+}
+
+/// The fault of a service that keeps a file.
+fn fault_of(cause: ServiceFault<KeptFileFault>) -> CommandFault
+    ensures { MatchServiceFault cause (λ fault. result ≡ CommandFault.Service fault)
+        (λ why. result ≡ CommandFault.KeptFile why) }
+{
+    match cause {
+        ServiceFault::Serve(fault) => CommandFault::Service(fault),
+        ServiceFault::NotKept(why) => CommandFault::KeptFile(why),
+    }
+}
+
+/// Answers the lines from the object, and keeps the file.
+fn keep_lines<K: KeptFile, R: Source, W: Sink, E: Sink>(
+    alloc: Global,
+    object: &mut Object,
+    rules: ServeRules,
+    keeper: &mut K,
+    input: &mut R,
+    output: &mut W,
+    errors: &mut E,
+) -> Status
+    ensures { KeepsLines rules object.old
+        (file_of K.contents K.synced K.fault keeper.old)
+        (file_of K.contents K.synced K.fault keeper.new)
+        (input_of R.remaining R.has_failed input.old input.new)
+        (output_of W.contents W.has_failed W.holds_back output.old output.new)
+        (output_of E.contents E.has_failed E.holds_back errors.old errors.new) result }
+{
+    match serve_kept(alloc, object, rules, input, output, keeper) {
+        Ok(served) => {
+            if !served.refused {
+                return Status::Done;
+            }
+            report(alloc, errors, CommandFault::RefusedLine(served.lines))
+        }
+        Err(end) => report(alloc, errors, fault_of(end.cause)),
+    }
+}
+
+/// The command `serve` with a journal that is kept: answers the request lines of the input, by
+/// these rules, from the object that the kept file holds, or from an empty one under these limits
+/// where no line of it counts. Each change is in the file before its reply goes out. All lines are
+/// answered, or those up to the first refused one where the rules say so, which is a fault then.
+///
+/// The source gives what the file holds, which is loaded as far as lines count. A last line that
+/// was not finished is cut off, and standard error is told so; one that counts and lacks its line
+/// feed gets it. A file with no line gets a head. All of it is on the disk before the first line is
+/// answered. A file with a bad line, or with a head of an older version, is left as it is.
+///
+/// Where the service ends early, standard error is told in a line why, and the status says it.
+pub fn keep_command<K: KeptFile, J: Source, R: Source, W: Sink, E: Sink>(
+    alloc: Global,
+    limits: Limits,
+    keeper: &mut K,
+    journal: &mut J,
+    rules: ServeRules,
+    input: &mut R,
+    output: &mut W,
+    errors: &mut E,
+) -> Status
+    ensures { EndsKept limits rules (file_of K.contents K.synced K.fault keeper.old)
+        (file_of K.contents K.synced K.fault keeper.new)
+        (input_of J.remaining J.has_failed journal.old journal.new)
+        (input_of R.remaining R.has_failed input.old input.new)
+        (output_of W.contents W.has_failed W.holds_back output.old output.new)
+        (output_of E.contents E.has_failed E.holds_back errors.old errors.new) result }
+{
+    match begin(alloc, limits, keeper, journal, errors) {
+        Ok(mut object) => keep_lines(alloc, &mut object, rules, keeper, input, output, errors),
+        Err(fault) => report(alloc, errors, fault),
+    }
+}

@@ -1,0 +1,156 @@
+//! The command `serve`, where no journal is kept.
+ghost use Rattle.std.specs.Prelude.{◌≡◌, IfOk, IfErr, option_map, string_bytes};
+ghost use Rattle.osn_lines.specs.Streams.{input_of, output_of};
+ghost use Rattle.osn_report.specs.Journal.{Begins, BeginsNot};
+ghost use Rattle.osn_report.specs.declared.fault.CommandFault.{CommandFault};
+ghost use Rattle.osn_serve_commands.specs.Serve.{LeavesJournal, Serves, ServesLines, input_if};
+ghost use Rattle.osn_service.specs.Faults.{MatchServiceFault};
+
+use osn_core::Object;
+use osn_files::{FileFault, journal_text, load_journal};
+use osn_lines::{Sink, Source};
+use osn_register::Limits;
+use osn_report::{CommandFault, Status, report, tell_no_memory};
+use osn_service::{ServeRules, ServiceFault, serve_store};
+use std::alloc::Global;
+use std::convert::Infallible;
+
+/// What the service of a command line leaves.
+#[derive(Debug, Drop)]
+pub struct ServeResult {
+    /// How it ended.
+    pub status: Status,
+    /// The journal, where it is to be saved and all lines were answered.
+    pub journal: Option<String>,
+    /// How many editions were published.
+    pub editions: usize,
+}
+
+impl ServeResult {
+    /// With no journal.
+    fn ended(status: Status, editions: usize) -> ServeResult
+        ensures { result ≡ record { status = status; journal = None; editions = editions } }
+    {
+        ServeResult {
+            status,
+            journal: None,
+            editions,
+        }
+    }
+}
+
+/// The object of the journal, where there is one, or else an empty one.
+fn initial_object<J: Source>(
+    alloc: Global,
+    limits: Limits,
+    journal: &mut Option<J>,
+) -> Result<Object, FileFault>
+    ensures ok { IfOk result
+        (Begins limits (input_if J.remaining J.has_failed journal.old journal.new)) }
+    ensures err { IfErr result
+        (BeginsNot limits (input_if J.remaining J.has_failed journal.old journal.new)) }
+{
+    match journal {
+        Some(source) => load_journal(alloc, limits, source),
+        None => Ok(Object::new(alloc, limits)),
+    }
+}
+
+/// The fault of a service over an object alone.
+fn fault_of(cause: ServiceFault<Infallible>) -> CommandFault
+    ensures { MatchServiceFault cause (λ fault. result ≡ CommandFault.Service fault) (λ never. ⊥) }
+{
+    match cause {
+        ServiceFault::Serve(fault) => CommandFault::Service(fault),
+        ServiceFault::NotKept(never) => match never {},
+    }
+}
+
+/// Leaves the journal of an object, where it is to be saved.
+fn leave_journal<E: Sink>(
+    alloc: Global,
+    object: &Object,
+    saves: bool,
+    editions: usize,
+    errors: &mut E,
+) -> ServeResult
+    ensures left { LeavesJournal saves object.now (option_map string_bytes result.journal)
+        (output_of E.contents E.has_failed E.holds_back errors.old errors.new) result.status }
+    ensures editions { result.editions ≡ editions }
+{
+    if !saves {
+        return ServeResult::ended(Status::Done, editions);
+    }
+    match journal_text(alloc, object) {
+        Ok(text) => ServeResult {
+            status: Status::Done,
+            journal: Some(text),
+            editions,
+        },
+        Err(_) => ServeResult::ended(tell_no_memory(errors), editions),
+    }
+}
+
+/// Answers the lines from an object.
+fn serve_lines<R: Source, W: Sink, E: Sink>(
+    alloc: Global,
+    object: &mut Object,
+    rules: ServeRules,
+    saves: bool,
+    input: &mut R,
+    output: &mut W,
+    errors: &mut E,
+) -> ServeResult
+    ensures { ServesLines rules object.old saves
+        (input_of R.remaining R.has_failed input.old input.new)
+        (output_of W.contents W.has_failed W.holds_back output.old output.new)
+        (output_of E.contents E.has_failed E.holds_back errors.old errors.new)
+        (option_map string_bytes result.journal) result.editions result.status }
+{
+    let before = object.batches().len();
+    let served = serve_store(alloc, object, rules, input, output);
+    let editions = object.batches().len().saturating_sub(before);
+    match served {
+        Ok(served) => {
+            if !served.refused {
+                return leave_journal(alloc, object, saves, editions, errors);
+            }
+            let fault = CommandFault::RefusedLine(served.lines);
+            ServeResult::ended(report(alloc, errors, fault), editions)
+        }
+        Err(end) => {
+            let fault = fault_of(end.cause);
+            ServeResult::ended(report(alloc, errors, fault), editions)
+        }
+    }
+}
+
+/// The command `serve`: answers the request lines of the input, by these rules, from the object of
+/// the journal or from an empty one, under these limits. The journal is read whole before a line
+/// is. Where the journal is to be saved and all lines were answered, its text is answered too.
+///
+/// All lines are answered, or those up to the first refused one where the rules say so: that is a
+/// fault then, and there is no journal to be saved.
+///
+/// Where the service ends early, standard error is told in a line why, and the status says it.
+pub fn serve_command<J: Source, R: Source, W: Sink, E: Sink>(
+    alloc: Global,
+    limits: Limits,
+    journal: &mut Option<J>,
+    rules: ServeRules,
+    saves: bool,
+    input: &mut R,
+    output: &mut W,
+    errors: &mut E,
+) -> ServeResult
+    ensures { Serves limits rules (input_if J.remaining J.has_failed journal.old journal.new) saves
+        (input_of R.remaining R.has_failed input.old input.new)
+        (output_of W.contents W.has_failed W.holds_back output.old output.new)
+        (output_of E.contents E.has_failed E.holds_back errors.old errors.new)
+        (option_map string_bytes result.journal) result.editions result.status }
+{
+    match initial_object(alloc, limits, journal) {
+        Ok(mut object) => serve_lines(alloc, &mut object, rules, saves, input, output, errors),
+        Err(fault) => ServeResult::ended(report(alloc, errors, CommandFault::File(fault)), 0),
+    }
+}

@@ -1,0 +1,125 @@
+//! A text is read as a date: in the usual forms, or else in one of those that `osn_grammar` reads.
+ghost use Rattle.std.specs.Prelude.{◌≡◌, false, is_ok, IfOk, OnErr};
+ghost use Rattle.osn_days.specs.Profile.{newest_rules};
+ghost use Rattle.osn_written.specs.Law.{AreDualTextsWritten, AreNamedDaysWritten};
+ghost use Rattle.osn_written.specs.OtherForms as other;
+ghost use Rattle.osn_written.specs.WrittenDate as spec;
+
+use crate::written_date::{DateFault, WrittenDate, usual_date};
+use osn_days::Weekday;
+use osn_grammar::{
+    DateFault as FormFault, DateOrder, Extent, SimpleDate, Written, WrittenDate as AnyDate,
+};
+use std::alloc::{AllocError, Global};
+
+/// The fault of a text that has none of the forms of `osn_grammar`.
+fn fault_of(fault: FormFault) -> DateFault
+    ensures { result ≡ other.fault_of fault }
+{
+    match fault {
+        FormFault::Malformed => DateFault::Malformed,
+        FormFault::LaterYear => DateFault::LaterYear,
+        FormFault::Year => DateFault::Year,
+        FormFault::Month => DateFault::Month,
+        FormFault::Day => DateFault::Day,
+        FormFault::ShortYear => DateFault::ShortYear,
+        FormFault::DayOrMonth => DateFault::DayOrMonth,
+        FormFault::TwoDays => DateFault::TwoDays,
+        FormFault::Feast => DateFault::Feast,
+        FormFault::RomanNumeral => DateFault::RomanNumeral,
+    }
+}
+
+/// The date of one day, with the weekday that is named beside it, if any.
+fn day_in(extent: Extent, weekday: Option<Weekday>) -> Result<WrittenDate, DateFault>
+    ensures { result ≡ other.day_in extent weekday }
+{
+    match extent {
+        Extent::On(SimpleDate::Day { year, month, day }) => Ok(WrittenDate {
+            year: year.first,
+            month,
+            day,
+            is_double: year.is_double,
+            weekday,
+        }),
+        _ => Err(DateFault::NotOneDay),
+    }
+}
+
+/// Whether more is said of a date than which it is.
+fn has_qualifier(date: AnyDate) -> bool
+    ensures { result ≡ other.has_qualifier date }
+{
+    date.reckoning.is_some() || date.is_approximate || date.is_uncertain || date.is_supplied
+}
+
+/// The date of one day, if nothing more is said of it.
+fn plain_day(date: AnyDate) -> Result<WrittenDate, DateFault>
+    ensures { result ≡ other.plain_day date }
+{
+    let day = day_in(date.extent, date.weekday)?;
+    if has_qualifier(date) {
+        return Err(DateFault::Qualifier);
+    }
+    Ok(day)
+}
+
+/// The date of one day that was read, or why there is none.
+fn day_read(read: Result<Written, FormFault>) -> Result<WrittenDate, DateFault>
+    ensures { result ≡ other.day_read read }
+{
+    match read {
+        Ok(Written::Date(date)) => plain_day(date),
+        Ok(Written::NoDate) => Err(DateFault::NoDate),
+        Err(fault) => Err(fault_of(fault)),
+    }
+}
+
+/// The date of one day that a text is in a form of `osn_grammar`, or why it is none.
+#[tactic(auto, unfolding(crate::specs::OtherForms::other_date))]
+fn other_date(alloc: Global, text: &str) -> Result<Result<WrittenDate, DateFault>, AllocError>
+    ensures { IfOk result (λ date. date ≡ other.other_date text.now) }
+{
+    let read = osn_grammar::parse(alloc, text, DateOrder::Unknown)?;
+    Ok(day_read(read))
+}
+
+/// The date in another form, or its fault. Where it has none, the fault of the usual forms.
+fn else_fault(
+    fault: DateFault,
+    date: Result<WrittenDate, DateFault>,
+) -> Result<WrittenDate, DateFault>
+    ensures { result ≡ spec.else_fault fault date }
+{
+    match date {
+        Err(DateFault::Malformed) => Err(fault),
+        _ => date,
+    }
+}
+
+impl WrittenDate {
+    /// The date that a text is, in the usual forms or else in another form of one day:
+    /// `1731-02-11`, `11 February 1731/2`, `Friday 11 February 1731`, `11 Feb. 1731/32`,
+    /// `Feb 11, 1731` and more, as `docs/DATES.md` tells. Where it is none, the result within has
+    /// the fault.
+    ///
+    /// # Errors
+    ///
+    /// Want of memory, which a date in the usual forms never wants.
+    #[tactic(auto, using(crate::proofs::DualLaw::dual_laws))]
+    pub fn parse(alloc: Global, text: &str) -> Result<Result<WrittenDate, DateFault>, AllocError>
+        ensures value { IfOk result (λ date. date ≡ spec.written_date text.now) }
+        // a text in the usual forms is read without memory
+        ensures memory { OnErr result (is_ok (spec.usual_date text.now) ≡ false) }
+        // as a law: the dual text of each day of the line, under each regime, is a date with the
+        // label of the day, and a double one where the day has both years
+        ensures dual { AreDualTextsWritten newest_rules }
+        // as a law: so it is with the day's weekday before it, which is then the date's
+        ensures named { AreNamedDaysWritten newest_rules }
+    {
+        match usual_date(text) {
+            Ok(date) => Ok(Ok(date)),
+            Err(fault) => Ok(else_fault(fault, other_date(alloc, text)?)),
+        }
+    }
+}
