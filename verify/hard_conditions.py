@@ -179,13 +179,15 @@ SHORTENED = [
 
 
 def read_so_far(process, path):
-    """How many bytes of a file a process has read, None where it has not opened the file."""
+    """How many bytes of a file a process has read, None where it has not opened the file. A file
+    that is locked too has a descriptor for that, which reads nothing."""
     folder = f"/proc/{process.pid}"
+    places = []
     for number in os.listdir(f"{folder}/fd"):
         if os.path.realpath(f"{folder}/fd/{number}") == path:
             with open(f"{folder}/fdinfo/{number}", encoding="utf-8") as facts:
-                return int(facts.readline().split()[1])
-    return None
+                places.append(int(facts.readline().split()[1]))
+    return max(places, default=None)
 
 
 def stopped_in_reading(process, path):
