@@ -19,7 +19,8 @@ its last: of a refused one nothing is saved, and of a service the replies to who
 
 What is committed is cloned, and the programs are proved and built there, which takes some ten
 minutes where `rt check` has built the libraries in this checkout, and else proves them anew; the
-runs take some two minutes, two at a time.
+runs take some two minutes, two at a time. A save that finds no memory to sync the folder has saved,
+and says so: it counts as refused, and is not made again.
 growths/growths.c refuses the growths, and wants a C compiler: `cc`, or what CC names.
 """
 import json
@@ -60,6 +61,8 @@ MARK = "called\nanswered\n"
 WANTS = {"NoMemory\n", "NoPlace\n", "Err(NoMemory)\n", "Err(NoPlace)\n", "Err(AllocError)\n"}
 WANTS_BEHIND = re.compile(r"Err\(Interrupted \{ lines: (\d+), cause: NoMemory \}\)\n")
 
+NOT_SYNCED = (3, "oldstyle: the journal is saved, and the disk may not have it yet\n")
+
 Run = namedtuple("Run", "status told errors growths")
 Row = namedtuple("Row", "growths same again wrong")
 
@@ -84,11 +87,11 @@ def run(command, given, refused, folder=None, **names):
 
 def each_refused(count, outcome):
     """The row of that many growths, of which each has an outcome: `same`, `again` where it was
-    refused and made again, or what was wrong."""
+    refused and made again, `saved` where the folder was not synced, or what was wrong."""
     with ThreadPoolExecutor(AT_ONCE) as pool:
         outcomes = list(pool.map(outcome, range(1, count + 1)))
     wrong = [f"growth {number}: {outcome}" for number, outcome in enumerate(outcomes, 1)
-             if outcome not in ("same", "again")]
+             if outcome not in ("same", "again", "saved")]
     return Row(count, outcomes.count("same"), outcomes.count("again"), wrong)
 
 
@@ -232,6 +235,8 @@ def command_row(words, lines):
             got = run(command, given, number, folder)
             if is_right(got, folder):
                 return "same"
+            if got[::2] == NOT_SYNCED and got.told == ample.told and held(folder) == after:
+                return "saved"
             if is_refused(words, *got[::2]) and is_front(got.told) and held(folder) == before:
                 return "again" if is_right(run(command, given, 0, folder), folder) else "lost"
             return got
