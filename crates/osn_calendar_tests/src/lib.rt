@@ -20,11 +20,15 @@ mod labels;
 #[cfg(test)]
 mod lands;
 #[cfg(test)]
+mod meant;
+#[cfg(test)]
 mod named;
 #[cfg(test)]
 mod runs;
 #[cfg(test)]
 mod search;
+#[cfg(test)]
+mod spans;
 #[cfg(test)]
 mod tables;
 #[cfg(test)]

@@ -3,3 +3,6 @@ mod WeekdayFacts
 pub mod LawFacts
 mod DualLaw
 mod Meant
+pub mod RunFacts
+pub mod OrderFacts
+mod SpanFacts

@@ -4,3 +4,5 @@ pub mod Text
 pub mod Meaning
 pub mod Absence
 pub mod Law
+pub mod Runs
+pub mod Spans

@@ -5,9 +5,13 @@
 mod absence;
 mod meaning;
 mod reading;
+mod runs;
+mod span;
 mod written_date;
 mod written_text;
 
 pub use absence::{Absence, absence_of};
 pub use meaning::{days_meant, has_weekday, is_not_counted_double, is_on};
+pub use runs::runs_meant;
+pub use span::{NoSpan, span_meant};
 pub use written_date::{DateFault, WrittenDate, number_of, parts_at, weekday_named};

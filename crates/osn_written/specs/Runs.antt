@@ -1,0 +1,108 @@
+-- Which days a written day, month or year means in a territory, and the runs that these days are.
+-- This project's profile.
+use Rattle.std.specs.Prelude.{ℕ, Bool, true, ◌&&◌, ◌||◌, ◌+◌, ◌==◌, if◌then◌else◌, ℤ, pos, ◌<◌, ◌≤◌}
+use Rattle.std.specs.Prelude.{List, [], ◌∷◌, filter}
+use Rattle.std.specs.Ordering.{int_eq}
+use Rattle.osn_days.specs.Profile.{Profile}
+use Rattle.osn_days.specs.Line.{line}
+use Rattle.osn_grammar.specs.declared.written.SimpleDate.{SimpleDate}
+use Rattle.osn_grammar.specs.declared.written.SimpleDate.TheVariants.{Day, Month, Year}
+use Rattle.osn_grammar.specs.declared.written.Year as written
+use Rattle.osn_lands.specs.declared.dated.DatedDay.{DatedDay}
+use Rattle.osn_lands.specs.declared.label.Label.{Label}
+use Rattle.osn_lands.specs.declared.runs.Run.{Run}
+use Rattle.osn_lands.specs.Dated.{dated_on}
+use Rattle.osn_lands.specs.Style.{is_before_25_march}
+use Rattle.osn_lands.specs.Territory.{TerritoryModel}
+
+-- ---- the days
+
+-- the year that is written
+abbrev pub year_of : SimpleDate → written.Year
+year_of (Day year month day) = year
+year_of (Month year month) = year
+year_of (Year year) = year
+
+-- the label has the month and the day of the month, where they are written
+abbrev pub has_month_and_day : SimpleDate → Label → Bool
+has_month_and_day (Day year month day) label = (label.month == month) && (label.day == day)
+has_month_and_day (Month year month) label = label.month == month
+has_month_and_day (Year year) label = true
+
+-- the day is of the double year that begins with this one: its year counted from 1 January is the
+-- later one, and the year of its label is the first one. From 1 January to 24 March that may be the
+-- later one too, where the territory wrote the later year alone
+abbrev pub is_in_double_year : ℕ → DatedDay → Bool
+is_in_double_year first day =
+    int_eq day.january_year (pos (first + 1))
+    && (int_eq day.label.year (pos first)
+    || (int_eq day.label.year (pos (first + 1))
+    && is_before_25_march day.label.month day.label.day))
+
+-- the day is of the year: of a single one where that is the year of its label
+abbrev pub is_in_year : written.Year → DatedDay → Bool
+is_in_year year day =
+    if year.is_double then is_in_double_year year.first day
+    else int_eq day.label.year (pos year.first)
+
+-- the date means the day
+abbrev pub is_meant : SimpleDate → DatedDay → Bool
+is_meant date day = is_in_year (year_of date) day && has_month_and_day date day.label
+
+-- the days that a date means, as the territory dated each of them, of all days of the line
+unfoldable pub all_meant : Profile → TerritoryModel → SimpleDate → List ℕ
+all_meant p t date = filter (λ d. is_meant date (dated_on p t d)) (line p)
+
+-- ---- their runs
+
+-- a run and days after it: a day that follows the run at once is one more of it, and any other one
+-- begins the next run
+abbrev pub runs_from : Run → List ℕ → List Run
+runs_from run [] = run ∷ []
+runs_from run (d ∷ ds) =
+    if d == run.last + 1 then runs_from (record { first = run.first; last = d }) ds
+    else run ∷ runs_from (record { first = d; last = d }) ds
+
+-- days in order, as runs
+abbrev pub runs_of : List ℕ → List Run
+runs_of [] = []
+runs_of (d ∷ ds) = runs_from (record { first = d; last = d }) ds
+
+-- the days that a date means, as runs
+unfoldable pub runs_meant : Profile → TerritoryModel → SimpleDate → List Run
+runs_meant p t date = runs_of (all_meant p t date)
+
+-- each run has a day, the first one begins after the day that is given, and a day at least lies
+-- between each and the next one
+abbrev pub LieApartAfter : ℕ → List Run → Type 0
+LieApartAfter d [] = Unit {0}
+LieApartAfter d (r ∷ rs) = (d < r.first) × (r.first ≤ r.last) × LieApartAfter (r.last + 1) rs
+
+abbrev pub LieApart : List Run → Type 0
+LieApart runs = LieApartAfter 0 runs
+
+-- ---- how they are found
+
+-- the days whose label has that year, and the month and day that are written
+abbrev pub is_labelled : SimpleDate → ℤ → DatedDay → Bool
+is_labelled date year day = int_eq day.label.year year && has_month_and_day date day.label
+
+unfoldable pub all_labelled : Profile → TerritoryModel → SimpleDate → ℤ → List ℕ
+all_labelled p t date year = filter (λ d. is_labelled date year (dated_on p t d)) (line p)
+
+-- a date of a double year means the day
+abbrev pub is_meant_double : SimpleDate → DatedDay → Bool
+is_meant_double date day =
+    is_in_double_year (year_of date).first day && has_month_and_day date day.label
+
+unfoldable pub all_double : Profile → TerritoryModel → SimpleDate → List ℕ
+all_double p t date = filter (λ d. is_meant_double date (dated_on p t d)) (line p)
+
+-- each run has a day
+abbrev pub HaveDays : List Run → Type 0
+HaveDays [] = Unit {0}
+HaveDays (r ∷ rs) = (r.first ≤ r.last) × HaveDays rs
+
+-- a day as a run
+abbrev pub run_of_day : ℕ → Run
+run_of_day d = record { first = d; last = d }

@@ -1,0 +1,170 @@
+//! From which day to which a written date, a range or a bound may be in a territory.
+ghost use Rattle.std.specs.Prelude.{◌≡◌, IfOk};
+ghost use Rattle.osn_days.specs.Profile.{newest_rules};
+ghost use Rattle.osn_written.specs.Spans as spec;
+
+use crate::runs::runs_meant;
+use osn_days::{Day, HIGH};
+use osn_grammar::{Extent, SimpleDate};
+use osn_lands::{Run, Territory};
+use std::alloc::{AllocError, Global};
+
+/// Why a date, a range or a bound is no span of days.
+#[derive(Clone, Copy, Debug, PartialEq, Eq)]
+pub enum NoSpan {
+    /// The date, or the first one of a range, means no day.
+    NoDay,
+    /// The last date of a range means no day.
+    NoLastDay,
+    /// The first day of a range is after its last day.
+    OutOfOrder,
+    /// No day of the line is before the date, or none is after it.
+    OffTheLine,
+}
+
+/// The first day of runs.
+fn first_of(runs: &[Run]) -> Option<Day>
+    ensures { result ≡ spec.first_of runs.now }
+{
+    match runs {
+        [] => None,
+        [first, ..] => Some(first.first),
+    }
+}
+
+/// The last day of runs.
+fn last_of(runs: &[Run]) -> Option<Day>
+    ensures { result ≡ spec.last_of runs.now }
+{
+    match runs {
+        [] => None,
+        [.., last] => Some(last.last),
+    }
+}
+
+/// The first day that a date means.
+fn first_meant(
+    alloc: Global,
+    territory: &Territory,
+    date: SimpleDate,
+) -> Result<Option<Day>, AllocError>
+    ensures { IfOk result (λ day. day ≡ spec.first_meant newest_rules territory.now date) }
+{
+    let runs = runs_meant(alloc, territory, date)?;
+    Ok(first_of(runs.as_slice()))
+}
+
+/// The last day that a date means.
+fn last_meant(
+    alloc: Global,
+    territory: &Territory,
+    date: SimpleDate,
+) -> Result<Option<Day>, AllocError>
+    ensures { IfOk result (λ day. day ≡ spec.last_meant newest_rules territory.now date) }
+{
+    let runs = runs_meant(alloc, territory, date)?;
+    Ok(last_of(runs.as_slice()))
+}
+
+/// From one day to another one, which is no earlier.
+fn from_to(first: Option<Day>, last: Option<Day>) -> Result<Run, NoSpan>
+    ensures { result ≡ spec.from_to first last }
+{
+    let first = first.ok_or(NoSpan::NoDay)?;
+    let last = last.ok_or(NoSpan::NoLastDay)?;
+    if first <= last {
+        Ok(Run { first, last })
+    } else {
+        Err(NoSpan::OutOfOrder)
+    }
+}
+
+/// From the first day of the line to the day before one.
+fn before(day: Option<Day>) -> Result<Run, NoSpan>
+    ensures { result ≡ spec.before day }
+{
+    let number = day.ok_or(NoSpan::NoDay)?.number();
+    if 1 < number {
+        Ok(Run {
+            first: Day::FIRST,
+            last: Day::on_line(i64::from(number) - 1),
+        })
+    } else {
+        Err(NoSpan::OffTheLine)
+    }
+}
+
+/// From the first day of the line to one.
+fn not_after(day: Option<Day>) -> Result<Run, NoSpan>
+    ensures { result ≡ spec.not_after day }
+{
+    Ok(Run {
+        first: Day::FIRST,
+        last: day.ok_or(NoSpan::NoDay)?,
+    })
+}
+
+/// From the day after one to the last day of the line.
+fn after(day: Option<Day>) -> Result<Run, NoSpan>
+    ensures { result ≡ spec.after newest_rules day }
+{
+    let number = day.ok_or(NoSpan::NoDay)?.number();
+    if number < HIGH {
+        Ok(Run {
+            first: Day::on_line(i64::from(number) + 1),
+            last: Day::LAST,
+        })
+    } else {
+        Err(NoSpan::OffTheLine)
+    }
+}
+
+/// From one day to the last day of the line.
+fn not_before(day: Option<Day>) -> Result<Run, NoSpan>
+    ensures { result ≡ spec.not_before newest_rules day }
+{
+    Ok(Run {
+        first: day.ok_or(NoSpan::NoDay)?,
+        last: Day::LAST,
+    })
+}
+
+/// From the first day that one date means to the last day that another one means.
+fn range_meant(
+    alloc: Global,
+    territory: &Territory,
+    first: SimpleDate,
+    last: SimpleDate,
+) -> Result<Result<Run, NoSpan>, AllocError>
+    ensures { IfOk result (λ span. span ≡ spec.from_to
+        (spec.first_meant newest_rules territory.now first)
+        (spec.last_meant newest_rules territory.now last)) }
+{
+    let first = first_meant(alloc, territory, first)?;
+    let last = last_meant(alloc, territory, last)?;
+    Ok(from_to(first, last))
+}
+
+/// The days from the first one that a date, a range or a bound may mean in a territory to the last
+/// one, or why there is none. A range lasts from the first day of its first date to the last day of
+/// its last date. A bound reaches to the first or the last day of the line.
+///
+/// # Errors
+///
+/// `AllocError` where there is no memory for the runs of a date.
+pub fn span_meant(
+    alloc: Global,
+    territory: &Territory,
+    extent: Extent,
+) -> Result<Result<Run, NoSpan>, AllocError>
+    ensures { IfOk result (λ span. span ≡ spec.span_meant newest_rules territory.now extent) }
+{
+    match extent {
+        Extent::On(date) => range_meant(alloc, territory, date, date),
+        Extent::FromTo(first, last) => range_meant(alloc, territory, first, last),
+        Extent::Before(date) => Ok(before(first_meant(alloc, territory, date)?)),
+        Extent::NotAfter(date) => Ok(not_after(last_meant(alloc, territory, date)?)),
+        Extent::After(date) => Ok(after(last_meant(alloc, territory, date)?)),
+        Extent::NotBefore(date) => Ok(not_before(first_meant(alloc, territory, date)?)),
+    }
+}
