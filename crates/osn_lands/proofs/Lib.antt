@@ -21,3 +21,4 @@ pub mod DatedFacts
 pub mod GapFacts
 pub mod MonthDayFacts
 pub mod OrderOfLabels
+pub mod JulianFacts

@@ -16,3 +16,4 @@ pub mod PeriodList
 pub mod LabelSearch
 pub mod EasterSearch
 pub mod Kept
+pub mod JulianCalendar

@@ -11,6 +11,7 @@ ghost use Rattle.osn_lands.specs.Exceptions as exceptions;
 ghost use Rattle.osn_lands.specs.Kept.{KeepsEasters};
 ghost use Rattle.osn_lands.specs.Faults.{IsTestOf, IsFaultOrNoMemory};
 
+mod calendar;
 mod dates;
 mod gaps;
 mod readings;

@@ -6,3 +6,5 @@ pub mod Absence
 pub mod Law
 pub mod Runs
 pub mod Spans
+pub mod Kind
+pub mod Finding

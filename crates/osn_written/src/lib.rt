@@ -3,6 +3,8 @@
 #![tactic(auto)]
 
 mod absence;
+mod finding;
+mod kind;
 mod meaning;
 mod reading;
 mod runs;
@@ -11,6 +13,8 @@ mod written_date;
 mod written_text;
 
 pub use absence::{Absence, absence_of};
+pub use finding::{NoDay, by_reckoning, find_runs, is_by_other_calendar};
+pub use kind::{Kind, kind_of};
 pub use meaning::{days_meant, has_weekday, is_not_counted_double, is_on};
 pub use runs::runs_meant;
 pub use span::{NoSpan, span_meant};

@@ -1,0 +1,141 @@
+-- The days of a date with all that is written of it, in a territory, or why it has none. This
+-- project's profile.
+use Rattle.std.specs.Prelude.{ℕ, Bool, true, false, not, ◌&&◌, ◌==◌, List, [], ◌∷◌, Option, Some, None}
+use Rattle.std.specs.Prelude.{Result, Ok, Err, Vec}
+use Rattle.std.specs.Result.{result_map_both}
+use Rattle.std.specs.declared.alloc.Global.{Global}
+use Rattle.std.specs.Cmp.Lexicographic.{pointwise}
+use Rattle.osn_computus.specs.declared.rule.Rule.TheVariants as Easter
+use Rattle.osn_days.specs.declared.calendar.Calendar.TheVariants as Calendar
+use Rattle.osn_days.specs.Profile.{Profile}
+use Rattle.osn_grammar.specs.declared.written.Extent.{Extent}
+use Rattle.osn_grammar.specs.declared.written.Extent.TheVariants as extent
+use Rattle.osn_grammar.specs.declared.written.Reckoning.{Reckoning}
+use Rattle.osn_grammar.specs.declared.written.Reckoning.TheVariants.{OldStyle, NewStyle}
+use Rattle.osn_grammar.specs.declared.written.SimpleDate.{SimpleDate}
+use Rattle.osn_grammar.specs.declared.written.SimpleDate.TheVariants as date
+use Rattle.osn_grammar.specs.declared.written.WrittenDate.{WrittenDate as AnyDate}
+use Rattle.osn_grammar.specs.declared.written.Year.{Year as WrittenYear}
+use Rattle.osn_lands.specs.declared.regime.Regime.{Regime}
+use Rattle.osn_lands.specs.declared.runs.Run.{Run}
+use Rattle.osn_lands.specs.declared.style.Style.TheVariants as Style
+use Rattle.osn_lands.specs.JulianCalendar.{in_julian_calendar}
+use Rattle.osn_lands.specs.Territory.{TerritoryModel, opened}
+use Rattle.osn_written.specs.declared.absence.Absence.{Absence}
+use Rattle.osn_written.specs.declared.finding.NoDay.{NoDay}
+use Rattle.osn_written.specs.declared.finding.NoDay.TheVariants.{Absent, LastAbsent, OutOfOrder}
+use Rattle.osn_written.specs.declared.finding.NoDay.TheVariants.{OffTheLine}
+use Rattle.osn_written.specs.declared.span.NoSpan.{NoSpan}
+use Rattle.osn_written.specs.declared.span.NoSpan.TheVariants as spans
+use Rattle.osn_written.specs.declared.written_date.WrittenDate.{WrittenDate}
+use Rattle.osn_written.specs.Absence.{absence}
+use Rattle.osn_written.specs.Runs.{runs_meant}
+use Rattle.osn_written.specs.Spans.{span_meant}
+
+-- ---- why there is no day
+
+-- the first day of a date, as it is written
+abbrev pub day_in_year : WrittenYear → ℕ → ℕ → WrittenDate
+day_in_year year month day = record {
+  year = year.first;
+  month = month;
+  day = day;
+  is_double = year.is_double;
+  weekday = None;
+}
+
+abbrev pub first_day_of : SimpleDate → WrittenDate
+first_day_of (date.Day year month day) = day_in_year year month day
+first_day_of (date.Month year month) = day_in_year year month 1
+first_day_of (date.Year year) = day_in_year year 1 1
+
+-- why a date means no day: that of its first day
+abbrev pub absence_in : Profile → TerritoryModel → SimpleDate → Absence
+absence_in p t date = absence p t (first_day_of date)
+
+-- the first date of what is written, and the last one
+abbrev pub ends_of : Extent → SimpleDate × SimpleDate
+ends_of (extent.FromTo first last) = (first, last)
+ends_of (extent.On date) = (date, date)
+ends_of (extent.Before date) = (date, date)
+ends_of (extent.NotAfter date) = (date, date)
+ends_of (extent.After date) = (date, date)
+ends_of (extent.NotBefore date) = (date, date)
+
+-- why what is written is no span of days
+abbrev pub reason_of : Profile → TerritoryModel → Extent → NoSpan → NoDay
+reason_of p t e spans.NoDay = Absent (absence_in p t (ends_of e).0)
+reason_of p t e spans.NoLastDay = LastAbsent (absence_in p t (ends_of e).1)
+reason_of p t e spans.OutOfOrder = OutOfOrder
+reason_of p t e spans.OffTheLine = OffTheLine
+
+-- ---- the days
+
+-- one run, or why there is none
+abbrev pub of_span : Profile → TerritoryModel → Extent → Result Run NoSpan
+    → Result (List Run) NoDay
+of_span p t e (Ok run) = Ok (run ∷ [])
+of_span p t e (Err no_span) = Err (reason_of p t e no_span)
+
+-- runs, or a reason where there is none
+abbrev pub unless_none : List Run → NoDay → Result (List Run) NoDay
+unless_none [] reason = Err reason
+unless_none (r ∷ rs) reason = Ok (r ∷ rs)
+
+abbrev pub of_date : Profile → TerritoryModel → SimpleDate → Result (List Run) NoDay
+of_date p t date = unless_none (runs_meant p t date) (Absent (absence_in p t date))
+
+-- the date, where what is written is one
+abbrev pub one_date : Extent → Option SimpleDate
+one_date (extent.On date) = Some date
+one_date e = None
+
+-- the days of that date, or those of a range or a bound
+abbrev pub found_of : Profile → TerritoryModel → Extent → Option SimpleDate
+    → Result (List Run) NoDay
+found_of p t e (Some date) = of_date p t date
+found_of p t e None = of_span p t e (span_meant p t e)
+
+-- the days that what is written means, as runs in order, or why it means none
+unfoldable pub found : Profile → TerritoryModel → Extent → Result (List Run) NoDay
+found p t e = found_of p t e (one_date e)
+
+-- the same of the list that the code has
+abbrev pub list_of : Result (Vec Run Global) NoDay → Result (List Run) NoDay
+list_of = result_map_both (λ runs. runs.items) (λ reason. reason)
+
+-- ---- the calendar that a date names
+
+-- by the new style the Gregorian calendar, with the year from 1 January
+abbrev pub new_style : Regime
+new_style = record { calendar = Calendar.Gregorian; style = Style.January; rule = Easter.Gregorian }
+
+-- the territory as if it had gone by the calendar that a date names: by the old style the Julian
+-- one, with its own beginnings of the year
+abbrev pub by_reckoning : TerritoryModel → Reckoning → TerritoryModel
+by_reckoning t OldStyle = in_julian_calendar t
+by_reckoning t NewStyle = opened new_style
+
+-- the territory by whose reckoning a date is read
+abbrev pub reckoned : TerritoryModel → Option Reckoning → TerritoryModel
+reckoned t None = t
+reckoned t (Some reckoning) = by_reckoning t reckoning
+
+-- both are the same runs
+abbrev pub is_same_run : Run → Run → Bool
+is_same_run a b = (a.first == b.first) && (a.last == b.last)
+
+abbrev pub are_same : Result (List Run) NoDay → Result (List Run) NoDay → Bool
+are_same (Ok own) (Ok named) = pointwise is_same_run own named
+are_same (Ok own) (Err reason) = false
+are_same (Err reason) (Ok named) = false
+are_same (Err reason) (Err other) = true
+
+-- the date names a calendar, and means other days by it than by the place's own reckoning
+abbrev pub is_by_other : Profile → TerritoryModel → Extent → Option Reckoning → Bool
+is_by_other p t e None = false
+is_by_other p t e (Some reckoning) =
+    not (are_same (found p t e) (found p (by_reckoning t reckoning) e))
+
+abbrev pub is_by_other_calendar : Profile → TerritoryModel → AnyDate → Bool
+is_by_other_calendar p t w = is_by_other p t w.extent w.reckoning

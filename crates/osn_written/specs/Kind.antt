@@ -1,0 +1,31 @@
+-- What kind of date is written, and its word. This project's profile.
+use Rattle.std.specs.Prelude.{ℕ, List, codes}
+use Rattle.osn_grammar.specs.declared.written.Extent.{Extent}
+use Rattle.osn_grammar.specs.declared.written.Extent.TheVariants as extent
+use Rattle.osn_grammar.specs.declared.written.SimpleDate.{SimpleDate}
+use Rattle.osn_grammar.specs.declared.written.SimpleDate.TheVariants as date
+use Rattle.osn_written.specs.declared.kind.Kind.{Kind}
+use Rattle.osn_written.specs.declared.kind.Kind.TheVariants as kinds
+
+-- its word
+abbrev pub kind_word : Kind → List ℕ
+kind_word kinds.Day = codes "day"
+kind_word kinds.Month = codes "month"
+kind_word kinds.Year = codes "year"
+kind_word kinds.Range = codes "range"
+kind_word kinds.Before = codes "before"
+kind_word kinds.After = codes "after"
+
+-- of one date, and of what is written
+abbrev pub kind_of_date : SimpleDate → Kind
+kind_of_date (date.Day year month day) = kinds.Day
+kind_of_date (date.Month year month) = kinds.Month
+kind_of_date (date.Year year) = kinds.Year
+
+abbrev pub kind_of : Extent → Kind
+kind_of (extent.On date) = kind_of_date date
+kind_of (extent.FromTo first last) = kinds.Range
+kind_of (extent.Before date) = kinds.Before
+kind_of (extent.NotAfter date) = kinds.Before
+kind_of (extent.After date) = kinds.After
+kind_of (extent.NotBefore date) = kinds.After

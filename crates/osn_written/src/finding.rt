@@ -1,0 +1,216 @@
+//! Which days a date means in a territory with all that is written of it, or why it means none.
+ghost use Rattle.std.specs.Prelude.{◌≡◌, IfOk};
+ghost use Rattle.osn_days.specs.Profile.{newest_rules};
+ghost use Rattle.osn_written.specs.Finding as spec;
+
+use crate::absence::{Absence, absence_of};
+use crate::runs::runs_meant;
+use crate::span::{NoSpan, span_meant};
+use crate::written_date::WrittenDate;
+use osn_computus::Rule;
+use osn_days::Calendar;
+use osn_grammar::{Extent, Reckoning, SimpleDate, WrittenDate as AnyDate};
+use osn_lands::{Regime, Run, Style, Territory};
+use std::alloc::{AllocError, Global};
+
+/// Why a written date means no day in a territory.
+#[derive(Clone, Copy, Debug, PartialEq, Eq)]
+pub enum NoDay {
+    /// The date, the first one of a range or that of a bound means no day. Of a month or a year it
+    /// is told why its first day is lacking.
+    Absent(Absence),
+    /// The last date of a range means no day.
+    LastAbsent(Absence),
+    /// The first day of a range is after its last day.
+    OutOfOrder,
+    /// No day of the line is before the date, or none is after it.
+    OffTheLine,
+}
+
+/// The regime of a date by the new style.
+const NEW_STYLE: Regime = Regime {
+    calendar: Calendar::Gregorian,
+    style: Style::January,
+    rule: Rule::Gregorian,
+};
+
+/// The territory as if it had gone by the calendar that a date names: by the old style the Julian
+/// calendar with its own beginnings of the year, by the new style the Gregorian calendar with the
+/// year from 1 January.
+///
+/// # Errors
+///
+/// `AllocError` where there is no memory for its periods.
+pub fn by_reckoning(
+    alloc: Global,
+    territory: &Territory,
+    reckoning: Reckoning,
+) -> Result<Territory, AllocError>
+    ensures { IfOk result (λ t. t ≡ spec.by_reckoning territory.now reckoning) }
+{
+    match reckoning {
+        Reckoning::OldStyle => territory.in_julian_calendar(),
+        Reckoning::NewStyle => Territory::open(alloc, NEW_STYLE),
+    }
+}
+
+/// The first day of a date, as it is written: of a month or a year its day 1.
+fn first_day_of(date: SimpleDate) -> WrittenDate
+    ensures { result ≡ spec.first_day_of date }
+{
+    let (year, month, day) = match date {
+        SimpleDate::Day { year, month, day } => (year, month, day),
+        SimpleDate::Month { year, month } => (year, month, 1),
+        SimpleDate::Year(year) => (year, 1, 1),
+    };
+    WrittenDate {
+        year: year.first,
+        month,
+        day,
+        is_double: year.is_double,
+        weekday: None,
+    }
+}
+
+/// Why a date means no day.
+fn absence_in(territory: &Territory, date: SimpleDate) -> Result<Absence, AllocError>
+    ensures { IfOk result (λ absence.
+        absence ≡ spec.absence_in newest_rules territory.now date) }
+{
+    absence_of(territory, first_day_of(date))
+}
+
+/// The first date of what is written, and the last one.
+fn ends_of(extent: Extent) -> (SimpleDate, SimpleDate)
+    ensures { result ≡ spec.ends_of extent }
+{
+    match extent {
+        Extent::FromTo(first, last) => (first, last),
+        Extent::On(date)
+        | Extent::Before(date)
+        | Extent::NotAfter(date)
+        | Extent::After(date)
+        | Extent::NotBefore(date) => (date, date),
+    }
+}
+
+/// Why there is no span of days.
+fn reason_of(
+    territory: &Territory,
+    extent: Extent,
+    no_span: NoSpan,
+) -> Result<NoDay, AllocError>
+    ensures { IfOk result (λ reason.
+        reason ≡ spec.reason_of newest_rules territory.now extent no_span) }
+{
+    let (first, last) = ends_of(extent);
+    match no_span {
+        NoSpan::NoDay => Ok(NoDay::Absent(absence_in(territory, first)?)),
+        NoSpan::NoLastDay => Ok(NoDay::LastAbsent(absence_in(territory, last)?)),
+        NoSpan::OutOfOrder => Ok(NoDay::OutOfOrder),
+        NoSpan::OffTheLine => Ok(NoDay::OffTheLine),
+    }
+}
+
+/// One run, or why there is none.
+fn of_span(
+    alloc: Global,
+    territory: &Territory,
+    extent: Extent,
+    span: Result<Run, NoSpan>,
+) -> Result<Result<Vec<Run>, NoDay>, AllocError>
+    ensures { IfOk result (λ found. spec.list_of found
+        ≡ spec.of_span newest_rules territory.now extent span) }
+{
+    match span {
+        Ok(run) => {
+            let mut runs = Vec::new(alloc);
+            runs.push(run)?;
+            Ok(Ok(runs))
+        }
+        Err(no_span) => Ok(Err(reason_of(territory, extent, no_span)?)),
+    }
+}
+
+/// The runs of one date, or why there is none.
+fn of_date(
+    alloc: Global,
+    territory: &Territory,
+    date: SimpleDate,
+) -> Result<Result<Vec<Run>, NoDay>, AllocError>
+    ensures { IfOk result (λ found. spec.list_of found
+        ≡ spec.of_date newest_rules territory.now date) }
+{
+    let runs = runs_meant(alloc, territory, date)?;
+    if runs.is_empty() {
+        return Ok(Err(NoDay::Absent(absence_in(territory, date)?)));
+    }
+    Ok(Ok(runs))
+}
+
+/// The date, where what is written is one.
+fn one_date(extent: Extent) -> Option<SimpleDate>
+    ensures { result ≡ spec.one_date extent }
+{
+    match extent {
+        Extent::On(date) => Some(date),
+        _ => None,
+    }
+}
+
+/// The days that what is written means in a territory, as runs in order, or why it means none. One
+/// date has the runs of `runs_meant`, a range or a bound is the one of `span_meant`.
+///
+/// # Errors
+///
+/// `AllocError` where there is no memory for the list.
+#[tactic(auto, unfolding(crate::specs::Finding::found))]
+pub fn find_runs(
+    alloc: Global,
+    territory: &Territory,
+    extent: Extent,
+) -> Result<Result<Vec<Run>, NoDay>, AllocError>
+    ensures { IfOk result (λ found. spec.list_of found
+        ≡ spec.found newest_rules territory.now extent) }
+{
+    match one_date(extent) {
+        Some(date) => of_date(alloc, territory, date),
+        None => {
+            let span = span_meant(alloc, territory, extent)?;
+            of_span(alloc, territory, extent, span)
+        }
+    }
+}
+
+/// Whether both are the same runs; where there is none, no matter why.
+fn are_same(own: &Result<Vec<Run>, NoDay>, named: &Result<Vec<Run>, NoDay>) -> bool
+    ensures { result ≡ spec.are_same (spec.list_of own.now) (spec.list_of named.now) }
+{
+    match (own, named) {
+        (Ok(own), Ok(named)) => own.as_slice() == named.as_slice(),
+        (Err(_), Err(_)) => true,
+        _ => false,
+    }
+}
+
+/// Whether a date that names a calendar means other days by it than by the place's own reckoning.
+///
+/// # Errors
+///
+/// `AllocError` where there is no memory for the lists that are compared.
+pub fn is_by_other_calendar(
+    alloc: Global,
+    territory: &Territory,
+    date: AnyDate,
+) -> Result<bool, AllocError>
+    ensures { IfOk result (λ other.
+        other ≡ spec.is_by_other_calendar newest_rules territory.now date) }
+{
+    let Some(reckoning) = date.reckoning else {
+        return Ok(false);
+    };
+    let reckoned = by_reckoning(alloc, territory, reckoning)?;
+    let own = find_runs(alloc, territory, date.extent)?;
+    let named = find_runs(alloc, &reckoned, date.extent)?;
+    Ok(!are_same(&own, &named))
+}

@@ -1,0 +1,58 @@
+//! What kind of date is written.
+ghost use Rattle.std.specs.Prelude.{◌≡◌};
+ghost use Rattle.osn_written.specs.Kind as spec;
+
+use osn_grammar::{Extent, SimpleDate};
+
+/// What kind of date is written.
+#[derive(Clone, Copy, Debug, PartialEq, Eq)]
+pub enum Kind {
+    Day,
+    Month,
+    Year,
+    /// From one date to another one.
+    Range,
+    /// Before a date, or not after it.
+    Before,
+    /// After a date, or not before it.
+    After,
+}
+
+impl Kind {
+    /// The word of the kind: `day`, `month`, `year`, `range`, `before` or `after`.
+    pub fn word(self) -> &'static str
+        ensures { result.now ≡ spec.kind_word self }
+    {
+        match self {
+            Kind::Day => "day",
+            Kind::Month => "month",
+            Kind::Year => "year",
+            Kind::Range => "range",
+            Kind::Before => "before",
+            Kind::After => "after",
+        }
+    }
+}
+
+/// The kind of one date.
+fn kind_of_date(date: SimpleDate) -> Kind
+    ensures { result ≡ spec.kind_of_date date }
+{
+    match date {
+        SimpleDate::Day { .. } => Kind::Day,
+        SimpleDate::Month { .. } => Kind::Month,
+        SimpleDate::Year(_) => Kind::Year,
+    }
+}
+
+/// The kind of what is written.
+pub fn kind_of(extent: Extent) -> Kind
+    ensures { result ≡ spec.kind_of extent }
+{
+    match extent {
+        Extent::On(date) => kind_of_date(date),
+        Extent::FromTo(_, _) => Kind::Range,
+        Extent::Before(_) | Extent::NotAfter(_) => Kind::Before,
+        Extent::After(_) | Extent::NotBefore(_) => Kind::After,
+    }
+}
