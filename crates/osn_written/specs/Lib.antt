@@ -8,3 +8,4 @@ pub mod Runs
 pub mod Spans
 pub mod Kind
 pub mod Finding
+pub mod Said

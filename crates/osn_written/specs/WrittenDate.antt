@@ -95,14 +95,26 @@ date_of_numbers years month day =
       weekday = None;
     })))
 
+-- the first year has three characters or more, so that it is no day
+abbrev pub is_long_year : List ℕ → Option (List ℕ × List ℕ) → Bool
+is_long_year text None = nat_le 3 (length text)
+is_long_year text (Some parts) = nat_le 3 (length parts.0)
+
+abbrev pub has_long_year : List ℕ → Bool
+has_long_year text = is_long_year text (parts_at 47 text)
+
 -- month and day of a year, with `-` between them
-abbrev pub in_numbers : List ℕ → List ℕ → Result WrittenDate DateFault
-in_numbers year rest = do
+abbrev pub of_year_in_numbers : List ℕ → List ℕ → Result WrittenDate DateFault
+of_year_in_numbers year rest = do
   parts ← ok_or (parts_at 45 rest) faults.Malformed
   years ← years_of year
   month ← ok_or (number_of parts.0) faults.Malformed
   day ← ok_or (number_of parts.1) faults.Malformed
   date_of_numbers years month day
+
+abbrev pub in_numbers : List ℕ → List ℕ → Result WrittenDate DateFault
+in_numbers year rest =
+    if has_long_year year then of_year_in_numbers year rest else Err faults.Malformed
 
 -- day, month and year, with a space between
 abbrev pub in_words : List ℕ → Result WrittenDate DateFault

@@ -13,7 +13,7 @@ use osn_grammar::{
 use std::alloc::{AllocError, Global};
 
 /// The fault of a text that has none of the forms of `osn_grammar`.
-fn fault_of(fault: FormFault) -> DateFault
+pub(crate) fn fault_of(fault: FormFault) -> DateFault
     ensures { result ≡ other.fault_of fault }
 {
     match fault {
@@ -31,7 +31,7 @@ fn fault_of(fault: FormFault) -> DateFault
 }
 
 /// The date of one day, with the weekday that is named beside it, if any.
-fn day_in(extent: Extent, weekday: Option<Weekday>) -> Result<WrittenDate, DateFault>
+pub(crate) fn day_in(extent: Extent, weekday: Option<Weekday>) -> Result<WrittenDate, DateFault>
     ensures { result ≡ other.day_in extent weekday }
 {
     match extent {

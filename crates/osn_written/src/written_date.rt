@@ -162,10 +162,23 @@ fn date_of_numbers(years: (u32, bool), month: u32, day: u32) -> Result<WrittenDa
     })
 }
 
-/// A year, and month and day with `-` between them.
+/// Whether the first year of a text has three characters or more, so that it is no day.
+fn has_long_year(text: &str) -> bool
+    ensures { result ≡ spec.has_long_year text.now }
+{
+    match parts_at(text, '/') {
+        None => text.len() >= 3,
+        Some((first, _)) => first.len() >= 3,
+    }
+}
+
+/// A year of three digits or more, and month and day with `-` between them.
 fn in_numbers(year: &str, rest: &str) -> Result<WrittenDate, DateFault>
     ensures { result ≡ spec.in_numbers year.now rest.now }
 {
+    if !has_long_year(year) {
+        return Err(DateFault::Malformed);
+    }
     let (month, day) = parts_at(rest, '-').ok_or(DateFault::Malformed)?;
     let years = years_of(year)?;
     let month = number_of(month).ok_or(DateFault::Malformed)?;
