@@ -9,3 +9,4 @@ pub mod Spans
 pub mod Kind
 pub mod Finding
 pub mod Said
+pub mod Words

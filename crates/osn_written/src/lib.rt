@@ -10,6 +10,7 @@ mod reading;
 mod runs;
 mod said;
 mod span;
+mod words;
 mod written_date;
 mod written_text;
 
