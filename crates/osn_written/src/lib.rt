@@ -3,6 +3,7 @@
 #![tactic(auto)]
 
 mod absence;
+mod date_in_words;
 mod meaning;
 mod reading;
 mod runs;
@@ -11,6 +12,7 @@ mod written_date;
 mod written_text;
 
 pub use absence::{Absence, absence_of};
+pub use date_in_words::DateInWords;
 pub use meaning::{days_meant, has_weekday, is_not_counted_double, is_on};
 pub use runs::runs_meant;
 pub use span::{NoSpan, span_meant};
