@@ -1,0 +1,102 @@
+-- A date in words: a day, a month, a year, a range or a bound, with what is said beside it. This
+-- project's profile.
+use Rattle.std.specs.Prelude.{◌≡◌, ℕ, ◌≤◌, Bool, false, nat_lt, ◌+◌, if◌then◌else◌, pos, List, []}
+use Rattle.std.specs.Prelude.{◌++◌, codes, Option, Some, None}
+use Rattle.std.specs.Fmt.{decimal}
+use Rattle.osn_days.specs.declared.weekday.Weekday.{Weekday}
+use Rattle.osn_days.specs.Month.{month_name}
+use Rattle.osn_days.specs.Weekday.{weekday_name}
+use Rattle.osn_grammar.specs.declared.written.Extent.{Extent}
+use Rattle.osn_grammar.specs.declared.written.Extent.TheVariants as extent
+use Rattle.osn_grammar.specs.declared.written.Reckoning.{Reckoning}
+use Rattle.osn_grammar.specs.declared.written.Reckoning.TheVariants as calendar
+use Rattle.osn_grammar.specs.declared.written.SimpleDate.{SimpleDate}
+use Rattle.osn_grammar.specs.declared.written.SimpleDate.TheVariants as date
+use Rattle.osn_grammar.specs.declared.written.WrittenDate.{WrittenDate as AnyDate}
+use Rattle.osn_grammar.specs.declared.written.Year.{Year}
+use Rattle.osn_lands.specs.Dual.{year_text}
+use Rattle.osn_written.specs.declared.written_date.WrittenDate.{WrittenDate}
+use Rattle.osn_written.specs.Text.{written_text}
+
+-- ---- a day, a month, a year
+
+-- the zeros that bring a year to three digits, since no shorter number is read as a year
+abbrev pub zeros_before : ℕ → List ℕ
+zeros_before year =
+    if nat_lt year 10 then codes "00"
+    else (if nat_lt year 100 then codes "0"
+    else [])
+
+-- the later year of a double one, or the only one
+abbrev pub last_year : Year → ℕ
+last_year y = if y.is_double then y.first + 1 else y.first
+
+-- a year: 1731, 045, and where it is double 1731/2, 1699/700, 009/10
+unfoldable pub words_of_year : Year → List ℕ
+words_of_year y = zeros_before y.first ++ year_text (pos y.first) (pos (last_year y))
+
+-- a month: February 1731/2
+abbrev pub words_of_month : ℕ → Year → List ℕ
+words_of_month month year = month_name month ++ (codes " " ++ words_of_year year)
+
+-- 11 February 1731/2, February 1731/2, 1731/2
+unfoldable pub words_of_date : SimpleDate → List ℕ
+words_of_date (date.Day year month day) = decimal day ++ (codes " " ++ words_of_month month year)
+words_of_date (date.Month year month) = words_of_month month year
+words_of_date (date.Year year) = words_of_year year
+
+-- ---- from when to when
+
+-- 1640, 1640 to 1645, before 1640, not after 1640, after 1640, not before 1640
+unfoldable pub words_of_extent : Extent → List ℕ
+words_of_extent (extent.On d) = words_of_date d
+words_of_extent (extent.FromTo a b) = words_of_date a ++ (codes " to " ++ words_of_date b)
+words_of_extent (extent.Before d) = codes "before " ++ words_of_date d
+words_of_extent (extent.NotAfter d) = codes "not after " ++ words_of_date d
+words_of_extent (extent.After d) = codes "after " ++ words_of_date d
+words_of_extent (extent.NotBefore d) = codes "not before " ++ words_of_date d
+
+-- ---- what is said beside it
+
+-- a word where something is said, and nothing where it isn't
+abbrev pub if_said : Bool → List ℕ → List ℕ
+if_said said word = if said then word else []
+
+-- the weekday before a date
+unfoldable pub weekday_before : Option Weekday → List ℕ
+weekday_before None = []
+weekday_before (Some w) = weekday_name w ++ codes " "
+
+-- the calendar after a date
+abbrev pub calendar_after : Option Reckoning → List ℕ
+calendar_after None = []
+calendar_after (Some calendar.OldStyle) = codes " O.S."
+calendar_after (Some calendar.NewStyle) = codes " N.S."
+
+-- a date with all that is said of it: [about Friday 11 February 1731/2 O.S.?]
+unfoldable pub words_of : AnyDate → List ℕ
+words_of w =
+    if_said w.is_supplied (codes "[")
+    ++ (if_said w.is_approximate (codes "about ")
+    ++ (weekday_before w.weekday
+    ++ (words_of_extent w.extent
+    ++ (calendar_after w.reckoning
+    ++ (if_said w.is_uncertain (codes "?") ++ if_said w.is_supplied (codes "]"))))))
+
+-- ---- a plain day
+
+-- the date of a day and nothing said beside it but its weekday
+abbrev pub plain : WrittenDate → AnyDate
+plain w = record {
+  extent = extent.On
+      (date.Day (record { first = w.year; is_double = w.is_double }) w.month w.day);
+  weekday = None;
+  reckoning = None;
+  is_approximate = false;
+  is_uncertain = false;
+  is_supplied = false;
+}
+
+-- as a law: from the year 100 on the words of a plain day are those of a written date
+unfoldable pub AreDaysAlike : Type 0
+AreDaysAlike = (w : WrittenDate) → 100 ≤ w.year → words_of (plain w) ≡ written_text w

@@ -1,0 +1,156 @@
+//! A date in words, as the grammar of dates reads it.
+ghost use Rattle.std.specs.Prelude.{◌≡◌, Some, pos};
+ghost use Rattle.osn_lands.specs.Dated.{years_text};
+ghost use Rattle.osn_lands.specs.Dual.{year_text};
+ghost use Rattle.osn_written.specs.DateInWords as spec;
+
+use osn_days::{Day, Weekday, month_name};
+use osn_grammar::{Extent, Reckoning, SimpleDate, WrittenDate, Year};
+use osn_lands::{DatedDay, DatedYears, Label};
+use std::fmt;
+
+/// The zeros that bring a year to three digits.
+fn zeros_before(year: u16) -> &'static str
+    ensures { result.now ≡ spec.zeros_before year }
+{
+    if year < 10 {
+        "00"
+    } else if year < 100 {
+        "0"
+    } else {
+        ""
+    }
+}
+
+/// The years of a dated day that is in the year. Which day it is makes no difference to them.
+#[tactic(auto, unfolding(osn_lands::specs::Dated::years_text))]
+fn years(year: Year) -> DatedYears
+    ensures { years_text result.0 ≡ year_text (pos year.first) (pos (spec.last_year year)) }
+{
+    let first = i32::from(year.first);
+    DatedYears(DatedDay {
+        day: Day::FIRST,
+        label: Label {
+            year: first,
+            month: 1,
+            day: 1,
+        },
+        january_year: if year.is_double { first + 1 } else { first },
+    })
+}
+
+/// A year in words.
+#[derive(Clone, Copy)]
+struct YearInWords(Year);
+
+impl fmt::Display for YearInWords {
+    ghost output = { λ x. Some (spec.words_of_year x.0) };
+
+    #[tactic(auto, unfolding(crate::specs::DateInWords::words_of_year))]
+    fn fmt<W: fmt::Write>(&self, f: &mut fmt::Formatter<W>) -> fmt::Result {
+        write!(f, "{}{}", zeros_before(self.0.first), years(self.0))
+    }
+}
+
+/// A day, a month or a year in words.
+#[derive(Clone, Copy)]
+struct SimpleInWords(SimpleDate);
+
+impl fmt::Display for SimpleInWords {
+    ghost output = { λ x. Some (spec.words_of_date x.0) };
+
+    #[tactic(auto, unfolding(crate::specs::DateInWords::words_of_date))]
+    fn fmt<W: fmt::Write>(&self, f: &mut fmt::Formatter<W>) -> fmt::Result {
+        match self.0 {
+            SimpleDate::Day { year, month, day } => {
+                write!(f, "{day} {} {}", month_name(month), YearInWords(year))
+            }
+            SimpleDate::Month { year, month } => {
+                write!(f, "{} {}", month_name(month), YearInWords(year))
+            }
+            SimpleDate::Year(year) => write!(f, "{}", YearInWords(year)),
+        }
+    }
+}
+
+/// A date, a range or a bound in words.
+#[derive(Clone, Copy)]
+struct ExtentInWords(Extent);
+
+impl fmt::Display for ExtentInWords {
+    ghost output = { λ x. Some (spec.words_of_extent x.0) };
+
+    #[tactic(auto, unfolding(crate::specs::DateInWords::words_of_extent))]
+    fn fmt<W: fmt::Write>(&self, f: &mut fmt::Formatter<W>) -> fmt::Result {
+        match self.0 {
+            Extent::On(date) => write!(f, "{}", SimpleInWords(date)),
+            Extent::FromTo(first, last) => {
+                write!(f, "{} to {}", SimpleInWords(first), SimpleInWords(last))
+            }
+            Extent::Before(date) => write!(f, "before {}", SimpleInWords(date)),
+            Extent::NotAfter(date) => write!(f, "not after {}", SimpleInWords(date)),
+            Extent::After(date) => write!(f, "after {}", SimpleInWords(date)),
+            Extent::NotBefore(date) => write!(f, "not before {}", SimpleInWords(date)),
+        }
+    }
+}
+
+/// A weekday before a date, if one is named.
+#[derive(Clone, Copy)]
+struct WeekdayBefore(Option<Weekday>);
+
+impl fmt::Display for WeekdayBefore {
+    ghost output = { λ x. Some (spec.weekday_before x.0) };
+
+    #[tactic(auto, unfolding(crate::specs::DateInWords::weekday_before))]
+    fn fmt<W: fmt::Write>(&self, f: &mut fmt::Formatter<W>) -> fmt::Result {
+        match self.0 {
+            None => Ok(()),
+            Some(weekday) => write!(f, "{} ", weekday.name()),
+        }
+    }
+}
+
+/// The calendar after a date, if one is named.
+fn calendar_after(reckoning: Option<Reckoning>) -> &'static str
+    ensures { result.now ≡ spec.calendar_after reckoning }
+{
+    match reckoning {
+        None => "",
+        Some(Reckoning::OldStyle) => " O.S.",
+        Some(Reckoning::NewStyle) => " N.S.",
+    }
+}
+
+/// A word where something is said, and nothing where it isn't.
+fn if_said(said: bool, word: &'static str) -> &'static str
+    ensures { result.now ≡ spec.if_said said word.now }
+{
+    if said { word } else { "" }
+}
+
+/// Writes a date in words, with all that is said of it: `[about Friday 11 February 1731/2 O.S.?]`,
+/// `February 1731/2 to 1735`, `not after 1640`. A year of one or two digits has zeros before it,
+/// as `045`, since no shorter number is read as a year. A month that is not 1 to 12 is taken for 12.
+#[derive(Clone, Copy, Debug, PartialEq, Eq)]
+pub struct DateInWords(pub WrittenDate);
+
+impl fmt::Display for DateInWords {
+    ghost output = { λ x. Some (spec.words_of x.0) };
+
+    #[tactic(auto, unfolding(crate::specs::DateInWords::words_of))]
+    fn fmt<W: fmt::Write>(&self, f: &mut fmt::Formatter<W>) -> fmt::Result {
+        let date = self.0;
+        write!(
+            f,
+            "{}{}{}{}{}{}{}",
+            if_said(date.is_supplied, "["),
+            if_said(date.is_approximate, "about "),
+            WeekdayBefore(date.weekday),
+            ExtentInWords(date.extent),
+            calendar_after(date.reckoning),
+            if_said(date.is_uncertain, "?"),
+            if_said(date.is_supplied, "]")
+        )
+    }
+}
