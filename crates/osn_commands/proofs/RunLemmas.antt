@@ -6,7 +6,7 @@ use Rattle.clap.specs.declared.error.kind.ErrorKind.{ErrorKind}
 use Rattle.clap.specs.declared.error.kind.ErrorKind.TheVariants.{OutOfMemory}
 use Rattle.osn_register.specs.declared.limits.Limits.{Limits}
 use Rattle.osn_invocation.specs.Grammar.{command_line}
-use Rattle.osn_invocation.specs.Invocation.{command_model, reading_letters}
+use Rattle.osn_invocation.specs.Invocation.{LettersModel, command_model, reading_letters}
 use Rattle.osn_invocation.specs.declared.invocation.CommandWords.{CommandWords}
 use Rattle.osn_letters.specs.Columns.{NameTexts}
 use Rattle.osn_letters.specs.declared.separator.Separator.{Separator}
@@ -26,13 +26,13 @@ ran limits given found CanFail d i o e status is h =
     subst (λ w. Runs limits (command_model w) CanFail d i o e status) (sym is) h
 
 -- a table was written by what these words ask for
-pub letters_ran : (limits : Limits) (journal place date : List ℕ)
-    (weekday separator : Option (List ℕ)) (names : NameTexts) (found : Option Separator)
-    (CanFail : Bool → Type 0) (d : Folders) (i : Input) (o e : Output) (status : Status)
-    → AreAsked place date weekday separator names found
+pub letters_ran : (limits : Limits) (journal : List ℕ) (words : LettersModel) (names : NameTexts)
+    (found : Option Separator) (CanFail : Bool → Type 0) (d : Folders) (i : Input) (o e : Output)
+    (status : Status)
+    → AreAsked words.place words.date words.weekday words.separator names found
     → ReadsOne journal CanFail d (λ file. PrintsLetters limits file names found i o e status)
-    → Runs limits (reading_letters journal place date weekday separator) CanFail d i o e status
-letters_ran limits journal place date weekday separator names found CanFail d i o e status asked h =
+    → Runs limits (reading_letters journal words) CanFail d i o e status
+letters_ran limits journal words names found CanFail d i o e status asked h =
     rw asked.1 (subst (λ n. ReadsOne journal CanFail d
     (λ file. PrintsLetters limits file n found i o e status)) asked.0 h)
 

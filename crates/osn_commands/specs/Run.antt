@@ -40,7 +40,7 @@ files_of (working script questions) = script ∷ questions ∷ []
 files_of (printing journal page) = journal ∷ []
 files_of (auditing journal transcript) = journal ∷ transcript ∷ []
 files_of (converting calendar date) = []
-files_of (reading_letters journal place date weekday separator) = journal ∷ []
+files_of (reading_letters journal asked) = journal ∷ []
 
 -- the command that is asked for was run under these limits, with the files that the arguments name,
 -- and ended so: what it wrote to standard output, and what standard error was told
@@ -59,12 +59,12 @@ Runs limits (auditing journal transcript) CanFail d i o e status =
     (λ edits told. PrintsAudit limits edits told o e status)
 Runs limits (converting calendar date) CanFail d i o e status =
     (d.after ≡ d.before) × PrintsConversion calendar date o e status
-Runs limits (reading_letters journal place date weekday separator) CanFail d i o e status =
-    MatchResult (separator_asked separator)
+Runs limits (reading_letters journal asked) CanFail d i o e status =
+    MatchResult (separator_asked asked.separator)
     (λ found. ReadsOne journal CanFail d (λ file. PrintsLetters limits file
-    (names_asked place date weekday) found i o e status))
+    (names_asked asked.place asked.date asked.weekday) found i o e status))
     (λ misuse. (d.after ≡ d.before) × (o.new ≡ o.old)
-    × TellsMisuse e misuse (unwrap_or separator []) status)
+    × TellsMisuse e misuse (unwrap_or asked.separator []) status)
 
 -- ---- a run
 

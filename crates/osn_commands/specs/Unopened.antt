@@ -12,7 +12,7 @@ use Rattle.osn_invocation.specs.Invocation.{auditing, converting, reading_letter
 abbrev pub named_file : CommandModel → Option (List ℕ)
 named_file (printing journal (almanac_words code year)) = None
 named_file (printing journal page) = Some journal
-named_file (reading_letters journal place date weekday separator) = Some journal
+named_file (reading_letters journal asked) = Some journal
 named_file (serving journal save kept readers) = None
 named_file (replaying readers schedule) = None
 named_file (working script questions) = None

@@ -138,18 +138,14 @@ where
         } => audit_in_folder(
             alloc, limits, folder, journal, transcript, output, errors, terminal,
         ),
-        CommandWords::Letters {
-            journal,
-            place,
-            date,
-            weekday,
-            separator,
-        } => match asked_settings(place, date, weekday, separator) {
+        CommandWords::Letters { journal, options } => match asked_settings(
+            options.place, options.date, options.weekday, options.separator,
+        ) {
             Ok(settings) => letters_in_folder(
                 alloc, limits, folder, journal, settings, input, output, errors, terminal,
             ),
             Err(misuse) => {
-                let typed = as_typed(separator);
+                let typed = as_typed(options.separator);
                 Ok(tell_misuse(alloc, errors, misuse, typed))
             }
         },

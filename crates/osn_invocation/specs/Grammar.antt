@@ -66,11 +66,12 @@ almanac_grammar = with_rule (with_rule
     (with_rule (new_app (codes "almanac")) (required_arg (codes "journal")))
     (required_arg (codes "code"))) year_arg
 
--- `read JOURNAL CODE DATE [--weekday DAY]`
+-- `read JOURNAL CODE DATE [--weekday DAY] [--order ORDER] [--strict]`
 abbrev pub read_grammar : App
-read_grammar = with_rule (with_rule (with_rule
+read_grammar = with_rule (with_rule (with_rule (with_rule (with_rule
     (with_rule (new_app (codes "read")) (required_arg (codes "journal")))
-    (required_arg (codes "code"))) (required_arg (codes "date"))) (value_option (codes "weekday"))
+    (required_arg (codes "code"))) (required_arg (codes "date"))) (value_option (codes "weekday")))
+    (value_option (codes "order"))) (flag_option (codes "strict"))
 
 -- `convert CALENDAR DATE`
 abbrev pub convert_grammar : App
@@ -96,12 +97,14 @@ territory_grammar = with_rule
     (with_rule (new_app (codes "territory")) (required_arg (codes "journal")))
     (optional_arg (codes "code"))
 
--- `letters JOURNAL [--place NAME] [--date NAME] [--weekday NAME] [--separator NAME]`
+-- `letters JOURNAL [--place NAME] [--date NAME] [--weekday NAME] [--separator NAME]
+-- [--order ORDER] [--strict] [--summary]`
 abbrev pub letters_grammar : App
-letters_grammar = with_rule (with_rule (with_rule (with_rule
+letters_grammar = with_rule (with_rule (with_rule (with_rule (with_rule (with_rule (with_rule
     (with_rule (new_app (codes "letters")) (required_arg (codes "journal")))
     (value_option (codes "place"))) (value_option (codes "date")))
-    (value_option (codes "weekday"))) (value_option (codes "separator"))
+    (value_option (codes "weekday"))) (value_option (codes "separator")))
+    (value_option (codes "order"))) (flag_option (codes "strict"))) (flag_option (codes "summary"))
 
 -- `audit JOURNAL TRANSCRIPT`
 abbrev pub audit_grammar : App

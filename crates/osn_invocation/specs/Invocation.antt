@@ -13,17 +13,18 @@ use Rattle.osn_invocation.specs.declared.invocation.CommandWords.TheVariants.{Se
 use Rattle.osn_invocation.specs.declared.invocation.CommandWords.TheVariants.{Page, Audit, Convert}
 use Rattle.osn_invocation.specs.declared.invocation.CommandWords.TheVariants.{Letters}
 use Rattle.osn_invocation.specs.declared.invocation.Invocation.{Invocation}
+use Rattle.osn_invocation.specs.declared.invocation.LettersOptions.{LettersOptions}
 use Rattle.osn_invocation.specs.declared.invocation.PageWords.{PageWords}
 use Rattle.osn_invocation.specs.declared.invocation.ServeOptions.{ServeOptions}
 use Rattle.osn_invocation.specs.declared.invocation.PageWords.TheVariants as pages
 
 -- a page of what a journal published: the almanac of a territory's code and a year; the reading of
--- a date by a code, the date, and the weekday that it is said to be; a day by a code and a date or
--- day number; a month by a code, a year and the month; the periods of a code's territory, or all
--- territories
+-- a date by a code, the date, the weekday that it is said to be, the order of a date's three
+-- numbers, and whether a date without a day is a refusal; a day by a code and a date or day number;
+-- a month by a code, a year and the month; the periods of a code's territory, or all territories
 pub data PageWordsModel : Type 0 where
   almanac_words : Text → ℕ → PageWordsModel
-  reading_words : Text → Text → Option Text → PageWordsModel
+  reading_words : Text → Text → Option Text → Option Text → Bool → PageWordsModel
   day_words : Text → Text → PageWordsModel
   month_words : Text → Text → Text → PageWordsModel
   territory_words : Option Text → PageWordsModel
@@ -35,11 +36,22 @@ pub record ServiceModel : Type 0 where
   pub read_only : Bool
   pub stop_at_refusal : Bool
 
+-- what the letters of a table are asked for: the names of the columns of places and dates, and, if
+-- they are named, that of the weekdays, what separates the fields, and the order of a date's three
+-- numbers; whether a remark is a refusal, and whether the remarks are counted
+pub record LettersModel : Type 0 where
+  pub place : Text
+  pub date : Text
+  pub weekday : Option Text
+  pub separator : Option Text
+  pub order : Option Text
+  pub strict : Bool
+  pub summary : Bool
+
 -- what a command is asked for: the service by a journal, where to save it, where to keep it, and
 -- the rest; a replay by readers and a schedule; a desk by a script and questions; a page by a
 -- journal and which page; an audit by a journal and a transcript; a conversion by a calendar and a
--- date; letters by a journal, the names of the columns of places and dates, and, if they are named,
--- that of the weekdays and what separates the fields. Files are named by their paths
+-- date; letters by a journal and the rest. Files are named by their paths
 pub data CommandModel : Type 0 where
   serving : Option Text → Option Text → Option Text → ServiceModel → CommandModel
   replaying : ℕ → Text → CommandModel
@@ -47,7 +59,7 @@ pub data CommandModel : Type 0 where
   printing : Text → PageWordsModel → CommandModel
   auditing : Text → Text → CommandModel
   converting : Text → Text → CommandModel
-  reading_letters : Text → Text → Text → Option Text → Option Text → CommandModel
+  reading_letters : Text → LettersModel → CommandModel
 
 -- what a command line asks for: a command, and what its limits are said to be, if anything
 pub record InvocationModel : Type 0 where
@@ -74,13 +86,17 @@ number_of other name given = option_map_or (number_or other) (one_of name given)
 abbrev pub text_of : Text → List Row → Text
 text_of name given = unwrap_or (first_of name given) []
 
+-- whether an option without a value was given
+abbrev pub is_given : Text → List Row → Bool
+is_given name given = nat_lt 0 (count_of name given)
+
 -- what each command asks for, by what was found for its arguments
 abbrev pub serve_command : List Row → CommandModel
 serve_command given = serving (first_of (codes "journal") given) (first_of (codes "save") given)
     (first_of (codes "keep") given) (record {
       readers = number_of 8 (codes "readers") given;
-      read_only = nat_lt 0 (count_of (codes "read-only") given);
-      stop_at_refusal = nat_lt 0 (count_of (codes "stop-at-refusal") given);
+      read_only = is_given (codes "read-only") given;
+      stop_at_refusal = is_given (codes "stop-at-refusal") given;
     })
 
 abbrev pub replay_command : List Row → CommandModel
@@ -103,9 +119,15 @@ abbrev pub column_of : Text → List Row → Text
 column_of name given = unwrap_or (first_of name given) name
 
 abbrev pub letters_command : List Row → CommandModel
-letters_command given = reading_letters (text_of (codes "journal") given)
-    (column_of (codes "place") given) (column_of (codes "date") given)
-    (first_of (codes "weekday") given) (first_of (codes "separator") given)
+letters_command given = reading_letters (text_of (codes "journal") given) (record {
+  place = column_of (codes "place") given;
+  date = column_of (codes "date") given;
+  weekday = first_of (codes "weekday") given;
+  separator = first_of (codes "separator") given;
+  order = first_of (codes "order") given;
+  strict = is_given (codes "strict") given;
+  summary = is_given (codes "summary") given;
+})
 
 -- a command that prints a page of a journal
 abbrev pub page_command : List Row → PageWordsModel → CommandModel
@@ -118,7 +140,8 @@ almanac_page given =
 
 abbrev pub read_page : List Row → PageWordsModel
 read_page given = reading_words (text_of (codes "code") given) (text_of (codes "date") given)
-    (first_of (codes "weekday") given)
+    (first_of (codes "weekday") given) (first_of (codes "order") given)
+    (is_given (codes "strict") given)
 
 abbrev pub day_page : List Row → PageWordsModel
 day_page given = day_words (text_of (codes "code") given) (text_of (codes "date") given)
@@ -168,8 +191,8 @@ invocation_in args =
 -- the same of what was read, by the texts behind its references
 abbrev pub page_words : PageWords → PageWordsModel
 page_words (pages.Almanac code year) = almanac_words code.now year
-page_words (pages.Read code date weekday) =
-    reading_words code.now date.now (option_map (λ name. name.now) weekday)
+page_words (pages.Read code date weekday order strict) = reading_words code.now date.now
+    (option_map (λ name. name.now) weekday) (option_map (λ word. word.now) order) strict
 page_words (pages.Day code date) = day_words code.now date.now
 page_words (pages.Month code year month) = month_words code.now year.now month.now
 page_words (pages.Territory code) = territory_words (option_map (λ code. code.now) code)
@@ -181,6 +204,17 @@ service_model given = record {
   stop_at_refusal = given.stop_at_refusal;
 }
 
+abbrev pub letters_model : LettersOptions → LettersModel
+letters_model given = record {
+  place = given.place.now;
+  date = given.date.now;
+  weekday = option_map (λ name. name.now) given.weekday;
+  separator = option_map (λ word. word.now) given.separator;
+  order = option_map (λ word. word.now) given.order;
+  strict = given.strict;
+  summary = given.summary;
+}
+
 abbrev pub command_model : CommandWords → CommandModel
 command_model (Serve given) =
     serving (option_map (λ path. path.now) given.journal) (option_map (λ path. path.now) given.save)
@@ -190,9 +224,7 @@ command_model (Desk script questions) = working script.now questions.now
 command_model (Page journal page) = printing journal.now (page_words page)
 command_model (Audit journal transcript) = auditing journal.now transcript.now
 command_model (Convert calendar date) = converting calendar.now date.now
-command_model (Letters journal place date weekday separator) =
-    reading_letters journal.now place.now date.now (option_map (λ name. name.now) weekday)
-    (option_map (λ name. name.now) separator)
+command_model (Letters journal options) = reading_letters journal.now (letters_model options)
 
 abbrev pub model_of : Invocation → InvocationModel
 model_of asked = record {

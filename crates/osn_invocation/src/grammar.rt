@@ -101,7 +101,9 @@ Requests and replies are JSON lines. With --save, the journal is saved only if a
 answered. With --keep, each change is in the journal before its reply is written. With
 --stop-at-refusal, a batch of edits is published whole or not at all.";
 
-/// The command `read`, its arguments and its option.
+const ORDER_HELP: &str = "How a date of three numbers, as 11/2/1731, is read: dmy or mdy";
+
+/// The command `read`, its arguments and its options.
 fn read_grammar<'a>(alloc: Global) -> Result<Command<'a>, AllocError>
     ensures { IfOk result (IsCommand read_grammar) }
 {
@@ -113,7 +115,9 @@ fn read_grammar<'a>(alloc: Global) -> Result<Command<'a>, AllocError>
         .arg(required_arg(alloc, "date", "DATE").help("The date as the document has it"))?
         .arg(option_arg(alloc, "weekday", "DAY").help(
             "The weekday that the document names, as Friday",
-        ))
+        ))?
+        .arg(option_arg(alloc, "order", "ORDER").help(ORDER_HELP))?
+        .arg(flag_arg(alloc, "strict").help("Ends with status 1 where the date means no day"))
 }
 
 const READ_EXAMPLE: &str = "Examples:
@@ -219,6 +223,11 @@ fn letters_grammar<'a>(alloc: Global) -> Result<Command<'a>, AllocError>
         ))?
         .arg(option_arg(alloc, "separator", "NAME").help(
             "What stands between two fields: comma, semicolon or tab [default: by the header]",
+        ))?
+        .arg(option_arg(alloc, "order", "ORDER").help(ORDER_HELP))?
+        .arg(flag_arg(alloc, "strict").help("Ends with status 1 where a row has a remark"))?
+        .arg(flag_arg(alloc, "summary").help(
+            "Tells standard error at the end how many rows had each remark",
         ))
 }
 

@@ -8,10 +8,10 @@ ghost use Rattle.osn_invocation.specs.Grammar.{HasMatches, command_line};
 ghost use Rattle.osn_invocation.specs.Invocation.{almanac_page, audit_command, command_by};
 ghost use Rattle.osn_invocation.specs.Invocation.{command_model, convert_command, day_page};
 ghost use Rattle.osn_invocation.specs.Invocation.{desk_command, invocation_by, invocation_in};
-ghost use Rattle.osn_invocation.specs.Invocation.{letters_command, model_of, month_page, number_of};
-ghost use Rattle.osn_invocation.specs.Invocation.{page_command, page_words, read_page, with_limits};
+ghost use Rattle.osn_invocation.specs.Invocation.{is_given, letters_command, model_of, month_page};
+ghost use Rattle.osn_invocation.specs.Invocation.{number_of, page_command, page_words, read_page};
 ghost use Rattle.osn_invocation.specs.Invocation.{replay_command, serve_command, territory_page};
-ghost use Rattle.osn_invocation.specs.Invocation.{text_of};
+ghost use Rattle.osn_invocation.specs.Invocation.{text_of, with_limits};
 
 use crate::grammar::command_line;
 use clap::{ArgMatches, Error};
@@ -38,6 +38,25 @@ pub struct ServeOptions<'a> {
     pub stop_at_refusal: bool,
 }
 
+/// What the letters of a table are asked for.
+#[derive(Clone, Copy, Debug, PartialEq, Eq)]
+pub struct LettersOptions<'a> {
+    /// The name of the column of codes.
+    pub place: &'a str,
+    /// The name of the column of dates.
+    pub date: &'a str,
+    /// The name of the column of weekdays, if it is named.
+    pub weekday: Option<&'a str>,
+    /// The word of what separates the fields, if it is named.
+    pub separator: Option<&'a str>,
+    /// The word of the order in which a date's three numbers are read, if it is named.
+    pub order: Option<&'a str>,
+    /// Whether a remark is a refusal.
+    pub strict: bool,
+    /// Whether the remarks are counted.
+    pub summary: bool,
+}
+
 /// A page of what a journal published, by the words of the command line.
 #[derive(Clone, Copy, Debug, PartialEq, Eq)]
 pub enum PageWords<'a> {
@@ -56,6 +75,10 @@ pub enum PageWords<'a> {
         date: &'a str,
         /// The name of the weekday that the document has, if any.
         weekday: Option<&'a str>,
+        /// The word of the order in which a date's three numbers are read, if it is named.
+        order: Option<&'a str>,
+        /// Whether a date without a day is a refusal.
+        strict: bool,
     },
     /// How a territory dated a day.
     Day {
@@ -117,14 +140,8 @@ pub enum CommandWords<'a> {
     Letters {
         /// The file of the journal.
         journal: &'a str,
-        /// The name of the column of codes.
-        place: &'a str,
-        /// The name of the column of dates.
-        date: &'a str,
-        /// The name of the column of weekdays, if it is named.
-        weekday: Option<&'a str>,
-        /// The word of what separates the fields, if it is named.
-        separator: Option<&'a str>,
+        /// Which columns, and how they are read.
+        options: LettersOptions<'a>,
     },
     /// To print a day by every calendar.
     Convert {
@@ -220,8 +237,8 @@ fn serve_of<'a>(given: &ArgMatches<'a>) -> CommandWords<'a>
         save: value_of(given, "save"),
         keep: value_of(given, "keep"),
         readers: number_of(given, "readers", READERS),
-        read_only: given.get_count("read-only") > 0,
-        stop_at_refusal: given.get_count("stop-at-refusal") > 0,
+        read_only: is_given(given, "read-only"),
+        stop_at_refusal: is_given(given, "stop-at-refusal"),
     })
 }
 
@@ -271,10 +288,15 @@ fn letters_of<'a>(given: &ArgMatches<'a>) -> CommandWords<'a>
 {
     CommandWords::Letters {
         journal: text_of(given, "journal"),
-        place: value_of(given, "place").unwrap_or("place"),
-        date: value_of(given, "date").unwrap_or("date"),
-        weekday: value_of(given, "weekday"),
-        separator: value_of(given, "separator"),
+        options: LettersOptions {
+            place: value_of(given, "place").unwrap_or("place"),
+            date: value_of(given, "date").unwrap_or("date"),
+            weekday: value_of(given, "weekday"),
+            separator: value_of(given, "separator"),
+            order: value_of(given, "order"),
+            strict: is_given(given, "strict"),
+            summary: is_given(given, "summary"),
+        },
     }
 }
 
@@ -307,6 +329,8 @@ fn read_of<'a>(given: &ArgMatches<'a>) -> PageWords<'a>
         code: text_of(given, "code"),
         date: text_of(given, "date"),
         weekday: value_of(given, "weekday"),
+        order: value_of(given, "order"),
+        strict: is_given(given, "strict"),
     }
 }
 
@@ -353,6 +377,13 @@ fn text_of<'a>(given: &ArgMatches<'a>, id: &str) -> &'a str
     ensures { result.now ≡ text_of id.now (rows_of (found_of given.now)) }
 {
     given.get_str(id).unwrap_or_default()
+}
+
+/// Whether an option without a value was given.
+fn is_given(given: &ArgMatches<'_>, id: &str) -> bool
+    ensures { result ≡ is_given id.now (rows_of (found_of given.now)) }
+{
+    given.get_count(id) > 0
 }
 
 /// The number that a word is, or the other one where it doesn't stand.

@@ -6,4 +6,6 @@
 mod grammar;
 mod invocation;
 
-pub use invocation::{CommandWords, Invocation, PageWords, ServeOptions, parse_args};
+pub use invocation::{
+    CommandWords, Invocation, LettersOptions, PageWords, ServeOptions, parse_args,
+};

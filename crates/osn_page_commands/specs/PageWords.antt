@@ -162,7 +162,8 @@ of_land asked = do
 
 abbrev pub page_asked : PageWordsModel → Result Asked Misuse
 page_asked (almanac_words code year) = Ok (Year year)
-page_asked (reading_words code date weekday) = of_land (reading_of (date_asked date) weekday)
+page_asked (reading_words code date weekday order strict) =
+    of_land (reading_of (date_asked date) weekday)
 page_asked (day_words code date) = of_land (day_page_asked (number_of date) date)
 page_asked (month_words code year month) = of_land (month_page_asked year month)
 page_asked (territory_words None) = Ok Lands
@@ -175,7 +176,7 @@ day_takes_memory None text = not (is_ok (usual_date text))
 
 abbrev pub takes_memory : PageWordsModel → Bool
 takes_memory (almanac_words code year) = false
-takes_memory (reading_words code date weekday) = not (is_ok (usual_date date))
+takes_memory (reading_words code date weekday order strict) = not (is_ok (usual_date date))
 takes_memory (day_words code date) = day_takes_memory (number_of date) date
 takes_memory (month_words code year month) = false
 takes_memory (territory_words code) = false
@@ -183,7 +184,7 @@ takes_memory (territory_words code) = false
 -- the code of the territory that is named, if any
 abbrev pub code_of : PageWordsModel → List ℕ
 code_of (almanac_words code year) = code
-code_of (reading_words code date weekday) = code
+code_of (reading_words code date weekday order strict) = code
 code_of (day_words code date) = code
 code_of (month_words code year month) = code
 code_of (territory_words None) = []
@@ -191,9 +192,10 @@ code_of (territory_words (Some code)) = code
 
 -- the word that is not what its place asks for
 abbrev pub wrong_word : PageWordsModel → Misuse → List ℕ
-wrong_word (reading_words code date (Some weekday)) misuses.Weekday = weekday
-wrong_word (reading_words code date (Some weekday)) (misuses.OtherWeekday named) = weekday
-wrong_word (reading_words code date weekday) misuse = date
+wrong_word (reading_words code date (Some weekday) order strict) misuses.Weekday = weekday
+wrong_word (reading_words code date (Some weekday) order strict) (misuses.OtherWeekday named) =
+    weekday
+wrong_word (reading_words code date weekday order strict) misuse = date
 wrong_word (day_words code date) misuse = date
 wrong_word (month_words code year month) misuses.Month = month
 wrong_word (month_words code year month) misuse = year

@@ -1,5 +1,6 @@
-use Rattle.std.proofs.Common.{option_map, refl}
+use Rattle.std.proofs.Common.{refl}
 use Rattle.std.proofs.lemmas.Result.{IfOk-weaker}
+use Rattle.osn_invocation.specs.Invocation.{letters_model}
 use Rattle.osn_lines.specs.Streams.{output_of}
 use Rattle.osn_commands.proofs.RunLemmas.{letters_ran, ran}
 use Rattle.osn_commands.proofs.program.execute.Goals as goal
@@ -48,8 +49,6 @@ returns-in-Ok-clause-ok g c =
     c.args.errors.now new.errors in
     IfOk-weaker c.letters_in_folder.result _ _
     (λ status h. ran c.args.limits c.args.command _ _ _ _ wrote told status c.in-Letters.is
-    (letters_ran c.args.limits c.in-Letters.journal.now c.in-Letters.place.now c.in-Letters.date.now
-    (option_map (λ name. name.now) c.in-Letters.weekday)
-    (option_map (λ word. word.now) c.in-Letters.separator)
+    (letters_ran c.args.limits c.in-Letters.journal.now (letters_model c.in-Letters.options)
     _ _ _ _ _ wrote told status c.in-Ok.ensures.ok h))
     c.letters_in_folder.ensures.ok

@@ -17,5 +17,11 @@ returns c =
     let first = one_more_arg _ _ _ _ _ c.in_ok-arg.ensures command journal in
     let second = one_more_arg _ _ _ _ _ c.in_ok-arg-2.ensures first code in
     let third = one_more_arg _ _ _ _ _ c.in_ok-arg-3.ensures second date in
-    IfOk-weaker c.arg-4.result _ _
-    (λ new added. one_more_arg _ new _ _ _ added third weekday) c.arg-4.ensures
+    let order = helped c.option_arg-2.result c.help-5.result _ _
+    c.help-5.ensures c.option_arg-2.ensures in
+    let strict = helped c.flag_arg.result c.help-6.result _ _
+    c.help-6.ensures c.flag_arg.ensures in
+    let fourth = one_more_arg _ _ _ _ _ c.in_ok-arg-4.ensures third weekday in
+    let fifth = one_more_arg _ _ _ _ _ c.in_ok-arg-5.ensures fourth order in
+    IfOk-weaker c.arg-6.result _ _
+    (λ new added. one_more_arg _ new _ _ _ added fifth strict) c.arg-6.ensures
