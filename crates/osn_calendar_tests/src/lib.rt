@@ -12,6 +12,8 @@ mod days;
 #[cfg(test)]
 mod easter_years;
 #[cfg(test)]
+mod found;
+#[cfg(test)]
 mod gaps;
 #[cfg(test)]
 mod grammar;

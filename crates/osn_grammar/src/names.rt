@@ -7,7 +7,7 @@ use crate::written::Reckoning;
 use osn_days::Weekday;
 
 /// Each name with the part of a date that it is: in small letters, with accents and without.
-pub const NAMES: [(&str, Part); 373] = [
+pub const NAMES: [(&str, Part); 374] = [
     ("january", Part::Month(1)),
     ("jan", Part::Month(1)),
     ("ianuarius", Part::Month(1)),
@@ -352,6 +352,13 @@ pub const NAMES: [(&str, Part); 373] = [
     ("new", Part::Reckoning(Reckoning::NewStyle)),
     (
         "1st",
+        Part::Number(Numeral {
+            value: 1,
+            digits: 1,
+        }),
+    ),
+    (
+        "1er",
         Part::Number(Numeral {
             value: 1,
             digits: 1,
