@@ -215,7 +215,7 @@ fn ranges(rt: HostRuntime) -> Result<(), Fail> {
     are_read(&rt, rt.alloc(), DateOrder::Unknown, &RANGES)
 }
 
-const CERTAINTY: [(&str, &str); 13] = [
+const CERTAINTY: [(&str, &str); 14] = [
     ("about 1640", "1640, about"),
     ("c. 1640", "1640, about"),
     ("ca. May 1640", "1640 5, about"),
@@ -223,6 +223,7 @@ const CERTAINTY: [(&str, &str); 13] = [
     ("~1640", "1640, about"),
     ("1640~", "1640, about"),
     ("1640?", "1640, in doubt"),
+    ("1640%", "1640, about, in doubt"),
     ("3 May 1640 (?)", "1640 5 3, in doubt"),
     ("probably May 1640", "1640 5, in doubt"),
     ("perhaps 1640", "1640, in doubt"),

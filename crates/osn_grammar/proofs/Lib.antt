@@ -1,3 +1,8 @@
 mod Digits
 mod NameFacts
 mod Scanned
+pub mod TextFacts
+pub mod SaidFacts
+pub mod FormFacts
+pub mod WordFacts
+mod DigitLaw

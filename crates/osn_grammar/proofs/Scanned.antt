@@ -1,7 +1,7 @@
 -- One more character of a text, taken where the parts so far are known.
 use Rattle.std.proofs.Common.{◌≡◌, ◌<◌, ◌≤◌, ℕ, zero, suc, ◌+◌, List, [], ◌∷◌, ◌++◌, Option, Some, None}
 use Rattle.std.proofs.Common.{length, get_or, drop, refl, ap, ◌∙◌, sym, arith, append_assoc, drop-cons}
-use Rattle.std.proofs.Common.{Bor, MatchOption, option_map, subst, length-drop}
+use Rattle.std.proofs.Common.{Bor, MatchOption, option_map}
 use Rattle.std.specs.List.{HoldsAt}
 use Rattle.osn_grammar.specs.declared.part.Part.{Part}
 use Rattle.osn_grammar.specs.Scan.{parts_after, parts_ended, word_after, first_of}

@@ -5,3 +5,4 @@ pub mod Simple
 pub mod Extent
 pub mod Reading
 pub mod Laws
+pub mod InDigits

@@ -1,6 +1,6 @@
 -- The parts of a text: its numbers, its names and its marks. This project's profile.
 use Rattle.std.specs.Prelude.{ℕ, Bool, true, false, ◌&&◌, ◌||◌, nat_le, ◌==◌, if◌then◌else◌}
-use Rattle.std.specs.Prelude.{List, [], ◌∷◌, length, Option, Some, None, option_map}
+use Rattle.std.specs.Prelude.{List, length, Option, Some, None, option_map}
 use Rattle.std.specs.List.{list_all}
 use Rattle.std.specs.Str.{all_ascii_digits}
 use Rattle.std.specs.Str.Parse.{digits_value}
@@ -15,6 +15,7 @@ tells_time (part.Weekday w) = false
 tells_time (part.Reckoning r) = false
 tells_time part.About = false
 tells_time part.Doubt = false
+tells_time part.AboutAndDoubt = false
 tells_time part.Bracket = false
 tells_time part.Filler = false
 tells_time _ = true

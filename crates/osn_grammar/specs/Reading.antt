@@ -38,14 +38,16 @@ abbrev pub reckoning_after : Option Reckoning → List Part → Result (Option R
 reckoning_after found [] = Ok found
 reckoning_after found (p ∷ rest) = with_reckoning found p >>= (λ next. reckoning_after next rest)
 
--- `about`, `c.`, `~`
+-- `about`, `c.`, `~`, `%`
 abbrev pub is_about : Part → Bool
 is_about part.About = true
+is_about part.AboutAndDoubt = true
 is_about _ = false
 
--- `?`, `probably`, `perhaps`
+-- `?`, `probably`, `perhaps`, `%`
 abbrev pub is_doubt : Part → Bool
 is_doubt part.Doubt = true
+is_doubt part.AboutAndDoubt = true
 is_doubt _ = false
 
 -- `[`, `]`

@@ -1,6 +1,6 @@
 -- How a text is cut into its parts: words, which are runs of letters and digits, and marks. It is
 -- told by its characters. This project's profile.
-use Rattle.std.specs.Prelude.{ℕ, Bool, true, false, not, ◌&&◌, ◌||◌, nat_le, nat_lt, ◌==◌, ◌+◌}
+use Rattle.std.specs.Prelude.{ℕ, Bool, false, not, ◌&&◌, ◌||◌, nat_le, nat_lt, ◌==◌, ◌+◌}
 use Rattle.std.specs.Prelude.{if◌then◌else◌, List, [], ◌∷◌, ◌++◌, Option, Some, None, length}
 use Rattle.std.specs.Prelude.{chars, encode_utf8}
 use Rattle.std.specs.Option.{option_to_list}
@@ -53,10 +53,11 @@ mark_of word c next =
     else (if c == 47 then Some part.Slash
     else (if c == 63 then Some part.Doubt
     else (if c == 126 then Some part.About
+    else (if c == 37 then Some part.AboutAndDoubt
     else (if c == 91 || c == 93 then Some part.Bracket
     else (if c == 46 then mark_of_stop word next
     else (if c == 32 || (c == 9 || (c == 44 || (c == 40 || c == 41))) then None
-    else Some part.Unknown))))))
+    else Some part.Unknown)))))))
 
 -- the part of a word, which may be empty
 abbrev pub part_of_run : List ℕ → Option Part

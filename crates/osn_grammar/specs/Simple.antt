@@ -1,6 +1,6 @@
 -- Simple dates, a day, a month or a year, and the forms in which they are written. This project's
 -- profile.
-use Rattle.std.specs.Prelude.{ℕ, Bool, true, false, ◌&&◌, not, nat_le, nat_lt, ◌==◌, ◌+◌, ◌%◌, ◌^◌}
+use Rattle.std.specs.Prelude.{ℕ, Bool, true, ◌&&◌, not, nat_le, nat_lt, ◌==◌, ◌+◌, ◌%◌, ◌^◌}
 use Rattle.std.specs.Prelude.{if◌then◌else◌, List, [], ◌∷◌, Option, Some, None, is_some}
 use Rattle.std.specs.Prelude.{Result, Ok, Err}
 use Rattle.osn_grammar.specs.declared.part.Numeral.{Numeral}

@@ -42,6 +42,8 @@ pub enum Part {
     By,
     About,
     Doubt,
+    /// `%`: both of them.
+    AboutAndDoubt,
     /// A square bracket, of what an editor supplied.
     Bracket,
     /// A word that says nothing of the day, as `of`.
@@ -63,6 +65,7 @@ impl Part {
                 | Part::Reckoning(_)
                 | Part::About
                 | Part::Doubt
+                | Part::AboutAndDoubt
                 | Part::Bracket
                 | Part::Filler
         )

@@ -1,6 +1,7 @@
 //! A text is read: what it says of a date, or why it is none.
 ghost use Rattle.std.specs.Prelude.{◌≡◌, None, IfOk};
 ghost use Rattle.std.specs.List.{list_any};
+ghost use Rattle.osn_grammar.specs.InDigits.{AreDigitsRead};
 ghost use Rattle.osn_grammar.specs.Laws.{AreCountedNamesKnown, AreEnglishNamesKnown};
 ghost use Rattle.osn_grammar.specs.Names.{AreNamesDistinct};
 ghost use Rattle.osn_grammar.specs.Reading as spec;
@@ -60,14 +61,18 @@ fn reckoning_of(parts: &[Part]) -> Result<Option<Reckoning>, DateFault>
 fn is_approximate(parts: &[Part]) -> bool
     ensures { result ≡ list_any spec.is_about parts.now }
 {
-    parts.iter().any(|part| matches!(part, Part::About))
+    parts
+        .iter()
+        .any(|part| matches!(part, Part::About | Part::AboutAndDoubt))
 }
 
 /// Whether a part says that a date is in doubt.
 fn is_uncertain(parts: &[Part]) -> bool
     ensures { result ≡ list_any spec.is_doubt parts.now }
 {
-    parts.iter().any(|part| matches!(part, Part::Doubt))
+    parts
+        .iter()
+        .any(|part| matches!(part, Part::Doubt | Part::AboutAndDoubt))
 }
 
 /// Whether a part says that an editor supplied a date.
@@ -146,7 +151,7 @@ fn said(order: DateOrder, parts: &[Part], timed: &[Part]) -> Result<Written, Dat
 /// # Errors
 ///
 /// Want of memory. What is wrong with a text that is no date is the result within.
-#[tactic(auto, using(crate::proofs::NameFacts::name_laws))]
+#[tactic(auto, using(crate::proofs::NameFacts::name_laws, crate::proofs::DigitLaw::digits_law))]
 pub fn parse(
     alloc: Global,
     text: &str,
@@ -159,6 +164,9 @@ pub fn parse(
     ensures english { AreEnglishNamesKnown }
     // as a law: it has `8ber` and its like, which count the months from March on
     ensures counted { AreCountedNamesKnown }
+    // as a law: a date in digits is read as its day, with `?`, `~` and `%` after it, in a range and
+    // with an open end
+    ensures digits { AreDigitsRead }
 {
     let parts = parts_in(alloc, text)?;
     let timed: Vec<Part> = parts

@@ -80,6 +80,7 @@ fn mark_of(word: &str, character: char, next: Option<char>) -> Option<Part>
         '/' => Some(Part::Slash),
         '?' => Some(Part::Doubt),
         '~' => Some(Part::About),
+        '%' => Some(Part::AboutAndDoubt),
         '[' | ']' => Some(Part::Bracket),
         '.' => mark_of_stop(word, next),
         ' ' | '\t' | ',' | '(' | ')' => None,

@@ -1,0 +1,246 @@
+-- Dates in digits with their signs are read as those dates.
+use Rattle.std.proofs.Common.{◌≡◌, ℕ, zero, suc, ◌≤◌, ◌<◌, ◌-◌, ◌^◌, ◌≤ℤ◌, nat_le, nat_lt, ℤ, pos}
+use Rattle.std.proofs.Common.{negsuc, unsigned_abs, Bool, true}
+use Rattle.std.proofs.Common.{false, List, [], ◌∷◌, ◌++◌, codes, length, replicate, None, Ok, refl}
+use Rattle.std.proofs.Common.{ap, ◌∙◌, sym, subst₂, arith, append-nil}
+use Rattle.std.proofs.lemmas.Bool.{le-leb, le-ltb}
+use Rattle.std.proofs.lemmas.Fmt.{decimal_is_IsNumeral}
+use Rattle.std.proofs.lemmas.Int.{ints}
+use Rattle.std.proofs.lemmas.Str.Parse.{numerals_by_value, tells_all_ascii_digits}
+use Rattle.std.specs.Fmt.{decimal}
+use Rattle.std.specs.Str.{all_ascii_digits}
+use Rattle.std.specs.Str.Parse.{digits_value}
+use Rattle.osn_days.specs.declared.date.Date.{Date}
+use Rattle.osn_days.specs.DateText.{at_least, date_digits, date_text, text_of_date}
+use Rattle.osn_days.proofs.DateDigits.{two_digits, four_digits}
+use Rattle.osn_grammar.specs.declared.part.Part.{Part}
+use Rattle.osn_grammar.specs.declared.part.Part.TheVariants.{Number, Dash, Slash, Open, About}
+use Rattle.osn_grammar.specs.declared.part.Part.TheVariants.{Doubt, AboutAndDoubt}
+use Rattle.osn_grammar.specs.declared.written.DateOrder.{DateOrder}
+use Rattle.osn_grammar.specs.declared.written.Extent.TheVariants as extent
+use Rattle.osn_grammar.specs.declared.written.SimpleDate.{SimpleDate}
+use Rattle.osn_grammar.specs.declared.written.SimpleDate.TheVariants as date
+use Rattle.osn_grammar.specs.Extent.{extent_of}
+use Rattle.osn_grammar.specs.InDigits.{AreDigitsRead, HasFourDigits, sign}
+use Rattle.osn_grammar.proofs.SaidFacts.{Say, IsSaid, nothing_said, part_said, text_read}
+use Rattle.osn_grammar.proofs.TextFacts.{Reads, Begins, Closes, dash, slash, doubt, about}
+use Rattle.osn_grammar.proofs.TextFacts.{about_and_doubt, digits_read, joined_reads, marked_begins}
+use Rattle.osn_grammar.proofs.TextFacts.{begins_reads, reads_begun, closed_scans, reads_scan}
+
+-- ---- numbers with zeros before them
+
+zeros_digits : (k : ℕ) (ds : List ℕ) → all_ascii_digits ds ≡ true
+    → all_ascii_digits (replicate k 48 ++ ds) ≡ true
+zeros_digits zero ds digits = digits
+zeros_digits (suc k) ds digits = zeros_digits k ds digits
+
+zeros_value : (k : ℕ) (ds : List ℕ)
+    → digits_value 10 (replicate k 48 ++ ds) ≡ digits_value 10 ds
+zeros_value zero ds = refl
+zeros_value (suc k) ds = zeros_value k ds
+
+-- a number in a count of digits
+padded_reads : (w n : ℕ) → n < 10 ^ 9 → length (at_least w n) ≡ w → 1 ≤ w → w ≤ 9
+    → Reads (at_least w n) (Number (record { value = n; digits = w }) ∷ [])
+padded_reads w n small count some few =
+    let own = numerals_by_value (λ ds. all_ascii_digits ds ≡ true) tells_all_ascii_digits in
+    let numeral = decimal_is_IsNumeral n (omega (arith, small)) in
+    digits_read (at_least w n) n w
+    (zeros_digits (w - length (decimal n)) (decimal n) (own.from (decimal n) numeral.0.1))
+    (zeros_value (w - length (decimal n)) (decimal n) ∙ numeral.1) count some few
+
+-- ---- a date
+
+abbrev parts_of : ℕ → ℕ → ℕ → List Part
+parts_of y m d =
+    Number (record { value = y; digits = 4 }) ∷ Dash ∷ Number (record { value = m; digits = 2 })
+    ∷ Dash ∷ Number (record { value = d; digits = 2 }) ∷ []
+
+date_reads : (y m d : ℕ) → y < 10000 → m < 100 → d < 100
+    → Reads (date_digits y m d) (parts_of y m d)
+date_reads y m d hy hm hd =
+    joined_reads dash
+    (padded_reads 4 y (omega (arith, hy)) (ap length (four_digits y hy)) (omega arith)
+    (omega arith))
+    (joined_reads dash
+    (padded_reads 2 m (omega (arith, hm)) (ap length (two_digits m hm)) (omega arith)
+    (omega arith))
+    (padded_reads 2 d (omega (arith, hd)) (ap length (two_digits d hd)) (omega arith)
+    (omega arith)))
+
+-- these are the numbers of a date
+record IsDay (y m d : ℕ) : Type 0 where
+  year_high : nat_lt 10000 y ≡ false
+  month_low : nat_le 1 m ≡ true
+  month_high : nat_le m 12 ≡ true
+  day_low : nat_le 1 d ≡ true
+  day_high : nat_le d 31 ≡ true
+
+abbrev day : ℕ → ℕ → ℕ → SimpleDate
+day y m d = date.Day (record { first = y; is_double = false }) m d
+
+on_read : (o : DateOrder) (y m d : ℕ) → IsDay y m d
+    → extent_of o (parts_of y m d) ≡ Ok (extent.On (day y m d))
+on_read o y m d h = rw (h.year_high, h.month_low, h.month_high, h.day_low, h.day_high) refl
+
+range_read : (o : DateOrder) (y m d z n e : ℕ) → IsDay y m d → IsDay z n e
+    → extent_of o (parts_of y m d ++ Slash ∷ parts_of z n e)
+    ≡ Ok (extent.FromTo (day y m d) (day z n e))
+range_read o y m d z n e h g =
+    rw (h.year_high, h.month_low, h.month_high, h.day_low, h.day_high)
+    (rw (g.year_high, g.month_low, g.month_high, g.day_low, g.day_high) refl)
+
+not_after_read : (o : DateOrder) (y m d : ℕ) → IsDay y m d
+    → extent_of o (Open ∷ Slash ∷ parts_of y m d) ≡ Ok (extent.NotAfter (day y m d))
+not_after_read o y m d h = rw (h.year_high, h.month_low, h.month_high, h.day_low, h.day_high) refl
+
+not_before_read : (o : DateOrder) (y m d : ℕ) → IsDay y m d
+    → extent_of o (parts_of y m d ++ Slash ∷ Open ∷ []) ≡ Ok (extent.NotBefore (day y m d))
+not_before_read o y m d h = rw (h.year_high, h.month_low, h.month_high, h.day_low, h.day_high) refl
+
+-- ---- signs
+
+abbrev sign_parts : Bool → Bool → List Part
+sign_parts false false = []
+sign_parts false true = Doubt ∷ []
+sign_parts true false = About ∷ []
+sign_parts true true = AboutAndDoubt ∷ []
+
+signed_reads : {x : List ℕ} {ps : List Part} (a u : Bool) → Reads x ps
+    → Reads (x ++ sign a u) (ps ++ sign_parts a u)
+signed_reads {x} {ps} false false read =
+    subst₂ Reads (sym (append-nil x)) (sym (append-nil ps)) read
+signed_reads false true read = reads_begun (marked_begins doubt read)
+signed_reads true false read = reads_begun (marked_begins about read)
+signed_reads true true read = reads_begun (marked_begins about_and_doubt read)
+
+sign_says : (a u : Bool) → Say (sign_parts a u) [] None None a u false
+sign_says false false = nothing_said
+sign_says false true = part_said Doubt refl nothing_said
+sign_says true false = part_said About refl nothing_said
+sign_says true true = part_said AboutAndDoubt refl nothing_said
+
+-- a sign, where none came after it
+sign_before : {ps ts : List Part} (a u : Bool) → Say ps ts None None false false false
+    → Say (sign_parts a u ++ ps) ts None None a u false
+sign_before false false said = said
+sign_before false true said = part_said Doubt refl said
+sign_before true false said = part_said About refl said
+sign_before true true said = part_said AboutAndDoubt refl said
+
+-- the same sign again says no more
+sign_added : {ps ts : List Part} (a u : Bool) → Say ps ts None None a u false
+    → Say (sign_parts a u ++ ps) ts None None a u false
+sign_added false false said = said
+sign_added false true said = part_said Doubt refl said
+sign_added true false said = part_said About refl said
+sign_added true true said = part_said AboutAndDoubt refl said
+
+date_added : {ps ts : List Part} {a u : Bool} (y m d : ℕ) → Say ps ts None None a u false
+    → Say (parts_of y m d ++ ps) (parts_of y m d ++ ts) None None a u false
+date_added y m d said =
+    part_said (Number (record { value = y; digits = 4 })) refl
+    (part_said Dash refl
+    (part_said (Number (record { value = m; digits = 2 })) refl
+    (part_said Dash refl
+    (part_said (Number (record { value = d; digits = 2 })) refl said))))
+
+-- ---- the law
+
+-- the text of numbers that are a date's
+record IsDateText (text : List ℕ) (y m d : ℕ) : Type 0 where
+  reads : Reads text (parts_of y m d)
+  is : IsDay y m d
+
+day_said : {x : List ℕ} (y m d : ℕ) (a u : Bool) → IsDateText x y m d
+    → IsSaid (x ++ sign a u) (parts_of y m d) None None a u false
+day_said y m d a u text = record {
+  parts = parts_of y m d ++ sign_parts a u;
+  scans = reads_scan (signed_reads a u text.reads);
+  says = date_added y m d (sign_says a u);
+}
+
+range_said : {x z : List ℕ} (y m d v n e : ℕ) (a u : Bool) → IsDateText x y m d
+    → IsDateText z v n e
+    → IsSaid ((x ++ sign a u) ++ 47 ∷ (z ++ sign a u)) (parts_of y m d ++ Slash ∷ parts_of v n e)
+    None None a u false
+range_said y m d v n e a u first last = record {
+  parts = (parts_of y m d ++ sign_parts a u) ++ Slash ∷ (parts_of v n e ++ sign_parts a u);
+  scans = reads_scan
+      (joined_reads slash (signed_reads a u first.reads) (signed_reads a u last.reads));
+  says = date_added y m d (sign_added a u
+      (part_said Slash refl (date_added v n e (sign_says a u))));
+}
+
+open_begins : Begins (codes "../") (Open ∷ Slash ∷ [])
+open_begins = record { low = refl; is = λ rest. refl }
+
+open_closes : Closes (codes "/..") (Slash ∷ Open ∷ [])
+open_closes = record {
+  low = refl;
+  no_letter = refl;
+  no_stop = refl;
+  ends = slash.ends (codes "..");
+  is = refl;
+}
+
+not_after_said : {x : List ℕ} (y m d : ℕ) (a u : Bool) → IsDateText x y m d
+    → IsSaid (codes "../" ++ (x ++ sign a u)) (Open ∷ Slash ∷ parts_of y m d) None None a u false
+not_after_said y m d a u text = record {
+  parts = Open ∷ Slash ∷ (parts_of y m d ++ sign_parts a u);
+  scans = reads_scan (begins_reads open_begins (signed_reads a u text.reads));
+  says = part_said Open refl (part_said Slash refl (date_added y m d (sign_says a u)));
+}
+
+not_before_said : {x : List ℕ} (y m d : ℕ) (a u : Bool) → IsDateText x y m d
+    → IsSaid ((x ++ sign a u) ++ codes "/..") (parts_of y m d ++ Slash ∷ Open ∷ []) None None a u
+    false
+not_before_said y m d a u text = record {
+  parts = (parts_of y m d ++ sign_parts a u) ++ Slash ∷ Open ∷ [];
+  scans = closed_scans (signed_reads a u text.reads) open_closes;
+  says = date_added y m d (sign_before a u
+      (part_said Slash refl (part_said Open refl nothing_said)));
+}
+
+year_small : (y : ℤ) → pos 1 ≤ℤ y → y ≤ℤ pos 9999 → unsigned_abs y ≤ 9999
+year_small (pos n) low high = omega (arith, ints, high)
+year_small (negsuc n) low high = absurd (omega (arith, ints, low))
+
+text_is : (d : Date) → HasFourDigits d
+    → IsDateText (text_of_date d) (unsigned_abs d.year) d.month d.day
+unfolding date_text
+text_is d h =
+    let year = year_small d.year h.year_low h.year_high in
+    record {
+      reads = date_reads (unsigned_abs d.year) d.month d.day (omega (arith, year))
+          (omega (arith, h.month_high)) (omega (arith, h.day_high));
+      is = record {
+        year_high = le-ltb 10000 (unsigned_abs d.year) (omega (arith, year));
+        month_low = le-leb 1 d.month h.month_low;
+        month_high = le-leb d.month 12 h.month_high;
+        day_low = le-leb 1 d.day h.day_low;
+        day_high = le-leb d.day 31 h.day_high;
+      };
+    }
+
+pub digits_law : AreDigitsRead
+unfolding AreDigitsRead
+digits_law o a b approximate uncertain first last =
+    let x = text_is a first in
+    let z = text_is b last in
+    let y = unsigned_abs a.year in
+    let v = unsigned_abs b.year in
+    record {
+      day = text_read o (extent.On (day y a.month a.day))
+          (day_said y a.month a.day approximate uncertain x) refl
+          (on_read o y a.month a.day x.is);
+      range = text_read o (extent.FromTo (day y a.month a.day) (day v b.month b.day))
+          (range_said y a.month a.day v b.month b.day approximate uncertain x z) refl
+          (range_read o y a.month a.day v b.month b.day x.is z.is);
+      not_after = text_read o (extent.NotAfter (day v b.month b.day))
+          (not_after_said v b.month b.day approximate uncertain z) refl
+          (not_after_read o v b.month b.day z.is);
+      not_before = text_read o (extent.NotBefore (day y a.month a.day))
+          (not_before_said y a.month a.day approximate uncertain x) refl
+          (not_before_read o y a.month a.day x.is);
+    }

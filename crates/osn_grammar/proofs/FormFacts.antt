@@ -1,0 +1,184 @@
+-- The parts of a date in words are read as that date, by themselves and in a range.
+use Rattle.std.proofs.Common.{◌≡◌, ℕ, true, false, List, [], ◌∷◌, ◌++◌, Option, Some, None, Ok}
+use Rattle.std.proofs.Common.{refl, sym, subst, subst₂, append_assoc, append-nil}
+use Rattle.osn_grammar.specs.declared.part.Numeral.{Numeral}
+use Rattle.osn_grammar.specs.declared.part.Part.{Part}
+use Rattle.osn_grammar.specs.declared.part.Part.TheVariants.{Number, Month, Slash, To, Before}
+use Rattle.osn_grammar.specs.declared.part.Part.TheVariants.{After, Not}
+use Rattle.osn_grammar.specs.declared.written.DateOrder.{DateOrder}
+use Rattle.osn_grammar.specs.declared.written.Extent.{Extent}
+use Rattle.osn_grammar.specs.declared.written.Extent.TheVariants as extent
+use Rattle.osn_grammar.specs.declared.written.SimpleDate.{SimpleDate}
+use Rattle.osn_grammar.specs.declared.written.SimpleDate.TheVariants as date
+use Rattle.osn_grammar.specs.declared.written.Year.{Year}
+use Rattle.osn_grammar.specs.Extent.{extent_of}
+use Rattle.osn_grammar.specs.Reading.{is_undated}
+use Rattle.osn_grammar.specs.Simple.{simple_date, is_long, year_of, month_in, day_in}
+use Rattle.osn_grammar.proofs.SaidFacts.{Say, Adds, part_said}
+
+-- the parts of a year's numbers
+abbrev pub later_parts : Option Numeral → List Part
+later_parts None = []
+later_parts (Some l) = Slash ∷ Number l ∷ []
+
+abbrev pub year_parts : Numeral → Option Numeral → List Part
+year_parts first later = Number first ∷ later_parts later
+
+-- these are the numbers of the year
+pub record IsYear (first : Numeral) (later : Option Numeral) (year : Year) : Type 0 where
+  pub long : is_long first ≡ true
+  pub is : year_of (record { first = first; later = later }) ≡ Ok year
+
+-- the parts are the date, before `to` and another date too
+pub record IsDate (parts : List Part) (d : SimpleDate) : Type 0 where
+  pub is : (o : DateOrder) → simple_date o parts ≡ Ok d
+  pub alone : (o : DateOrder) → extent_of o parts ≡ Ok (extent.On d)
+  pub dated : (last : List Part) → is_undated (parts ++ last) ≡ false
+  pub adds : Adds parts
+  pub first : (o : DateOrder) (last : List Part) (b : SimpleDate) → simple_date o last ≡ Ok b
+      → extent_of o (parts ++ To ∷ last) ≡ Ok (extent.FromTo d b)
+
+-- ---- what the parts add
+
+year_adds : (first : Numeral) (later : Option Numeral) → Adds (year_parts first later)
+year_adds first None rest ts w r a u s said = part_said (Number first) refl said
+year_adds first (Some later) rest ts w r a u s said =
+    part_said (Number first) refl (part_said Slash refl (part_said (Number later) refl said))
+
+month_adds : (month : ℕ) (first : Numeral) (later : Option Numeral)
+    → Adds (Month month ∷ year_parts first later)
+month_adds month first later rest ts w r a u s said =
+    part_said (Month month) refl (year_adds first later rest ts w r a u s said)
+
+day_adds : (day : Numeral) (month : ℕ) (first : Numeral) (later : Option Numeral)
+    → Adds (Number day ∷ Month month ∷ year_parts first later)
+day_adds day month first later rest ts w r a u s said =
+    part_said (Number day) refl (month_adds month first later rest ts w r a u s said)
+
+-- ---- a day
+
+abbrev day_parts : Numeral → ℕ → Numeral → Option Numeral → List Part
+day_parts day month first later = Number day ∷ Month month ∷ year_parts first later
+
+pub day_is : (day : Numeral) (month : ℕ) (first : Numeral) (later : Option Numeral) (year : Year)
+    → is_long day ≡ false → IsYear first later year
+    → day_in year month day.value ≡ Ok (date.Day year month day.value)
+    → IsDate (day_parts day month first later) (date.Day year month day.value)
+day_is day month first None year short read is = record {
+  is = λ o. rw (short, read.is, is) refl;
+  alone = λ o. rw (short, read.is, is) refl;
+  dated = λ last. refl;
+  adds = day_adds day month first None;
+  first = λ o last b after. rw (after, short, read.is, is) refl;
+}
+day_is day month first (Some later) year short read is = record {
+  is = λ o. rw (read.is, is) refl;
+  alone = λ o. rw (read.is, is) refl;
+  dated = λ last. refl;
+  adds = day_adds day month first (Some later);
+  first = λ o last b after. rw (after, read.is, is) refl;
+}
+
+-- ---- a month
+
+pub month_is : (month : ℕ) (first : Numeral) (later : Option Numeral) (year : Year)
+    → IsYear first later year → month_in year month ≡ Ok (date.Month year month)
+    → IsDate (Month month ∷ year_parts first later) (date.Month year month)
+month_is month first None year read is = record {
+  is = λ o. rw (read.is, is) refl;
+  alone = λ o. rw (read.is, is) refl;
+  dated = λ last. refl;
+  adds = month_adds month first None;
+  first = λ o last b after. rw (after, read.is, read.long, is) refl;
+}
+month_is month first (Some later) year read is = record {
+  is = λ o. rw (read.is, is) refl;
+  alone = λ o. rw (read.is, is) refl;
+  dated = λ last. refl;
+  adds = month_adds month first (Some later);
+  first = λ o last b after. rw (after, read.is, is) refl;
+}
+
+-- ---- a year
+
+pub year_is : (first : Numeral) (later : Option Numeral) (year : Year) → IsYear first later year
+    → IsDate (year_parts first later) (date.Year year)
+year_is first None year read = record {
+  is = λ o. rw read.is refl;
+  alone = λ o. rw read.is refl;
+  dated = λ last. refl;
+  adds = year_adds first None;
+  first = λ o last b after. rw (after, read.is, read.long) refl;
+}
+year_is first (Some later) year read = record {
+  is = λ o. rw read.is refl;
+  alone = λ o. rw read.is refl;
+  dated = λ last. refl;
+  adds = year_adds first (Some later);
+  first = λ o last b after. rw (after, read.is) refl;
+}
+
+-- ---- extents
+
+-- the parts are a date, a range or a bound, and say no more
+pub record IsExtent (parts : List Part) (e : Extent) : Type 0 where
+  pub is : (o : DateOrder) → extent_of o parts ≡ Ok e
+  pub dated : is_undated parts ≡ false
+  pub adds : Adds parts
+
+pub on_is : {ps : List Part} {d : SimpleDate} → IsDate ps d → IsExtent ps (extent.On d)
+on_is {ps} read = record {
+  is = read.alone;
+  dated = subst (λ parts. is_undated parts ≡ false) (append-nil ps) (read.dated []);
+  adds = read.adds;
+}
+
+both_add : (ps qs : List Part) → Adds ps → Adds qs → Adds (ps ++ qs)
+both_add ps qs first last rest ts w r a u s said =
+    subst₂ (λ parts timed. Say parts timed w r a u s) (sym (append_assoc ps qs rest))
+    (sym (append_assoc ps qs ts))
+    (first (qs ++ rest) (qs ++ ts) w r a u s (last rest ts w r a u s said))
+
+pub from_to_is : {ps qs : List Part} {a b : SimpleDate} → IsDate ps a → IsDate qs b
+    → IsExtent (ps ++ To ∷ qs) (extent.FromTo a b)
+from_to_is {ps} {qs} {a} {b} first last = record {
+  is = λ o. first.first o qs b (last.is o);
+  dated = first.dated (To ∷ qs);
+  adds = both_add ps (To ∷ qs) first.adds
+      (λ rest ts w r about doubt bracket said.
+      part_said To refl (last.adds rest ts w r about doubt bracket said));
+}
+
+pub before_is : {ps : List Part} {d : SimpleDate} → IsDate ps d
+    → IsExtent (Before ∷ ps) (extent.Before d)
+before_is read = record {
+  is = λ o. rw (read.is o) refl;
+  dated = refl;
+  adds = λ rest ts w r a u s said. part_said Before refl (read.adds rest ts w r a u s said);
+}
+
+pub after_is : {ps : List Part} {d : SimpleDate} → IsDate ps d
+    → IsExtent (After ∷ ps) (extent.After d)
+after_is read = record {
+  is = λ o. rw (read.is o) refl;
+  dated = refl;
+  adds = λ rest ts w r a u s said. part_said After refl (read.adds rest ts w r a u s said);
+}
+
+pub not_before_is : {ps : List Part} {d : SimpleDate} → IsDate ps d
+    → IsExtent (Not ∷ Before ∷ ps) (extent.NotBefore d)
+not_before_is read = record {
+  is = λ o. rw (read.is o) refl;
+  dated = refl;
+  adds = λ rest ts w r a u s said.
+      part_said Not refl (part_said Before refl (read.adds rest ts w r a u s said));
+}
+
+pub not_after_is : {ps : List Part} {d : SimpleDate} → IsDate ps d
+    → IsExtent (Not ∷ After ∷ ps) (extent.NotAfter d)
+not_after_is read = record {
+  is = λ o. rw (read.is o) refl;
+  dated = refl;
+  adds = λ rest ts w r a u s said.
+      part_said Not refl (part_said After refl (read.adds rest ts w r a u s said));
+}
