@@ -6,9 +6,10 @@
 
 Random territories are put into a journal, with their changes near one another, listed Easters and
 edits that wait. Of each date the page of `read` is held against the one of `page_texts.py`, which
-asks every day of the line that has the month and day. So are the pages of days about the changes,
-of the date's month, of conversions, and of the territories. Words that are wrong, codes that are
-unknown and files that are not there have to be told as docs/FORMATS.md says.
+asks every day of the line that has the month and day. So are those of months, years, ranges and
+bounds in random forms, by `spans.py`, and the pages of days about the changes, of the date's month,
+of conversions, and of the territories. Words that are wrong, codes that are unknown and files that
+are not there have to be told as docs/FORMATS.md says.
 """
 import os
 import random
@@ -20,6 +21,7 @@ from page_texts import (Place, conversion_page, day_page, list_page, month_page,
 from reference import MONTHS, WEEKDAYS, dates, written
 from samples import (MALFORMED, NAMES, any_case, date_text, day_near, journal_lines, label_near,
                      middle_day, write_journal)
+from spans import span_near, span_page, text_of
 from written import Malformed, Territory, days_by_month_and_day, parse
 
 COUNT, SEED, PROGRAM = argument(1, 2_000), argument(2, 1), program(3)
@@ -120,6 +122,15 @@ class Asked:
         words = ["--weekday", any_case(self.chance, given)] if given else []
         yield from self.page(["read", "XX", text, *words], reading_page(self.place, date, given))
 
+    def span(self, label):
+        """A month, a year, a range or a bound."""
+        other = label_near(self.chance, self.territory, self.middle)
+        span = span_near(self.chance, label, other)
+        text = text_of(self.chance, span)
+        given = self.chance.choice([None] * 6 + WEEKDAYS[:2])
+        words = ["--weekday", given] if given else []
+        yield from self.page(["read", "XX", text, *words], span_page(self.place, span, given))
+
     def day(self):
         day = day_near(self.chance, self.territory, self.middle)
         word = self.chance.choice([str(day), written(dates("gregorian")[day])])
@@ -149,6 +160,7 @@ class Asked:
         """Each page about a date that is another than the one written apart."""
         label = label_near(self.chance, self.territory, self.middle)
         yield from self.reading(label)
+        yield from self.span(label)
         yield from self.day()
         yield from self.month(label)
         yield from self.conversion(label)

@@ -82,11 +82,11 @@ def any_case(chance, name):
 def date_text(chance, label):
     """The date in one of its forms, as a double one or not, and with a weekday or not."""
     year, month, day = label
-    years = f"{year}"
+    later = ""
     if chance.random() < (0.6 if month < 4 else 0.1):
-        years += "/" + later_digits(year + 1, chance.randint(1, 5))
+        later = "/" + later_digits(year + 1, chance.randint(1, 5))
     name = any_case(chance, MONTHS[month - 1])
-    text = chance.choice([f"{day} {name} {years}", f"{years.zfill(4)}-{month:02}-{day:02}"])
+    text = chance.choice([f"{day} {name} {year}{later}", f"{year:04}{later}-{month:02}-{day:02}"])
     if chance.random() < 0.3:
         text = f"{any_case(chance, chance.choice(WEEKDAYS))} {text}"
     return text

@@ -67,6 +67,8 @@ def month_of(text):
 def plain_date(text):
     if text.count("-") >= 2:
         first, middle, last = text.split("-", 2)
+        if len(first.partition("/")[0]) < 3:
+            raise Malformed("form")
         years, month, day = years_of(first), number(middle), number(last)
     elif text.count(" ") >= 2 and "-" not in text:
         first, middle, last = text.split(" ", 2)

@@ -1,0 +1,263 @@
+"""Months, years, ranges and bounds as people write them, and the days that they may mean.
+
+Written from docs/DATES.md and docs/FORMATS.md alone, over written.py, for pages.py. Texts are drawn
+in random forms; their days are found by a search through every day about their years.
+"""
+from typing import NamedTuple, Optional
+
+from page_texts import day_line, why_lines, years_written
+from reference import HIGH, MONTHS
+from written import Territory, Written, years_about
+
+NAMES = [MONTHS]
+NAMES += [line.split() for line in (
+    "Jan. Feb. Mar. Apr. May Jun. Jul. Aug. Sept. Oct. Nov. Dec.",
+    "Januarii Februarii Martii Aprilis Maii Junii Julii Augusti 7bris 8bris 9bris Xbris",
+    "janvier f\u00e9vrier mars avril mai juin juillet ao\u00fbt 7bre 8bre 9bre d\u00e9cembre",
+    "Januar Februar M\u00e4rz April Mai Juni Juli August September Oktober November Dezember",
+    "januari februari maart april mei juni juli augustus september oktober november december",
+    "gennaio febbraio marzo aprile maggio giugno luglio agosto settembre ottobre novembre dicembre",
+    "enero febrero marzo abril mayo junio julio agosto septiembre octubre noviembre diciembre",
+    "janeiro fevereiro mar\u00e7o abril maio junho julho agosto setembro outubro novembro dezembro",
+)]
+
+
+class Simple(NamedTuple):
+    """A day, a month or a year, of which the last two lack what they don't have."""
+
+    year: int
+    is_double: bool = False
+    month: Optional[int] = None
+    day: Optional[int] = None
+
+    def first_day(self):
+        return Written(self.year, self.month or 1, self.day or 1, self.is_double)
+
+    def years(self):
+        first = f"{self.year:03}"
+        if not self.is_double:
+            return first
+        return first + years_written(self.year, self.year + 1)[len(str(self.year)):]
+
+    def words(self):
+        """As a page has it."""
+        parts = [self.day and str(self.day), self.month and MONTHS[self.month - 1], self.years()]
+        return " ".join(part for part in parts if part)
+
+    def is_meant(self, territory, day):
+        """Whether the date means a day, by the day's label and its year from 1 January."""
+        year, month, of_month = territory.label(day)
+        if self.month not in (None, month) or self.day not in (None, of_month):
+            return False
+        if not self.is_double:
+            return year == self.year
+        wrote_later = year == self.year + 1 and (month, of_month) < (3, 25)
+        return territory.date(day)[0] == self.year + 1 and (year == self.year or wrote_later)
+
+    def days(self, territory):
+        low, high = years_about(self.year)
+        return [day for day in range(low, min(HIGH, high + 366) + 1)
+                if self.is_meant(territory, day)]
+
+
+class Span(NamedTuple):
+    """One date, a range or a bound, with what is said beside it."""
+
+    kind: str
+    first: Simple
+    last: Optional[Simple] = None
+    reckoning: Optional[str] = None
+    approximate: bool = False
+    uncertain: bool = False
+    supplied: bool = False
+
+    def words(self):
+        """As the heading of a page has it."""
+        text = self.first.words()
+        if self.kind == "range":
+            text += f" to {self.last.words()}"
+        elif self.kind != "on":
+            text = f"{self.kind} {text}"
+        text = ("about " if self.approximate else "") + text
+        text += {None: "", "old": " O.S.", "new": " N.S."}[self.reckoning]
+        text += "?" if self.uncertain else ""
+        return f"[{text}]" if self.supplied else text
+
+
+class Reckoned(Territory):
+    """A territory as if it had gone by the calendar that a date names."""
+
+    def __init__(self, territory, reckoning):
+        super().__init__(territory.land)
+        if reckoning == "old":
+            self.periods = [(first, last, ("julian", *regime[1:]))
+                            for first, last, regime in territory.periods]
+        else:
+            self.periods = [(1, HIGH, ("gregorian", "january", "gregorian"))]
+        self.firsts = [first for first, _, _ in self.periods]
+
+
+def reckoned(territory, span):
+    return Reckoned(territory, span.reckoning) if span.reckoning else territory
+
+
+def runs_of(days):
+    """Days in order as runs, each from a first day to a last one."""
+    runs = []
+    for day in days:
+        if runs and runs[-1][1] + 1 == day:
+            runs[-1][1] = day
+        else:
+            runs.append([day, day])
+    return runs
+
+
+def found(territory, span):
+    """The runs of a span, or which of its dates has no day, or what else keeps it from a span."""
+    first = span.first.days(territory)
+    if not first:
+        return "first"
+    if span.kind == "on":
+        return runs_of(first)
+    if span.kind == "range":
+        last = span.last.days(territory)
+        if not last:
+            return "last"
+        return [[first[0], last[-1]]] if first[0] <= last[-1] else "order"
+    low, high = {"before": (1, first[0] - 1), "not after": (1, first[-1]),
+                 "after": (first[-1] + 1, HIGH), "not before": (first[0], HIGH)}[span.kind]
+    return [[low, high]] if low <= high else "line"
+
+
+# The page of such a date.
+
+
+def run_lines(territory, span, run):
+    """The lines of a run: its first and last day, and how many there are."""
+    first, last = (day_line(territory, day) for day in run)
+    if span.kind in ("before", "not after"):
+        return ["from any earlier day", f"to   {last}"]
+    if span.kind in ("after", "not before"):
+        return [f"from {first}", "to   any later day"]
+    count = run[1] - run[0] + 1
+    if count == 1:
+        return [first, "1 day"]
+    return [f"from {first}", f"to   {last}", f"{count} days"]
+
+
+def none_lines(territory, span, why):
+    """Why a span has no day."""
+    if why == "first":
+        return why_lines(territory, span.first.first_day())
+    if why == "last":
+        return ["of the last date:", *why_lines(territory, span.last.first_day())]
+    if why == "order":
+        return ["the first date is after the last one"]
+    return [f"no day of the line is {span.kind.removeprefix('not ')} it"]
+
+
+def sureness(span):
+    words = [(span.approximate, "approximate"), (span.uncertain, "in doubt"),
+             (span.supplied, "supplied by an editor")]
+    said = "; ".join(word for is_said, word in words if is_said)
+    return [said] if said else []
+
+
+def span_page(place, span, weekday=None):
+    """The page of a span that is no single day."""
+    by_name = reckoned(place.territory, span)
+    runs = found(by_name, span)
+    if isinstance(runs, str):
+        lines = none_lines(by_name, span, runs)
+    else:
+        lines = [line for run in runs for line in run_lines(place.territory, span, run)]
+    lines += sureness(span)
+    own = found(place.territory, span)
+    if runs != own and not (isinstance(runs, str) and isinstance(own, str)):
+        lines.append("by the calendar that the date names: by its own reckoning the place means "
+                     "other days")
+    if weekday:
+        lines.append(f"{weekday} is not looked for: that is done for one day alone")
+    return [f"{span.words()} in {place.heading()}", *lines]
+
+
+# Texts of such dates.
+
+
+def month_name(chance, month):
+    name = chance.choice(NAMES)[month - 1]
+    return chance.choice([name, name.lower(), name.upper() if name.isascii() else name])
+
+
+def years_text(chance, date):
+    """Both years of a double one, the later one by some of its last digits."""
+    text = f"{date.year:03}"
+    if date.is_double:
+        later = str(date.year + 1)
+        return f"{text}/{later[-chance.randint(1, len(later)):]}"
+    return text
+
+
+def simple_text(chance, date):
+    """A day, a month or a year in one of its forms."""
+    years = years_text(chance, date)
+    if date.month is None:
+        forms = [years] if date.is_double else [years, f"{date.year:04}-XX-XX", f"anno {years}"]
+        return chance.choice(forms)
+    name = month_name(chance, date.month)
+    if date.day is None:
+        forms = [f"{name} {years}", f"{name}, {years}", f"{years} {name}"]
+        return chance.choice(forms + [f"{years}-{date.month:02}"])
+    forms = [f"{date.day} {name} {years}", f"the {date.day} of {name}, {years}",
+             f"{name} {date.day}, {years}", f"{date.day}.{date.month}.{years}"]
+    return chance.choice(forms)
+
+
+def range_text(chance, first, last):
+    """A range, of which the first date may lack what the last one has."""
+    begin, end = simple_text(chance, first), simple_text(chance, last)
+    if first.day and last.day and first[:2] == last[:2] and chance.random() < 0.5:
+        end = f"{last.day} {month_name(chance, last.month)} {years_text(chance, last)}"
+        begin = str(first.day)
+        if first.month != last.month or chance.random() < 0.3:
+            begin += f" {month_name(chance, first.month)}"
+    forms = [f"{begin} to {end}", f"{begin} - {end}", f"{begin}\u2013{end}",
+             f"from {begin} to {end}", f"between {begin} and {end}"]
+    return chance.choice(forms)
+
+
+def text_of(chance, span):
+    """A span in one of its forms, with what is said beside it."""
+    if span.kind == "range":
+        text = range_text(chance, span.first, span.last)
+    elif span.kind == "on":
+        text = simple_text(chance, span.first)
+    else:
+        words = {"not after": ["not after", "by"]}.get(span.kind, [span.kind])
+        text = f"{chance.choice(words)} {simple_text(chance, span.first)}"
+    if span.approximate:
+        text = f"{chance.choice(['about', 'c.', 'ca.', 'circa'])} {text}"
+    if span.reckoning:
+        names = {"old": [" O.S.", " (OS)", ", old style"], "new": [" N.S.", " (NS)", " new style"]}
+        text += chance.choice(names[span.reckoning])
+    if span.uncertain:
+        text = chance.choice([f"{text}?", f"{text} (?)", f"probably {text}", f"perhaps {text}"])
+    return f"[{text}]" if span.supplied else text
+
+
+def simple_near(chance, label, days=True):
+    year, month, day = label
+    is_double = year < 10_000 and chance.random() < (0.5 if month < 4 else 0.1)
+    which = chance.randrange(3 if days else 2)
+    if which == 0:
+        return Simple(year, is_double)
+    return Simple(year, is_double, month, day if which == 2 else None)
+
+
+def span_near(chance, label, other):
+    """A month, a year, a range or a bound about a label; a range goes to the other one."""
+    kind = chance.choice(["on", "on", "range", "before", "not after", "after", "not before"])
+    first = simple_near(chance, label, kind != "on")
+    last = simple_near(chance, other) if kind == "range" else None
+    rarely = [chance.random() < 0.15 for _ in range(3)]
+    return Span(kind, first, last, chance.choice([None] * 6 + ["old", "new"]), *rarely)
