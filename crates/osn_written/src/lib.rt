@@ -12,7 +12,7 @@ mod written_date;
 mod written_text;
 
 pub use absence::{Absence, absence_of};
-pub use date_in_words::DateInWords;
+pub use date_in_words::{DateInWords, is_writable};
 pub use meaning::{days_meant, has_weekday, is_not_counted_double, is_on};
 pub use runs::runs_meant;
 pub use span::{NoSpan, span_meant};
