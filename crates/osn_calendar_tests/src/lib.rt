@@ -18,6 +18,8 @@ mod gaps;
 #[cfg(test)]
 mod grammar;
 #[cfg(test)]
+mod in_words;
+#[cfg(test)]
 mod labels;
 #[cfg(test)]
 mod lands;

@@ -104,7 +104,7 @@ decimal_digits n small =
     let own = numerals_by_value (λ ds. all_ascii_digits ds ≡ true) tells_all_ascii_digits in
     own.from (decimal n) (decimal_is_IsNumeral n (omega (arith, small))).0.1
 
-decimal_value : (n : ℕ) → n < 10 ^ 9 → digits_value 10 (decimal n) ≡ n
+pub decimal_value : (n : ℕ) → n < 10 ^ 9 → digits_value 10 (decimal n) ≡ n
 decimal_value n small = (decimal_is_IsNumeral n (omega (arith, small))).1
 
 number_read : (n : ℕ) → n < 10 ^ 9 → number_of (decimal n) ≡ Some n
@@ -117,7 +117,7 @@ number_read n small =
 -- ---- the digits of the later of two years
 
 -- they are those of a number, the last digits of the later year
-record IsLaterNumber (e l : ℕ) : Type 0 where
+pub record IsLaterNumber (e l : ℕ) : Type 0 where
   pub number : ℕ
   pub is : decimal number ≡ later_digits (decimal e) (decimal l)
   pub low : 1 ≤ number
@@ -147,7 +147,7 @@ length_more n d low digit fits =
     ∙ ap (λ m. length (decimal m ++ (48 + (10 * n + d) % 10) ∷ [])) front
     ∙ omega (arith, length-append (decimal n) ((48 + (10 * n + d) % 10) ∷ []))
 
-later_number : (most e l : ℕ) → l ≤ most → e < l → l < 10 ^ 9 → IsLaterNumber e l
+pub later_number : (most e l : ℕ) → l ≤ most → e < l → l < 10 ^ 9 → IsLaterNumber e l
 later_number zero e l within below small = absurd (omega (arith, within, below))
 later_number (suc most) e l within below small =
     let fits : l < 2 ^ 64 = omega (arith, small) in

@@ -6,3 +6,4 @@ mod Meant
 pub mod RunFacts
 pub mod OrderFacts
 mod SpanFacts
+mod WordsLaw

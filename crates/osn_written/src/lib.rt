@@ -16,7 +16,7 @@ mod written_date;
 mod written_text;
 
 pub use absence::{Absence, absence_of};
-pub use date_in_words::DateInWords;
+pub use date_in_words::{DateInWords, is_writable};
 pub use finding::{NoDay, by_reckoning, find_runs, is_by_other_calendar};
 pub use kind::{Kind, kind_of};
 pub use meaning::{days_meant, has_weekday, is_not_counted_double, is_on};
