@@ -14,6 +14,7 @@ pub mod QuietFacts
 pub mod RowFacts
 pub mod SeamFacts
 pub mod SeparatorFacts
+pub mod SpanFacts
 pub mod StartFacts
 pub mod StreamFacts
 pub mod TableFacts

@@ -4,6 +4,7 @@ use Rattle.std.proofs.lemmas.Result.{on_ok_weaker}
 use Rattle.csv.specs.Writing.{row_text}
 use Rattle.csv.specs.declared.writer.WriterBuilder.{WriterBuilder}
 use Rattle.osn_days.specs.Profile.{Profile}
+use Rattle.osn_grammar.specs.declared.written.DateOrder.{DateOrder}
 use Rattle.osn_register.specs.Plain.{LandModel}
 use Rattle.osn_letters.specs.declared.separator.Separator.{Separator}
 use Rattle.osn_letters.specs.Fields.{letter_fields}
@@ -27,10 +28,10 @@ written_by r x y new middle old a b same kept e h =
     ∙ ap (λ fs. old ++ row_text (writer_by y) fs) e) h
 
 -- the fields by the fields that are read
-pub same_fields : (p : Profile) (lands : List LandModel) (edition : ℕ) (a b c d : List ℕ)
-    (v w : Option (List ℕ)) → a ≡ b → c ≡ d → v ≡ w
-    → letter_fields p lands edition a c v ≡ letter_fields p lands edition b d w
-same_fields p lands edition a b c d v w e1 e2 e3 =
-    ap (λ x. letter_fields p lands edition x c v) e1
-    ∙ ap (λ x. letter_fields p lands edition b x v) e2
-    ∙ ap (λ x. letter_fields p lands edition b d x) e3
+pub same_fields : (p : Profile) (lands : List LandModel) (edition : ℕ) (o : DateOrder)
+    (a b c d : List ℕ) (v w : Option (List ℕ)) → a ≡ b → c ≡ d → v ≡ w
+    → letter_fields p lands edition o a c v ≡ letter_fields p lands edition o b d w
+same_fields p lands edition o a b c d v w e1 e2 e3 =
+    ap (λ x. letter_fields p lands edition o x c v) e1
+    ∙ ap (λ x. letter_fields p lands edition o b x v) e2
+    ∙ ap (λ x. letter_fields p lands edition o b d x) e3

@@ -1,4 +1,8 @@
 pub mod Faults
+pub mod RowFields
+pub mod Span
+pub mod Edtf
+pub mod Remarks
 pub mod Fields
 pub mod AddedColumns
 pub mod Columns

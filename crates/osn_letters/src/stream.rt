@@ -104,8 +104,8 @@ fn finish_and_write<W: Sink>(letters: &mut Letters<'_>, sink: &mut W) -> Result<
     write_out(letters.table.alloc, sink, &mut letters.table.out, finished)
 }
 
-/// Writes a table of letters in CSV from one in CSV: the header with nine names after those that
-/// came, and each record with the nine fields of `letter_fields` after its own, by the register of
+/// Writes a table of letters in CSV from one in CSV: the header with twelve names after those that
+/// came, and each record with the twelve fields of `letter_fields` after its own, by the register of
 /// that edition. Which columns hold the places, the dates and the weekdays is told by their names.
 /// The fields are separated by what the settings name, or else by the first comma, semicolon or
 /// tab of the header that stands in no quotes, or else by commas; so are those that are written. A
@@ -120,7 +120,7 @@ fn finish_and_write<W: Sink>(letters: &mut Letters<'_>, sink: &mut W) -> Result<
 ///
 /// # Errors
 ///
-/// `NoHeader` where there is no record; `HasColumn` where the header has one of the nine names
+/// `NoHeader` where there is no record; `HasColumn` where the header has one of the twelve names
 /// already; `LacksColumn` where it lacks a column that has to be there; `BadRecord` at a record
 /// with another number of fields than the header; `TooLong` at a record of more than 65,536 bytes;
 /// `OpenQuote` at one with a quote that is open at the end of the table; `TextAfterQuote` at one in

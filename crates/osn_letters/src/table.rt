@@ -47,7 +47,7 @@ fn weekday_at(row: &ByteRecord, column: Option<usize>) -> Option<&[u8]>
 }
 
 impl Table<'_> {
-    /// Appends to the text that waits the header, with the nine names, by the separator by which
+    /// Appends to the text that waits the header, with the twelve names, by the separator by which
     /// rows are written from now on.
     fn push_header(
         &mut self,
@@ -107,6 +107,7 @@ impl Table<'_> {
             self.alloc,
             self.register,
             self.edition,
+            self.settings.order,
             field_at(row, columns.place),
             field_at(row, columns.date),
             weekday_at(row, columns.weekday),

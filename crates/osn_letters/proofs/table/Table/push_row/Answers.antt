@@ -11,6 +11,6 @@ returns-clause-text c =
     written_as (writer_by c.args.self.now.out.separator) c.write_row.result _ _ _ _
     (c.in_ok-push_fields.ensures.fields
     ∙ ap (λ fs. fields_of c.args.row.now ++ fs) (c.in_ok-fields.ensures
-    ∙ same_fields _ _ _ _ _ _ _ _ _ c.field_at.ensures c.field_at-2.ensures
+    ∙ same_fields _ _ _ _ _ _ _ _ _ _ c.field_at.ensures c.field_at-2.ensures
     c.weekday_at.ensures))
     c.write_row.ensures.text
