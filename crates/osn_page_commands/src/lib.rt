@@ -6,6 +6,7 @@
 mod conversion;
 mod in_folder;
 mod letters;
+mod order;
 mod page;
 mod page_words;
 
