@@ -4,6 +4,7 @@ pub mod FoundFacts
 pub mod GoesFacts
 pub mod FieldFacts
 pub mod JoinFacts
+pub mod KeepFacts
 pub mod LaterFacts
 pub mod LawFacts
 pub mod LetterFacts

@@ -11,11 +11,9 @@ use Rattle.osn_letters.specs.Fields.{letter_fields}
 use Rattle.osn_letters.specs.Separators.{writer_by}
 
 -- a record that is written as what it is
-pub written_as : {T E : Type 0} (w : WriterBuilder) (r : Result T E) (new old : List ℕ)
-    (a b : List (List ℕ)) → a ≡ b → OnOk r (new ≡ old ++ row_text w a)
-    → OnOk r (new ≡ old ++ row_text w b)
-written_as w r new old a b e h =
-    on_ok_weaker r (λ is. is ∙ ap (λ fs. old ++ row_text w fs) e) h
+pub written_as : (w : WriterBuilder) (new old : List ℕ) (a b : List (List ℕ)) → a ≡ b
+    → new ≡ old ++ row_text w a → new ≡ old ++ row_text w b
+written_as w new old a b e is = is ∙ ap (λ fs. old ++ row_text w fs) e
 
 -- the same after the writer got another separator
 pub written_by : {T E : Type 0} (r : Result T E) (x y : Separator) (new middle old : List ℕ)

@@ -11,6 +11,7 @@ pub mod Records
 pub mod Law
 pub mod RecordsInside
 pub mod Table
+pub mod Remarked
 pub mod Parts
 pub mod TableLaws
 pub mod WriterInside
