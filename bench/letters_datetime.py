@@ -9,7 +9,8 @@ from datetime import date
 MONTHS = ["January", "February", "March", "April", "May", "June", "July", "August", "September",
           "October", "November", "December"]
 NAMES = {name: place for place, name in enumerate(MONTHS, 1)}
-NEW = ["days", "gregorian", "julian", "dual", "weekday_found", "jdn", "edtf", "edition", "remark"]
+NEW = ["days", "gregorian", "julian", "dual", "weekday_found", "jdn", "earliest", "latest", "kind",
+       "edtf", "edition", "remark"]
 CHANGE, JANUARY_STYLE = date(1752, 9, 14), 1752
 
 
@@ -52,7 +53,7 @@ def fields(text):
     dual = f"{day} {MONTHS[month - 1]} {year}" + (f"/{later(year)}" if is_double else "")
     iso = gregorian.isoformat()
     return [ordinal, iso, julian_text(ordinal), dual, gregorian.strftime("%A"),
-            ordinal + 1_721_425, iso, 1, ""]
+            ordinal + 1_721_425, iso, iso, "day", iso, 1, ""]
 
 
 def main():

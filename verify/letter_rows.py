@@ -1,12 +1,15 @@
-"""The nine fields that letters puts after a row, over written.py.
+"""The twelve fields that letters puts after a row, over written.py: of dates that are one day.
 
 Written from docs/FORMATS.md alone, for letters.py and dual_dates.py.
 """
 from reference import dates, written
 from written import Malformed, has_weekday, is_not_counted_double, parse, weekday_named, weekday_of
 
-COLUMNS = ["days", "gregorian", "julian", "dual", "weekday_found", "jdn", "edtf", "edition",
-           "remark"]
+COLUMNS = ["days", "gregorian", "julian", "dual", "weekday_found", "jdn", "earliest", "latest",
+           "kind", "edtf", "edition", "remark"]
+FAULTS = {"form": "malformed date", "later year": "not the year that follows",
+          "year": "no year from 0 to 10000", "month": "no month from 1 to 12",
+          "day": "no day from 1 to 31"}
 SPACES = " \t\n\r\f"
 
 
@@ -29,24 +32,24 @@ def remarks_of_days(territory, date, given, days):
 
 
 def meant_in_place(territories, code, text, given):
-    """The days of a row with their territory, and what is said of them."""
+    """The days of a row with their territory, the kind of its date, and what is said of them."""
     territory = territories.get(code)
     unknown = [] if territory else ["unknown place"]
     try:
         date = parse(text)
-    except Malformed:
-        return territory, [], ["malformed date", *unknown]
+    except Malformed as why:
+        return territory, [], "", [FAULTS[why.args[0]], *unknown]
     if territory is None:
-        return None, [], unknown
+        return None, [], "day", unknown
     days = territory.days_meant(date, given)
-    return territory, days, remarks_of_days(territory, date, given, days)
+    return territory, days, "day", remarks_of_days(territory, date, given, days)
 
 
 def letter_fields(territories, edition, code, text, weekday=""):
-    """The nine fields, of a row whose place, date and weekday are these."""
+    """The twelve fields, of a row whose place, date and weekday are these."""
     code, text, weekday = (field.strip(SPACES) for field in (code, text, weekday))
     given = weekday_named(weekday)
-    territory, days, remarks = meant_in_place(territories, code, text, given)
+    territory, days, kind, remarks = meant_in_place(territories, code, text, given)
     if weekday and given is None:
         remarks.append("malformed weekday")
     gregorian, julian = ([written(dates(name)[day]) for day in days]
@@ -54,5 +57,7 @@ def letter_fields(territories, edition, code, text, weekday=""):
     fields = [[str(day) for day in days], gregorian, julian,
               [territory.dual(day) for day in days], [weekday_of(day) for day in days],
               [str(day + 1_721_425) for day in days]]
+    ends = [written(dates("gregorian")[end(days)]) if days else "" for end in (min, max)]
     edtf = f"[{','.join(gregorian)}]" if len(days) > 1 else "".join(gregorian)
-    return [*("; ".join(field) for field in fields), edtf, str(edition), "; ".join(remarks)]
+    return [*("; ".join(field) for field in fields), *ends, kind, edtf, str(edition),
+            "; ".join(remarks)]

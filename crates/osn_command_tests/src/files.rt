@@ -121,8 +121,10 @@ const PERIODS: &str = "Rome (RM), edition 1
 always: julian calendar, january style (years from 1 January), julian rule
 ";
 
-const LETTERS: &str = "date,where,days,gregorian,julian,dual,weekday_found,jdn,edtf,edition,remark
-1500-01-01,RM,547508,1500-01-10,1500-01-01,1 January 1500,Wednesday,2268933,1500-01-10,1,
+const LETTERS: &str = "date,where,days,gregorian,julian,dual,weekday_found,jdn,earliest,latest,
+  kind,edtf,edition,remark
+1500-01-01,RM,547508,1500-01-10,1500-01-01,1 January 1500,Wednesday,2268933,
+  1500-01-10,1500-01-10,day,1500-01-10,1,
 ";
 
 const OUTS: &str = r#"{"ok":"staged","pending":1}

@@ -161,8 +161,9 @@ header]
 Example:
   ./oldstyle letters examples/samples.journal < examples/letters.csv
 
-The table is CSV with a header. It is written to standard output as it came, and nine columns
-follow its own: days, gregorian, julian, dual, weekday_found, jdn, edtf, edition and remark.
+The table is CSV with a header. It is written to standard output as it came, and twelve
+columns follow its own: days, gregorian, julian, dual, weekday_found, jdn, earliest, latest, kind,
+edtf, edition and remark.
 ";
 
 const SERVE: &str = "\

@@ -1,6 +1,7 @@
 //! What the fields after a letter say of its date. They were written apart, by counts of days.
 use crate::compare::same;
 use crate::journals::europe;
+use osn_grammar::DateOrder;
 use osn_letters::letter_fields;
 use osn_register::Register;
 use std::alloc::Global;
@@ -135,11 +136,31 @@ const NO_DAY: [Row; 16] = [
     ),
     ("GB", "11 May 1731/2", None, ("", "", "not with both years")),
     ("GB", "1 January 0", None, ("", "", "off the line")),
-    ("GB", "11 February 1731/5", None, ("", "", "malformed date")),
-    ("GB", "32 January 1731", None, ("", "", "malformed date")),
-    ("GB", "", None, ("", "", "malformed date")),
-    ("GB", "[11 February 1731]", None, ("", "", "malformed date")),
-    ("GB", "11/2/1731", None, ("", "", "malformed date")),
+    (
+        "GB",
+        "11 February 1731/5",
+        None,
+        ("", "", "not the year that follows"),
+    ),
+    (
+        "GB",
+        "32 January 1731",
+        None,
+        ("", "", "no day from 1 to 31"),
+    ),
+    ("GB", "", None, ("", "", "no date")),
+    (
+        "GB",
+        "11/2/1731",
+        None,
+        ("", "", "open between day and month"),
+    ),
+    (
+        "IE",
+        "n.d.",
+        Some("Freitag"),
+        ("", "", "no date; unknown place; malformed weekday"),
+    ),
     ("IE", "1731-02-11", None, ("", "", "unknown place")),
     ("gb", "1731-02-11", None, ("", "", "unknown place")),
     (
@@ -155,10 +176,11 @@ fn is_told(rt: &impl Abort, alloc: Global, register: &Register, row: &Row) -> Re
     let (place, date, weekday, wanted) = row;
     let weekday = weekday.map(|text| text.as_bytes());
     let (place, date) = (place.as_bytes(), date.as_bytes());
-    let fields = letter_fields(alloc, register, 2, place, date, weekday)?;
+    let order = DateOrder::Unknown;
+    let fields = letter_fields(alloc, register, 2, order, place, date, weekday)?;
     let days = str::from_utf8(fields.get(0).unwrap_or_default())?;
     let duals = str::from_utf8(fields.get(3).unwrap_or_default())?;
-    let remark = str::from_utf8(fields.get(8).unwrap_or_default())?;
+    let remark = str::from_utf8(fields.get(11).unwrap_or_default())?;
     same(rt, (days, duals, remark), *wanted);
     Ok(())
 }

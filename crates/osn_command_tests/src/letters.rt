@@ -3,6 +3,7 @@
 use crate::compare::same;
 use crate::journals::europe;
 use csv::ByteRecord;
+use osn_grammar::DateOrder;
 use osn_letters::{
     AddedColumn, Column, ColumnNames, Columns, LettersFault, Progress, Separator, TableSettings,
     WeekdayName, find_columns, write_letters,
@@ -24,6 +25,7 @@ const NAMES: ColumnNames<'static> = ColumnNames {
 const BY_HEADER: TableSettings<'static> = TableSettings {
     names: NAMES,
     separator: None,
+    order: DateOrder::Unknown,
 };
 
 const OTHER_NAMES: TableSettings<'static> = TableSettings {
@@ -33,17 +35,21 @@ const OTHER_NAMES: TableSettings<'static> = TableSettings {
         weekday: WeekdayName::Required("Tag"),
     },
     separator: None,
+    order: DateOrder::Unknown,
 };
 
 const BY_SEMICOLON: TableSettings<'static> = TableSettings {
     names: NAMES,
     separator: Some(Separator::Semicolon),
+    order: DateOrder::Unknown,
 };
 
 /// How a table ends: by what fault, if any, on which line, and what else is told.
 type End = (&'static str, u64, &'static str);
 
 const WHOLE: End = ("whole", 0, "");
+
+const REMARKED: End = ("whole, with a remark", 0, "");
 
 /// How a table is read, the table, what is written, and how it ends.
 type Row = (TableSettings<'static>, &'static str, &'static str, End);
@@ -58,85 +64,97 @@ const TABLES: [Row; 7] = [
 4,XX,1731-02-11,,\"a line
 and another\"
 ",
-        "id,place,date,weekday,text,days,gregorian,julian,dual,weekday_found,jdn,edtf,edition,
-  remark
+        "id,place,date,weekday,text,days,gregorian,julian,dual,weekday_found,jdn,earliest,latest,
+  kind,edtf,edition,remark
 1, GB,11 February 1731,friday ,\"Dear Sir, I\",632287,1732-02-22,1732-02-11,11 February 1731/2,
-  Friday,2353712,1732-02-22,2,
-2,GB,1752-09-05,,\"said \"\"no\"\"\",,,,,,,,2,skipped
+  Friday,2353712,1732-02-22,1732-02-22,day,1732-02-22,2,
+2,GB,1752-09-05,,\"said \"\"no\"\"\",,,,,,,,,day,,2,skipped
 3,FR,1 April 1543,,two,563304; 563670,1543-04-11; 1544-04-11,1543-04-01; 1544-04-01,
-  1 April 1543; 1 April 1543/4,Sunday; Tuesday,2284729; 2285095,\"[1543-04-11,1544-04-11]\",2,
-  several days
+  1 April 1543; 1 April 1543/4,Sunday; Tuesday,2284729; 2285095,1543-04-11,1544-04-11,day,
+  \"[1543-04-11,1544-04-11]\",2,several days
 4,XX,1731-02-11,,\"a line
-and another\",,,,,,,,2,unknown place
+and another\",,,,,,,,,day,,2,unknown place
 ",
-        WHOLE,
+        REMARKED,
     ),
     (
         OTHER_NAMES,
         "Tag,\"Datum, wie geschrieben\",Ort
 Tuesday,1543-04-01,FR
 ",
-        "Tag,\"Datum, wie geschrieben\",Ort,days,gregorian,julian,dual,weekday_found,jdn,edtf,
-  edition,remark
+        "Tag,\"Datum, wie geschrieben\",Ort,days,gregorian,julian,dual,weekday_found,jdn,earliest,
+  latest,kind,
+  edtf,edition,remark
 Tuesday,1543-04-01,FR,563670; 563304,1544-04-11; 1543-04-11,1544-04-01; 1543-04-01,
-  1 April 1543/4; 1 April 1543,Tuesday; Sunday,2285095; 2284729,\"[1544-04-11,1543-04-11]\",2,
-  by its weekday
+  1 April 1543/4; 1 April 1543,Tuesday; Sunday,2285095; 2284729,1543-04-11,1544-04-11,day,
+  \"[1544-04-11,1543-04-11]\",2,by its weekday
 ",
-        WHOLE,
+        REMARKED,
     ),
     (
         BY_HEADER,
         "\u{feff}place,date\r\nGB,1752-09-14\r\rGB,1752-09-15",
-        "place,date,days,gregorian,julian,dual,weekday_found,jdn,edtf,edition,remark
-GB,1752-09-14,639797,1752-09-14,1752-09-03,14 September 1752,Thursday,2361222,1752-09-14,2,
-GB,1752-09-15,639798,1752-09-15,1752-09-04,15 September 1752,Friday,2361223,1752-09-15,2,
+        "place,date,days,gregorian,julian,dual,weekday_found,jdn,earliest,latest,kind,
+  edtf,edition,remark
+GB,1752-09-14,639797,1752-09-14,1752-09-03,14 September 1752,Thursday,2361222,
+  1752-09-14,1752-09-14,day,1752-09-14,2,
+GB,1752-09-15,639798,1752-09-15,1752-09-04,15 September 1752,Friday,2361223,
+  1752-09-15,1752-09-15,day,1752-09-15,2,
 ",
         WHOLE,
     ),
     (
         BY_HEADER,
         "place;date;\"a;b\"\nFR;1543-04-01;one, two\n",
-        "place;date;\"a;b\";days;gregorian;julian;dual;weekday_found;jdn;edtf;edition;remark
+        "place;date;\"a;b\";days;gregorian;julian;dual;weekday_found;jdn;earliest;latest;kind;
+  edtf;edition;remark
 FR;1543-04-01;one, two;\"563304; 563670\";\"1543-04-11; 1544-04-11\";\"1543-04-01; 1544-04-01\";
   \"1 April 1543; 1 April 1543/4\";\"Sunday; Tuesday\";\"2284729; 2285095\";
-  [1543-04-11,1544-04-11];2;several days
+  1543-04-11;1544-04-11;day;[1543-04-11,1544-04-11];2;several days
 ",
-        WHOLE,
+        REMARKED,
     ),
     (
         BY_HEADER,
         "\"place\"\tdate\nXX\t1731-02-11\n",
-        "place\tdate\tdays\tgregorian\tjulian\tdual\tweekday_found\tjdn\tedtf\tedition\tremark
-XX\t1731-02-11\t\t\t\t\t\t\t\t2\tunknown place
+        "place\tdate\tdays\tgregorian\tjulian\tdual\tweekday_found\tjdn\tearliest\tlatest\tkind\t
+  edtf\tedition\tremark
+XX\t1731-02-11\t\t\t\t\t\t\t\t\tday\t\t2\tunknown place
 ",
-        WHOLE,
+        REMARKED,
     ),
     (
         BY_SEMICOLON,
         "a,b;place;date\n;XX;1731-02-11\n",
-        "a,b;place;date;days;gregorian;julian;dual;weekday_found;jdn;edtf;edition;remark
-;XX;1731-02-11;;;;;;;;2;unknown place
+        "a,b;place;date;days;gregorian;julian;dual;weekday_found;jdn;earliest;latest;kind;
+  edtf;edition;remark
+;XX;1731-02-11;;;;;;;;;day;;2;unknown place
 ",
-        WHOLE,
+        REMARKED,
     ),
     (
         BY_HEADER,
         "place,date,place\nGB,1752-09-02,XX\n",
-        "place,date,place,days,gregorian,julian,dual,weekday_found,jdn,edtf,edition,remark
-GB,1752-09-02,XX,639796,1752-09-13,1752-09-02,2 September 1752,Wednesday,2361221,1752-09-13,2,
+        "place,date,place,days,gregorian,julian,dual,weekday_found,jdn,earliest,latest,kind,
+  edtf,edition,remark
+GB,1752-09-02,XX,639796,1752-09-13,1752-09-02,2 September 1752,Wednesday,2361221,
+  1752-09-13,1752-09-13,day,1752-09-13,2,
 ",
         WHOLE,
     ),
 ];
 
-/// A header with the nine columns after it.
+/// A header with the twelve columns after it.
 const HEADER: &str =
-    "place,date,days,gregorian,julian,dual,weekday_found,jdn,edtf,edition,remark\n";
+    "place,date,days,gregorian,julian,dual,weekday_found,jdn,earliest,latest,kind,
+  edtf,edition,remark\n";
 
 /// The header, and the row of 14 September 1752.
 const HEADER_AND_ROW: &str =
-    "place,date,days,gregorian,julian,dual,weekday_found,jdn,edtf,edition,remark
-GB,1752-09-14,639797,1752-09-14,1752-09-03,14 September 1752,Thursday,2361222,1752-09-14,2,
+    "place,date,days,gregorian,julian,dual,weekday_found,jdn,earliest,latest,kind,
+  edtf,edition,remark
+GB,1752-09-14,639797,1752-09-14,1752-09-03,14 September 1752,Thursday,2361222,
+  1752-09-14,1752-09-14,day,1752-09-14,2,
 ";
 
 const FAULTS: [Row; 13] = [
@@ -250,9 +268,10 @@ fn end(fault: &LettersFault) -> (&str, u64, &str) {
 }
 
 /// That a table ends so.
-fn is_end(rt: &impl Abort, written: &Result<(), LettersFault>, wanted: End) {
+fn is_end(rt: &impl Abort, written: &Result<bool, LettersFault>, wanted: End) {
     match written {
-        Ok(()) => same(rt, WHOLE, wanted),
+        Ok(true) => same(rt, REMARKED, wanted),
+        Ok(false) => same(rt, WHOLE, wanted),
         Err(fault) => same(rt, end(fault), wanted),
     }
 }
@@ -315,7 +334,7 @@ fn end_of_long(alloc: Global, letters: usize) -> Result<(&'static str, u64), Fai
         &mut BytesRead(0),
     );
     match written {
-        Ok(()) => Ok(("whole", 0)),
+        Ok(_) => Ok(("whole", 0)),
         Err(LettersFault::TooLong { line }) => Ok(("too long", line)),
         Err(_) => Ok(("another fault", 0)),
     }

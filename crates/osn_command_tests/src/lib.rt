@@ -23,6 +23,8 @@ mod keeping;
 #[cfg(test)]
 mod kept;
 #[cfg(test)]
+mod letter_dates;
+#[cfg(test)]
 mod letter_remarks;
 #[cfg(test)]
 mod letters;

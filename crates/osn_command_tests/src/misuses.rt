@@ -68,7 +68,7 @@ read\n",
     ),
 ];
 
-const NUMBERS: [Misused; 8] = [
+const NUMBERS: [Misused; 9] = [
     (
         "oldstyle|convert|roman|1752-01-01",
         "oldstyle: roman: a calendar is gregorian, julian or swedish; after the word day, write a \
@@ -97,6 +97,10 @@ day number\n",
     (
         "oldstyle|letters|a.journal|--separator|pipe",
         "oldstyle: pipe: a separator is comma, semicolon or tab\n",
+    ),
+    (
+        "oldstyle|letters|a.journal|--order|ymd|--separator|tab",
+        "oldstyle: ymd: an order is dmy, for 11/2/1731 as 11 February, or mdy, for 2/11/1731\n",
     ),
     (
         "oldstyle|month|a.journal|RM|10001|1",
@@ -226,10 +230,11 @@ it\n",
 ];
 
 const HEADER: &str =
-    "place,date,days,gregorian,julian,dual,weekday_found,jdn,edtf,edition,remark\n";
+    "place,date,days,gregorian,julian,dual,weekday_found,jdn,earliest,latest,kind,edtf,edition,\
+remark\n";
 
 /// Words that are taken.
-const TAKEN: [RunRow; 7] = [
+const TAKEN: [RunRow; 9] = [
     (
         "oldstyle|read|a.journal|RM|WEDNESDAY 1 january 1500",
         "",
@@ -285,9 +290,35 @@ MARGIN                   1
         "a,b;place;date;day\n;RM;1 January 1500;Monday\n",
         (
             0,
-            "a,b;place;date;day;days;gregorian;julian;dual;weekday_found;jdn;edtf;edition;remark
+            "a,b;place;date;day;days;gregorian;julian;dual;weekday_found;jdn;earliest;latest;kind;edtf;
+  edition;remark
 ;RM;1 January 1500;Monday;547508;1500-01-10;1500-01-01;1 January 1500;Wednesday;2268933;
-  1500-01-10;1;weekday differs
+  1500-01-10;1500-01-10;day;1500-01-10;1;weekday differs
+",
+            "",
+        ),
+    ),
+    (
+        "oldstyle|letters|a.journal|--strict|--order|dmy",
+        "place,date\nRM,2/1/1500\n",
+        (
+            0,
+            "place,date,days,gregorian,julian,dual,weekday_found,jdn,earliest,latest,kind,edtf,
+  edition,remark
+RM,2/1/1500,547509,1500-01-11,1500-01-02,2 January 1500,Thursday,2268934,1500-01-11,1500-01-11,
+  day,1500-01-11,1,
+",
+            "",
+        ),
+    ),
+    (
+        "oldstyle|letters|a.journal|--strict",
+        "place,date\nRM,n.d.\n",
+        (
+            1,
+            "place,date,days,gregorian,julian,dual,weekday_found,jdn,earliest,latest,kind,edtf,
+  edition,remark
+RM,n.d.,,,,,,,,,,,1,no date
 ",
             "",
         ),

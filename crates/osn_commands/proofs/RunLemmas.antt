@@ -1,5 +1,5 @@
 -- A run of the program did what its contract says of that.
-use Rattle.std.proofs.Common.{◌≡◌, ◌≢◌, ◌⊎◌, Bool, List, ℕ, Option, refl, sym, subst, inl, inr}
+use Rattle.std.proofs.Common.{◌≡◌, ◌≢◌, ◌⊎◌, Bool, List, ℕ, Ok, Err, refl, sym, subst, inl, inr}
 use Rattle.clap.specs.Words.{HasKind, fault_of, kind_of}
 use Rattle.clap.specs.declared.error.Error.{Error}
 use Rattle.clap.specs.declared.error.kind.ErrorKind.{ErrorKind}
@@ -8,10 +8,8 @@ use Rattle.osn_register.specs.declared.limits.Limits.{Limits}
 use Rattle.osn_invocation.specs.Grammar.{command_line}
 use Rattle.osn_invocation.specs.Invocation.{LettersModel, command_model, reading_letters}
 use Rattle.osn_invocation.specs.declared.invocation.CommandWords.{CommandWords}
-use Rattle.osn_letters.specs.Columns.{NameTexts}
-use Rattle.osn_letters.specs.declared.separator.Separator.{Separator}
 use Rattle.osn_lines.specs.Streams.{Input, Output}
-use Rattle.osn_page_commands.specs.Letters.{AreAsked, PrintsLetters}
+use Rattle.osn_page_commands.specs.Letters.{PrintsLetters, TableAsked, settings_asked}
 use Rattle.osn_report.specs.Folders.{Folders, ReadsOne}
 use Rattle.osn_report.specs.Printing.{PrintsIfMade}
 use Rattle.osn_report.specs.declared.status.Status.{Status}
@@ -26,15 +24,22 @@ ran limits given found CanFail d i o e status is h =
     subst (λ w. Runs limits (command_model w) CanFail d i o e status) (sym is) h
 
 -- a table was written by what these words ask for
-pub letters_ran : (limits : Limits) (journal : List ℕ) (words : LettersModel) (names : NameTexts)
-    (found : Option Separator) (CanFail : Bool → Type 0) (d : Folders) (i : Input) (o e : Output)
-    (status : Status)
-    → AreAsked words.place words.date words.weekday words.separator names found
-    → ReadsOne journal CanFail d (λ file. PrintsLetters limits file names found i o e status)
+pub letters_ran : (limits : Limits) (journal : List ℕ) (words : LettersModel) (table : TableAsked)
+    (CanFail : Bool → Type 0) (d : Folders) (i : Input) (o e : Output) (status : Status)
+    → settings_asked words.place words.date words.weekday words.separator words.order ≡ Ok table
+    → ReadsOne journal CanFail d (λ file. PrintsLetters limits file table words.strict i o e status)
     → Runs limits (reading_letters journal words) CanFail d i o e status
-letters_ran limits journal words names found CanFail d i o e status asked h =
-    rw asked.1 (subst (λ n. ReadsOne journal CanFail d
-    (λ file. PrintsLetters limits file n found i o e status)) asked.0 h)
+letters_ran limits journal words table CanFail d i o e status asked h = rw asked h
+
+-- a word was told that is wrong
+pub letters_refused : (limits : Limits) (journal : List ℕ) (words : LettersModel) (misuse : Misuse)
+    (typed : List ℕ) (CanFail : Bool → Type 0) (d : Folders) (i : Input) (o e : Output)
+    (status : Status)
+    → settings_asked words.place words.date words.weekday words.separator words.order
+    ≡ Err (misuse, typed)
+    → (d.after ≡ d.before) × (o.new ≡ o.old) × TellsMisuse e misuse typed status
+    → Runs limits (reading_letters journal words) CanFail d i o e status
+letters_refused limits journal words misuse typed CanFail d i o e status asked h = rw asked h
 
 -- help is no want of memory
 help_is_no_fault : (kind : ErrorKind) → IsHelp kind → kind ≢ OutOfMemory

@@ -18,7 +18,7 @@ use Rattle.osn_file_commands.specs.Audit.{PrintsAudit}
 use Rattle.osn_file_commands.specs.Replay.{PrintsReplay}
 use Rattle.osn_file_commands.specs.Transcript.{PrintsTranscript}
 use Rattle.osn_page_commands.specs.Conversion.{PrintsConversion}
-use Rattle.osn_page_commands.specs.Letters.{PrintsLetters, names_asked, separator_asked}
+use Rattle.osn_page_commands.specs.Letters.{PrintsLetters, settings_asked}
 use Rattle.osn_page_commands.specs.Page.{PrintsPage}
 use Rattle.osn_report.specs.Folders.{Folders, ReadsOne, ReadsTwo}
 use Rattle.osn_report.specs.Printing.{Prints}
@@ -60,11 +60,10 @@ Runs limits (auditing journal transcript) CanFail d i o e status =
 Runs limits (converting calendar date) CanFail d i o e status =
     (d.after ≡ d.before) × PrintsConversion calendar date o e status
 Runs limits (reading_letters journal asked) CanFail d i o e status =
-    MatchResult (separator_asked asked.separator)
-    (λ found. ReadsOne journal CanFail d (λ file. PrintsLetters limits file
-    (names_asked asked.place asked.date asked.weekday) found i o e status))
-    (λ misuse. (d.after ≡ d.before) × (o.new ≡ o.old)
-    × TellsMisuse e misuse (unwrap_or asked.separator []) status)
+    MatchResult
+    (settings_asked asked.place asked.date asked.weekday asked.separator asked.order)
+    (λ table. ReadsOne journal CanFail d (λ file. PrintsLetters limits file table asked.strict i o e status))
+    (λ wrong. (d.after ≡ d.before) × (o.new ≡ o.old) × TellsMisuse e wrong.0 wrong.1 status)
 
 -- ---- a run
 

@@ -139,15 +139,13 @@ where
             alloc, limits, folder, journal, transcript, output, errors, terminal,
         ),
         CommandWords::Letters { journal, options } => match asked_settings(
-            options.place, options.date, options.weekday, options.separator,
+            options.place, options.date, options.weekday, options.separator, options.order,
         ) {
             Ok(settings) => letters_in_folder(
-                alloc, limits, folder, journal, settings, input, output, errors, terminal,
+                alloc, limits, folder, journal, settings, options.strict, input, output, errors,
+                terminal,
             ),
-            Err(misuse) => {
-                let typed = as_typed(options.separator);
-                Ok(tell_misuse(alloc, errors, misuse, typed))
-            }
+            Err(wrong) => Ok(tell_misuse(alloc, errors, wrong.misuse, wrong.typed)),
         },
         CommandWords::Convert { calendar, date } => {
             Ok(convert_command(alloc, calendar, date, output, errors))

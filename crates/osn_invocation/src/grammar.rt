@@ -234,8 +234,9 @@ fn letters_grammar<'a>(alloc: Global) -> Result<Command<'a>, AllocError>
 const LETTERS_EXAMPLE: &str = "Example:
   ./oldstyle letters examples/samples.journal < examples/letters.csv
 
-The table is CSV with a header. It is written to standard output as it came, and nine columns
-follow its own: days, gregorian, julian, dual, weekday_found, jdn, edtf, edition and remark.";
+The table is CSV with a header. It is written to standard output as it came, and twelve
+columns follow its own: days, gregorian, julian, dual, weekday_found, jdn, earliest, latest, kind,
+edtf, edition and remark.";
 
 /// The command `replay`, its option and its argument.
 fn replay_grammar<'a>(alloc: Global) -> Result<Command<'a>, AllocError>

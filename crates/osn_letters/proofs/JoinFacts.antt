@@ -1,6 +1,7 @@
 -- Texts that an iterator joins, in the words of the definitions.
-use Rattle.std.proofs.Common.{◌≡◌, ℕ, Bool, true, false, if◌then◌else◌, List, [], ◌∷◌, ◌++◌}
+use Rattle.std.proofs.Common.{◌≡◌, ◌∙◌, ℕ, Bool, true, false, if◌then◌else◌, List, [], ◌∷◌, ◌++◌}
 use Rattle.std.proofs.Common.{map, filter, Bor, refl, ap}
+use Rattle.std.proofs.lemmas.List.{map-append}
 use Rattle.std.specs.List.{flat_map, join_by}
 use Rattle.itertools.specs.Consumer.{joined}
 
@@ -43,3 +44,11 @@ filter_now f test [] = refl
 filter_now f test (y ∷ ys) =
     one_passed f (test y.now) y (filter (λ y. test y.now) ys)
     (filter test (map (λ y. y.now) ys)) (filter_now f test ys)
+
+-- what an iterator over two lists gives, one after the other
+pub chained_now : {A : Type 0} (all ps qs : List (Bor A)) (xs ys : List A) → all ≡ ps ++ qs
+    → map (λ y. y.now) ps ≡ xs → map (λ y. y.now) qs ≡ ys → map (λ y. y.now) all ≡ xs ++ ys
+chained_now all ps qs xs ys e f g =
+    ap (map (λ y. y.now)) e
+    ∙ (map-append (λ y. y.now) ps qs
+    ∙ (ap (λ l. l ++ map (λ y. y.now) qs) f ∙ ap (λ l. xs ++ l) g))

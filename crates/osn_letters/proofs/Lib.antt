@@ -4,6 +4,7 @@ pub mod FoundFacts
 pub mod GoesFacts
 pub mod FieldFacts
 pub mod JoinFacts
+pub mod KeepFacts
 pub mod LaterFacts
 pub mod LawFacts
 pub mod LetterFacts
@@ -14,6 +15,7 @@ pub mod QuietFacts
 pub mod RowFacts
 pub mod SeamFacts
 pub mod SeparatorFacts
+pub mod SpanFacts
 pub mod StartFacts
 pub mod StreamFacts
 pub mod TableFacts

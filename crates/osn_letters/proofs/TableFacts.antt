@@ -4,17 +4,16 @@ use Rattle.std.proofs.lemmas.Result.{on_ok_weaker}
 use Rattle.csv.specs.Writing.{row_text}
 use Rattle.csv.specs.declared.writer.WriterBuilder.{WriterBuilder}
 use Rattle.osn_days.specs.Profile.{Profile}
+use Rattle.osn_grammar.specs.declared.written.DateOrder.{DateOrder}
 use Rattle.osn_register.specs.Plain.{LandModel}
 use Rattle.osn_letters.specs.declared.separator.Separator.{Separator}
 use Rattle.osn_letters.specs.Fields.{letter_fields}
 use Rattle.osn_letters.specs.Separators.{writer_by}
 
 -- a record that is written as what it is
-pub written_as : {T E : Type 0} (w : WriterBuilder) (r : Result T E) (new old : List ℕ)
-    (a b : List (List ℕ)) → a ≡ b → OnOk r (new ≡ old ++ row_text w a)
-    → OnOk r (new ≡ old ++ row_text w b)
-written_as w r new old a b e h =
-    on_ok_weaker r (λ is. is ∙ ap (λ fs. old ++ row_text w fs) e) h
+pub written_as : (w : WriterBuilder) (new old : List ℕ) (a b : List (List ℕ)) → a ≡ b
+    → new ≡ old ++ row_text w a → new ≡ old ++ row_text w b
+written_as w new old a b e is = is ∙ ap (λ fs. old ++ row_text w fs) e
 
 -- the same after the writer got another separator
 pub written_by : {T E : Type 0} (r : Result T E) (x y : Separator) (new middle old : List ℕ)
@@ -27,10 +26,10 @@ written_by r x y new middle old a b same kept e h =
     ∙ ap (λ fs. old ++ row_text (writer_by y) fs) e) h
 
 -- the fields by the fields that are read
-pub same_fields : (p : Profile) (lands : List LandModel) (edition : ℕ) (a b c d : List ℕ)
-    (v w : Option (List ℕ)) → a ≡ b → c ≡ d → v ≡ w
-    → letter_fields p lands edition a c v ≡ letter_fields p lands edition b d w
-same_fields p lands edition a b c d v w e1 e2 e3 =
-    ap (λ x. letter_fields p lands edition x c v) e1
-    ∙ ap (λ x. letter_fields p lands edition b x v) e2
-    ∙ ap (λ x. letter_fields p lands edition b d x) e3
+pub same_fields : (p : Profile) (lands : List LandModel) (edition : ℕ) (o : DateOrder)
+    (a b c d : List ℕ) (v w : Option (List ℕ)) → a ≡ b → c ≡ d → v ≡ w
+    → letter_fields p lands edition o a c v ≡ letter_fields p lands edition o b d w
+same_fields p lands edition o a b c d v w e1 e2 e3 =
+    ap (λ x. letter_fields p lands edition o x c v) e1
+    ∙ ap (λ x. letter_fields p lands edition o b x v) e2
+    ∙ ap (λ x. letter_fields p lands edition o b d x) e3

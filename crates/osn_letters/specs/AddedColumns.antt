@@ -10,6 +10,9 @@ added_name added.Julian = codes "julian"
 added_name added.Dual = codes "dual"
 added_name added.WeekdayFound = codes "weekday_found"
 added_name added.JulianDayNumber = codes "jdn"
+added_name added.Earliest = codes "earliest"
+added_name added.Latest = codes "latest"
+added_name added.Kind = codes "kind"
 added_name added.Edtf = codes "edtf"
 added_name added.Edition = codes "edition"
 added_name added.Remark = codes "remark"
@@ -23,6 +26,9 @@ added_columns =
     ∷ added.Dual
     ∷ added.WeekdayFound
     ∷ added.JulianDayNumber
+    ∷ added.Earliest
+    ∷ added.Latest
+    ∷ added.Kind
     ∷ added.Edtf
     ∷ added.Edition
     ∷ added.Remark

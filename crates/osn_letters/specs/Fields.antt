@@ -1,14 +1,9 @@
--- The nine fields that are put after a letter's row: which days its date means in its place. This
+-- The twelve fields that are put after a letter's row: which days its date means in its place. This
 -- project's profile.
-use Rattle.std.specs.Prelude.{ℕ, ◌-◌, Bool, true, false, not, ◌&&◌, ◌||◌, ◌==◌, nat_lt}
-use Rattle.std.specs.Prelude.{if◌then◌else◌, List, [], ◌∷◌, ◌++◌, length, map, filter, count_by}
-use Rattle.std.specs.Prelude.{take, drop, Option, Some, None, is_some, is_none, codes}
-use Rattle.std.specs.Char.{is_ascii_whitespace}
+use Rattle.std.specs.Prelude.{ℕ, Bool, true, false, List, [], ◌∷◌, ◌++◌, map, codes}
+use Rattle.std.specs.Prelude.{Option, Some, None, is_none, Result, Ok, Err}
 use Rattle.std.specs.Fmt.{decimal}
-use Rattle.std.specs.List.{join_by, list_any, prefix_len, suffix_len}
-use Rattle.std.specs.Option.{option_and_then}
-use Rattle.std.specs.Result.{result_ok}
-use Rattle.std.specs.Str.{is_utf8}
+use Rattle.std.specs.List.{join_by}
 use Rattle.osn_days.specs.declared.calendar.Calendar.TheVariants as calendar
 use Rattle.osn_days.specs.declared.weekday.Weekday.{Weekday}
 use Rattle.osn_days.specs.Profile.{Profile}
@@ -16,61 +11,36 @@ use Rattle.osn_days.specs.Chain.{date_of}
 use Rattle.osn_days.specs.DateText.{text_of_date}
 use Rattle.osn_days.specs.Line.{julian_day, weekday}
 use Rattle.osn_days.specs.Weekday.{weekday_name, weekday_numbered}
+use Rattle.osn_grammar.specs.declared.written.DateOrder.{DateOrder}
+use Rattle.osn_grammar.specs.declared.written.Written.{Written}
+use Rattle.osn_grammar.specs.declared.written.Written.TheVariants as written
+use Rattle.osn_grammar.specs.declared.written.WrittenDate.{WrittenDate as AnyDate}
 use Rattle.osn_lands.specs.declared.dated.DatedDay.{DatedDay}
+use Rattle.osn_lands.specs.declared.runs.Run.{Run}
 use Rattle.osn_lands.specs.Dated.{dated_text}
 use Rattle.osn_lands.specs.Territory.{TerritoryModel}
-use Rattle.osn_register.specs.Code.{is_code}
-use Rattle.osn_register.specs.Plain.{LandModel, territory_of}
-use Rattle.osn_written.specs.declared.absence.Absence.{Absence}
-use Rattle.osn_written.specs.declared.absence.Absence.TheVariants as why
+use Rattle.osn_register.specs.Plain.{LandModel}
+use Rattle.osn_written.specs.declared.finding.NoDay.{NoDay}
+use Rattle.osn_written.specs.declared.finding.NoDay.TheVariants.{Absent}
+use Rattle.osn_written.specs.declared.kind.Kind.{Kind}
+use Rattle.osn_written.specs.declared.written_date.DateFault.{DateFault}
+use Rattle.osn_written.specs.declared.written_date.DateFault.TheVariants.{NoDate}
 use Rattle.osn_written.specs.declared.written_date.WrittenDate.{WrittenDate}
 use Rattle.osn_written.specs.Absence.{absence}
-use Rattle.osn_written.specs.Meaning.{meaning, has_weekday, is_not_counted_double}
-use Rattle.osn_written.specs.WrittenDate.{written_date, weekday_named}
+use Rattle.osn_written.specs.Finding.{found, is_by_other_calendar, reckoned}
+use Rattle.osn_written.specs.Kind.{kind_of, kind_word}
+use Rattle.osn_written.specs.Meaning.{meaning}
+use Rattle.osn_written.specs.Said.{one_day}
+use Rattle.osn_letters.specs.declared.added_fields.Summary.{Summary}
 use Rattle.osn_letters.specs.declared.day_field.DayField.{DayField}
 use Rattle.osn_letters.specs.declared.day_field.DayField.TheVariants as field
 use Rattle.osn_letters.specs.declared.remark.Remark.{Remark}
 use Rattle.osn_letters.specs.declared.remark.Remark.TheVariants as told
-
--- ---- what the row says
-
--- bytes without the white space of ASCII before them
-abbrev pub without_leading : List ℕ → List ℕ
-without_leading bytes = drop (prefix_len is_ascii_whitespace bytes) bytes
-
--- bytes without the white space of ASCII after them
-abbrev pub without_trailing : List ℕ → List ℕ
-without_trailing bytes = take (length bytes - suffix_len is_ascii_whitespace bytes) bytes
-
--- bytes without the white space of ASCII around them
-abbrev pub trimmed : List ℕ → List ℕ
-trimmed bytes = without_trailing (without_leading bytes)
-
--- the text that a field has without the white space around it, if it is a text
-abbrev pub text_in_field : List ℕ → Option (List ℕ)
-text_in_field bytes = if is_utf8 (trimmed bytes) then Some (trimmed bytes) else None
-
--- the date of a field, if it is one
-abbrev pub date_in : List ℕ → Option WrittenDate
-date_in bytes = option_and_then (λ text. result_ok (written_date text)) (text_in_field bytes)
-
--- the territory of a text, if that is a code, and that of a territory
-abbrev pub territory_of_text : List LandModel → List ℕ → Option TerritoryModel
-territory_of_text lands text = if is_code text then territory_of text lands else None
-
--- the territory of a field
-abbrev pub territory_in : List LandModel → List ℕ → Option TerritoryModel
-territory_in lands place = option_and_then (territory_of_text lands) (text_in_field place)
-
--- the weekday of a field, which may be lacking
-abbrev pub weekday_in : Option (List ℕ) → Option Weekday
-weekday_in named = option_and_then weekday_named (option_and_then text_in_field named)
-
--- the field has something that is no weekday's name
-abbrev pub is_malformed_weekday : Option (List ℕ) → Bool
-is_malformed_weekday None = false
-is_malformed_weekday (Some name) =
-    not (length (trimmed name) == 0) && is_none (weekday_in (Some name))
+use Rattle.osn_letters.specs.declared.span.Span.{Span}
+use Rattle.osn_letters.specs.Edtf.{edtf_of_days, edtf_of_span, sign}
+use Rattle.osn_letters.specs.Remarks.{remark_text, remarks_beside, remarks_on_days}
+use Rattle.osn_letters.specs.RowFields.{is_malformed_weekday, said_in, territory_in, weekday_in}
+use Rattle.osn_letters.specs.Span.{no_span, span_of_days, span_of_runs}
 
 -- ---- the fields of the days
 
@@ -87,81 +57,6 @@ day_text field.JulianDayNumber dated = decimal (julian_day dated.day)
 abbrev pub days_text : List DatedDay → DayField → List ℕ
 days_text days f = join_by (day_text f) (codes "; ") days
 
--- the days as ISO 8601-2 writes them: one day, or the set of several
-abbrev pub edtf_text : List DatedDay → List ℕ
-edtf_text [] = []
-edtf_text (day ∷ []) = day_text field.Gregorian day
-edtf_text (day ∷ next ∷ days) =
-    codes "[" ++ (join_by (day_text field.Gregorian) (codes ",") (day ∷ next ∷ days) ++ codes "]")
-
--- ---- the remark
-
--- why there is no day
-abbrev pub absence_text : Absence → List ℕ
-absence_text why.NotWithBothYears = codes "not with both years"
-absence_text why.NotOfItsCalendar = codes "no date of its calendar"
-absence_text why.OffTheLine = codes "off the line"
-absence_text why.Skipped = codes "skipped"
-absence_text why.NotInThatYear = codes "no such date in that year"
-
--- a remark in words
-abbrev pub remark_words : Remark → List ℕ
-remark_words told.MalformedDate = codes "malformed date"
-remark_words told.UnknownPlace = codes "unknown place"
-remark_words (told.NoDay reason) = absence_text reason
-remark_words told.ByItsWeekday = codes "by its weekday"
-remark_words told.SeveralDays = codes "several days"
-remark_words told.WeekdayDiffers = codes "weekday differs"
-remark_words told.NotCountedDouble = codes "not counted double there"
-remark_words told.MalformedWeekday = codes "malformed weekday"
-
--- of remarks, each with whether it applies, those that do, in their order
-abbrev pub those_that_apply : List (Bool × Remark) → List Remark
-those_that_apply remarks = map (λ r. r.1) (filter (λ r. r.0) remarks)
-
--- the field of these
-abbrev pub remark_text : List (Bool × Remark) → List ℕ
-remark_text remarks = join_by remark_words (codes "; ") (those_that_apply remarks)
-
--- a weekday is given, by the date itself or beside it
-abbrev pub is_weekday_given : WrittenDate → Option Weekday → Bool
-is_weekday_given w given = is_some w.weekday || is_some given
-
--- a weekday is given, and that many of the days have it
-abbrev pub are_on_weekday : ℕ → WrittenDate → Option Weekday → List DatedDay → Bool
-are_on_weekday count w given days =
-    is_weekday_given w given && count_by (has_weekday w given) days == count
-
--- what is said of several days: whether the weekday that is given tells one of them
-abbrev pub several_remark : WrittenDate → Option Weekday → List DatedDay → Remark
-several_remark w given days =
-    if are_on_weekday 1 w given days then told.ByItsWeekday else told.SeveralDays
-
--- what is said of days
-abbrev pub remarks_on_days : WrittenDate → Option Weekday → List DatedDay → Bool
-    → List (Bool × Remark)
-remarks_on_days w given days is_malformed =
-    (nat_lt 1 (length days), several_remark w given days)
-    ∷ (are_on_weekday 0 w given days, told.WeekdayDiffers)
-    ∷ (list_any (is_not_counted_double w) days, told.NotCountedDouble)
-    ∷ (is_malformed, told.MalformedWeekday)
-    ∷ []
-
--- what is said where there is no day
-abbrev pub remarks_on_absence : Absence → Bool → List (Bool × Remark)
-remarks_on_absence reason is_malformed =
-    (true, told.NoDay reason) ∷ (is_malformed, told.MalformedWeekday) ∷ []
-
--- what is said where the date or the place can't be read
-abbrev pub remarks_on_row : Bool → Bool → Bool → List (Bool × Remark)
-remarks_on_row lacks_date lacks_place is_malformed =
-    (lacks_date, told.MalformedDate)
-    ∷ (lacks_place, told.UnknownPlace)
-    ∷ (is_malformed, told.MalformedWeekday)
-    ∷ []
-
--- ---- the whole
-
 -- the fields that say each day by itself, in their order
 abbrev pub day_fields : List DayField
 day_fields =
@@ -173,37 +68,138 @@ day_fields =
     ∷ field.JulianDayNumber
     ∷ []
 
--- the nine fields of these days
-abbrev pub fields_of_days : ℕ → List DatedDay → List (Bool × Remark) → List (List ℕ)
-fields_of_days edition days remarks =
+-- ---- the twelve fields
+
+-- the Gregorian date of the first or the last day, if there is one
+abbrev pub end_text : Option ℕ → List ℕ
+end_text None = []
+end_text (Some d) = text_of_date (date_of calendar.Gregorian d)
+
+-- the word of the kind, if there is one
+abbrev pub kind_text : Option Kind → List ℕ
+kind_text None = []
+kind_text (Some kind) = kind_word kind
+
+abbrev pub summary_fields : Summary → List (List ℕ)
+summary_fields s = end_text s.span.earliest ∷ end_text s.span.latest ∷ kind_text s.kind ∷ []
+
+-- of these days, and with these texts of them and of the remarks
+abbrev pub added_fields : Summary → List DatedDay → List ℕ → List ℕ → List (List ℕ)
+added_fields s days edtf remarks =
     map (days_text days) day_fields
-    ++ (edtf_text days ∷ decimal edition ∷ remark_text remarks ∷ [])
+    ++ (summary_fields s ++ (edtf ∷ decimal s.edition ∷ remarks ∷ []))
 
--- what is said of the days that a date means in a territory
-abbrev pub remarks_on : Profile → TerritoryModel → WrittenDate → Option Weekday → Bool
-    → List DatedDay → List (Bool × Remark)
-remarks_on p t w given is_malformed [] = remarks_on_absence (absence p t w) is_malformed
-remarks_on p t w given is_malformed (day ∷ days) =
-    remarks_on_days w given (day ∷ days) is_malformed
+-- what is said of a date as a whole
+abbrev pub summary : ℕ → Option Kind → Span → Summary
+summary edition kind span = record { span = span; kind = kind; edition = edition }
 
--- the fields of a date in a territory, with the field of the weekday
-abbrev pub fields_in : Profile → ℕ → TerritoryModel → WrittenDate → Option (List ℕ)
+abbrev pub summary_of : ℕ → AnyDate → Span → Summary
+summary_of edition w span = summary edition (Some (kind_of w.extent)) span
+
+-- where there is no day
+abbrev pub fields_of_none : ℕ → Option Kind → List (Bool × Remark) → List (List ℕ)
+fields_of_none edition kind remarks =
+    added_fields (summary edition kind no_span) [] [] (remark_text remarks)
+
+-- of a date that means no day
+abbrev pub fields_of_absence : ℕ → AnyDate → NoDay → List (Bool × Remark) → List (List ℕ)
+fields_of_absence edition w reason beside =
+    fields_of_none edition (Some (kind_of w.extent)) ((true, told.NoDay reason) ∷ beside)
+
+-- of days
+abbrev pub fields_of_days : ℕ → AnyDate → List DatedDay → List (Bool × Remark) → List (List ℕ)
+fields_of_days edition w days remarks =
+    added_fields (summary_of edition w (span_of_days days)) days (edtf_of_days (sign w) days)
+    (remark_text remarks)
+
+-- of runs
+abbrev pub fields_of_runs : ℕ → AnyDate → List Run → List (Bool × Remark) → List (List ℕ)
+fields_of_runs edition w runs remarks =
+    let span = span_of_runs w.extent runs in
+    added_fields (summary_of edition w span) [] (edtf_of_span (sign w) span runs)
+    (remark_text remarks)
+
+-- ---- the date, in its territory
+
+-- of the days that a date means which is one day
+abbrev pub fields_of_meaning : ℕ → AnyDate → WrittenDate → Option Weekday → NoDay
+    → List (Bool × Remark) → List DatedDay → List (List ℕ)
+fields_of_meaning edition w day given reason beside [] = fields_of_absence edition w reason beside
+fields_of_meaning edition w day given reason beside (first ∷ rest) =
+    fields_of_days edition w (first ∷ rest)
+    (remarks_on_days day given (first ∷ rest) ++ beside)
+
+-- of a date that is one day
+abbrev pub fields_of_one_day : Profile → ℕ → TerritoryModel → AnyDate → WrittenDate
+    → Option Weekday → List (Bool × Remark) → List (List ℕ)
+fields_of_one_day p edition t w day given beside =
+    fields_of_meaning edition w day given (Absent (absence p t day)) beside
+    (meaning p t day given)
+
+-- of a date that is not one day
+abbrev pub fields_of_found : ℕ → AnyDate → List (Bool × Remark) → Result (List Run) NoDay
     → List (List ℕ)
+fields_of_found edition w beside (Ok runs) = fields_of_runs edition w runs beside
+fields_of_found edition w beside (Err reason) = fields_of_absence edition w reason beside
+
+abbrev pub fields_of_many_days : Profile → ℕ → TerritoryModel → AnyDate → List (Bool × Remark)
+    → List (List ℕ)
+fields_of_many_days p edition t w beside =
+    fields_of_found edition w beside (found p t w.extent)
+
+-- of either
+abbrev pub fields_of_either : Profile → ℕ → TerritoryModel → AnyDate → Option Weekday
+    → List (Bool × Remark) → Option WrittenDate → List (List ℕ)
+fields_of_either p edition t w given beside (Some day) =
+    fields_of_one_day p edition t w day given beside
+fields_of_either p edition t w given beside None = fields_of_many_days p edition t w beside
+
+-- by the reckoning of a territory, with the field of the weekday
+abbrev pub fields_by : Profile → ℕ → TerritoryModel → Bool → AnyDate → Option (List ℕ)
+    → List (List ℕ)
+fields_by p edition t is_other w named =
+    fields_of_either p edition t w (weekday_in named)
+    (remarks_beside w (weekday_in named) is_other (is_malformed_weekday named)) (one_day w)
+
+-- in its territory, by the calendar that it names
+abbrev pub fields_in : Profile → ℕ → TerritoryModel → AnyDate → Option (List ℕ) → List (List ℕ)
 fields_in p edition t w named =
-    let given = weekday_in named in
-    let days = meaning p t w given in
-    fields_of_days edition days (remarks_on p t w given (is_malformed_weekday named) days)
+    fields_by p edition (reckoned t w.reckoning) (is_by_other_calendar p t w) w named
 
--- the same, where both can be read
-abbrev pub fields_read : Profile → ℕ → Option WrittenDate → Option TerritoryModel
-    → Option (List ℕ) → List (List ℕ)
-fields_read p edition (Some w) (Some t) named = fields_in p edition t w named
-fields_read p edition date territory named =
-    fields_of_days edition []
-    (remarks_on_row (is_none date) (is_none territory) (is_malformed_weekday named))
+-- ---- the whole
 
--- the nine fields for a place, a date and perhaps a weekday, by the territories of an edition
-abbrev pub letter_fields : Profile → List LandModel → ℕ → List ℕ → List ℕ → Option (List ℕ)
+-- of a date whose place is not known
+abbrev pub fields_without_place : ℕ → AnyDate → Option (List ℕ) → List (List ℕ)
+fields_without_place edition w named =
+    fields_of_none edition (Some (kind_of w.extent))
+    ((true, told.UnknownPlace)
+    ∷ remarks_beside w (weekday_in named) false (is_malformed_weekday named))
+
+-- of a date in its place, if that is known
+abbrev pub fields_of_date : Profile → ℕ → Option TerritoryModel → AnyDate → Option (List ℕ)
     → List (List ℕ)
-letter_fields p lands edition place date named =
-    fields_read p edition (date_in date) (territory_in lands place) named
+fields_of_date p edition (Some t) w named = fields_in p edition t w named
+fields_of_date p edition None w named = fields_without_place edition w named
+
+-- where no date is read
+abbrev pub fields_without_date : ℕ → DateFault → Bool → Option (List ℕ) → List (List ℕ)
+fields_without_date edition fault lacks_place named =
+    fields_of_none edition None
+    ((true, told.NotRead fault)
+    ∷ (lacks_place, told.UnknownPlace)
+    ∷ (is_malformed_weekday named, told.MalformedWeekday)
+    ∷ [])
+
+-- of what the field of the date says
+abbrev pub fields_said : Profile → ℕ → Option TerritoryModel → Option (List ℕ)
+    → Result Written DateFault → List (List ℕ)
+fields_said p edition t named (Ok (written.Date w)) = fields_of_date p edition t w named
+fields_said p edition t named (Ok written.NoDate) =
+    fields_without_date edition NoDate (is_none t) named
+fields_said p edition t named (Err fault) = fields_without_date edition fault (is_none t) named
+
+-- the twelve fields for a place, a date and perhaps a weekday, by the territories of an edition
+abbrev pub letter_fields : Profile → List LandModel → ℕ → DateOrder → List ℕ → List ℕ
+    → Option (List ℕ) → List (List ℕ)
+letter_fields p lands edition order place date named =
+    fields_said p edition (territory_in lands place) named (said_in order date)

@@ -1,4 +1,8 @@
 pub mod Faults
+pub mod RowFields
+pub mod Span
+pub mod Edtf
+pub mod Remarks
 pub mod Fields
 pub mod AddedColumns
 pub mod Columns
@@ -7,6 +11,7 @@ pub mod Records
 pub mod Law
 pub mod RecordsInside
 pub mod Table
+pub mod Remarked
 pub mod Parts
 pub mod TableLaws
 pub mod WriterInside

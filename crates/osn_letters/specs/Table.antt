@@ -1,4 +1,4 @@
--- The table that is written: the header and each record that came, with nine fields after it. This
+-- The table that is written: the header and each record that came, with twelve fields after it. This
 -- project's profile.
 use Rattle.std.specs.Prelude.{◌≡◌, ◌≤◌, ℕ, true, ◌==◌, List, [], ◌∷◌, ◌++◌, length, get_or}
 use Rattle.std.specs.Prelude.{if◌then◌else◌}
@@ -6,6 +6,7 @@ use Rattle.std.specs.Prelude.{Option, Some, None, option_map, Result, Ok, Err}
 use Rattle.std.specs.Io.KnownBytes.{Appends, Consumes}
 use Rattle.csv.specs.Writing.{row_text}
 use Rattle.osn_days.specs.Profile.{Profile}
+use Rattle.osn_grammar.specs.declared.written.DateOrder.{DateOrder}
 use Rattle.osn_register.specs.Plain.{LandModel}
 use Rattle.osn_letters.specs.declared.columns.Columns.{Columns}
 use Rattle.osn_letters.specs.declared.separator.Separator.{Separator}
@@ -20,13 +21,15 @@ use Rattle.osn_letters.specs.Records.{PlacedRecord, records_of}
 use Rattle.osn_letters.specs.Separators.{writer_by}
 
 -- by what a table is made: the rules, the territories, the number of their edition, the names of
--- the columns that are read, and what separates the fields, if it was named
+-- the columns that are read, what separates the fields, if it was named, and how a date is read that
+-- may begin with its day or its month
 pub record TableBasis : Type 0 where
   pub rules : Profile
   pub lands : List LandModel
   pub edition : ℕ
   pub names : NameTexts
   pub separator : Option Separator
+  pub order : DateOrder
 
 abbrev pub basis : Profile → List LandModel → ℕ → TableSettings → TableBasis
 basis p lands edition settings = record {
@@ -35,6 +38,7 @@ basis p lands edition settings = record {
   edition = edition;
   names = names_of settings.names;
   separator = settings.separator;
+  order = settings.order;
 }
 
 -- what the header says of the records after it: where the columns that are read stand, how many
@@ -65,10 +69,10 @@ behind text written = record { text = text ++ written.text; fault = written.faul
 abbrev pub header_text : Separator → List (List ℕ) → List ℕ
 header_text separator header = row_text (writer_by separator) (header ++ added_names)
 
--- the nine fields of a record
+-- the twelve fields of a record
 abbrev pub fields_behind : TableBasis → Columns → List (List ℕ) → List (List ℕ)
 fields_behind s columns record_fields =
-    letter_fields s.rules s.lands s.edition
+    letter_fields s.rules s.lands s.edition s.order
     (get_or record_fields columns.place [])
     (get_or record_fields columns.date [])
     (option_map (λ n. get_or record_fields n []) columns.weekday)

@@ -17,6 +17,12 @@ pub enum AddedColumn {
     WeekdayFound,
     /// Their Julian day numbers.
     JulianDayNumber,
+    /// The Gregorian date of the first day that the date may mean.
+    Earliest,
+    /// The Gregorian date of the last one.
+    Latest,
+    /// What kind of date it is.
+    Kind,
     /// The days as ISO 8601-2 writes them.
     Edtf,
     /// The number of the register's edition.
@@ -26,13 +32,16 @@ pub enum AddedColumn {
 }
 
 /// These columns in their order.
-pub(crate) const ADDED_COLUMNS: [AddedColumn; 9] = [
+pub(crate) const ADDED_COLUMNS: [AddedColumn; 12] = [
     AddedColumn::Days,
     AddedColumn::Gregorian,
     AddedColumn::Julian,
     AddedColumn::Dual,
     AddedColumn::WeekdayFound,
     AddedColumn::JulianDayNumber,
+    AddedColumn::Earliest,
+    AddedColumn::Latest,
+    AddedColumn::Kind,
     AddedColumn::Edtf,
     AddedColumn::Edition,
     AddedColumn::Remark,
@@ -50,6 +59,9 @@ impl AddedColumn {
             AddedColumn::Dual => "dual",
             AddedColumn::WeekdayFound => "weekday_found",
             AddedColumn::JulianDayNumber => "jdn",
+            AddedColumn::Earliest => "earliest",
+            AddedColumn::Latest => "latest",
+            AddedColumn::Kind => "kind",
             AddedColumn::Edtf => "edtf",
             AddedColumn::Edition => "edition",
             AddedColumn::Remark => "remark",

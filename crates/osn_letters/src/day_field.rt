@@ -1,11 +1,11 @@
 //! What the fields after a row say of days.
 ghost use Rattle.std.specs.Prelude.{◌≡◌, IfOk, Some, string_bytes};
 ghost use Rattle.std.specs.List.{join_by};
-ghost use Rattle.osn_days.specs.DateText.{text_of_date};
 ghost use Rattle.osn_letters.specs.Fields as spec;
 
+use crate::date_text::DateText;
 use itertools::Itertools;
-use osn_days::{Calendar, Date, date_of};
+use osn_days::{Calendar, date_of};
 use osn_lands::DatedDay;
 use std::alloc::{AllocError, Global};
 use std::fmt;
@@ -25,25 +25,6 @@ pub(crate) enum DayField {
     Weekday,
     /// Its Julian day number.
     JulianDayNumber,
-}
-
-/// A date as `1732-02-22`.
-#[derive(Clone, Copy)]
-struct DateText(Date);
-
-impl fmt::Display for DateText {
-    ghost output = { λ x. Some (text_of_date x.0) };
-
-    fn fmt<W: fmt::Write>(&self, f: &mut fmt::Formatter<W>) -> fmt::Result {
-        let date = self.0;
-        write!(
-            f,
-            "{:04}-{:02}-{:02}",
-            date.year.unsigned_abs(),
-            date.month,
-            date.day
-        )
-    }
 }
 
 /// A day, as a field says it.
@@ -93,15 +74,4 @@ pub(crate) fn days_text(
     ensures { IfOk result (λ s. string_bytes s ≡ spec.days_text days.now field) }
 {
     joined(alloc, "; ", field, days)
-}
-
-/// The days as ISO 8601-2 writes them: one day, or the set of several.
-pub(crate) fn edtf_text(alloc: Global, days: &[DatedDay]) -> Result<String, AllocError>
-    ensures { IfOk result (λ s. string_bytes s ≡ spec.edtf_text days.now) }
-{
-    let dates = joined(alloc, ",", DayField::Gregorian, days)?;
-    if days.len() < 2 {
-        return Ok(dates);
-    }
-    format!(in alloc; "[{dates}]")
 }

@@ -1,136 +1,167 @@
 //! The fields that are put after a letter's row.
-ghost use Rattle.std.specs.Prelude.{◌≡◌, [], ◌∷◌, ◌++◌, map, option_map, IfOk, OnOk};
-ghost use Rattle.std.specs.Fmt.{decimal};
-ghost use Rattle.csv.specs.Records.{fields_of, partial_of};
+ghost use Rattle.std.specs.Prelude.{◌≡◌, [], ◌∷◌, ◌++◌, option_map, IfOk};
+ghost use Rattle.csv.specs.Records.{fields_of};
 ghost use Rattle.osn_days.specs.Profile.{newest_rules};
 ghost use Rattle.osn_letters.specs.Fields as spec;
 
-use crate::day_field::{DayField, days_text, edtf_text};
-use crate::remark::{Told, remark_text, remarks_on_absence, remarks_on_days, remarks_on_row};
+use crate::added_fields::{Summary, added_fields};
+use crate::edtf::{edtf_of_days, edtf_of_span, sign};
+use crate::remark::{Remark, Told, remark_text, remarks_beside, remarks_on_days};
+use crate::row_field::{is_malformed_weekday, said_in, territory_in, weekday_in};
+use crate::span::{NO_SPAN, span_of_days, span_of_runs};
 use csv::ByteRecord;
 use osn_days::Weekday;
-use osn_lands::{DatedDay, Territory};
+use osn_grammar::{DateOrder, Written, WrittenDate as AnyDate};
+use osn_lands::{DatedDay, Run, Territory};
 use osn_register::Register;
-use osn_written::{WrittenDate, absence_of, days_meant, weekday_named};
+use osn_written::{
+    DateFault, Kind, NoDay, WrittenDate, absence_of, by_reckoning, days_meant, find_runs,
+    is_by_other_calendar, kind_of,
+};
 use std::alloc::{AllocError, Global};
-use std::str;
 
-/// The fields that say each day by itself, in their order.
-const DAY_FIELDS: [DayField; 6] = [
-    DayField::Number,
-    DayField::Gregorian,
-    DayField::Julian,
-    DayField::Dual,
-    DayField::Weekday,
-    DayField::JulianDayNumber,
-];
-
-/// Bytes without the white space of ASCII around them.
-fn trimmed(bytes: &[u8]) -> &[u8]
-    ensures { result.now ≡ spec.trimmed bytes.now }
-{
-    bytes.trim_ascii()
-}
-
-/// The text that a field has without the white space around it, if it is a text.
-fn text_in_field(bytes: &[u8]) -> Option<&str>
-    ensures { option_map (λ s. s.now) result ≡ spec.text_in_field bytes.now }
-{
-    str::from_utf8(trimmed(bytes)).ok()
-}
-
-/// The date of a field, if it is one.
-fn date_in(alloc: Global, field: &[u8]) -> Result<Option<WrittenDate>, AllocError>
-    ensures { IfOk result (λ date. date ≡ spec.date_in field.now) }
-{
-    match text_in_field(field) {
-        Some(text) => Ok(WrittenDate::parse(alloc, text)?.ok()),
-        None => Ok(None),
-    }
-}
-
-/// The territory of a code, if some territory has it.
-fn territory_of_text<'a>(register: &'a Register, text: &str) -> Option<&'a Territory>
-    ensures { option_map (λ t. t.now) result
-        ≡ spec.territory_of_text register.now.lands text.now }
-{
-    let (_, territory) = register.land(text).ok()?;
-    Some(territory)
-}
-
-/// The territory of a field.
-fn territory_in<'a>(register: &'a Register, place: &[u8]) -> Option<&'a Territory>
-    ensures { option_map (λ t. t.now) result ≡ spec.territory_in register.now.lands place.now }
-{
-    territory_of_text(register, text_in_field(place)?)
-}
-
-/// The weekday of a field, which may be lacking.
-fn weekday_in(named: Option<&[u8]>) -> Option<Weekday>
-    ensures { result ≡ spec.weekday_in (option_map (λ w. w.now) named.entry) }
-{
-    weekday_named(text_in_field(named?)?)
-}
-
-/// Whether the field has something that is no weekday's name.
-fn is_malformed_weekday(named: Option<&[u8]>) -> bool
-    ensures { result ≡ spec.is_malformed_weekday (option_map (λ w. w.now) named.entry) }
-{
-    match named {
-        Some(name) => !trimmed(name).is_empty() && weekday_in(named).is_none(),
-        None => false,
-    }
-}
-
-/// Appends these fields of the days.
-fn push_day_fields(
+/// The fields where there is no day.
+fn fields_of_none(
     alloc: Global,
-    fields: &mut ByteRecord,
-    which: &[DayField],
-    days: &[DatedDay],
-) -> Result<(), AllocError>
-    requires { partial_of fields.old ≡ [] }
-    ensures fields { OnOk result (fields_of fields.new
-        ≡ fields_of fields.old ++ map (spec.days_text days.now) which.now) }
-    ensures partial { OnOk result (partial_of fields.new ≡ []) }
-{
-    for field in which {
-        fields.push_field(days_text(alloc, *field, days)?.as_bytes())?;
-    }
-    Ok(())
-}
-
-/// Appends the fields after those: the days as ISO 8601-2 writes them, the edition and the remarks.
-fn push_last_fields(
-    alloc: Global,
-    fields: &mut ByteRecord,
     edition: usize,
-    days: &[DatedDay],
-    remarks: &[Told],
-) -> Result<(), AllocError>
-    requires { partial_of fields.old ≡ [] }
-    ensures { OnOk result (fields_of fields.new ≡ fields_of fields.old
-        ++ (spec.edtf_text days.now ∷ decimal edition ∷ spec.remark_text remarks.now ∷ [])) }
+    kind: Option<Kind>,
+    reasons: &[Told],
+    beside: &[Told],
+) -> Result<ByteRecord, AllocError>
+    ensures { IfOk result (λ fields. fields_of fields
+        ≡ spec.fields_of_none edition kind (reasons.now ++ beside.now)) }
 {
-    fields.push_field(edtf_text(alloc, days)?.as_bytes())?;
-    fields.push_field(format!(in alloc; "{edition}")?.as_bytes())?;
-    fields.push_field(remark_text(alloc, remarks)?.as_bytes())
+    let summary = Summary {
+        span: NO_SPAN,
+        kind,
+        edition,
+    };
+    let remarks = remark_text(alloc, reasons, beside)?;
+    added_fields(alloc, summary, &[], "", &remarks)
 }
 
-/// The nine fields of these days.
+/// The fields of days.
 fn fields_of_days(
     alloc: Global,
     edition: usize,
+    date: AnyDate,
     days: &[DatedDay],
-    remarks: &[Told],
+    on_days: &[Told],
+    beside: &[Told],
 ) -> Result<ByteRecord, AllocError>
     ensures { IfOk result (λ fields. fields_of fields
-        ≡ spec.fields_of_days edition days.now remarks.now) }
+        ≡ spec.fields_of_days edition date days.now (on_days.now ++ beside.now)) }
 {
-    let mut fields = ByteRecord::new(alloc);
-    push_day_fields(alloc, &mut fields, &DAY_FIELDS, days)?;
-    push_last_fields(alloc, &mut fields, edition, days, remarks)?;
-    Ok(fields)
+    let summary = Summary {
+        span: span_of_days(days),
+        kind: Some(kind_of(date.extent)),
+        edition,
+    };
+    let edtf = edtf_of_days(alloc, sign(date), days)?;
+    let remarks = remark_text(alloc, on_days, beside)?;
+    added_fields(alloc, summary, days, &edtf, &remarks)
+}
+
+/// The fields of runs.
+fn fields_of_runs(
+    alloc: Global,
+    edition: usize,
+    date: AnyDate,
+    runs: &[Run],
+    beside: &[Told],
+) -> Result<ByteRecord, AllocError>
+    ensures { IfOk result (λ fields. fields_of fields
+        ≡ spec.fields_of_runs edition date runs.now beside.now) }
+{
+    let summary = Summary {
+        span: span_of_runs(date.extent, runs),
+        kind: Some(kind_of(date.extent)),
+        edition,
+    };
+    let edtf = edtf_of_span(alloc, sign(date), summary.span, runs)?;
+    let remarks = remark_text(alloc, &[], beside)?;
+    added_fields(alloc, summary, &[], &edtf, &remarks)
+}
+
+/// The fields of a date that means no day.
+fn fields_of_absence(
+    alloc: Global,
+    edition: usize,
+    date: AnyDate,
+    reason: NoDay,
+    beside: &[Told],
+) -> Result<ByteRecord, AllocError>
+    ensures { IfOk result (λ fields. fields_of fields
+        ≡ spec.fields_of_absence edition date reason beside.now) }
+{
+    let kind = Some(kind_of(date.extent));
+    fields_of_none(
+        alloc,
+        edition,
+        kind,
+        &[(true, Remark::NoDay(reason))],
+        beside,
+    )
+}
+
+/// The fields of a date that is one day.
+fn fields_of_one_day(
+    alloc: Global,
+    edition: usize,
+    territory: &Territory,
+    date: AnyDate,
+    day: WrittenDate,
+    given: Option<Weekday>,
+    beside: &[Told],
+) -> Result<ByteRecord, AllocError>
+    ensures { IfOk result (λ fields. fields_of fields ≡ spec.fields_of_one_day newest_rules
+        edition territory.now date day given beside.now) }
+{
+    let days = days_meant(alloc, territory, day, given)?;
+    if days.is_empty() {
+        let reason = NoDay::Absent(absence_of(territory, day)?);
+        return fields_of_absence(alloc, edition, date, reason, beside);
+    }
+    let on_days = remarks_on_days(day, given, &days);
+    fields_of_days(alloc, edition, date, &days, &on_days, beside)
+}
+
+/// The fields of a date that is not one day.
+fn fields_of_many_days(
+    alloc: Global,
+    edition: usize,
+    territory: &Territory,
+    date: AnyDate,
+    beside: &[Told],
+) -> Result<ByteRecord, AllocError>
+    ensures { IfOk result (λ fields. fields_of fields ≡ spec.fields_of_many_days newest_rules
+        edition territory.now date beside.now) }
+{
+    match find_runs(alloc, territory, date.extent)? {
+        Ok(runs) => fields_of_runs(alloc, edition, date, &runs, beside),
+        Err(reason) => fields_of_absence(alloc, edition, date, reason, beside),
+    }
+}
+
+/// The fields of a date by the reckoning of a territory, with the field of the weekday.
+fn fields_by(
+    alloc: Global,
+    edition: usize,
+    territory: &Territory,
+    is_by_other_calendar: bool,
+    date: AnyDate,
+    named: Option<&[u8]>,
+) -> Result<ByteRecord, AllocError>
+    ensures { IfOk result (λ fields. fields_of fields ≡ spec.fields_by newest_rules edition
+        territory.now is_by_other_calendar date (option_map (λ w. w.now) named.entry)) }
+{
+    let given = weekday_in(named);
+    let is_malformed = is_malformed_weekday(named);
+    let beside = remarks_beside(date, given, is_by_other_calendar, is_malformed);
+    match WrittenDate::of_one_day(date) {
+        Some(day) => fields_of_one_day(alloc, edition, territory, date, day, given, &beside),
+        None => fields_of_many_days(alloc, edition, territory, date, &beside),
+    }
 }
 
 /// The fields of a date in a territory, with the field of the weekday.
@@ -138,29 +169,86 @@ fn fields_in(
     alloc: Global,
     edition: usize,
     territory: &Territory,
-    date: WrittenDate,
+    date: AnyDate,
     named: Option<&[u8]>,
 ) -> Result<ByteRecord, AllocError>
     ensures { IfOk result (λ fields. fields_of fields ≡ spec.fields_in newest_rules edition
         territory.now date (option_map (λ w. w.now) named.entry)) }
 {
-    let given = weekday_in(named);
-    let is_malformed = is_malformed_weekday(named);
-    let days = days_meant(alloc, territory, date, given)?;
-    if days.is_empty() {
-        let reason = absence_of(territory, date)?;
-        let remarks = remarks_on_absence(reason, is_malformed);
-        return fields_of_days(alloc, edition, &[], &remarks);
-    }
-    let remarks = remarks_on_days(date, given, &days, is_malformed);
-    fields_of_days(alloc, edition, &days, &remarks)
+    let Some(reckoning) = date.reckoning else {
+        return fields_by(alloc, edition, territory, false, date, named);
+    };
+    let is_other = is_by_other_calendar(alloc, territory, date)?;
+    let reckoned = by_reckoning(alloc, territory, reckoning)?;
+    fields_by(alloc, edition, &reckoned, is_other, date, named)
 }
 
-/// The nine fields that are put after the row of a letter, by the register of that edition: which
-/// days its date means in its place, as `days`, `gregorian`, `julian`, `dual`, `weekday_found`,
-/// `jdn`, `edtf`, `edition` and `remark`. The place is the code of a territory. The weekday may be
-/// lacking or empty, and its letters may be capital or small. White space of ASCII around each of
-/// the three is passed over.
+/// The fields of a date whose place is not known, with the field of the weekday.
+fn fields_without_place(
+    alloc: Global,
+    edition: usize,
+    date: AnyDate,
+    named: Option<&[u8]>,
+) -> Result<ByteRecord, AllocError>
+    ensures { IfOk result (λ fields. fields_of fields ≡ spec.fields_without_place edition date
+        (option_map (λ w. w.now) named.entry)) }
+{
+    let given = weekday_in(named);
+    let is_malformed = is_malformed_weekday(named);
+    let beside = remarks_beside(date, given, false, is_malformed);
+    let kind = Some(kind_of(date.extent));
+    fields_of_none(
+        alloc,
+        edition,
+        kind,
+        &[(true, Remark::UnknownPlace)],
+        &beside,
+    )
+}
+
+/// The fields of a date in its place, if that is known, with the field of the weekday.
+fn fields_of_date(
+    alloc: Global,
+    edition: usize,
+    territory: Option<&Territory>,
+    date: AnyDate,
+    named: Option<&[u8]>,
+) -> Result<ByteRecord, AllocError>
+    ensures { IfOk result (λ fields. fields_of fields ≡ spec.fields_of_date newest_rules edition
+        (option_map (λ t. t.now) territory.entry) date
+        (option_map (λ w. w.now) named.entry)) }
+{
+    match territory {
+        Some(territory) => fields_in(alloc, edition, territory, date, named),
+        None => fields_without_place(alloc, edition, date, named),
+    }
+}
+
+/// The fields where no date is read, with the field of the weekday.
+fn fields_without_date(
+    alloc: Global,
+    edition: usize,
+    fault: DateFault,
+    lacks_place: bool,
+    named: Option<&[u8]>,
+) -> Result<ByteRecord, AllocError>
+    ensures { IfOk result (λ fields. fields_of fields ≡ spec.fields_without_date edition fault
+        lacks_place (option_map (λ w. w.now) named.entry)) }
+{
+    let reasons = [
+        (true, Remark::NotRead(fault)),
+        (lacks_place, Remark::UnknownPlace),
+    ];
+    let beside = [(is_malformed_weekday(named), Remark::MalformedWeekday)];
+    fields_of_none(alloc, edition, None, &reasons, &beside)
+}
+
+/// The twelve fields that are put after the row of a letter, by the register of that edition: which
+/// days its date means in its place, as `days`, `gregorian`, `julian`, `dual`, `weekday_found` and
+/// `jdn`, which say each day of a date that is one day; then `earliest`, `latest`, `kind`, `edtf`,
+/// `edition` and `remark`. The place is the code of a territory. The weekday may be lacking or
+/// empty, and its letters may be capital or small. White space of ASCII around each of the three is
+/// passed over. A date that names a calendar is read as if the territory had gone by it.
 ///
 /// # Errors
 ///
@@ -169,19 +257,22 @@ pub fn letter_fields(
     alloc: Global,
     register: &Register,
     edition: usize,
+    order: DateOrder,
     place: &[u8],
     date: &[u8],
     weekday: Option<&[u8]>,
 ) -> Result<ByteRecord, AllocError>
     ensures { IfOk result (λ fields. fields_of fields ≡ spec.letter_fields newest_rules
-        register.now.lands edition place.now date.now (option_map (λ w. w.now) weekday.entry)) }
+        register.now.lands edition order place.now date.now
+        (option_map (λ w. w.now) weekday.entry)) }
 {
-    let date = date_in(alloc, date)?;
     let territory = territory_in(register, place);
-    if let (Some(date), Some(territory)) = (date, territory) {
-        return fields_in(alloc, edition, territory, date, weekday);
+    let lacks_place = territory.is_none();
+    match said_in(alloc, order, date)? {
+        Ok(Written::Date(date)) => fields_of_date(alloc, edition, territory, date, weekday),
+        Ok(Written::NoDate) => {
+            fields_without_date(alloc, edition, DateFault::NoDate, lacks_place, weekday)
+        }
+        Err(fault) => fields_without_date(alloc, edition, fault, lacks_place, weekday),
     }
-    let is_malformed = is_malformed_weekday(weekday);
-    let remarks = remarks_on_row(date.is_none(), territory.is_none(), is_malformed);
-    fields_of_days(alloc, edition, &[], &remarks)
 }

@@ -5,9 +5,12 @@
 #![tactic(auto)]
 
 mod added_column;
+mod added_fields;
 mod columns;
 mod csv_text;
+mod date_text;
 mod day_field;
+mod edtf;
 mod fault;
 mod letter;
 mod letters;
@@ -15,8 +18,10 @@ mod parser;
 mod parser_state;
 mod progress;
 mod remark;
+mod row_field;
 mod separator;
 mod settings;
+mod span;
 mod start;
 mod stream;
 mod table;

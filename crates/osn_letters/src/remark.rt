@@ -1,26 +1,27 @@
 //! What is said of a letter in its last field.
-ghost use Rattle.std.specs.Prelude.{◌≡◌, IfOk, Some, string_bytes};
+ghost use Rattle.std.specs.Prelude.{◌≡◌, ◌++◌, IfOk, Some, string_bytes};
 ghost use Rattle.std.specs.Prelude.{count_by};
 ghost use Rattle.std.specs.List.{list_any};
 ghost use Rattle.osn_written.specs.Meaning as meaning;
-ghost use Rattle.osn_letters.specs.Fields as spec;
+ghost use Rattle.osn_letters.specs.Remarks as spec;
 
 use itertools::Itertools;
 use osn_days::Weekday;
+use osn_grammar::WrittenDate as AnyDate;
 use osn_lands::DatedDay;
-use osn_written::{Absence, WrittenDate, has_weekday, is_not_counted_double};
+use osn_written::{DateFault, NoDay, WrittenDate, has_weekday, is_not_counted_double};
 use std::alloc::{AllocError, Global};
 use std::fmt;
 
 /// What may be said of a letter.
 #[derive(Clone, Copy, Debug, PartialEq, Eq)]
 pub(crate) enum Remark {
-    /// Its date can't be read.
-    MalformedDate,
+    /// Its date is not read.
+    NotRead(DateFault),
     /// Its place is no code, or that of no territory.
     UnknownPlace,
     /// Its date means no day.
-    NoDay(Absence),
+    NoDay(NoDay),
     /// Its date means several days, of which one alone has the weekday that is given.
     ByItsWeekday,
     /// Its date means several days, and no weekday tells which.
@@ -29,21 +30,14 @@ pub(crate) enum Remark {
     WeekdayDiffers,
     /// Its date is a double one, and the territory wrote the later year alone.
     NotCountedDouble,
+    /// An editor supplied its date.
+    Supplied,
+    /// By the calendar that its date names, it means other days than by that of its place.
+    ByAnotherCalendar,
+    /// A weekday is given, and its date is not one day.
+    WeekdayNotLookedFor,
     /// Its weekday is no weekday's name.
     MalformedWeekday,
-}
-
-/// Why there is no day.
-fn absence_text(reason: Absence) -> &'static str
-    ensures { result.now ≡ spec.absence_text reason }
-{
-    match reason {
-        Absence::NotWithBothYears => "not with both years",
-        Absence::NotOfItsCalendar => "no date of its calendar",
-        Absence::OffTheLine => "off the line",
-        Absence::Skipped => "skipped",
-        Absence::NotInThatYear => "no such date in that year",
-    }
 }
 
 impl Remark {
@@ -52,13 +46,16 @@ impl Remark {
         ensures { result.now ≡ spec.remark_words self }
     {
         match self {
-            Remark::MalformedDate => "malformed date",
+            Remark::NotRead(fault) => fault.words(),
             Remark::UnknownPlace => "unknown place",
-            Remark::NoDay(reason) => absence_text(reason),
+            Remark::NoDay(reason) => reason.words(),
             Remark::ByItsWeekday => "by its weekday",
             Remark::SeveralDays => "several days",
             Remark::WeekdayDiffers => "weekday differs",
             Remark::NotCountedDouble => "not counted double there",
+            Remark::Supplied => "supplied by an editor",
+            Remark::ByAnotherCalendar => "by another calendar",
+            Remark::WeekdayNotLookedFor => "weekday not looked for",
             Remark::MalformedWeekday => "malformed weekday",
         }
     }
@@ -75,22 +72,28 @@ impl fmt::Display for Remark {
 /// A remark, and whether it applies.
 pub(crate) type Told = (bool, Remark);
 
-/// The remarks that apply, in their order.
-pub(crate) fn remark_text(alloc: Global, remarks: &[Told]) -> Result<String, AllocError>
-    ensures { IfOk result (λ s. string_bytes s ≡ spec.remark_text remarks.now) }
+/// The remarks that apply: those on the days, and then those beside them, in their order.
+pub(crate) fn remark_text(
+    alloc: Global,
+    on_days: &[Told],
+    beside: &[Told],
+) -> Result<String, AllocError>
+    ensures { IfOk result (λ s.
+        string_bytes s ≡ spec.remark_text (on_days.now ++ beside.now)) }
 {
-    remarks
+    on_days
         .iter()
+        .chain(beside.iter())
         .filter(|remark| remark.0)
         .map(|remark| remark.1)
         .join(alloc, "; ")
 }
 
 /// Whether a weekday is given, by the date itself or beside it.
-fn is_weekday_given(date: WrittenDate, given: Option<Weekday>) -> bool
-    ensures { result ≡ spec.is_weekday_given date given }
+fn is_weekday_given(named: Option<Weekday>, given: Option<Weekday>) -> bool
+    ensures { result ≡ spec.is_weekday_given named given }
 {
-    date.weekday.is_some() || given.is_some()
+    named.is_some() || given.is_some()
 }
 
 /// How many of the days have the weekday.
@@ -111,7 +114,7 @@ fn are_on_weekday(
 ) -> bool
     ensures { result ≡ spec.are_on_weekday count date given days.now }
 {
-    is_weekday_given(date, given) && count_on_weekday(date, given, days) == count
+    is_weekday_given(date.weekday, given) && count_on_weekday(date, given, days) == count
 }
 
 /// What is said of several days: whether the weekday that is given tells one of them.
@@ -137,35 +140,31 @@ pub(crate) fn remarks_on_days(
     date: WrittenDate,
     given: Option<Weekday>,
     days: &[DatedDay],
-    is_malformed: bool,
-) -> [Told; 4]
-    ensures { result ≡ spec.remarks_on_days date given days.now is_malformed }
+) -> [Told; 3]
+    ensures { result ≡ spec.remarks_on_days date given days.now }
 {
     [
         (days.len() > 1, several_remark(date, given, days)),
         (are_on_weekday(0, date, given, days), Remark::WeekdayDiffers),
         (has_not_counted_double(date, days), Remark::NotCountedDouble),
-        (is_malformed, Remark::MalformedWeekday),
     ]
 }
 
-/// What is said where there is no day.
-pub(crate) fn remarks_on_absence(reason: Absence, is_malformed: bool) -> [Told; 2]
-    ensures { result ≡ spec.remarks_on_absence reason is_malformed }
+/// What is said beside the days, of a date that is read.
+pub(crate) fn remarks_beside(
+    date: AnyDate,
+    given: Option<Weekday>,
+    is_by_other_calendar: bool,
+    is_malformed: bool,
+) -> [Told; 4]
+    ensures { result ≡ spec.remarks_beside date given is_by_other_calendar is_malformed }
 {
+    let is_one_day = WrittenDate::of_one_day(date).is_some();
+    let is_not_looked_for = !is_one_day && is_weekday_given(date.weekday, given);
     [
-        (true, Remark::NoDay(reason)),
-        (is_malformed, Remark::MalformedWeekday),
-    ]
-}
-
-/// What is said where the date or the place can't be read.
-pub(crate) fn remarks_on_row(lacks_date: bool, lacks_place: bool, is_malformed: bool) -> [Told; 3]
-    ensures { result ≡ spec.remarks_on_row lacks_date lacks_place is_malformed }
-{
-    [
-        (lacks_date, Remark::MalformedDate),
-        (lacks_place, Remark::UnknownPlace),
+        (date.is_supplied, Remark::Supplied),
+        (is_by_other_calendar, Remark::ByAnotherCalendar),
+        (is_not_looked_for, Remark::WeekdayNotLookedFor),
         (is_malformed, Remark::MalformedWeekday),
     ]
 }

@@ -1,6 +1,7 @@
 //! How a table of letters is read.
 use crate::columns::ColumnNames;
 use crate::separator::Separator;
+use osn_grammar::DateOrder;
 
 /// How a table of letters is read.
 #[derive(Clone, Copy, Debug)]
@@ -9,4 +10,6 @@ pub struct TableSettings<'a> {
     pub names: ColumnNames<'a>,
     /// What separates the fields. Where it is not named, the header says it.
     pub separator: Option<Separator>,
+    /// How a date of three numbers is read that may begin with its day or its month.
+    pub order: DateOrder,
 }

@@ -1,10 +1,11 @@
 //! Letters from a source to a sink.
 ghost use Rattle.std.specs.Prelude.{◌≡◌, ◌+◌, ◌≤◌, ◌<◌, ◌^◌, [], length, true, false, IfErr};
-ghost use Rattle.std.specs.Prelude.{IfSome, OnOk, MatchResult};
+ghost use Rattle.std.specs.Prelude.{IfOk, IfSome, OnOk, MatchResult};
 ghost use Rattle.std.specs.Io.KnownBytes.{IsAtEnd};
 ghost use Rattle.osn_days.specs.Profile.{newest_rules};
 ghost use Rattle.osn_letters.specs.Faults.{EndsStream, is_of_stream, is_read_fault, is_write_fault};
 ghost use Rattle.osn_letters.specs.LettersInside as inside;
+ghost use Rattle.osn_letters.specs.Remarked.{letters_remarked};
 ghost use Rattle.osn_letters.specs.TableLaws.{AreTableLaws};
 ghost use Rattle.osn_letters.specs.Table as spec;
 ghost use Rattle.osn_letters.specs.WriterInside.{waiting};
@@ -74,6 +75,7 @@ fn take_and_write<W: Sink>(
     ensures empty { OnOk result (waiting letters.new.table.out ≡ []) }
     ensures passes { OnOk result (inside.PassesBytes (W.contents sink.old) (W.contents sink.new)
         letters.old letters.new piece.now) }
+    ensures keeps { OnOk result (inside.KeepsBytes letters.old letters.new piece.now) }
     ensures early { IfErr result (inside.EndsBytes (W.contents sink.old) (W.contents sink.new)
         letters.old piece.now) }
     ensures sound { OnOk result (W.has_failed sink.new ≡ W.has_failed sink.old) }
@@ -85,13 +87,14 @@ fn take_and_write<W: Sink>(
     write_out(letters.table.alloc, sink, &mut letters.table.out, taken)
 }
 
-/// Ends the text, and writes what comes of that.
-fn finish_and_write<W: Sink>(letters: &mut Letters<'_>, sink: &mut W) -> Result<(), LettersFault>
+/// Ends the text, writes what comes of that, and tells whether a row has a remark.
+fn finish_and_write<W: Sink>(letters: &mut Letters<'_>, sink: &mut W) -> Result<bool, LettersFault>
     requires ready { inside.IsReady letters.old }
     requires line { letters.old.parser.line + 1 < 2 ^ 64 }
     requires empty { waiting letters.old.table.out ≡ [] }
     ensures whole { OnOk result (spec.IsWhole (W.contents sink.old) (W.contents sink.new)
         (inside.text_from letters.old [])) }
+    ensures remarked { IfOk result (λ remarked. inside.remarked_from letters.old [] ≡ remarked) }
     ensures passed { OnOk result (W.holds_back sink.new ≡ false) }
     ensures early { IfErr result (spec.EndsEarly (W.contents sink.old) (W.contents sink.new)
         (inside.text_from letters.old [])) }
@@ -101,11 +104,14 @@ fn finish_and_write<W: Sink>(letters: &mut Letters<'_>, sink: &mut W) -> Result<
     ensures unread { IfErr result (λ f. is_read_fault f ≡ false) }
 {
     let finished = letters.finish();
-    write_out(letters.table.alloc, sink, &mut letters.table.out, finished)
+    match write_out(letters.table.alloc, sink, &mut letters.table.out, finished) {
+        Ok(()) => Ok(letters.table.is_remarked()),
+        Err(fault) => Err(fault),
+    }
 }
 
-/// Writes a table of letters in CSV from one in CSV: the header with nine names after those that
-/// came, and each record with the nine fields of `letter_fields` after its own, by the register of
+/// Writes a table of letters in CSV from one in CSV: the header with twelve names after those that
+/// came, and each record with the twelve fields of `letter_fields` after its own, by the register of
 /// that edition. Which columns hold the places, the dates and the weekdays is told by their names.
 /// The fields are separated by what the settings name, or else by the first comma, semicolon or
 /// tab of the header that stands in no quotes, or else by commas; so are those that are written. A
@@ -115,12 +121,14 @@ fn finish_and_write<W: Sink>(letters: &mut Letters<'_>, sink: &mut W) -> Result<
 /// at most 65,536 bytes, what is written of them, and of a record that hasn't ended yet at most
 /// 65,536 bytes. `progress` is told of each read that gave bytes.
 ///
+/// Where all was written, it is told whether a row has a remark.
+///
 /// A table may be cut between its records and written in parts, each after the same header: the
 /// rows of each part, one after another, are those of the whole.
 ///
 /// # Errors
 ///
-/// `NoHeader` where there is no record; `HasColumn` where the header has one of the nine names
+/// `NoHeader` where there is no record; `HasColumn` where the header has one of the twelve names
 /// already; `LacksColumn` where it lacks a column that has to be there; `BadRecord` at a record
 /// with another number of fields than the header; `TooLong` at a record of more than 65,536 bytes;
 /// `OpenQuote` at one with a quote that is open at the end of the table; `TextAfterQuote` at one in
@@ -137,7 +145,7 @@ pub fn write_letters<R: Source, W: Sink, P: Progress>(
     source: &mut R,
     sink: &mut W,
     progress: &mut P,
-) -> Result<(), LettersFault>
+) -> Result<bool, LettersFault>
     ensures whole { OnOk result (IfSome (R.remaining source.old) (λ text.
         spec.IsWhole (W.contents sink.old) (W.contents sink.new)
         (spec.letters_written
@@ -146,6 +154,9 @@ pub fn write_letters<R: Source, W: Sink, P: Progress>(
         spec.EndsEarly (W.contents sink.old) (W.contents sink.new)
         (spec.letters_written
         (spec.basis newest_rules register.now.lands edition settings.entry) text) fault)) }
+    ensures remarked { IfOk result (λ remarked. IfSome (R.remaining source.old) (λ text.
+        letters_remarked
+        (spec.basis newest_rules register.now.lands edition settings.entry) text ≡ remarked)) }
     // All was read, and nothing is held back.
     ensures end { OnOk result
         (IsAtEnd (R.remaining source.new) × (W.holds_back sink.new ≡ false)) }

@@ -1,8 +1,9 @@
 //! The table that is written, record by record.
-ghost use Rattle.std.specs.Prelude.{◌≡◌, ◌∷◌, ◌++◌, [], true, get_or, IfErr, OnOk, Some, Ok};
+ghost use Rattle.std.specs.Prelude.{◌≡◌, ◌∷◌, ◌++◌, [], true, get_or, IfErr, IfOk, OnOk, Some, Ok};
 ghost use Rattle.std.specs.Prelude.{None, option_map};
 ghost use Rattle.csv.specs.Records.{fields_of, partial_of};
 ghost use Rattle.osn_letters.specs.Faults.{is_of_table};
+ghost use Rattle.osn_letters.specs.Remarked.{has_remark};
 ghost use Rattle.osn_letters.specs.Table as spec;
 ghost use Rattle.osn_letters.specs.TableInside as inside;
 ghost use Rattle.osn_letters.specs.WriterInside.{IsBetweenRows, waiting};
@@ -25,6 +26,8 @@ pub(crate) struct Rows {
     pub(crate) columns: Columns,
     /// How many fields each has.
     pub(crate) width: usize,
+    /// Whether one of those that were taken has a remark.
+    pub(crate) is_remarked: bool,
 }
 
 /// A table as it is made, with the text that waits to be written.
@@ -38,6 +41,13 @@ pub(crate) struct Table<'a> {
     pub(crate) out: RowWriter,
 }
 
+/// Whether the last of the twelve fields, that of the remarks, is not empty.
+fn has_remark(added: &ByteRecord) -> bool
+    ensures { result ≡ has_remark (fields_of added.now) }
+{
+    !field_at(added, ADDED_COLUMNS.len() - 1).is_empty()
+}
+
 /// The weekday of a record, where there is such a column.
 fn weekday_at(row: &ByteRecord, column: Option<usize>) -> Option<&[u8]>
     ensures { option_map (λ w. w.now) result
@@ -47,7 +57,7 @@ fn weekday_at(row: &ByteRecord, column: Option<usize>) -> Option<&[u8]>
 }
 
 impl Table<'_> {
-    /// Appends to the text that waits the header, with the nine names, by the separator by which
+    /// Appends to the text that waits the header, with the twelve names, by the separator by which
     /// rows are written from now on.
     fn push_header(
         &mut self,
@@ -82,17 +92,23 @@ impl Table<'_> {
             ∷ [])) }
         ensures refuses { IfErr result (inside.RefusesRecord self.old self.new
             (record { line = line; separator = separator; fields = Ok (fields_of header.old) })) }
+        ensures keeps { OnOk result (inside.KeepsRecord self.old self.new
+            (record { line = line; separator = separator; fields = Ok (fields_of header.old) })) }
         ensures between { OnOk result (IsBetweenRows self.new.out) }
     {
         let columns = find_columns(self.alloc, header, self.settings.names, line)?;
         let width = header.len();
         self.push_header(header, separator)?;
-        self.rows = Some(Rows { columns, width });
+        self.rows = Some(Rows {
+            columns,
+            width,
+            is_remarked: false,
+        });
         Ok(())
     }
 
-    /// Appends to the text that waits the row of a record.
-    fn push_row(&mut self, columns: Columns, row: &mut ByteRecord) -> Result<(), AllocError>
+    /// Appends to the text that waits the row of a record, and tells whether it has a remark.
+    fn push_row(&mut self, columns: Columns, row: &mut ByteRecord) -> Result<bool, AllocError>
         requires partial { partial_of row.old ≡ [] }
         requires between { IsBetweenRows self.old.out }
         ensures text { OnOk result (waiting self.new.out ≡ waiting self.old.out
@@ -102,17 +118,22 @@ impl Table<'_> {
         ensures between { OnOk result (IsBetweenRows self.new.out) }
         ensures source { inside.source_of self.new ≡ inside.source_of self.old }
         ensures rows { self.new.rows ≡ self.old.rows }
+        ensures remarked { IfOk result (λ remarked. remarked ≡ has_remark
+            (spec.fields_behind (inside.source_of self.old) columns (fields_of row.old))) }
     {
         let fields = letter_fields(
             self.alloc,
             self.register,
             self.edition,
+            self.settings.order,
             field_at(row, columns.place),
             field_at(row, columns.date),
             weekday_at(row, columns.weekday),
         )?;
+        let is_remarked = has_remark(&fields);
         push_fields(row, &fields)?;
-        self.out.write_row(row)
+        self.out.write_row(row)?;
+        Ok(is_remarked)
     }
 
     /// Takes a record after the header.
@@ -123,12 +144,18 @@ impl Table<'_> {
         ensures takes { OnOk result (inside.TakesRow self.old self.new line (fields_of row.old)) }
         ensures refuses { IfErr result
             (inside.RefusesRow self.old self.new line (fields_of row.old)) }
+        ensures keeps { OnOk result (inside.KeepsRow self.old self.new line (fields_of row.old)) }
         ensures between { OnOk result (IsBetweenRows self.new.out) }
     {
         if row.len() != rows.width {
             return Err(LettersFault::BadRecord { line });
         }
-        Ok(self.push_row(rows.columns, row)?)
+        let is_remarked = self.push_row(rows.columns, row)?;
+        self.rows = Some(Rows {
+            is_remarked: rows.is_remarked || is_remarked,
+            ..rows
+        });
+        Ok(())
     }
 
     /// Takes the next record, which begins on the line and has that separator.
@@ -147,6 +174,8 @@ impl Table<'_> {
         ensures takes { OnOk result (inside.TakesRecords self.old self.new
             (record { line = line; separator = separator; fields = Ok (fields_of row.old) } ∷ [])) }
         ensures refuses { IfErr result (inside.RefusesRecord self.old self.new
+            (record { line = line; separator = separator; fields = Ok (fields_of row.old) })) }
+        ensures keeps { OnOk result (inside.KeepsRecord self.old self.new
             (record { line = line; separator = separator; fields = Ok (fields_of row.old) })) }
         ensures between { OnOk result (IsBetweenRows self.new.out) }
     {
@@ -170,6 +199,16 @@ impl Table<'_> {
         match self.rows {
             None => Err(LettersFault::NoHeader),
             Some(_) => Ok(()),
+        }
+    }
+
+    /// Whether a row of the records has a remark.
+    pub(crate) fn is_remarked(&self) -> bool
+        ensures { result ≡ inside.remarked_of self.now [] }
+    {
+        match self.rows {
+            None => false,
+            Some(rows) => rows.is_remarked,
         }
     }
 }

@@ -1,34 +1,49 @@
 -- A table of letters that ended early ended as the command's contract says.
-use Rattle.std.proofs.Common.{◌≡◌, ◌≤◌, ℕ, true, List, Option, IfSome, length}
+use Rattle.std.proofs.Common.{◌≡◌, ◌≤◌, ℕ, Bool, true, List, IfSome, length}
 use Rattle.osn_days.specs.Profile.{newest_rules}
 use Rattle.osn_register.specs.Plain.{LandModel}
 use Rattle.osn_core.specs.Sequential.{ObjectState}
-use Rattle.osn_letters.specs.Columns.{NameTexts}
-use Rattle.osn_letters.specs.Table.{Written, letters_written, EndsEarly}
+use Rattle.osn_letters.specs.Table.{TableBasis, Written, letters_written, EndsEarly, IsWhole}
 use Rattle.osn_letters.specs.declared.fault.LettersFault.{LettersFault}
-use Rattle.osn_letters.specs.declared.separator.Separator.{Separator}
+use Rattle.osn_letters.specs.Remarked.{letters_remarked}
 use Rattle.osn_lines.specs.Streams.{Input, Output}
-use Rattle.osn_page_commands.specs.Letters.{EndsTable, IsReason, table_of}
+use Rattle.osn_page_commands.specs.Letters.{EndsTable, EndsWhole, IsReason, TableAsked, status_by}
+use Rattle.osn_page_commands.specs.Letters.{table_of}
 use Rattle.osn_page_commands.specs.Page.{published}
+use Rattle.osn_report.specs.Told.{TellsNothing}
+use Rattle.osn_report.specs.declared.status.Status.{Status}
 
--- a table by these territories and this edition
-abbrev table_by : List LandModel → ℕ → NameTexts → Option Separator → List ℕ → Written
-table_by lands edition names separator = letters_written (record {
+-- by what a table is made, of these territories and this edition
+abbrev basis_by : List LandModel → ℕ → TableAsked → TableBasis
+basis_by lands edition asked = record {
   rules = newest_rules;
   lands = lands;
   edition = edition;
-  names = names;
-  separator = separator;
-})
+  names = asked.names;
+  separator = asked.separator;
+  order = asked.order;
+}
+
+abbrev table_by : List LandModel → ℕ → TableAsked → List ℕ → Written
+table_by lands edition asked = letters_written (basis_by lands edition asked)
+
+-- all was written
+pub whole_table : (s : ObjectState) (asked : TableAsked) (is_strict has_remarks : Bool)
+    (lands : List LandModel) (edition : ℕ) (i : Input) (o e : Output) (status : Status)
+    → published s ≡ lands → length s.batches ≡ edition
+    → status ≡ status_by is_strict has_remarks → TellsNothing e
+    → IfSome i.bytes (λ text. IsWhole o.old o.new (table_by lands edition asked text))
+    → IfSome i.bytes (λ text. letters_remarked (basis_by lands edition asked) text ≡ has_remarks)
+    → EndsWhole s asked is_strict i o e status
+whole_table s asked is_strict has_remarks lands edition i o e status is counted by quiet whole
+    remarked = rw (is, counted) (has_remarks, by, quiet, whole, remarked)
 
 -- what was written by that end, and why
-pub ended_table : (s : ObjectState) (names : NameTexts) (separator : Option Separator)
-    (lands : List LandModel) (edition : ℕ) (i : Input) (o : Output) (ended : LettersFault)
+pub ended_table : (s : ObjectState) (asked : TableAsked) (lands : List LandModel) (edition : ℕ)
+    (i : Input) (o : Output) (ended : LettersFault)
     → published s ≡ lands → length s.batches ≡ edition
-    → IfSome i.bytes
-    (λ text. EndsEarly o.old o.new (table_by lands edition names separator text) ended)
-    → IsReason (table_by lands edition names separator) i o ended
-    → EndsTable (table_of s names separator) i o ended
-    × IsReason (table_of s names separator) i o ended
-ended_table s names separator lands edition i o ended is counted early reason =
+    → IfSome i.bytes (λ text. EndsEarly o.old o.new (table_by lands edition asked text) ended)
+    → IsReason (table_by lands edition asked) i o ended
+    → EndsTable (table_of s asked) i o ended × IsReason (table_of s asked) i o ended
+ended_table s asked lands edition i o ended is counted early reason =
     rw (is, counted) (early, reason)

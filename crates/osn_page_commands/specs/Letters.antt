@@ -1,18 +1,20 @@
 -- What a command has written of a table of letters where it ends.
-use Rattle.std.specs.Prelude.{◌≡◌, ◌⊎◌, ◌≤◌, ◌++◌, ℕ, true, if◌then◌else◌, List, length, codes}
+use Rattle.std.specs.Prelude.{◌≡◌, ◌⊎◌, ◌≤◌, ◌++◌, ◌&&◌, ℕ, Bool, true, if◌then◌else◌, List, [], length, codes}
 use Rattle.std.specs.Prelude.{Option, Some, None, IfSome, Result, Ok, Err, is_some, unwrap_or}
 use Rattle.std.specs.Fmt.{decimal}
 use Rattle.std.specs.Str.{bytes_eq}
 use Rattle.osn_days.specs.Profile.{newest_rules}
+use Rattle.osn_grammar.specs.declared.written.DateOrder.{DateOrder}
 use Rattle.osn_register.specs.declared.limits.Limits.{Limits}
 use Rattle.osn_core.specs.Sequential.{ObjectState}
 use Rattle.osn_lines.specs.Streams.{Input, Output}
 use Rattle.osn_files.specs.declared.fault.FileFault.{FileFault}
 use Rattle.osn_files.specs.declared.fault.FileFault.TheVariants as file_faults
 use Rattle.osn_letters.specs.AddedColumns.{added_name}
-use Rattle.osn_letters.specs.Columns.{NameTexts}
+use Rattle.osn_letters.specs.Columns.{NameTexts, names_of}
 use Rattle.osn_letters.specs.Faults.{EndsStream, is_read_fault, is_write_fault}
-use Rattle.osn_letters.specs.Table.{Written, letters_written, IsWhole, EndsEarly, EndsRead, IsLong}
+use Rattle.osn_letters.specs.Table.{TableBasis, Written, letters_written, IsWhole, EndsEarly, EndsRead, IsLong}
+use Rattle.osn_letters.specs.Remarked.{letters_remarked}
 use Rattle.osn_letters.specs.declared.added_column.AddedColumn.{AddedColumn}
 use Rattle.osn_letters.specs.declared.fault.Column.{Column}
 use Rattle.osn_letters.specs.declared.fault.Column.TheVariants as column
@@ -20,10 +22,12 @@ use Rattle.osn_letters.specs.declared.fault.LettersFault.{LettersFault}
 use Rattle.osn_letters.specs.declared.fault.LettersFault.TheVariants as ends
 use Rattle.osn_letters.specs.declared.separator.Separator.{Separator}
 use Rattle.osn_letters.specs.declared.separator.Separator.TheVariants.{Comma, Semicolon, Tab}
+use Rattle.osn_letters.specs.declared.settings.TableSettings.{TableSettings}
+use Rattle.osn_page_commands.specs.Order.{order_asked}
 use Rattle.osn_page_commands.specs.Page.{published}
 use Rattle.osn_report.specs.Journal.{MakesObject, MakesNoObject}
 use Rattle.osn_report.specs.Printing.{PrintsNone}
-use Rattle.osn_report.specs.Told.{Ends, EndsBy, Tells, TellsIfMade}
+use Rattle.osn_report.specs.Told.{EndsBy, Tells, TellsIfMade, TellsNothing}
 use Rattle.osn_report.specs.declared.fault.CommandFault.TheVariants.{File, WriteFault, NoMemory}
 use Rattle.osn_report.specs.declared.misuse.Misuse.{Misuse}
 use Rattle.osn_report.specs.declared.misuse.Misuse.TheVariants as misuses
@@ -53,11 +57,40 @@ names_asked place date weekday = record {
   needs_weekday = is_some weekday;
 }
 
--- the settings are what these words ask for
-abbrev pub AreAsked : List ℕ → List ℕ → Option (List ℕ) → Option (List ℕ) → NameTexts
-    → Option Separator → Type 0
-AreAsked place date weekday word names separator =
-    (names ≡ names_asked place date weekday) × (separator_asked word ≡ Ok separator)
+-- how a table is read: by the names of its columns, what separates its fields, if that is named, and
+-- the order of a date's three numbers
+pub record TableAsked : Type 0 where
+  pub names : NameTexts
+  pub separator : Option Separator
+  pub order : DateOrder
+
+-- what settings say of that
+abbrev pub asked_of : TableSettings → TableAsked
+asked_of settings = record {
+  names = names_of settings.names;
+  separator = settings.separator;
+  order = settings.order;
+}
+
+-- what a word asks for, or what is wrong with it, and the word as it was typed
+abbrev pub or_typed : {T : Type 0} → Option (List ℕ) → Result T Misuse
+    → Result T (Misuse × List ℕ)
+or_typed word (Ok asked) = Ok asked
+or_typed word (Err misuse) = Err (misuse, unwrap_or word [])
+
+-- what the words ask for, or the first that is wrong: the separator's or the order's
+abbrev pub table_asked : NameTexts → Result (Option Separator) (Misuse × List ℕ)
+    → Result DateOrder (Misuse × List ℕ) → Result TableAsked (Misuse × List ℕ)
+table_asked names (Err wrong) order = Err wrong
+table_asked names (Ok separator) (Err wrong) = Err wrong
+table_asked names (Ok separator) (Ok order) =
+    Ok (record { names = names; separator = separator; order = order })
+
+abbrev pub settings_asked : List ℕ → List ℕ → Option (List ℕ) → Option (List ℕ)
+    → Option (List ℕ) → Result TableAsked (Misuse × List ℕ)
+settings_asked place date weekday separator order =
+    table_asked (names_asked place date weekday)
+    (or_typed separator (separator_asked separator)) (or_typed order (order_asked order))
 
 -- ---- what is told of a table that ends early
 
@@ -119,15 +152,20 @@ TellsTable names e ends.NoMemory status = EndsBy e NoMemory status
 
 -- ---- what was written
 
--- the table that is written of a text, by what an object has published
-abbrev pub table_of : ObjectState → NameTexts → Option Separator → List ℕ → Written
-table_of s names separator = letters_written (record {
+-- by what a table is made, of what an object has published
+abbrev pub basis_of : ObjectState → TableAsked → TableBasis
+basis_of s asked = record {
   rules = newest_rules;
   lands = published s;
   edition = length s.batches;
-  names = names;
-  separator = separator;
-})
+  names = asked.names;
+  separator = asked.separator;
+  order = asked.order;
+}
+
+-- the table that is written of a text
+abbrev pub table_of : ObjectState → TableAsked → List ℕ → Written
+table_of s asked = letters_written (basis_of s asked)
 
 -- a beginning of the table was written by the time of this end, and all that stands before a record
 -- that ended it
@@ -145,22 +183,31 @@ IsReason table i o ended =
     × EndsStream (is_write_fault ended) o.unwritten_before o.unwritten
     (IfSome i.bytes (λ text. IsLong (table text)))
 
+-- the status where all was written: a remark is a refusal, where that is asked for
+abbrev pub status_by : Bool → Bool → Status
+status_by is_strict has_remarks =
+    if is_strict && has_remarks then statuses.Refused else statuses.Done
+
+-- all was written, and the status says whether a row has a remark, where that is asked for
+abbrev pub EndsWhole : ObjectState → TableAsked → Bool → Input → Output → Output → Status → Type 0
+EndsWhole s asked is_strict i o e status =
+    (has_remarks : Bool) × (status ≡ status_by is_strict has_remarks) × TellsNothing e
+    × IfSome i.bytes (λ text. IsWhole o.old o.new (table_of s asked text))
+    × IfSome i.bytes (λ text. letters_remarked (basis_of s asked) text ≡ has_remarks)
+
 -- what was written and told, by what an object has published: the table whole; or a part of it, and
 -- why it ended there
-abbrev pub WritesTable : ObjectState → NameTexts → Option Separator → Input → Output → Output
-    → Status → Type 0
-WritesTable s names separator i o e status =
-    (Ends e None status
-    × IfSome i.bytes (λ text. IsWhole o.old o.new (table_of s names separator text)))
-    ⊎ ((ended : LettersFault) × TellsTable names e ended status
-    × EndsTable (table_of s names separator) i o ended
-    × IsReason (table_of s names separator) i o ended)
+abbrev pub WritesTable : ObjectState → TableAsked → Bool → Input → Output → Output → Status → Type 0
+WritesTable s asked is_strict i o e status =
+    EndsWhole s asked is_strict i o e status
+    ⊎ ((ended : LettersFault) × TellsTable asked.names e ended status
+    × EndsTable (table_of s asked) i o ended × IsReason (table_of s asked) i o ended)
 
 -- how the command ends: the journal is refused, and nothing was written; or it makes an object, and
 -- that was done
-abbrev pub PrintsLetters : Limits → Input → NameTexts → Option Separator → Input → Output → Output
-    → Status → Type 0
-PrintsLetters limits journal names separator i o e status =
+abbrev pub PrintsLetters : Limits → Input → TableAsked → Bool → Input → Output → Output → Status
+    → Type 0
+PrintsLetters limits journal asked is_strict i o e status =
     ((fault : FileFault) × MakesNoObject limits journal fault × PrintsNone (File fault) o e status)
     ⊎ ((s : ObjectState) × MakesObject limits journal.bytes s
-    × WritesTable s names separator i o e status)
+    × WritesTable s asked is_strict i o e status)

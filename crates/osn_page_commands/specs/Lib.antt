@@ -1,3 +1,4 @@
+pub mod Order
 pub mod PageWords
 pub mod Page
 pub mod Conversion

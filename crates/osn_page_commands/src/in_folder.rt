@@ -2,9 +2,8 @@
 ghost use Rattle.std.specs.Prelude.{◌≡◌, ◌∷◌, [], IfOk, OnErr};
 ghost use Rattle.osn_folder.specs.Folder.{CannotOpen, MayFail};
 ghost use Rattle.osn_invocation.specs.Invocation.{page_words};
-ghost use Rattle.osn_letters.specs.Columns.{names_of};
 ghost use Rattle.osn_lines.specs.Streams.{input_of, output_of};
-ghost use Rattle.osn_page_commands.specs.Letters.{PrintsLetters};
+ghost use Rattle.osn_page_commands.specs.Letters.{PrintsLetters, asked_of};
 ghost use Rattle.osn_page_commands.specs.Page.{PrintsPage};
 ghost use Rattle.osn_report.specs.Folders.{ReadsOne, folders_of};
 
@@ -57,6 +56,7 @@ pub fn letters_in_folder<D: Folder, R: Source, W: Sink, E: Sink, T: Sink + Drop>
     folder: &mut D,
     journal: &str,
     settings: TableSettings<'_>,
+    is_strict: bool,
     input: &mut R,
     output: &mut W,
     errors: &mut E,
@@ -64,8 +64,7 @@ pub fn letters_in_folder<D: Folder, R: Source, W: Sink, E: Sink, T: Sink + Drop>
 ) -> Result<Status, OpenFailed>
     ensures ok { IfOk result (λ status. ReadsOne journal.now (MayFail D.File.has_failed)
         (folders_of D.known folder.old folder.new)
-        (λ file. PrintsLetters limits file
-        (names_of settings.entry.names) settings.entry.separator
+        (λ file. PrintsLetters limits file (asked_of settings.entry) is_strict
         (input_of R.remaining R.has_failed input.old input.new)
         (output_of W.contents W.has_failed W.holds_back output.old output.new)
         (output_of E.contents E.has_failed E.holds_back errors.old errors.new) status)) }
@@ -80,6 +79,7 @@ pub fn letters_in_folder<D: Folder, R: Source, W: Sink, E: Sink, T: Sink + Drop>
         limits,
         &mut file,
         settings,
+        is_strict,
         input,
         output,
         errors,

@@ -1,11 +1,13 @@
 //! The command `letters`.
-ghost use Rattle.std.specs.Prelude.{◌≡◌, Err, IfErr, IfOk, is_some, option_map, string_bytes};
+ghost use Rattle.std.specs.Prelude.{◌≡◌, [], Ok, Err, IfErr, IfOk, is_some, option_map, string_bytes};
+ghost use Rattle.std.specs.Prelude.{unwrap_or};
 ghost use Rattle.osn_letters.specs.Columns.{names_of, weekday_name, is_required};
 ghost use Rattle.osn_lines.specs.Streams.{input_of, output_of};
 ghost use Rattle.osn_page_commands.specs.Letters as spec;
 ghost use Rattle.osn_report.specs.Told.{TellsIfMade};
 ghost use Rattle.osn_report.specs.declared.status.Status.{Status};
 
+use crate::order::asked_order;
 use osn_core::Object;
 use osn_files::{FileFault, load_journal};
 use osn_letters::{
@@ -42,29 +44,63 @@ fn weekday_column<'a>(name: Option<&'a str>) -> WeekdayName<'a>
     }
 }
 
-/// How a table is read, by the names of its columns and the word of what separates its fields.
+/// A word of a command line that is wrong, and why.
+#[derive(Clone, Copy, Debug, PartialEq, Eq)]
+pub struct WrongWord<'a> {
+    pub misuse: Misuse,
+    /// The word as it was typed.
+    pub typed: &'a str,
+}
+
+/// A word that is wrong, as it was typed.
+fn wrong_word<'a>(misuse: Misuse, word: Option<&'a str>) -> WrongWord<'a>
+    ensures misuse { result.misuse ≡ misuse }
+    ensures typed { result.typed.now
+        ≡ unwrap_or (option_map (λ word. word.now) word.entry) [] }
+{
+    let typed = match word {
+        Some(word) => word,
+        None => "",
+    };
+    WrongWord { misuse, typed }
+}
+
+/// How a table is read, by the names of its columns, the word of what separates its fields, and that
+/// of the order of a date's three numbers.
+///
+/// # Errors
+///
+/// The first of both words that is wrong.
 pub fn asked_settings<'a>(
     place: &'a str,
     date: &'a str,
     weekday: Option<&'a str>,
     separator: Option<&'a str>,
-) -> Result<TableSettings<'a>, Misuse>
+    order: Option<&'a str>,
+) -> Result<TableSettings<'a>, WrongWord<'a>>
     ensures ok { IfOk result (λ settings.
-        spec.AreAsked place.now date.now (option_map (λ name. name.now) weekday.entry)
+        spec.settings_asked place.now date.now (option_map (λ name. name.now) weekday.entry)
         (option_map (λ word. word.now) separator.entry)
-        (names_of settings.names) settings.separator) }
-    ensures err { IfErr result (λ misuse.
-        spec.separator_asked (option_map (λ word. word.now) separator.entry) ≡ Err misuse) }
+        (option_map (λ word. word.now) order.entry) ≡ Ok (spec.asked_of settings)) }
+    ensures err { IfErr result (λ wrong.
+        spec.settings_asked place.now date.now (option_map (λ name. name.now) weekday.entry)
+        (option_map (λ word. word.now) separator.entry)
+        (option_map (λ word. word.now) order.entry) ≡ Err (wrong.misuse, wrong.typed.now)) }
 {
-    let separator = asked_separator(separator)?;
-    Ok(TableSettings {
-        names: ColumnNames {
-            place,
-            date,
-            weekday: weekday_column(weekday),
-        },
-        separator,
-    })
+    let names = ColumnNames {
+        place,
+        date,
+        weekday: weekday_column(weekday),
+    };
+    match (asked_separator(separator), asked_order(order)) {
+        (Err(misuse), _) => Err(wrong_word(misuse, separator)),
+        (_, Err(misuse)) => Err(wrong_word(misuse, order)),
+        (Ok(separator), Ok(order)) => Ok(TableSettings {
+            names,
+            separator,
+            order,
+        }),
+    }
 }
 
 /// The name by which a column was looked for.
@@ -200,18 +236,29 @@ fn tell_table<E: Sink>(
     }
 }
 
+/// The status where all was written: a remark is a refusal, where that is asked for.
+fn status_by(is_strict: bool, has_remarks: bool) -> Status
+    ensures { result ≡ spec.status_by is_strict has_remarks }
+{
+    if is_strict && has_remarks {
+        Status::Refused
+    } else {
+        Status::Done
+    }
+}
+
 /// Writes the table, by what an object has published.
 fn write_table<R: Source, W: Sink, E: Sink, P: Progress>(
     alloc: Global,
     object: &Object,
     settings: TableSettings<'_>,
+    is_strict: bool,
     input: &mut R,
     output: &mut W,
     errors: &mut E,
     progress: &mut P,
 ) -> Status
-    ensures { spec.WritesTable object.now (names_of settings.entry.names)
-        settings.entry.separator
+    ensures { spec.WritesTable object.now (spec.asked_of settings.entry) is_strict
         (input_of R.remaining R.has_failed input.old input.new)
         (output_of W.contents W.has_failed W.holds_back output.old output.new)
         (output_of E.contents E.has_failed E.holds_back errors.old errors.new) result }
@@ -219,23 +266,26 @@ fn write_table<R: Source, W: Sink, E: Sink, P: Progress>(
     let edition = object.batches().len();
     let register = object.register();
     match write_letters(alloc, register, edition, settings, input, output, progress) {
-        Ok(()) => Status::Done,
+        Ok(has_remarks) => status_by(is_strict, has_remarks),
         Err(fault) => tell_table(alloc, errors, settings.names, &fault),
     }
 }
 
-/// The command `letters`: writes the table of the input, CSV with a header, with nine columns more
+/// The command `letters`: writes the table of the input, CSV with a header, with twelve columns more
 /// after its own, which say of each row what its date means, by what the journal published under
 /// these limits. The journal is read whole before a record is, and what comes of a read is written
-/// before the next one. The settings name the columns that are read and what separates the fields.
+/// before the next one. The settings name the columns that are read, what separates the fields, and the order
+/// of a date's three numbers.
 /// How much of the table was read is told on the way.
 ///
-/// Where it ends early, standard error is told in a line why, and the status says it.
+/// Where it ends early, standard error is told in a line why, and the status says it. Where it is
+/// written whole and a remark is a refusal, `Refused` says that a row has one.
 pub fn letters_command<J: Source, R: Source, W: Sink, E: Sink, P: Progress>(
     alloc: Global,
     limits: Limits,
     journal: &mut J,
     settings: TableSettings<'_>,
+    is_strict: bool,
     input: &mut R,
     output: &mut W,
     errors: &mut E,
@@ -243,13 +293,15 @@ pub fn letters_command<J: Source, R: Source, W: Sink, E: Sink, P: Progress>(
 ) -> Status
     ensures { spec.PrintsLetters limits
         (input_of J.remaining J.has_failed journal.old journal.new)
-        (names_of settings.entry.names) settings.entry.separator
+        (spec.asked_of settings.entry) is_strict
         (input_of R.remaining R.has_failed input.old input.new)
         (output_of W.contents W.has_failed W.holds_back output.old output.new)
         (output_of E.contents E.has_failed E.holds_back errors.old errors.new) result }
 {
     match load_journal(alloc, limits, journal) {
-        Ok(object) => write_table(alloc, &object, settings, input, output, errors, progress),
+        Ok(object) => write_table(
+            alloc, &object, settings, is_strict, input, output, errors, progress,
+        ),
         Err(fault) => report(alloc, errors, CommandFault::File(fault)),
     }
 }

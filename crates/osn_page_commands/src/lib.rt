@@ -6,10 +6,11 @@
 mod conversion;
 mod in_folder;
 mod letters;
+mod order;
 mod page;
 mod page_words;
 
 pub use conversion::convert_command;
 pub use in_folder::{letters_in_folder, page_in_folder};
-pub use letters::{asked_settings, letters_command};
+pub use letters::{WrongWord, asked_settings, letters_command};
 pub use page::page_command;

@@ -35,6 +35,8 @@ pub enum Misuse {
     Limits,
     /// It stands for what separates fields, and is none.
     Separator,
+    /// It stands for the order of a date's three numbers, and is none.
+    Order,
 }
 
 /// What a date asks for.
@@ -103,6 +105,9 @@ number",
 with a comma between",
             ),
             Misuse::Separator => f.write_str("a separator is comma, semicolon or tab"),
+            Misuse::Order => f.write_str(
+                "an order is dmy, for 11/2/1731 as 11 February, or mdy, for 2/11/1731",
+            ),
         }
     }
 }

@@ -50,5 +50,5 @@ returns-in-Ok-clause-ok g c =
     IfOk-weaker c.letters_in_folder.result _ _
     (λ status h. ran c.args.limits c.args.command _ _ _ _ wrote told status c.in-Letters.is
     (letters_ran c.args.limits c.in-Letters.journal.now (letters_model c.in-Letters.options)
-    _ _ _ _ _ wrote told status c.in-Ok.ensures.ok h))
+    _ _ _ _ wrote told status c.in-Ok.ensures.ok h))
     c.letters_in_folder.ensures.ok

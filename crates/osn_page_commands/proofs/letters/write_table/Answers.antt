@@ -1,6 +1,6 @@
 use Rattle.std.proofs.Common.{sym, inr, ap, length}
-use Rattle.osn_letters.specs.Columns.{names_of}
 use Rattle.osn_lines.specs.Streams.{input_of, output_of}
+use Rattle.osn_page_commands.specs.Letters.{asked_of}
 use Rattle.osn_page_commands.proofs.LettersLemmas.{ended_table}
 use Rattle.osn_page_commands.proofs.letters.write_table.Goals as goal
 
@@ -9,7 +9,7 @@ returns-in-Err g c =
     let ended = c.in-Err.ensures in
     let new = c.write_letters.new in
     let wrote =
-    ended_table c.args.object.now (names_of c.args.settings.names) c.args.settings.separator _ _
+    ended_table c.args.object.now (asked_of c.args.settings) _ _
     (input_of g.R.Source.remaining g.R.Source.has_failed c.args.input.now new.source)
     (output_of g.W.Sink.contents g.W.Sink.has_failed g.W.Sink.holds_back c.args.output.now
     new.sink)

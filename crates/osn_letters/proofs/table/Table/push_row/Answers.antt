@@ -8,9 +8,9 @@ use Rattle.osn_letters.proofs.table.Table.push_row.Goals as goal
 pub returns-clause-text : goal.returns-clause-text
 unfolding letter_text
 returns-clause-text c =
-    written_as (writer_by c.args.self.now.out.separator) c.write_row.result _ _ _ _
+    written_as (writer_by c.args.self.now.out.separator) _ _ _ _
     (c.in_ok-push_fields.ensures.fields
     ∙ ap (λ fs. fields_of c.args.row.now ++ fs) (c.in_ok-fields.ensures
-    ∙ same_fields _ _ _ _ _ _ _ _ _ c.field_at.ensures c.field_at-2.ensures
+    ∙ same_fields _ _ _ _ _ _ _ _ _ _ c.field_at.ensures c.field_at-2.ensures
     c.weekday_at.ensures))
-    c.write_row.ensures.text
+    c.in_ok-write_row.ensures.text

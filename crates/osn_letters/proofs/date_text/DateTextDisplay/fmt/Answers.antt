@@ -1,7 +1,7 @@
 use Rattle.std.proofs.Common.{rules}
 use Rattle.osn_days.specs.DateText.{date_text}
 use Rattle.osn_days.proofs.DateDigits.{at_least_four, at_least_two}
-use Rattle.osn_letters.proofs.day_field.DateTextDisplay.fmt.Goals as goal
+use Rattle.osn_letters.proofs.date_text.DateTextDisplay.fmt.Goals as goal
 
 pub returns-clause-writes : goal.returns-clause-writes
 unfolding date_text

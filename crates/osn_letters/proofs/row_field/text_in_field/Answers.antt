@@ -1,7 +1,7 @@
 use Rattle.std.proofs.Common.{◌∙◌, ap, option_map, if◌then◌else◌, Some, None}
 use Rattle.std.specs.Str.{is_utf8}
 use Rattle.osn_letters.proofs.FieldFacts.{text_is}
-use Rattle.osn_letters.proofs.letter.text_in_field.Goals as goal
+use Rattle.osn_letters.proofs.row_field.text_in_field.Goals as goal
 
 pub returns : goal.returns
 returns c =

@@ -1,0 +1,66 @@
+-- What is said of a letter in its last field. This project's profile.
+use Rattle.std.specs.Prelude.{ℕ, Bool, ◌&&◌, ◌||◌, ◌==◌, nat_lt, if◌then◌else◌, List, [], ◌∷◌}
+use Rattle.std.specs.Prelude.{length, map, filter, count_by, Option, is_some, is_none, codes}
+use Rattle.std.specs.List.{join_by, list_any}
+use Rattle.osn_days.specs.declared.weekday.Weekday.{Weekday}
+use Rattle.osn_grammar.specs.declared.written.WrittenDate.{WrittenDate as AnyDate}
+use Rattle.osn_lands.specs.declared.dated.DatedDay.{DatedDay}
+use Rattle.osn_written.specs.declared.written_date.WrittenDate.{WrittenDate}
+use Rattle.osn_written.specs.Meaning.{has_weekday, is_not_counted_double}
+use Rattle.osn_written.specs.Said.{one_day}
+use Rattle.osn_written.specs.Words.{fault_words, no_day_words}
+use Rattle.osn_letters.specs.declared.remark.Remark.{Remark}
+use Rattle.osn_letters.specs.declared.remark.Remark.TheVariants as told
+
+-- a remark in words
+abbrev pub remark_words : Remark → List ℕ
+remark_words (told.NotRead fault) = fault_words fault
+remark_words told.UnknownPlace = codes "unknown place"
+remark_words (told.NoDay reason) = no_day_words reason
+remark_words told.ByItsWeekday = codes "by its weekday"
+remark_words told.SeveralDays = codes "several days"
+remark_words told.WeekdayDiffers = codes "weekday differs"
+remark_words told.NotCountedDouble = codes "not counted double there"
+remark_words told.Supplied = codes "supplied by an editor"
+remark_words told.ByAnotherCalendar = codes "by another calendar"
+remark_words told.WeekdayNotLookedFor = codes "weekday not looked for"
+remark_words told.MalformedWeekday = codes "malformed weekday"
+
+-- of remarks, each with whether it applies, those that do, in their order
+abbrev pub those_that_apply : List (Bool × Remark) → List Remark
+those_that_apply remarks = map (λ r. r.1) (filter (λ r. r.0) remarks)
+
+-- the field of these
+abbrev pub remark_text : List (Bool × Remark) → List ℕ
+remark_text remarks = join_by remark_words (codes "; ") (those_that_apply remarks)
+
+-- a weekday is given, by the date itself or beside it
+abbrev pub is_weekday_given : Option Weekday → Option Weekday → Bool
+is_weekday_given named given = is_some named || is_some given
+
+-- a weekday is given, and that many of the days have it
+abbrev pub are_on_weekday : ℕ → WrittenDate → Option Weekday → List DatedDay → Bool
+are_on_weekday count w given days =
+    is_weekday_given w.weekday given && count_by (has_weekday w given) days == count
+
+-- what is said of several days: whether the weekday that is given tells one of them
+abbrev pub several_remark : WrittenDate → Option Weekday → List DatedDay → Remark
+several_remark w given days =
+    if are_on_weekday 1 w given days then told.ByItsWeekday else told.SeveralDays
+
+-- what is said of days
+abbrev pub remarks_on_days : WrittenDate → Option Weekday → List DatedDay → List (Bool × Remark)
+remarks_on_days w given days =
+    (nat_lt 1 (length days), several_remark w given days)
+    ∷ (are_on_weekday 0 w given days, told.WeekdayDiffers)
+    ∷ (list_any (is_not_counted_double w) days, told.NotCountedDouble)
+    ∷ []
+
+-- what is said beside the days, of a date that is read
+abbrev pub remarks_beside : AnyDate → Option Weekday → Bool → Bool → List (Bool × Remark)
+remarks_beside w given is_by_other_calendar is_malformed =
+    (w.is_supplied, told.Supplied)
+    ∷ (is_by_other_calendar, told.ByAnotherCalendar)
+    ∷ (is_none (one_day w) && is_weekday_given w.weekday given, told.WeekdayNotLookedFor)
+    ∷ (is_malformed, told.MalformedWeekday)
+    ∷ []

@@ -1,0 +1,59 @@
+-- What the fields of a row say: the date, the territory and the weekday. This project's profile.
+use Rattle.std.specs.Prelude.{ℕ, ◌-◌, Bool, false, not, ◌&&◌, ◌==◌, if◌then◌else◌, List, length}
+use Rattle.std.specs.Prelude.{take, drop, Option, Some, None, is_none, Result, Err}
+use Rattle.std.specs.Char.{is_ascii_whitespace}
+use Rattle.std.specs.List.{prefix_len, suffix_len}
+use Rattle.std.specs.Option.{option_and_then}
+use Rattle.std.specs.Str.{is_utf8}
+use Rattle.osn_days.specs.declared.weekday.Weekday.{Weekday}
+use Rattle.osn_grammar.specs.declared.written.DateOrder.{DateOrder}
+use Rattle.osn_grammar.specs.declared.written.Written.{Written}
+use Rattle.osn_lands.specs.Territory.{TerritoryModel}
+use Rattle.osn_register.specs.Code.{is_code}
+use Rattle.osn_register.specs.Plain.{LandModel, territory_of}
+use Rattle.osn_written.specs.declared.written_date.DateFault.{DateFault}
+use Rattle.osn_written.specs.declared.written_date.DateFault.TheVariants.{Malformed}
+use Rattle.osn_written.specs.Said.{said}
+use Rattle.osn_written.specs.WrittenDate.{weekday_named}
+
+-- bytes without the white space of ASCII before them
+abbrev pub without_leading : List ℕ → List ℕ
+without_leading bytes = drop (prefix_len is_ascii_whitespace bytes) bytes
+
+-- bytes without the white space of ASCII after them
+abbrev pub without_trailing : List ℕ → List ℕ
+without_trailing bytes = take (length bytes - suffix_len is_ascii_whitespace bytes) bytes
+
+-- bytes without the white space of ASCII around them
+abbrev pub trimmed : List ℕ → List ℕ
+trimmed bytes = without_trailing (without_leading bytes)
+
+-- the text that a field has without the white space around it, if it is a text
+abbrev pub text_in_field : List ℕ → Option (List ℕ)
+text_in_field bytes = if is_utf8 (trimmed bytes) then Some (trimmed bytes) else None
+
+-- what the text of a field says of a date, or why it says nothing of one
+abbrev pub said_of : DateOrder → Option (List ℕ) → Result Written DateFault
+said_of order None = Err Malformed
+said_of order (Some text) = said order text
+
+abbrev pub said_in : DateOrder → List ℕ → Result Written DateFault
+said_in order field = said_of order (text_in_field field)
+
+-- the territory of a text, if that is a code, and that of a territory
+abbrev pub territory_of_text : List LandModel → List ℕ → Option TerritoryModel
+territory_of_text lands text = if is_code text then territory_of text lands else None
+
+-- the territory of a field
+abbrev pub territory_in : List LandModel → List ℕ → Option TerritoryModel
+territory_in lands place = option_and_then (territory_of_text lands) (text_in_field place)
+
+-- the weekday of a field, which may be lacking
+abbrev pub weekday_in : Option (List ℕ) → Option Weekday
+weekday_in named = option_and_then weekday_named (option_and_then text_in_field named)
+
+-- the field has something that is no weekday's name
+abbrev pub is_malformed_weekday : Option (List ℕ) → Bool
+is_malformed_weekday None = false
+is_malformed_weekday (Some name) =
+    not (length (trimmed name) == 0) && is_none (weekday_in (Some name))

@@ -1,0 +1,47 @@
+-- The first and the last day that a date may mean. This project's profile.
+use Rattle.std.specs.Prelude.{ℕ, List, [], ◌∷◌, map, Option, Some, None, min, max}
+use Rattle.std.specs.List.{reduce}
+use Rattle.osn_grammar.specs.declared.written.Extent.{Extent}
+use Rattle.osn_grammar.specs.declared.written.Extent.TheVariants as extent
+use Rattle.osn_lands.specs.declared.dated.DatedDay.{DatedDay}
+use Rattle.osn_lands.specs.declared.runs.Run.{Run}
+use Rattle.osn_letters.specs.declared.span.Span.{Span}
+
+abbrev pub span : Option ℕ → Option ℕ → Span
+span earliest latest = record { earliest = earliest; latest = latest }
+
+-- that of no day
+abbrev pub no_span : Span
+no_span = span None None
+
+-- ---- of days in any order
+
+abbrev pub earliest : List DatedDay → Option ℕ
+earliest days = reduce min (map (λ day. day.day) days)
+
+abbrev pub latest : List DatedDay → Option ℕ
+latest days = reduce max (map (λ day. day.day) days)
+
+abbrev pub span_of_days : List DatedDay → Span
+span_of_days days = span (earliest days) (latest days)
+
+-- ---- of runs in order
+
+-- their first and their last day
+abbrev pub first_of : List Run → Option ℕ
+first_of [] = None
+first_of (r ∷ rs) = Some r.first
+
+abbrev pub last_of : List Run → Option ℕ
+last_of [] = None
+last_of (r ∷ []) = Some r.last
+last_of (r ∷ next ∷ rest) = last_of (next ∷ rest)
+
+-- a bound is open at one end
+abbrev pub span_of_runs : Extent → List Run → Span
+span_of_runs (extent.On date) runs = span (first_of runs) (last_of runs)
+span_of_runs (extent.FromTo a b) runs = span (first_of runs) (last_of runs)
+span_of_runs (extent.Before date) runs = span None (last_of runs)
+span_of_runs (extent.NotAfter date) runs = span None (last_of runs)
+span_of_runs (extent.After date) runs = span (first_of runs) None
+span_of_runs (extent.NotBefore date) runs = span (first_of runs) None

@@ -1,0 +1,72 @@
+//! What the fields of a row say: the date, the territory and the weekday.
+ghost use Rattle.std.specs.Prelude.{◌≡◌, option_map, IfOk};
+ghost use Rattle.osn_letters.specs.RowFields as spec;
+
+use osn_days::Weekday;
+use osn_grammar::{DateOrder, Written};
+use osn_lands::Territory;
+use osn_register::Register;
+use osn_written::{DateFault, read_date, weekday_named};
+use std::alloc::{AllocError, Global};
+use std::str;
+
+/// Bytes without the white space of ASCII around them.
+fn trimmed(bytes: &[u8]) -> &[u8]
+    ensures { result.now ≡ spec.trimmed bytes.now }
+{
+    bytes.trim_ascii()
+}
+
+/// The text that a field has without the white space around it, if it is a text.
+fn text_in_field(bytes: &[u8]) -> Option<&str>
+    ensures { option_map (λ s. s.now) result ≡ spec.text_in_field bytes.now }
+{
+    str::from_utf8(trimmed(bytes)).ok()
+}
+
+/// What a field says of a date, or why it says nothing of one.
+pub(crate) fn said_in(
+    alloc: Global,
+    order: DateOrder,
+    field: &[u8],
+) -> Result<Result<Written, DateFault>, AllocError>
+    ensures { IfOk result (λ said. said ≡ spec.said_in order field.now) }
+{
+    match text_in_field(field) {
+        Some(text) => read_date(alloc, text, order),
+        None => Ok(Err(DateFault::Malformed)),
+    }
+}
+
+/// The territory of a code, if some territory has it.
+fn territory_of_text<'a>(register: &'a Register, text: &str) -> Option<&'a Territory>
+    ensures { option_map (λ t. t.now) result
+        ≡ spec.territory_of_text register.now.lands text.now }
+{
+    let (_, territory) = register.land(text).ok()?;
+    Some(territory)
+}
+
+/// The territory of a field.
+pub(crate) fn territory_in<'a>(register: &'a Register, place: &[u8]) -> Option<&'a Territory>
+    ensures { option_map (λ t. t.now) result ≡ spec.territory_in register.now.lands place.now }
+{
+    territory_of_text(register, text_in_field(place)?)
+}
+
+/// The weekday of a field, which may be lacking.
+pub(crate) fn weekday_in(named: Option<&[u8]>) -> Option<Weekday>
+    ensures { result ≡ spec.weekday_in (option_map (λ w. w.now) named.entry) }
+{
+    weekday_named(text_in_field(named?)?)
+}
+
+/// Whether the field has something that is no weekday's name.
+pub(crate) fn is_malformed_weekday(named: Option<&[u8]>) -> bool
+    ensures { result ≡ spec.is_malformed_weekday (option_map (λ w. w.now) named.entry) }
+{
+    match named {
+        Some(name) => !trimmed(name).is_empty() && weekday_in(named).is_none(),
+        None => false,
+    }
+}

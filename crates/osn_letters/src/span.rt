@@ -1,0 +1,86 @@
+//! The first and the last day that a letter's date may mean.
+ghost use Rattle.std.specs.Prelude.{◌≡◌};
+ghost use Rattle.osn_letters.specs.Span as spec;
+
+use osn_days::Day;
+use osn_grammar::Extent;
+use osn_lands::{DatedDay, Run};
+
+/// The first and the last day that a date may mean. A bound has one of them, and a date that means
+/// no day has none.
+#[derive(Clone, Copy, Debug, PartialEq, Eq)]
+pub(crate) struct Span {
+    pub(crate) earliest: Option<Day>,
+    pub(crate) latest: Option<Day>,
+}
+
+/// That of no day.
+pub(crate) const NO_SPAN: Span = Span {
+    earliest: None,
+    latest: None,
+};
+
+/// The earliest of days.
+fn earliest(days: &[DatedDay]) -> Option<Day>
+    ensures { result ≡ spec.earliest days.now }
+{
+    days.iter().map(|day| day.day).min()
+}
+
+/// The latest of days.
+fn latest(days: &[DatedDay]) -> Option<Day>
+    ensures { result ≡ spec.latest days.now }
+{
+    days.iter().map(|day| day.day).max()
+}
+
+/// That of days in any order.
+pub(crate) fn span_of_days(days: &[DatedDay]) -> Span
+    ensures { result ≡ spec.span_of_days days.now }
+{
+    Span {
+        earliest: earliest(days),
+        latest: latest(days),
+    }
+}
+
+/// The first day of runs in order.
+fn first_of(runs: &[Run]) -> Option<Day>
+    ensures { result ≡ spec.first_of runs.now }
+{
+    match runs {
+        [] => None,
+        [first, ..] => Some(first.first),
+    }
+}
+
+/// The last day of runs in order.
+fn last_of(runs: &[Run]) -> Option<Day>
+    ensures { result ≡ spec.last_of runs.now }
+{
+    match runs {
+        [] => None,
+        [.., last] => Some(last.last),
+    }
+}
+
+/// That of the runs of what is written, in order. A bound is open at one end.
+pub(crate) fn span_of_runs(extent: Extent, runs: &[Run]) -> Span
+    ensures { result ≡ spec.span_of_runs extent runs.now }
+{
+    let span = Span {
+        earliest: first_of(runs),
+        latest: last_of(runs),
+    };
+    match extent {
+        Extent::Before(_) | Extent::NotAfter(_) => Span {
+            earliest: None,
+            ..span
+        },
+        Extent::After(_) | Extent::NotBefore(_) => Span {
+            latest: None,
+            ..span
+        },
+        Extent::On(_) | Extent::FromTo(_, _) => span,
+    }
+}

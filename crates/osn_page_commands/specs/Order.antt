@@ -1,0 +1,15 @@
+-- In which order the three numbers of a date are read. This project's profile.
+use Rattle.std.specs.Prelude.{ℕ, if◌then◌else◌, List, codes, Option, Some, None, Result, Ok, Err}
+use Rattle.std.specs.Str.{bytes_eq}
+use Rattle.osn_grammar.specs.declared.written.DateOrder.{DateOrder}
+use Rattle.osn_grammar.specs.declared.written.DateOrder.TheVariants.{Unknown, DayMonth, MonthDay}
+use Rattle.osn_report.specs.declared.misuse.Misuse.{Misuse}
+use Rattle.osn_report.specs.declared.misuse.Misuse.TheVariants as misuses
+
+-- the order of a word, if there is one: dmy for the day first, mdy for the month
+abbrev pub order_asked : Option (List ℕ) → Result DateOrder Misuse
+order_asked None = Ok Unknown
+order_asked (Some word) =
+    if bytes_eq word (codes "dmy") then Ok DayMonth
+    else (if bytes_eq word (codes "mdy") then Ok MonthDay
+    else Err misuses.Order)

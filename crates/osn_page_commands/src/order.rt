@@ -1,0 +1,23 @@
+//! The word of the order in which the three numbers of a date are read.
+ghost use Rattle.std.specs.Prelude.{◌≡◌, option_map};
+ghost use Rattle.osn_page_commands.specs.Order as spec;
+
+use osn_grammar::DateOrder;
+use osn_report::Misuse;
+
+/// The order in which a date's three numbers are read, by its word. Where there is no word, a date
+/// that may begin with its day or its month is refused.
+///
+/// # Errors
+///
+/// `Order` for a word that is neither `dmy` nor `mdy`.
+pub(crate) fn asked_order(word: Option<&str>) -> Result<DateOrder, Misuse>
+    ensures { result ≡ spec.order_asked (option_map (λ word. word.now) word.entry) }
+{
+    match word {
+        None => Ok(DateOrder::Unknown),
+        Some("dmy") => Ok(DateOrder::DayMonth),
+        Some("mdy") => Ok(DateOrder::MonthDay),
+        Some(_) => Err(Misuse::Order),
+    }
+}
