@@ -125,8 +125,8 @@ limited grammar = with_rule grammar (value_option (codes "limits"))
 abbrev pub program_grammar : App
 program_grammar = on_top (λ s. record s { has_version = true }) (new_app (codes "oldstyle"))
 
--- the command line: the program with its commands, of which all but `convert` and `completions` have
--- limits, and what each grammar has by itself, `--help` and `help COMMAND`
+-- the command line: the program with its commands, which have limits but for `convert` and
+-- `completions`, and what each grammar has by itself, `--help` and `help COMMAND`
 abbrev pub command_line : App
 command_line = with_subcommand (with_subcommand (with_subcommand (with_subcommand (with_subcommand
     (with_subcommand (with_subcommand (with_subcommand (with_subcommand (with_subcommand
