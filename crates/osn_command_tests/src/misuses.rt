@@ -68,7 +68,7 @@ read\n",
     ),
 ];
 
-const NUMBERS: [Misused; 8] = [
+const NUMBERS: [Misused; 9] = [
     (
         "oldstyle|convert|roman|1752-01-01",
         "oldstyle: roman: a calendar is gregorian, julian or swedish; after the word day, write a \
@@ -97,6 +97,10 @@ day number\n",
     (
         "oldstyle|letters|a.journal|--separator|pipe",
         "oldstyle: pipe: a separator is comma, semicolon or tab\n",
+    ),
+    (
+        "oldstyle|completions|tcsh",
+        "oldstyle: tcsh: a shell is bash, zsh or fish\n",
     ),
     (
         "oldstyle|month|a.journal|RM|10001|1",

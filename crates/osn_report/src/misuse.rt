@@ -35,6 +35,8 @@ pub enum Misuse {
     Limits,
     /// It stands for what separates fields, and is none.
     Separator,
+    /// It stands for a shell, and is none.
+    Shell,
 }
 
 /// What a date asks for.
@@ -103,6 +105,7 @@ number",
 with a comma between",
             ),
             Misuse::Separator => f.write_str("a separator is comma, semicolon or tab"),
+            Misuse::Shell => f.write_str("a shell is bash, zsh or fish"),
         }
     }
 }
