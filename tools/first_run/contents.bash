@@ -112,6 +112,9 @@ try_read_only() {
     chmod -R u+w "$clone"
 }
 
+# What the program that stands in prints of a shell.
+completed() { printf '%s\n' "word: completions" "word: $1"; }
+
 try_install() {
     new_clone install
     words=(install "$at/under")
@@ -120,6 +123,10 @@ try_install() {
     hold "and ends with 0" ends_with 0
     hold "and says what it did" says_once "installed under $at/under: bin/oldstyle"
     hold "with the manual" cmp "$clone/docs/oldstyle.1" "$at/under/share/man/man1/oldstyle.1"
+    hold "and what completes its words in bash" \
+        cmp "$at/under/share/bash-completion/completions/oldstyle" <(completed bash)
+    hold "in zsh" cmp "$at/under/share/zsh/site-functions/_oldstyle" <(completed zsh)
+    hold "in fish" cmp "$at/under/share/fish/vendor_completions.d/oldstyle.fish" <(completed fish)
     hold "and the samples" diff -r "$clone/examples" "$at/under/share/oldstyle/examples"
     hold "which find the program" test -x "$at/under/share/oldstyle/examples/../oldstyle"
     words=(install)

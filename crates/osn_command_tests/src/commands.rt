@@ -211,9 +211,11 @@ fn streams_that_fail(rt: HostRuntime) -> Result<(), Fail> {
 }
 
 /// Command lines, and the number of the status of each.
-const LINES: [(&str, u8); 4] = [
+const LINES: [(&str, u8); 6] = [
     ("oldstyle", 0),
     ("oldstyle serve --readers 64", 0),
+    ("oldstyle completions zsh", 0),
+    ("oldstyle completions fish", 0),
     ("oldstyle replay --readers 0 none", 2),
     ("oldstyle replay --readers 65 none", 2),
 ];

@@ -9,7 +9,7 @@ use std::thread::Threads;
 use std::{fs, str};
 
 /// A command line, and what is printed.
-type Printed = (&'static str, &'static str);
+pub(crate) type Printed = (&'static str, &'static str);
 
 const HELP: &str = "Says which day a dated document means, by the calendar, the beginning of the \
 year and the rule of Easter that were in force where it was written
@@ -17,18 +17,19 @@ year and the rule of Easter that were in force where it was written
 Usage: oldstyle [COMMAND]
 
 Commands:
-  read       Says which day a written date means in a territory, or why it means none
-  convert    Prints the day of a calendar's date by every calendar and by its numbers
-  day        Says how a territory dated a day, and in which of its periods the day is
-  month      Prints a month as a territory dated its days
-  territory  Lists the territories, or the periods of one
-  letters    Says of each letter of a table on standard input which day its date means
-  serve      Answers request lines on standard input, as the program does without a command
-  replay     Takes the steps of one editor and of readers, and prints what each gives
-  desk       Lets readers ask while an editor works, each in a thread of its own
-  almanac    Prints the almanac of a territory and year, as a journal published the territory
-  audit      Says whether each reply of a transcript is the one that a journal gives
-  help       Print this message or the help of the given subcommand(s)
+  read         Says which day a written date means in a territory, or why it means none
+  convert      Prints the day of a calendar's date by every calendar and by its numbers
+  day          Says how a territory dated a day, and in which of its periods the day is
+  month        Prints a month as a territory dated its days
+  territory    Lists the territories, or the periods of one
+  letters      Says of each letter of a table on standard input which day its date means
+  serve        Answers request lines on standard input, as the program does without a command
+  replay       Takes the steps of one editor and of readers, and prints what each gives
+  desk         Lets readers ask while an editor works, each in a thread of its own
+  almanac      Prints the almanac of a territory and year, as a journal published the territory
+  audit        Says whether each reply of a transcript is the one that a journal gives
+  completions  Prints the text by which a shell completes the program's words
+  help         Print this message or the help of the given subcommand(s)
 
 Options:
   -h, --help     Print help
@@ -54,6 +55,8 @@ Arguments:
 
 Options:
       --weekday <DAY>    The weekday that the document names, as Friday
+      --order <ORDER>    How a date of three numbers, as 11/2/1731, is read: dmy or mdy
+      --strict...        Ends with status 1 where the date means no day
       --limits <LIMITS>  The most that the register holds, as lands=5000,changes=200
   -h, --help             Print help
 
@@ -155,6 +158,9 @@ Options:
 lack]
       --separator <NAME>  What stands between two fields: comma, semicolon or tab [default: by the \
 header]
+      --order <ORDER>     How a date of three numbers, as 11/2/1731, is read: dmy or mdy
+      --strict...         Ends with status 1 where a row has a remark
+      --summary...        Tells standard error at the end how many rows had each remark
       --limits <LIMITS>   The most that the register holds, as lands=5000,changes=200
   -h, --help              Print help
 
@@ -263,7 +269,21 @@ Example:
   ./oldstyle audit examples/rome.script rome.transcript
 ";
 
-const SHOWN: [Printed; 15] = [
+const COMPLETIONS: &str = "Prints the text by which a shell completes the program's words
+
+Usage: oldstyle completions <SHELL>
+
+Arguments:
+  <SHELL>  The shell: bash, zsh or fish
+
+Options:
+  -h, --help  Print help
+
+Example:
+  source <(./oldstyle completions bash)
+";
+
+const SHOWN: [Printed; 16] = [
     ("oldstyle --help", HELP),
     ("oldstyle help", HELP),
     ("oldstyle --version", "oldstyle 0.1.0\n"),
@@ -279,10 +299,11 @@ const SHOWN: [Printed; 15] = [
     ("oldstyle desk --help", DESK),
     ("oldstyle almanac --help", ALMANAC),
     ("oldstyle audit --help", AUDIT),
+    ("oldstyle completions --help", COMPLETIONS),
 ];
 
 /// That each is printed, and that it ends well.
-fn are_shown<R: Files<File = fs::File> + Threads + Wait + AllocGlobal + Abort>(
+pub(crate) fn are_shown<R: Files<File = fs::File> + Threads + Wait + AllocGlobal + Abort>(
     rt: &R,
     rows: &[Printed],
 ) -> Result<(), Fail> {

@@ -7,6 +7,8 @@ mod commands;
 #[cfg(test)]
 mod compare;
 #[cfg(test)]
+mod completions;
+#[cfg(test)]
 mod conversions;
 #[cfg(test)]
 mod date_forms;

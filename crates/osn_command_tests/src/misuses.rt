@@ -68,7 +68,7 @@ read\n",
     ),
 ];
 
-const NUMBERS: [Misused; 9] = [
+const NUMBERS: [Misused; 10] = [
     (
         "oldstyle|convert|roman|1752-01-01",
         "oldstyle: roman: a calendar is gregorian, julian or swedish; after the word day, write a \
@@ -101,6 +101,10 @@ day number\n",
     (
         "oldstyle|letters|a.journal|--order|ymd|--separator|tab",
         "oldstyle: ymd: an order is dmy, for 11/2/1731 as 11 February, or mdy, for 2/11/1731\n",
+    ),
+    (
+        "oldstyle|completions|tcsh",
+        "oldstyle: tcsh: a shell is bash, zsh or fish\n",
     ),
     (
         "oldstyle|month|a.journal|RM|10001|1",

@@ -1,3 +1,4 @@
+pub mod Completions
 pub mod Limits
 pub mod Unopened
 pub mod Run

@@ -11,7 +11,7 @@ use Rattle.osn_folder.specs.declared.fault.OpenFailed.{OpenFailed}
 use Rattle.osn_invocation.specs.Grammar.{command_line}
 use Rattle.osn_invocation.specs.Invocation.{CommandModel, InvocationModel}
 use Rattle.osn_invocation.specs.Invocation.{serving, replaying, working, printing}
-use Rattle.osn_invocation.specs.Invocation.{auditing, converting, reading_letters}
+use Rattle.osn_invocation.specs.Invocation.{auditing, converting, completing, reading_letters}
 use Rattle.osn_invocation.specs.Invocation.{invocation_in}
 use Rattle.osn_lines.specs.Streams.{Input, Output}
 use Rattle.osn_file_commands.specs.Audit.{PrintsAudit}
@@ -27,6 +27,7 @@ use Rattle.osn_report.specs.declared.fault.CommandFault.TheVariants.{NotOpened, 
 use Rattle.osn_report.specs.declared.status.Status.{Status}
 use Rattle.osn_report.specs.declared.status.Status.TheVariants as statuses
 use Rattle.osn_serve_commands.specs.InFolder.{RunsServing, opened_by}
+use Rattle.osn_commands.specs.Completions.{PrintsCompletions}
 use Rattle.osn_commands.specs.Limits.{limits_asked}
 use Rattle.osn_commands.specs.Unopened.{named_file, unopened_line}
 
@@ -40,6 +41,7 @@ files_of (working script questions) = script ∷ questions ∷ []
 files_of (printing journal page) = journal ∷ []
 files_of (auditing journal transcript) = journal ∷ transcript ∷ []
 files_of (converting calendar date) = []
+files_of (completing shell) = []
 files_of (reading_letters journal asked) = journal ∷ []
 
 -- the command that is asked for was run under these limits, with the files that the arguments name,
@@ -59,6 +61,8 @@ Runs limits (auditing journal transcript) CanFail d i o e status =
     (λ edits told. PrintsAudit limits edits told o e status)
 Runs limits (converting calendar date) CanFail d i o e status =
     (d.after ≡ d.before) × PrintsConversion calendar date o e status
+Runs limits (completing shell) CanFail d i o e status =
+    (d.after ≡ d.before) × PrintsCompletions shell o e status
 Runs limits (reading_letters journal asked) CanFail d i o e status =
     MatchResult
     (settings_asked asked.place asked.date asked.weekday asked.separator asked.order)

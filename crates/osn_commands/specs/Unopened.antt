@@ -5,7 +5,7 @@ use Rattle.osn_folder.specs.declared.fault.OpenFailed.TheVariants.{NotFound, Per
 use Rattle.osn_folder.specs.declared.fault.OpenFailed.TheVariants.{Other}
 use Rattle.osn_invocation.specs.Invocation.{CommandModel}
 use Rattle.osn_invocation.specs.Invocation.{serving, replaying, working, printing, almanac_words}
-use Rattle.osn_invocation.specs.Invocation.{auditing, converting, reading_letters}
+use Rattle.osn_invocation.specs.Invocation.{auditing, converting, completing, reading_letters}
 
 -- the path that is named where the file could not be opened: that of the journal of a page or of
 -- letters. The almanac and the other commands name none
@@ -18,6 +18,7 @@ named_file (replaying readers schedule) = None
 named_file (working script questions) = None
 named_file (auditing journal transcript) = None
 named_file (converting calendar date) = None
+named_file (completing shell) = None
 
 abbrev pub cause_text : OpenFailed → List ℕ
 cause_text NotFound = codes "no such file"

@@ -3,6 +3,7 @@
 //! name, with the files that they name; or the fault of the arguments was shown.
 #![tactic(auto)]
 
+mod completing;
 mod limits;
 mod program;
 mod shown;

@@ -6,6 +6,7 @@ ghost use Rattle.osn_lines.specs.Streams.{input_of, output_of};
 ghost use Rattle.osn_report.specs.Folders.{folders_of};
 ghost use Rattle.osn_commands.specs.Run.{Runs, RunsArgs, RunsAsked, files_of};
 
+use crate::completing::completions_command;
 use crate::limits::asked_limits;
 use crate::shown::show;
 use crate::unopened::{named_file, tell_unopened};
@@ -149,6 +150,9 @@ where
         },
         CommandWords::Convert { calendar, date } => {
             Ok(convert_command(alloc, calendar, date, output, errors))
+        }
+        CommandWords::Completions { shell } => {
+            Ok(completions_command(alloc, shell, output, errors))
         }
     }
 }

@@ -26,7 +26,8 @@ pub(crate) fn named_file<'a>(command: CommandWords<'a>) -> Option<&'a str>
         | CommandWords::Replay { .. }
         | CommandWords::Desk { .. }
         | CommandWords::Audit { .. }
-        | CommandWords::Convert { .. } => None,
+        | CommandWords::Convert { .. }
+        | CommandWords::Completions { .. } => None,
     }
 }
 

@@ -112,6 +112,11 @@ audit_grammar = with_rule
     (with_rule (new_app (codes "audit")) (required_arg (codes "journal")))
     (required_arg (codes "transcript"))
 
+-- `completions SHELL`
+abbrev pub completions_grammar : App
+completions_grammar =
+    with_rule (new_app (codes "completions")) (required_arg (codes "shell"))
+
 -- a command with the option `--limits LIMITS` after what it has
 abbrev pub limited : App → App
 limited grammar = with_rule grammar (value_option (codes "limits"))
@@ -120,16 +125,16 @@ limited grammar = with_rule grammar (value_option (codes "limits"))
 abbrev pub program_grammar : App
 program_grammar = on_top (λ s. record s { has_version = true }) (new_app (codes "oldstyle"))
 
--- the command line: the program with its commands, of which all but `convert` have limits, and what
--- each grammar has by itself, `--help` and `help COMMAND`
+-- the command line: the program with its commands, which have limits but for `convert` and
+-- `completions`, and what each grammar has by itself, `--help` and `help COMMAND`
 abbrev pub command_line : App
-command_line = with_subcommand (with_subcommand (with_subcommand (with_subcommand
+command_line = with_subcommand (with_subcommand (with_subcommand (with_subcommand (with_subcommand
     (with_subcommand (with_subcommand (with_subcommand (with_subcommand (with_subcommand
     (with_subcommand (with_subcommand program_grammar (limited read_grammar).top)
     convert_grammar.top) (limited day_grammar).top) (limited month_grammar).top)
     (limited territory_grammar).top) (limited letters_grammar).top) (limited serve_grammar).top)
     (limited replay_grammar).top) (limited desk_grammar).top) (limited almanac_grammar).top)
-    (limited audit_grammar).top
+    (limited audit_grammar).top) completions_grammar.top
 
 -- the argument has this rule, at its own command alone
 abbrev pub IsArg : Rule → Arg → Type 0

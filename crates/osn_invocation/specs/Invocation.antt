@@ -11,7 +11,7 @@ use Rattle.osn_invocation.specs.Grammar.{command_line}
 use Rattle.osn_invocation.specs.declared.invocation.CommandWords.{CommandWords}
 use Rattle.osn_invocation.specs.declared.invocation.CommandWords.TheVariants.{Serve, Replay, Desk}
 use Rattle.osn_invocation.specs.declared.invocation.CommandWords.TheVariants.{Page, Audit, Convert}
-use Rattle.osn_invocation.specs.declared.invocation.CommandWords.TheVariants.{Letters}
+use Rattle.osn_invocation.specs.declared.invocation.CommandWords.TheVariants.{Letters, Completions}
 use Rattle.osn_invocation.specs.declared.invocation.Invocation.{Invocation}
 use Rattle.osn_invocation.specs.declared.invocation.LettersOptions.{LettersOptions}
 use Rattle.osn_invocation.specs.declared.invocation.PageWords.{PageWords}
@@ -51,7 +51,7 @@ pub record LettersModel : Type 0 where
 -- what a command is asked for: the service by a journal, where to save it, where to keep it, and
 -- the rest; a replay by readers and a schedule; a desk by a script and questions; a page by a
 -- journal and which page; an audit by a journal and a transcript; a conversion by a calendar and a
--- date; letters by a journal and the rest. Files are named by their paths
+-- date; letters by a journal and the rest; completions by a shell. Files are named by their paths
 pub data CommandModel : Type 0 where
   serving : Option Text → Option Text → Option Text → ServiceModel → CommandModel
   replaying : ℕ → Text → CommandModel
@@ -60,6 +60,7 @@ pub data CommandModel : Type 0 where
   auditing : Text → Text → CommandModel
   converting : Text → Text → CommandModel
   reading_letters : Text → LettersModel → CommandModel
+  completing : Text → CommandModel
 
 -- what a command line asks for: a command, and what its limits are said to be, if anything
 pub record InvocationModel : Type 0 where
@@ -113,6 +114,9 @@ audit_command given =
 abbrev pub convert_command : List Row → CommandModel
 convert_command given =
     converting (text_of (codes "calendar") given) (text_of (codes "date") given)
+
+abbrev pub completions_command : List Row → CommandModel
+completions_command given = completing (text_of (codes "shell") given)
 
 -- the name of a column, which is that of its option where none is given
 abbrev pub column_of : Text → List Row → Text
@@ -171,7 +175,8 @@ command_by name given =
     else (if bytes_eq name (codes "audit") then audit_command given
     else (if bytes_eq name (codes "convert") then convert_command given
     else (if bytes_eq name (codes "letters") then letters_command given
-    else page_or_serve name given))))
+    else (if bytes_eq name (codes "completions") then completions_command given
+    else page_or_serve name given)))))
 
 -- a command with what its limits are said to be
 abbrev pub with_limits : List Row → CommandModel → InvocationModel
@@ -224,6 +229,7 @@ command_model (Desk script questions) = working script.now questions.now
 command_model (Page journal page) = printing journal.now (page_words page)
 command_model (Audit journal transcript) = auditing journal.now transcript.now
 command_model (Convert calendar date) = converting calendar.now date.now
+command_model (Completions shell) = completing shell.now
 command_model (Letters journal options) = reading_letters journal.now (letters_model options)
 
 abbrev pub model_of : Invocation → InvocationModel

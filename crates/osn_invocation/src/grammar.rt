@@ -3,7 +3,8 @@
 ghost use Rattle.std.specs.Prelude.{◌≡◌, IfOk};
 ghost use Rattle.clap.specs.Words.{App};
 ghost use Rattle.osn_invocation.specs.Grammar.{IsArg, IsCommand, almanac_grammar, audit_grammar};
-ghost use Rattle.osn_invocation.specs.Grammar.{command_line, convert_grammar, day_grammar};
+ghost use Rattle.osn_invocation.specs.Grammar.{command_line, completions_grammar};
+ghost use Rattle.osn_invocation.specs.Grammar.{convert_grammar, day_grammar};
 ghost use Rattle.osn_invocation.specs.Grammar.{desk_grammar, letters_grammar, limited};
 ghost use Rattle.osn_invocation.specs.Grammar.{flag_option, month_grammar};
 ghost use Rattle.osn_invocation.specs.Grammar.{optional_arg, read_grammar, readers_option};
@@ -309,6 +310,19 @@ const AUDIT_EXAMPLE: &str = "Example:
   ./oldstyle desk examples/rome.script examples/rome.questions > rome.transcript
   ./oldstyle audit examples/rome.script rome.transcript";
 
+/// The command `completions` and its argument.
+fn completions_grammar<'a>(alloc: Global) -> Result<Command<'a>, AllocError>
+    ensures { IfOk result (IsCommand completions_grammar) }
+{
+    Command::new(alloc, "completions")
+        .about("Prints the text by which a shell completes the program's words")
+        .after_help(COMPLETIONS_EXAMPLE)
+        .arg(required_arg(alloc, "shell", "SHELL").help("The shell: bash, zsh or fish"))
+}
+
+const COMPLETIONS_EXAMPLE: &str = "Example:
+  source <(./oldstyle completions bash)";
+
 /// A command with the option `--limits` after what it has.
 fn limited<'a>(alloc: Global, command: Command<'a>) -> Result<Command<'a>, AllocError>
     ensures { IfOk result (λ made. (grammar : App) → IsCommand grammar command.entry
@@ -320,7 +334,11 @@ fn limited<'a>(alloc: Global, command: Command<'a>) -> Result<Command<'a>, Alloc
 }
 
 /// The program with all its commands.
-pub(crate) fn command_line<'a>(alloc: Global) -> Result<Command<'a>, AllocError>
+///
+/// # Errors
+///
+/// Want of memory, and nothing else.
+pub fn command_line<'a>(alloc: Global) -> Result<Command<'a>, AllocError>
     ensures { IfOk result (IsCommand command_line) }
 {
     Command::new(alloc, "oldstyle")
@@ -337,5 +355,6 @@ pub(crate) fn command_line<'a>(alloc: Global) -> Result<Command<'a>, AllocError>
         .subcommand(limited(alloc, replay_grammar(alloc)?)?)?
         .subcommand(limited(alloc, desk_grammar(alloc)?)?)?
         .subcommand(limited(alloc, almanac_grammar(alloc)?)?)?
-        .subcommand(limited(alloc, audit_grammar(alloc)?)?)
+        .subcommand(limited(alloc, audit_grammar(alloc)?)?)?
+        .subcommand(completions_grammar(alloc)?)
 }

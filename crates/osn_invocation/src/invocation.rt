@@ -1,18 +1,19 @@
 //! What a command line asks for, by what the grammar finds in its arguments.
 
-ghost use Rattle.std.specs.Prelude.{◌≡◌, IfErr, IfOk, map, option_map, true};
-ghost use Rattle.clap.specs.Words.{FailsBy, fault_of, first_of, found_of, kind_of, rows_of};
+ghost use Rattle.std.specs.Prelude.{◌≡◌, IfErr, IfOk, map, true};
+ghost use Rattle.clap.specs.Words.{FailsBy, fault_of, found_of, kind_of, rows_of};
 ghost use Rattle.clap.specs.Words.{subcommand_rows_of, takes};
 ghost use Rattle.clap.specs.declared.error.kind.ErrorKind.TheVariants.{OutOfMemory};
 ghost use Rattle.osn_invocation.specs.Grammar.{HasMatches, command_line};
 ghost use Rattle.osn_invocation.specs.Invocation.{almanac_page, audit_command, command_by};
-ghost use Rattle.osn_invocation.specs.Invocation.{command_model, convert_command, day_page};
-ghost use Rattle.osn_invocation.specs.Invocation.{desk_command, invocation_by, invocation_in};
-ghost use Rattle.osn_invocation.specs.Invocation.{is_given, letters_command, model_of, month_page};
-ghost use Rattle.osn_invocation.specs.Invocation.{number_of, page_command, page_words, read_page};
-ghost use Rattle.osn_invocation.specs.Invocation.{replay_command, serve_command, territory_page};
-ghost use Rattle.osn_invocation.specs.Invocation.{text_of, with_limits};
+ghost use Rattle.osn_invocation.specs.Invocation.{command_model, completions_command};
+ghost use Rattle.osn_invocation.specs.Invocation.{convert_command, day_page, desk_command};
+ghost use Rattle.osn_invocation.specs.Invocation.{invocation_by, invocation_in, letters_command};
+ghost use Rattle.osn_invocation.specs.Invocation.{model_of, month_page, page_command, page_words};
+ghost use Rattle.osn_invocation.specs.Invocation.{read_page, replay_command, serve_command};
+ghost use Rattle.osn_invocation.specs.Invocation.{territory_page, with_limits};
 
+use crate::given::{is_given, number_of, text_of, value_of};
 use crate::grammar::command_line;
 use clap::{ArgMatches, Error};
 use std::alloc::Global;
@@ -150,6 +151,11 @@ pub enum CommandWords<'a> {
         /// The date, or after `day` a day number.
         date: &'a str,
     },
+    /// To print the text by which a shell completes the program's words.
+    Completions {
+        /// The word of the shell.
+        shell: &'a str,
+    },
 }
 
 /// What a command line asks for.
@@ -219,6 +225,7 @@ fn command_of<'a>(name: &str, given: &ArgMatches<'a>) -> CommandWords<'a>
         "audit" => audit_of(given),
         "convert" => convert_of(given),
         "letters" => letters_of(given),
+        "completions" => completions_of(given),
         "almanac" => page_of(given, almanac_of(given)),
         "read" => page_of(given, read_of(given)),
         "day" => page_of(given, day_of(given)),
@@ -279,6 +286,15 @@ fn convert_of<'a>(given: &ArgMatches<'a>) -> CommandWords<'a>
     CommandWords::Convert {
         calendar: text_of(given, "calendar"),
         date: text_of(given, "date"),
+    }
+}
+
+/// What the argument of `completions` asks for.
+fn completions_of<'a>(given: &ArgMatches<'a>) -> CommandWords<'a>
+    ensures { command_model result ≡ completions_command (rows_of (found_of given.now)) }
+{
+    CommandWords::Completions {
+        shell: text_of(given, "shell"),
     }
 }
 
@@ -362,33 +378,4 @@ fn territory_of<'a>(given: &ArgMatches<'a>) -> PageWords<'a>
     PageWords::Territory {
         code: value_of(given, "code"),
     }
-}
-
-/// The text of a word that may stand, if any.
-fn value_of<'a>(given: &ArgMatches<'a>, id: &str) -> Option<&'a str>
-    ensures { option_map (λ text. text.now) result
-        ≡ first_of id.now (rows_of (found_of given.now)) }
-{
-    given.get_str(id)
-}
-
-/// The text of a word that has to stand.
-fn text_of<'a>(given: &ArgMatches<'a>, id: &str) -> &'a str
-    ensures { result.now ≡ text_of id.now (rows_of (found_of given.now)) }
-{
-    given.get_str(id).unwrap_or_default()
-}
-
-/// Whether an option without a value was given.
-fn is_given(given: &ArgMatches<'_>, id: &str) -> bool
-    ensures { result ≡ is_given id.now (rows_of (found_of given.now)) }
-{
-    given.get_count(id) > 0
-}
-
-/// The number that a word is, or the other one where it doesn't stand.
-fn number_of(given: &ArgMatches<'_>, id: &str, other: u32) -> u32
-    ensures { result ≡ number_of other id.now (rows_of (found_of given.now)) }
-{
-    given.get_one(id).unwrap_or(other)
 }

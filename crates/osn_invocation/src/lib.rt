@@ -1,11 +1,14 @@
 //! What a command line asks for: its grammar, and the command with its files and numbers that stand
 //! in the arguments. What the crate promises to those above: `parse_args` takes what the grammar
 //! takes and answers what that finds in it; an error is of a kind that the grammar gives.
+//! `command_line` builds that very grammar.
 #![tactic(auto)]
 
+mod given;
 mod grammar;
 mod invocation;
 
+pub use grammar::command_line;
 pub use invocation::{
     CommandWords, Invocation, LettersOptions, PageWords, ServeOptions, parse_args,
 };

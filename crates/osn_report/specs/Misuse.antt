@@ -9,7 +9,7 @@ use Rattle.osn_report.specs.declared.misuse.Misuse.{Misuse}
 use Rattle.osn_report.specs.declared.misuse.Misuse.TheVariants.{Date, Weekday, OtherWeekday}
 use Rattle.osn_report.specs.declared.misuse.Misuse.TheVariants.{Calendar, DayNumber, DoubleDate}
 use Rattle.osn_report.specs.declared.misuse.Misuse.TheVariants.{NoSuchDate, Month, Limits}
-use Rattle.osn_report.specs.declared.misuse.Misuse.TheVariants.{Separator, Order}
+use Rattle.osn_report.specs.declared.misuse.Misuse.TheVariants.{Separator, Order, Shell}
 
 -- what a date asks for
 abbrev pub date_text : DateFault → List ℕ
@@ -52,6 +52,7 @@ misuse_text Limits = codes
     "limits are some of lands=N,changes=N,exceptions=N,edits=N,editions=N, with a comma between"
 misuse_text Separator = codes "a separator is comma, semicolon or tab"
 misuse_text Order = codes "an order is dmy, for 11/2/1731 as 11 February, or mdy, for 2/11/1731"
+misuse_text Shell = codes "a shell is bash, zsh or fish"
 
 -- the line on standard error, which begins with the word as it was typed
 abbrev pub misuse_line : Misuse → List ℕ → List ℕ

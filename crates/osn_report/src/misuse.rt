@@ -37,6 +37,8 @@ pub enum Misuse {
     Separator,
     /// It stands for the order of a date's three numbers, and is none.
     Order,
+    /// It stands for a shell, and is none.
+    Shell,
 }
 
 /// What a date asks for.
@@ -108,6 +110,7 @@ with a comma between",
             Misuse::Order => f.write_str(
                 "an order is dmy, for 11/2/1731 as 11 February, or mdy, for 2/11/1731",
             ),
+            Misuse::Shell => f.write_str("a shell is bash, zsh or fish"),
         }
     }
 }

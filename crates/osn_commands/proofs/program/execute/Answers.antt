@@ -40,6 +40,11 @@ returns-in-Convert-clause-ok g c =
     ran c.args.limits c.args.command _ _ _ _ _ _ c.convert_command.result c.in-Convert.is
     (refl, c.convert_command.ensures)
 
+pub returns-in-Completions-clause-ok : goal.returns-in-Completions-clause-ok
+returns-in-Completions-clause-ok g c =
+    ran c.args.limits c.args.command _ _ _ _ _ _ c.completions_command.result c.in-Completions.is
+    (refl, c.completions_command.ensures)
+
 pub returns-in-Ok-clause-ok : goal.returns-in-Ok-clause-ok
 returns-in-Ok-clause-ok g c =
     let new = c.letters_in_folder.new in

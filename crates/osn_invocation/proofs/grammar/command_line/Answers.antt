@@ -37,7 +37,9 @@ returns c =
     eighth (c.in_ok-limited-8.ensures _ c.in_ok-desk_grammar.ensures) in
     let tenth = one_more_command _ _ _ _ _ c.in_ok-subcommand-10.ensures
     ninth (c.in_ok-limited-9.ensures _ c.in_ok-almanac_grammar.ensures) in
-    IfOk-weaker c.subcommand-11.result _ _
-    (λ new added. one_more_command _ new _ _ _ added tenth
-    (c.in_ok-limited-10.ensures _ c.in_ok-audit_grammar.ensures))
-    c.subcommand-11.ensures
+    let eleventh = one_more_command _ _ _ _ _ c.in_ok-subcommand-11.ensures
+    tenth (c.in_ok-limited-10.ensures _ c.in_ok-audit_grammar.ensures) in
+    IfOk-weaker c.subcommand-12.result _ _
+    (λ new added. one_more_command _ new _ _ _ added eleventh
+    c.in_ok-completions_grammar.ensures)
+    c.subcommand-12.ensures

@@ -1,7 +1,7 @@
 use Rattle.std.proofs.Common.{◌≡◌, []}
 use Rattle.clap.specs.Words.{found_of}
 use Rattle.osn_invocation.proofs.TextLemmas.{text_given}
-use Rattle.osn_invocation.proofs.invocation.text_of.Goals as goal
+use Rattle.osn_invocation.proofs.given.text_of.Goals as goal
 
 pub returns : goal.returns
 returns c =

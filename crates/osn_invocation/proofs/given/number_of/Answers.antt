@@ -2,7 +2,7 @@ use Rattle.std.proofs.Common.{◌∙◌}
 use Rattle.std.specs.Str.Parse.{ParsesUnsigned, ExplainsUnsignedError, HasUnsignedDigitsIfOk}
 use Rattle.clap.specs.Words.{found_of}
 use Rattle.osn_invocation.proofs.NumberLemmas.{number_given}
-use Rattle.osn_invocation.proofs.invocation.number_of.Goals as goal
+use Rattle.osn_invocation.proofs.given.number_of.Goals as goal
 
 pub returns : goal.returns
 returns c =

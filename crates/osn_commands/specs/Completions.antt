@@ -1,0 +1,18 @@
+-- The text that completes words, printed.
+use Rattle.std.specs.Prelude.{◌≡◌, List, ℕ, Option, Some, None}
+use Rattle.osn_completions.specs.Completions.{completions, shell_named}
+use Rattle.osn_completions.specs.declared.shell.Shell.{Shell}
+use Rattle.osn_lines.specs.Streams.{Output}
+use Rattle.osn_report.specs.Printing.{PrintsIfMade}
+use Rattle.osn_report.specs.Told.{TellsMisuse}
+use Rattle.osn_report.specs.declared.misuse.Misuse.TheVariants as misuses
+use Rattle.osn_report.specs.declared.status.Status.{Status}
+
+-- the text of this shell was printed; of none, standard error was told of the word
+abbrev pub PrintsFor : Option Shell → List ℕ → Output → Output → Status → Type 0
+PrintsFor (Some shell) word o e status = PrintsIfMade (completions shell) o e status
+PrintsFor None word o e status = (o.new ≡ o.old) × TellsMisuse e misuses.Shell word status
+
+-- how the command ends: it printed the text of the shell of this word, or told that there is none
+abbrev pub PrintsCompletions : List ℕ → Output → Output → Status → Type 0
+PrintsCompletions word o e status = PrintsFor (shell_named word) word o e status

@@ -1,0 +1,28 @@
+//! The command `completions`.
+ghost use Rattle.osn_commands.specs.Completions.{PrintsCompletions};
+ghost use Rattle.osn_lines.specs.Streams.{output_of};
+
+use osn_completions::{completions, shell_named};
+use osn_lines::Sink;
+use osn_report::{Misuse, Status, print, tell_misuse};
+use std::alloc::Global;
+
+/// The command `completions`: prints the text by which the shell of this word completes the words
+/// of the command line.
+///
+/// Where it is the word of no shell, standard error is told so in a line, and the status says it.
+pub(crate) fn completions_command<W: Sink, E: Sink>(
+    alloc: Global,
+    shell: &str,
+    output: &mut W,
+    errors: &mut E,
+) -> Status
+    ensures { PrintsCompletions shell.now
+        (output_of W.contents W.has_failed W.holds_back output.old output.new)
+        (output_of E.contents E.has_failed E.holds_back errors.old errors.new) result }
+{
+    match shell_named(shell) {
+        Some(found) => print(completions(alloc, found), output, errors),
+        None => tell_misuse(alloc, errors, Misuse::Shell, shell),
+    }
+}
