@@ -5,7 +5,7 @@ Written from docs/FORMATS.md alone, for pages.py.
 from typing import NamedTuple
 
 from reference import HIGH, MONTHS, dates
-from written import Territory, is_not_counted_double, weekday_of
+from written import Territory, Written, is_not_counted_double, weekday_of
 
 YEARS = {"january": "1 January", "annunciation": "25 March", "nativity": "25 December"}
 YEARS |= {"september": "1 September", "pisan": "the 25 March before", "easter": "Easter"}
@@ -117,6 +117,79 @@ def reading_page(place, date, given):
     lines = [line for day in days for line in meant_lines(place.territory, date, given, day)]
     return [f"{date_written(date)} in {place.heading()}",
             *(lines or why_lines(place.territory, date))]
+
+
+# The page of a month, a year, a range or a bound. A date is a year, with month and day or without.
+
+
+def simple_written(date):
+    year, *month_and_day = date
+    words = [str(part) for part in month_and_day[1:]]
+    words += [MONTHS[month - 1] for month in month_and_day[:1]]
+    return " ".join([*words, f"{year:03}"])
+
+
+def days_of(territory, date):
+    """All days that the territory dated so."""
+    finders = [territory.days_of_year, territory.days_of_month]
+    return finders[len(date) - 1](*date) if len(date) < 3 else territory.days_of(date)
+
+
+def spans_of(days):
+    """The first and last days of those that follow one another."""
+    firsts = [day for day in days if day - 1 not in days]
+    return list(zip(firsts, [day for day in days if day + 1 not in days]))
+
+
+def span_lines(territory, first, last):
+    count = last + 1 - first
+    if count == 1:
+        return [day_line(territory, first), "1 day"]
+    return [f"from {day_line(territory, first)}", f"to   {day_line(territory, last)}",
+            f"{count} days"]
+
+
+def first_day_why(territory, date):
+    return why_lines(territory, Written(*date, *[1] * (3 - len(date))))
+
+
+def on_lines(territory, date):
+    spans = spans_of(days_of(territory, date))
+    return [line for span in spans for line in span_lines(territory, *span)] or first_day_why(
+        territory, date)
+
+
+def range_lines(territory, first, last):
+    from_days, to_days = days_of(territory, first), days_of(territory, last)
+    if not from_days:
+        return first_day_why(territory, first)
+    if not to_days:
+        return ["of the last date:", *first_day_why(territory, last)]
+    if from_days[0] > to_days[-1]:
+        return ["the first date is after the last one"]
+    return span_lines(territory, from_days[0], to_days[-1])
+
+
+def bound_lines(territory, word, date):
+    days = days_of(territory, date)
+    if not days:
+        return first_day_why(territory, date)
+    if word in ("before", "not after"):
+        last = days[0] - 1 if word == "before" else days[-1]
+        return (["from any earlier day", f"to   {day_line(territory, last)}"] if last
+                else ["no day of the line is before it"])
+    first = days[-1] + 1 if word == "after" else days[0]
+    return ([f"from {day_line(territory, first)}", "to   any later day"] if first <= HIGH
+            else ["no day of the line is after it"])
+
+
+BOUNDS = ["before", "not after", "after", "not before"]
+
+
+def span_page(place, text, lines, weekday=None):
+    """The page of such a date by its words, with the weekday that is given, if one is."""
+    others = [f"{weekday} is not looked for: that is done for one day alone"] if weekday else []
+    return [f"{text} in {place.heading()}", *lines, *others]
 
 
 # The pages of days, months and territories.

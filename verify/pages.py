@@ -6,8 +6,9 @@
 
 Random territories are put into a journal, with their changes near one another, listed Easters and
 edits that wait. Of each date the page of `read` is held against the one of `page_texts.py`, which
-asks every day of the line that has the month and day. So are the pages of days about the changes,
-of the date's month, of conversions, and of the territories. Words that are wrong, codes that are
+asks every day of the line that has the month and day. So is that of a month, a year, a range or a
+bound about the changes, and the pages of days there, of the date's month, of conversions, and of
+the territories. Words that are wrong, codes that are
 unknown and files that are not there have to be told as docs/FORMATS.md says.
 """
 import os
@@ -15,8 +16,9 @@ import random
 import tempfile
 
 from common import argument, program, run
-from page_texts import (Place, conversion_page, day_page, list_page, month_page, pending_lines,
-                        reading_page, territory_page)
+from page_texts import (BOUNDS, Place, bound_lines, conversion_page, day_page, list_page, month_page,
+                        on_lines, pending_lines, range_lines, reading_page, simple_written,
+                        span_page, territory_page)
 from reference import MONTHS, WEEKDAYS, dates, written
 from samples import (MALFORMED, NAMES, any_case, date_text, day_near, journal_lines, label_near,
                      middle_day, write_journal)
@@ -120,6 +122,29 @@ class Asked:
         words = ["--weekday", any_case(self.chance, given)] if given else []
         yield from self.page(["read", "XX", text, *words], reading_page(self.place, date, given))
 
+    def simple_date(self):
+        """A year, a month or a day about the changes, whether the territory has it or not."""
+        label = label_near(self.chance, self.territory, self.middle)
+        return label[:self.chance.choice([1, 2, 3])]
+
+    def span(self):
+        """A date that is no one day: a month or a year, a range or a bound."""
+        date, last = self.simple_date(), self.simple_date()
+        word = self.chance.choice(["", "to", *BOUNDS])
+        if word == "to":
+            text = f"{simple_written(date)} to {simple_written(last)}"
+            lines = range_lines(self.territory, date, last)
+        elif word:
+            text = f"{word} {simple_written(date)}"
+            lines = bound_lines(self.territory, word, date)
+        else:
+            text = simple_written(date[:2])
+            lines = on_lines(self.territory, date[:2])
+        given = self.chance.choice([None, None, *WEEKDAYS])
+        words = ["--weekday", any_case(self.chance, given)] if given else []
+        page = span_page(self.place, text, lines, given)
+        yield from self.page(["read", "XX", text, *words], page)
+
     def day(self):
         day = day_near(self.chance, self.territory, self.middle)
         word = self.chance.choice([str(day), written(dates("gregorian")[day])])
@@ -149,6 +174,7 @@ class Asked:
         """Each page about a date that is another than the one written apart."""
         label = label_near(self.chance, self.territory, self.middle)
         yield from self.reading(label)
+        yield from self.span()
         yield from self.day()
         yield from self.month(label)
         yield from self.conversion(label)
