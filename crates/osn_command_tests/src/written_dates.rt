@@ -199,7 +199,7 @@ const WRITTEN: [(&str, &str); 6] = [
     ("friday 1731-02-11", "11 February 1731"),
     ("11 february 1731/32", "11 February 1731/2"),
     ("11 February 1699/0", "11 February 1699/700"),
-    ("9/10-02-01", "1 February 9/10"),
+    ("009/10-02-01", "1 February 9/10"),
     ("1 January 0", "1 January 0"),
     ("Feb. 11, 1731/32", "11 February 1731/2"),
 ];
