@@ -2,8 +2,8 @@
 """Holds the forms of dates that docs/DATES.md shows against the program: verify/date_forms.py.
 
 A text of the table of days is read as the day beside it, and a text of the tables of months,
-years, ranges and bounds is refused as no single day. Prints each text that is told otherwise, and
-ends with status 1 where one is.
+years, ranges and bounds is refused as no single day where the page of a day is asked for. Prints
+each text that is told otherwise, and ends with status 1 where one is.
 """
 import os
 import re
@@ -41,7 +41,8 @@ with open("docs/DATES.md", encoding="utf-8") as file:
     pairs = list(expected(file.read()))
 status = 0
 for text, told in pairs:
-    done = run(PROGRAM, ["read", "examples/samples.journal", "GB", text])
+    command = "day" if told == NOT_ONE_DAY else "read"
+    done = run(PROGRAM, [command, "examples/samples.journal", "GB", text])
     holds = (
         f"oldstyle: {text}: {told}" in done.stderr
         if told == NOT_ONE_DAY

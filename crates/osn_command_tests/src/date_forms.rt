@@ -1,11 +1,12 @@
-//! Dates in other forms than the usual ones: what the commands print, and what is told of texts
-//! that are no one day.
+//! Dates in other forms than the usual ones: what the commands print, what is told of texts that are
+//! no date, and how a command ends whose date means no day.
 use crate::commands::RunRow;
-use crate::misuses::{Misused, are_misused, are_run};
+use crate::journals::EUROPE;
+use crate::misuses::{Misused, are_misused, are_run, are_run_over};
 use std::test::Fail;
 
 /// Dates that are taken.
-const TAKEN: [RunRow; 3] = [
+const TAKEN: [RunRow; 5] = [
     (
         "oldstyle|read|a.journal|RM|Wednesday, Jan. 1st, 1500",
         "",
@@ -14,6 +15,30 @@ const TAKEN: [RunRow; 3] = [
             "1 January 1500 in Rome (RM), edition 1
 Wednesday 1 January 1500    10 January 1500 Gregorian    1 January 1500 Julian    day 547508
       JDN 2268933 ok
+",
+            "",
+        ),
+    ),
+    (
+        "oldstyle|read|a.journal|RM|11/2/1731|--order|dmy",
+        "",
+        (
+            0,
+            "11 February 1731 in Rome (RM), edition 1
+Thursday 11 February 1731    22 February 1731 Gregorian    11 February 1731 Julian    day 631922
+      JDN 2353347
+",
+            "",
+        ),
+    ),
+    (
+        "oldstyle|read|a.journal|RM|11/2/1731|--order|mdy",
+        "",
+        (
+            0,
+            "2 November 1731 in Rome (RM), edition 1
+Tuesday 2 November 1731    13 November 1731 Gregorian    2 November 1731 Julian    day 632186
+      JDN 2353611
 ",
             "",
         ),
@@ -44,14 +69,14 @@ always: julian calendar, january style (years from 1 January), julian rule
     ),
 ];
 
-/// Texts that are no one day.
-const OTHER_DATES: [Misused; 9] = [
+/// Texts that are no date, or no one day where a day is asked for.
+const OTHER_DATES: [Misused; 11] = [
     (
         "oldstyle|read|a.journal|RM|n.d.",
         "oldstyle: n.d.: it says no date: write a day, as \"11 February 1731\"\n",
     ),
     (
-        "oldstyle|read|a.journal|RM|February 1731",
+        "oldstyle|day|a.journal|RM|February 1731",
         "oldstyle: February 1731: a month, a year or a range is not one day: write the day, as \
 \"11 February 1731\"\n",
     ),
@@ -61,7 +86,7 @@ const OTHER_DATES: [Misused; 9] = [
 \"11 February 1731\"\n",
     ),
     (
-        "oldstyle|read|a.journal|RM|11 February 1731?",
+        "oldstyle|convert|julian|11 February 1731?",
         "oldstyle: 11 February 1731?: about, ?, [ ], O.S. and their like say more than the day: \
 write the day alone\n",
     ),
@@ -73,6 +98,15 @@ write the day alone\n",
         "oldstyle|convert|julian|11/2/1731",
         "oldstyle: 11/2/1731: 11/2/1731 may be 11 February or 2 November: write the month by its \
 name\n",
+    ),
+    (
+        "oldstyle|read|a.journal|RM|11/2/1731",
+        "oldstyle: 11/2/1731: 11/2/1731 may be 11 February or 2 November: write the month by its \
+name\n",
+    ),
+    (
+        "oldstyle|read|a.journal|RM|11/2/1731|--order|ymd",
+        "oldstyle: ymd: an order is dmy, for 11/2/1731 as 11 February, or mdy, for 2/11/1731\n",
     ),
     (
         "oldstyle|read|a.journal|RM|11/22 February 1731",
@@ -88,6 +122,58 @@ by one of them\n",
         "oldstyle: xi February 1731: a Roman numeral is not read: write the number in digits\n",
     ),
 ];
+
+const SKIPPED: &str = "3 September 1752 in Great Britain (GB), edition 2
+skipped: Wednesday 2 September 1752 was followed by Thursday 14 September 1752 (day 639797)
+2 edits are not published yet
+";
+
+/// Dates of which a day is asked for, or not. The status alone says that there is none.
+const STRICT: [RunRow; 4] = [
+    (
+        "oldstyle|read|e.journal|GB|3 September 1752",
+        "",
+        (0, SKIPPED, ""),
+    ),
+    (
+        "oldstyle|read|e.journal|GB|3 September 1752|--strict",
+        "",
+        (1, SKIPPED, ""),
+    ),
+    (
+        "oldstyle|read|e.journal|GB|after 9999|--strict",
+        "",
+        (
+            1,
+            "after 9999 in Great Britain (GB), edition 2
+no day of the line is after it
+2 edits are not published yet
+",
+            "",
+        ),
+    ),
+    (
+        "oldstyle|read|e.journal|GB|September 1752|--strict",
+        "",
+        (
+            0,
+            "September 1752 in Great Britain (GB), edition 2
+from Tuesday 1 September 1752    12 September 1752 Gregorian    1 September 1752 Julian
+      day 639795    JDN 2361220
+to   Saturday 30 September 1752    30 September 1752 Gregorian    19 September 1752 Julian
+      day 639813    JDN 2361238
+19 days
+2 edits are not published yet
+",
+            "",
+        ),
+    ),
+];
+
+#[test]
+fn a_lacking_day_is_a_refusal_where_it_is_asked_for(rt: HostRuntime) -> Result<(), Fail> {
+    are_run_over(&rt, &[("e.journal", EUROPE)], &STRICT)
+}
 
 #[test]
 fn other_forms_are_taken(rt: HostRuntime) -> Result<(), Fail> {

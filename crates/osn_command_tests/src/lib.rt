@@ -3,6 +3,8 @@
 #![tactic(auto)]
 
 #[cfg(test)]
+mod any_dates;
+#[cfg(test)]
 mod commands;
 #[cfg(test)]
 mod compare;

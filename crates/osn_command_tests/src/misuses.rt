@@ -2,7 +2,7 @@
 //! that end early: what was typed, what is allowed and the next step. Beside them stand the words
 //! that are taken.
 use crate::commands::{RunRow, left_of};
-use crate::files::NAMED;
+use crate::files::{File, NAMED};
 use crate::memory::holding;
 use crate::printed::is_left;
 use std::process::Abort;
@@ -353,24 +353,37 @@ always: julian calendar, january style (years from 1 January), julian rule
     ),
 ];
 
-/// That a run of these words, with a bar between two, leaves this.
-fn is_run<R: Threads + Wait + AllocGlobal + Abort>(rt: &R, row: &RunRow) -> Result<(), Fail> {
+/// That a run of these words, with a bar between two, leaves this, over these files.
+fn is_run<R: Threads + Wait + AllocGlobal + Abort>(
+    rt: &R,
+    files: &[File],
+    row: &RunRow,
+) -> Result<(), Fail> {
     let (line, read, wanted) = row;
-    let mut folder = holding(rt, &NAMED)?;
+    let mut folder = holding(rt, files)?;
     let words: Vec<&str> = line.split('|').collect(rt.alloc())?;
     let left = left_of(rt, &mut folder, &words, read)?;
     is_left(rt, rt.alloc(), left, wanted)
 }
 
-/// That each run leaves this.
+/// That each run leaves this, over these files.
+pub(crate) fn are_run_over<R: Threads + Wait + AllocGlobal + Abort>(
+    rt: &R,
+    files: &[File],
+    rows: &[RunRow],
+) -> Result<(), Fail> {
+    for row in rows {
+        is_run(rt, files, row)?;
+    }
+    Ok(())
+}
+
+/// The same over the files of a journal and of what goes with it.
 pub(crate) fn are_run<R: Threads + Wait + AllocGlobal + Abort>(
     rt: &R,
     rows: &[RunRow],
 ) -> Result<(), Fail> {
-    for row in rows {
-        is_run(rt, row)?;
-    }
-    Ok(())
+    are_run_over(rt, &NAMED, rows)
 }
 
 /// That each misuse is told.
@@ -379,7 +392,7 @@ pub(crate) fn are_misused<R: Threads + Wait + AllocGlobal + Abort>(
     rows: &[Misused],
 ) -> Result<(), Fail> {
     for (line, told) in rows {
-        is_run(rt, &(*line, "", (2, "", *told)))?;
+        is_run(rt, &NAMED, &(*line, "", (2, "", *told)))?;
     }
     Ok(())
 }

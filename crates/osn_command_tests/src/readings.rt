@@ -3,16 +3,17 @@
 use crate::compare::same;
 use crate::journals::europe;
 use osn_days::Weekday;
+use osn_grammar::{DateOrder, Written};
 use osn_pages::{Page, Published, page_text};
 use osn_register::Register;
 use osn_test_texts::joined;
-use osn_written::WrittenDate;
+use osn_written::read_date;
 use std::alloc::Global;
 use std::process::Abort;
 use std::test::Fail;
 
 /// A code, a date, a weekday that is given beside it, and the page without its last line.
-type Row = (&'static str, &'static str, Option<Weekday>, &'static str);
+pub(crate) type Row = (&'static str, &'static str, Option<Weekday>, &'static str);
 
 const BRITISH: [Row; 5] = [
     (
@@ -291,7 +292,7 @@ Tuesday 1 April 1543/4    11 April 1544 Gregorian    1 April 1544 Julian    day 
 /// That the page of a row is its text.
 fn is_page(rt: &impl Abort, alloc: Global, register: &Register, row: &Row) -> Result<(), Fail> {
     let (code, text, weekday, wanted) = row;
-    let Ok(date) = WrittenDate::parse(alloc, text)? else {
+    let Ok(Written::Date(date)) = read_date(alloc, text, DateOrder::Unknown)? else {
         same(rt, *text, "a date");
         return Ok(());
     };
@@ -309,7 +310,7 @@ fn is_page(rt: &impl Abort, alloc: Global, register: &Register, row: &Row) -> Re
 }
 
 /// That each row has its page.
-fn are_pages(rt: &impl Abort, alloc: Global, rows: &[Row]) -> Result<(), Fail> {
+pub(crate) fn are_pages(rt: &impl Abort, alloc: Global, rows: &[Row]) -> Result<(), Fail> {
     let object = europe(alloc)?;
     for row in rows {
         is_page(rt, alloc, object.register(), row)?;

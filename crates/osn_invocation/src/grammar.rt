@@ -126,9 +126,10 @@ const READ_EXAMPLE: &str = "Examples:
   ./oldstyle read examples/samples.journal GB 1752-09-05
 
 A date is written 1731-02-11, \"11 February 1731\" or \"11 February 1731/2\", with a weekday before
-it or without, or in another form of one day, as \"11 Feb. 1731/32\". Its year is the one that the
-document has, or both years are given. Where a date means several days, those of the weekday come
-first.";
+it or without, or in another form, as \"11 Feb. 1731/32\". Its year is the one that the document
+has, or both years are given. It may be a month, a year, a range or a bound, as \"March 1731\",
+\"3-10 May 1640\" or \"before 1640\", and say more, as \"[about 1640?]\" or \"11 February 1731 N.S.\".
+Where a date means several days, those of the weekday come first.";
 
 /// The command `convert` and its arguments.
 fn convert_grammar<'a>(alloc: Global) -> Result<Command<'a>, AllocError>

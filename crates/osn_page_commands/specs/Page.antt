@@ -1,9 +1,12 @@
 -- The page that a command prints, and why there is none.
-use Rattle.std.specs.Prelude.{◌≡◌, ◌⊎◌, ◌++◌, ℕ, pos, List, length, codes, Option, None, Some, true}
-use Rattle.std.specs.Prelude.{MatchResult}
+use Rattle.std.specs.Prelude.{◌≡◌, ◌⊎◌, ◌++◌, ℕ, pos, List, length, codes, Option, None, Some}
+use Rattle.std.specs.Prelude.{Bool, true, false, ◌&&◌, if◌then◌else◌, MatchResult}
 use Rattle.std.specs.Option.{MatchOption}
 use Rattle.osn_almanac.specs.Almanac.{almanac, almanac_refusal}
 use Rattle.osn_days.specs.Profile.{newest_rules}
+use Rattle.osn_grammar.specs.declared.written.WrittenDate.{WrittenDate as AnyDate}
+use Rattle.osn_lands.specs.Territory.{TerritoryModel}
+use Rattle.osn_register.specs.Named.{named_of}
 use Rattle.osn_register.specs.Plain.{LandModel, code_refusal}
 use Rattle.osn_register.specs.declared.limits.Limits.{Limits}
 use Rattle.osn_register.specs.declared.refusal.Refusal.{Refusal}
@@ -12,8 +15,11 @@ use Rattle.osn_core.specs.Sequential.{ObjectState, lands_of}
 use Rattle.osn_lines.specs.Streams.{Input, Output}
 use Rattle.osn_files.specs.declared.fault.FileFault.{FileFault}
 use Rattle.osn_invocation.specs.Invocation.{PageWordsModel}
+use Rattle.osn_pages.specs.DateLines.{has_no_day}
 use Rattle.osn_pages.specs.Page.{page_text}
 use Rattle.osn_pages.specs.Territory.{territories_page}
+use Rattle.osn_pages.specs.declared.page.Page.{Page}
+use Rattle.osn_pages.specs.declared.page.Page.TheVariants as pages
 use Rattle.osn_pages.specs.declared.page.Published.{Published}
 use Rattle.osn_page_commands.specs.PageWords.{page_asked, takes_memory, code_of, wrong_word}
 use Rattle.osn_page_commands.specs.declared.page_words.Asked.{Asked}
@@ -39,14 +45,39 @@ edition_of s = record { edition = length s.batches; pending = length s.pending }
 -- the text of what was asked for, of what an object has published
 abbrev pub asked_text : ObjectState → List ℕ → Asked → List ℕ
 asked_text s code (Year year) = almanac newest_rules (published s) code (pos year)
-asked_text s code (Land page) = page_text newest_rules (published s) code (edition_of s) page
+asked_text s code (Land page is_strict) = page_text newest_rules (published s) code (edition_of s) page
 asked_text s code Lands = territories_page (published s) (length s.batches) (length s.pending)
 
 -- why it is refused
 abbrev pub asked_refusal : List LandModel → List ℕ → Asked → Option Refusal
 asked_refusal lands code (Year year) = almanac_refusal newest_rules lands code (pos year)
-asked_refusal lands code (Land page) = code_refusal lands code
+asked_refusal lands code (Land page is_strict) = code_refusal lands code
 asked_refusal lands code Lands = None
+
+-- ---- a day that is wanted
+
+-- the date means no day in a territory
+abbrev pub is_without_day : Option (List ℕ × TerritoryModel) → AnyDate → Bool
+is_without_day None date = false
+is_without_day (Some named) date = has_no_day newest_rules named.1 date
+
+-- the date of a page means no day in the territory of the code. Other pages have no date
+abbrev pub lacks_day : List LandModel → List ℕ → Page → Bool
+lacks_day lands code (pages.Reading date given) = is_without_day (named_of code lands) date
+lacks_day lands code (pages.OfDay day) = false
+lacks_day lands code (pages.Month year month) = false
+lacks_day lands code pages.Periods = false
+
+-- that, where the words ask for a day
+abbrev pub lacks_asked_day : List LandModel → List ℕ → Asked → Bool
+lacks_asked_day lands code (Year year) = false
+lacks_asked_day lands code (Land page is_strict) = is_strict && lacks_day lands code page
+lacks_asked_day lands code Lands = false
+
+-- the status of a page that was printed: that of a refusal, where such a day is lacking
+abbrev pub ended : Bool → Status → Status
+ended lacks statuses.Done = if lacks then statuses.Refused else statuses.Done
+ended lacks status = status
 
 -- ---- what is told of a refusal
 
@@ -61,7 +92,7 @@ land_refusal_line path code refusal = numbered_line refusal
 -- the line on a refusal; that of an almanac has its number and name
 abbrev pub refusal_line : List ℕ → List ℕ → Asked → Refusal → List ℕ
 refusal_line path code (Year year) refusal = numbered_line refusal
-refusal_line path code (Land page) refusal = land_refusal_line path code refusal
+refusal_line path code (Land page is_strict) refusal = land_refusal_line path code refusal
 refusal_line path code Lands refusal = numbered_line refusal
 
 -- ---- how the command ends
@@ -71,10 +102,15 @@ abbrev pub IsRefused : List ℕ → List ℕ → Asked → Refusal → Output �
 IsRefused path code asked refusal o e status =
     (o.new ≡ o.old) × TellsIfMade e statuses.Refused (refusal_line path code asked refusal) status
 
+-- a text was printed, with the status that goes with it
+abbrev pub PrintsPageText : List ℕ → Bool → Output → Output → Status → Type 0
+PrintsPageText text lacks o e status =
+    (printed : Status) × PrintsIfMade text o e printed × (status ≡ ended lacks printed)
+
 -- of an object: the page was printed, unless what was asked for is refused, or memory ran out
 abbrev pub PrintsPageOf : ObjectState → List ℕ → List ℕ → Asked → Output → Output → Status → Type 0
 PrintsPageOf s path code asked o e status = MatchOption (asked_refusal (published s) code asked)
-    (PrintsIfMade (asked_text s code asked) o e status)
+    (PrintsPageText (asked_text s code asked) (lacks_asked_day (published s) code asked) o e status)
     (λ refusal. IsRefused path code asked refusal o e status)
 
 -- of a journal: it is refused; or it makes an object, and that was done

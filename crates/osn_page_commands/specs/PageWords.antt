@@ -10,16 +10,22 @@ use Rattle.osn_days.specs.Weekday.{weekday_name}
 use Rattle.osn_days.specs.declared.calendar.Calendar.{Calendar}
 use Rattle.osn_days.specs.declared.calendar.Calendar.TheVariants.{Gregorian}
 use Rattle.osn_days.specs.declared.weekday.Weekday.{Weekday}
+use Rattle.osn_grammar.specs.declared.written.DateOrder.{DateOrder}
+use Rattle.osn_grammar.specs.declared.written.Written.{Written}
+use Rattle.osn_grammar.specs.declared.written.Written.TheVariants as say
+use Rattle.osn_grammar.specs.declared.written.WrittenDate.{WrittenDate as AnyDate}
 use Rattle.osn_register.specs.Plain.{is_off_line}
 use Rattle.osn_pages.specs.Conversion.{days_of_written}
 use Rattle.osn_pages.specs.declared.page.Page.{Page}
 use Rattle.osn_pages.specs.declared.page.Page.TheVariants as pages
+use Rattle.osn_written.specs.Said.{said}
 use Rattle.osn_written.specs.WrittenDate.{written_date, usual_date, number_of, weekday_named}
 use Rattle.osn_written.specs.declared.written_date.DateFault.{DateFault}
 use Rattle.osn_written.specs.declared.written_date.DateFault.TheVariants as faults
 use Rattle.osn_written.specs.declared.written_date.WrittenDate.{WrittenDate}
 use Rattle.osn_invocation.specs.Invocation.{PageWordsModel, almanac_words, reading_words, day_words}
 use Rattle.osn_invocation.specs.Invocation.{month_words, territory_words}
+use Rattle.osn_page_commands.specs.Order.{order_asked}
 use Rattle.osn_page_commands.specs.declared.page_words.Asked.{Asked}
 use Rattle.osn_page_commands.specs.declared.page_words.Asked.TheVariants.{Year, Land, Lands}
 use Rattle.osn_report.specs.declared.misuse.Misuse.{Misuse}
@@ -41,6 +47,15 @@ date_or_misuse (Err fault) = Err (misuses.Date fault)
 abbrev pub date_asked : List ℕ → Result WrittenDate Misuse
 date_asked text = date_or_misuse (written_date text)
 
+-- a date with all that is written of it, which has to be there
+abbrev pub date_said : Result Written DateFault → Result AnyDate Misuse
+date_said (Ok (say.Date date)) = Ok date
+date_said (Ok say.NoDate) = Err (misuses.Date faults.NoDate)
+date_said (Err fault) = Err (misuses.Date fault)
+
+abbrev pub any_date_asked : DateOrder → List ℕ → Result AnyDate Misuse
+any_date_asked order text = date_said (said order text)
+
 -- a weekday by its name, if any
 abbrev pub weekday_asked : Option (List ℕ) → Result (Option Weekday) Misuse
 weekday_asked None = Ok None
@@ -57,12 +72,18 @@ weekday_beside (Some named) (Some given) =
     else Err (misuses.OtherWeekday named)
 
 -- the reading of a date that was asked for
-abbrev pub reading_of : Result WrittenDate Misuse → Option (List ℕ) → Result Page Misuse
+abbrev pub reading_of : Result AnyDate Misuse → Option (List ℕ) → Result Page Misuse
 reading_of asked name = do
   date ← asked
   given ← weekday_asked name
   beside ← weekday_beside date.weekday given
   Ok (pages.Reading date beside)
+
+-- the same of a text, and of the word of the order of its numbers, if there is one
+abbrev pub reading_asked : List ℕ → Option (List ℕ) → Option (List ℕ) → Result Page Misuse
+reading_asked text name word = do
+  order ← order_asked word
+  reading_of (any_date_asked order text) name
 
 -- ---- a day
 
@@ -155,19 +176,19 @@ month_page_asked year month = do
 -- ---- a page
 
 -- a page on a territory, as what is asked for
-abbrev pub of_land : Result Page Misuse → Result Asked Misuse
-of_land asked = do
+abbrev pub of_land : Result Page Misuse → Bool → Result Asked Misuse
+of_land asked is_strict = do
   page ← asked
-  Ok (Land page)
+  Ok (Land page is_strict)
 
 abbrev pub page_asked : PageWordsModel → Result Asked Misuse
 page_asked (almanac_words code year) = Ok (Year year)
 page_asked (reading_words code date weekday order strict) =
-    of_land (reading_of (date_asked date) weekday)
-page_asked (day_words code date) = of_land (day_page_asked (number_of date) date)
-page_asked (month_words code year month) = of_land (month_page_asked year month)
+    of_land (reading_asked date weekday order) strict
+page_asked (day_words code date) = of_land (day_page_asked (number_of date) date) false
+page_asked (month_words code year month) = of_land (month_page_asked year month) false
 page_asked (territory_words None) = Ok Lands
-page_asked (territory_words (Some code)) = Ok (Land pages.Periods)
+page_asked (territory_words (Some code)) = Ok (Land pages.Periods false)
 
 -- words take memory where a date is in none of the usual forms
 abbrev pub day_takes_memory : Option ℕ → List ℕ → Bool
@@ -191,11 +212,15 @@ code_of (territory_words None) = []
 code_of (territory_words (Some code)) = code
 
 -- the word that is not what its place asks for
+abbrev pub wrong_word_of_reading : List ℕ → Option (List ℕ) → Option (List ℕ) → Misuse → List ℕ
+wrong_word_of_reading date (Some weekday) order misuses.Weekday = weekday
+wrong_word_of_reading date (Some weekday) order (misuses.OtherWeekday named) = weekday
+wrong_word_of_reading date weekday (Some order) misuses.Order = order
+wrong_word_of_reading date weekday order misuse = date
+
 abbrev pub wrong_word : PageWordsModel → Misuse → List ℕ
-wrong_word (reading_words code date (Some weekday) order strict) misuses.Weekday = weekday
-wrong_word (reading_words code date (Some weekday) order strict) (misuses.OtherWeekday named) =
-    weekday
-wrong_word (reading_words code date weekday order strict) misuse = date
+wrong_word (reading_words code date weekday order strict) misuse =
+    wrong_word_of_reading date weekday order misuse
 wrong_word (day_words code date) misuse = date
 wrong_word (month_words code year month) misuses.Month = month
 wrong_word (month_words code year month) misuse = year

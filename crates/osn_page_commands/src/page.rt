@@ -2,6 +2,7 @@
 ghost use Rattle.std.specs.Prelude.{◌≡◌, IfOk, IfErr, OnOk, None, string_bytes};
 ghost use Rattle.osn_invocation.specs.Invocation.{page_words};
 ghost use Rattle.osn_lines.specs.Streams.{input_of, output_of};
+ghost use Rattle.osn_register.specs.Plain.{code_refusal};
 ghost use Rattle.osn_register.specs.Refusal.{IsRefusalOrNoMemory};
 ghost use Rattle.osn_page_commands.specs.Page as spec;
 
@@ -11,8 +12,8 @@ use osn_core::Object;
 use osn_files::load_journal;
 use osn_invocation::PageWords;
 use osn_lines::{Sink, Source};
-use osn_pages::{Published, page_text, territories_page};
-use osn_register::{Limits, Refusal};
+use osn_pages::{Page, Published, has_no_day, page_text, territories_page};
+use osn_register::{Limits, Refusal, Register};
 use osn_report::{
     CommandFault, Status, print, refused, report, tell_line, tell_misuse, tell_no_memory,
 };
@@ -34,8 +35,74 @@ fn text_of(alloc: Global, object: &Object, code: &str, asked: &Asked) -> Result<
     };
     match *asked {
         Asked::Year(year) => almanac_text(alloc, register, code, i64::from(year)),
-        Asked::Land(page) => page_text(alloc, register, code, published, page),
+        Asked::Land { page, .. } => page_text(alloc, register, code, published, page),
         Asked::Lands => Ok(territories_page(alloc, register, published)?),
+    }
+}
+
+/// Whether the date of a page means no day in the territory of the code. Other pages have no date.
+fn lacks_day(alloc: Global, register: &Register, code: &str, page: Page) -> Result<bool, Refusal>
+    ensures value { IfOk result (λ lacks. lacks ≡ spec.lacks_day register.now.lands code.now page) }
+    ensures refused { IfErr result
+        (IsRefusalOrNoMemory (code_refusal register.now.lands code.now)) }
+{
+    let Page::Reading { date, .. } = page else {
+        return Ok(false);
+    };
+    let (_, territory) = register.land(code)?;
+    Ok(has_no_day(alloc, territory, date)?)
+}
+
+/// The same where the words ask for a day.
+fn lacks_asked_day(
+    alloc: Global,
+    object: &Object,
+    code: &str,
+    asked: &Asked,
+) -> Result<bool, Refusal>
+    ensures value { IfOk result (λ lacks.
+        lacks ≡ spec.lacks_asked_day (spec.published object.now) code.now asked.now) }
+    ensures refused { IfErr result (IsRefusalOrNoMemory
+        (spec.asked_refusal (spec.published object.now) code.now asked.now)) }
+{
+    match *asked {
+        Asked::Land {
+            page,
+            is_strict: true,
+        } => lacks_day(alloc, object.register(), code, page),
+        _ => Ok(false),
+    }
+}
+
+/// The text of a page, and whether a day that was asked for is lacking.
+struct Made {
+    text: String,
+    lacks_day: bool,
+}
+
+/// The page that was asked for, and whether a day that was asked for is lacking.
+fn page_of(alloc: Global, object: &Object, code: &str, asked: &Asked) -> Result<Made, Refusal>
+    ensures lawful { OnOk result
+        (spec.asked_refusal (spec.published object.now) code.now asked.now ≡ None) }
+    ensures text { IfOk result (λ made.
+        string_bytes made.text ≡ spec.asked_text object.now code.now asked.now) }
+    ensures lacks { IfOk result (λ made.
+        made.lacks_day ≡ spec.lacks_asked_day (spec.published object.now) code.now asked.now) }
+    ensures refused { IfErr result (IsRefusalOrNoMemory
+        (spec.asked_refusal (spec.published object.now) code.now asked.now)) }
+{
+    let text = text_of(alloc, object, code, asked)?;
+    let lacks_day = lacks_asked_day(alloc, object, code, asked)?;
+    Ok(Made { text, lacks_day })
+}
+
+/// The status of a page that was printed, where a day that was asked for is lacking or not.
+fn ended(lacks_day: bool, printed: Status) -> Status
+    ensures { result ≡ spec.ended lacks_day printed }
+{
+    match printed {
+        Status::Done if lacks_day => Status::Refused,
+        _ => printed,
     }
 }
 
@@ -72,7 +139,7 @@ fn refusal_line(
         string_bytes line ≡ spec.refusal_line path.now code.now asked.now refusal) }
 {
     match asked {
-        Asked::Land(_) => land_refusal_line(alloc, path, code, refusal),
+        Asked::Land { .. } => land_refusal_line(alloc, path, code, refusal),
         Asked::Year(_) | Asked::Lands => refused(alloc, refusal.number(), refusal.name()),
     }
 }
@@ -91,8 +158,8 @@ fn print_page<W: Sink, E: Sink>(
         (output_of W.contents W.has_failed W.holds_back output.old output.new)
         (output_of E.contents E.has_failed E.holds_back errors.old errors.new) result }
 {
-    match text_of(alloc, object, code, asked) {
-        Ok(text) => print(Ok(text), output, errors),
+    match page_of(alloc, object, code, asked) {
+        Ok(Made { text, lacks_day }) => ended(lacks_day, print(Ok(text), output, errors)),
         Err(Refusal::NoMemory) => tell_no_memory(errors),
         Err(refusal) => {
             let line = refusal_line(alloc, path, code, asked, refusal);
@@ -127,7 +194,8 @@ fn print_asked<J: Source, W: Sink, E: Sink>(
 /// ask for, on what the journal of this path published under these limits. The words are read
 /// first, and the journal whole before anything is printed.
 ///
-/// Where there is no page, standard error is told in a line why, and the status says it.
+/// Where there is no page, standard error is told in a line why, and the status says it. With
+/// `--strict` a date that means no day has its page, and the status of a refusal.
 pub fn page_command<J: Source, W: Sink, E: Sink>(
     alloc: Global,
     limits: Limits,

@@ -4,11 +4,13 @@ ghost use Rattle.osn_invocation.specs.Invocation.{page_words};
 ghost use Rattle.osn_written.specs.WrittenDate.{number_of as number_in, usual_date};
 ghost use Rattle.osn_page_commands.specs.PageWords as spec;
 
+use crate::order::asked_order;
 use osn_days::{Calendar, Day, Keyword, Weekday, month_named};
+use osn_grammar::{DateOrder, Written, WrittenDate as AnyDate};
 use osn_invocation::PageWords;
 use osn_pages::{Page, day_of_written};
 use osn_report::Misuse;
-use osn_written::{DateFault, WrittenDate, number_of, weekday_named};
+use osn_written::{DateFault, WrittenDate, number_of, read_date, weekday_named};
 use std::alloc::{AllocError, Global};
 
 /// What a command prints a page on.
@@ -17,12 +19,16 @@ pub(crate) enum Asked {
     /// A year of a territory, as an almanac.
     Year(u32),
     /// What this page says of a territory.
-    Land(Page),
+    Land {
+        page: Page,
+        /// Whether a date that means no day ends the command as a refusal does.
+        is_strict: bool,
+    },
     /// All territories.
     Lands,
 }
 
-/// The date that a text is.
+/// The date of one day that a text is.
 fn asked_date(alloc: Global, text: &str) -> Result<Result<WrittenDate, Misuse>, AllocError>
     ensures value { IfOk result (λ date. date ≡ spec.date_asked text.now) }
     ensures memory { OnErr result (is_ok (usual_date text.now) ≡ false) }
@@ -31,6 +37,29 @@ fn asked_date(alloc: Global, text: &str) -> Result<Result<WrittenDate, Misuse>, 
         Ok(date) => Ok(Ok(date)),
         Err(fault) => Ok(Err(Misuse::Date(fault))),
     }
+}
+
+/// The date that was read of a text, which has to say one.
+fn date_said(read: Result<Written, DateFault>) -> Result<AnyDate, Misuse>
+    ensures { result ≡ spec.date_said read }
+{
+    match read {
+        Ok(Written::Date(date)) => Ok(date),
+        Ok(Written::NoDate) => Err(Misuse::Date(DateFault::NoDate)),
+        Err(fault) => Err(Misuse::Date(fault)),
+    }
+}
+
+/// The date that a text says, with all that is written of it.
+fn asked_any_date(
+    alloc: Global,
+    text: &str,
+    order: DateOrder,
+) -> Result<Result<AnyDate, Misuse>, AllocError>
+    ensures value { IfOk result (λ date. date ≡ spec.any_date_asked order text.now) }
+    ensures memory { OnErr result (is_ok (usual_date text.now) ≡ false) }
+{
+    Ok(date_said(read_date(alloc, text, order)?))
 }
 
 /// The weekday of a name, if there is a name.
@@ -56,7 +85,7 @@ fn asked_beside(named: Option<Weekday>, given: Option<Weekday>) -> Result<Option
 }
 
 /// The reading of a date that was asked for, by the weekday of that name, if there is a name.
-fn reading_of(date: Result<WrittenDate, Misuse>, name: Option<&str>) -> Result<Page, Misuse>
+fn reading_of(date: Result<AnyDate, Misuse>, name: Option<&str>) -> Result<Page, Misuse>
     ensures { result ≡ spec.reading_of date (option_map (λ name. name.now) name.entry) }
 {
     let date = date?;
@@ -65,6 +94,24 @@ fn reading_of(date: Result<WrittenDate, Misuse>, name: Option<&str>) -> Result<P
         date,
         weekday: asked_beside(date.weekday, given)?,
     })
+}
+
+/// The reading of a date that was asked for, by the word of the order of its numbers and by the
+/// weekday of that name, if there are any.
+fn asked_reading(
+    alloc: Global,
+    text: &str,
+    weekday: Option<&str>,
+    order: Option<&str>,
+) -> Result<Result<Page, Misuse>, AllocError>
+    ensures value { IfOk result (λ page. page ≡ spec.reading_asked text.now
+        (option_map (λ name. name.now) weekday.entry) (option_map (λ word. word.now) order.entry)) }
+    ensures memory { OnErr result (is_ok (usual_date text.now) ≡ false) }
+{
+    match asked_order(order) {
+        Ok(order) => Ok(reading_of(asked_any_date(alloc, text, order)?, weekday)),
+        Err(misuse) => Ok(Err(misuse)),
+    }
 }
 
 /// The day of a date in a calendar.
@@ -180,10 +227,13 @@ fn asked_month_page(year: &str, month: &str) -> Result<Page, Misuse>
 }
 
 /// A page on a territory, as what is asked for.
-fn of_land(page: Result<Page, Misuse>) -> Result<Asked, Misuse>
-    ensures { result ≡ spec.of_land page }
+fn of_land(page: Result<Page, Misuse>, is_strict: bool) -> Result<Asked, Misuse>
+    ensures { result ≡ spec.of_land page is_strict }
 {
-    Ok(Asked::Land(page?))
+    Ok(Asked::Land {
+        page: page?,
+        is_strict,
+    })
 }
 
 /// What words ask for a page on.
@@ -196,13 +246,17 @@ pub(crate) fn asked_page(
 {
     match words {
         PageWords::Almanac { year, .. } => Ok(Ok(Asked::Year(year))),
-        PageWords::Read { date, weekday, .. } => {
-            Ok(of_land(reading_of(asked_date(alloc, date)?, weekday)))
-        }
-        PageWords::Day { date, .. } => Ok(of_land(asked_day_page(alloc, date)?)),
-        PageWords::Month { year, month, .. } => Ok(of_land(asked_month_page(year, month))),
+        PageWords::Read {
+            date,
+            weekday,
+            order,
+            strict,
+            ..
+        } => Ok(of_land(asked_reading(alloc, date, weekday, order)?, strict)),
+        PageWords::Day { date, .. } => Ok(of_land(asked_day_page(alloc, date)?, false)),
+        PageWords::Month { year, month, .. } => Ok(of_land(asked_month_page(year, month), false)),
         PageWords::Territory { code: None } => Ok(Ok(Asked::Lands)),
-        PageWords::Territory { code: Some(_) } => Ok(Ok(Asked::Land(Page::Periods))),
+        PageWords::Territory { code: Some(_) } => Ok(of_land(Ok(Page::Periods), false)),
     }
 }
 
@@ -232,6 +286,13 @@ pub(crate) fn wrong_word<'a>(words: PageWords<'a>, misuse: Misuse) -> &'a str
             },
             Misuse::Weekday | Misuse::OtherWeekday(_),
         ) => weekday,
+        (
+            PageWords::Read {
+                order: Some(order),
+                ..
+            },
+            Misuse::Order,
+        ) => order,
         (PageWords::Read { date, .. } | PageWords::Day { date, .. }, _) => date,
         (PageWords::Month { month, .. }, Misuse::Month) => month,
         (PageWords::Month { year, .. }, _) => year,

@@ -1,5 +1,5 @@
 -- The first list with days, year by year.
-use Rattle.std.proofs.Common.{◌≡◌, ◌<◌, ◌+◌, ◌-◌, ℕ, suc, List, [], ◌∷◌, map, ap, ◌∙◌, refl, arith}
+use Rattle.std.proofs.Common.{◌≡◌, ◌<◌, ◌+◌, ◌-◌, ℕ, suc, List, [], ◌∷◌, map, ap, ◌∙◌, arith}
 use Rattle.std.proofs.Common.{length, sym}
 use Rattle.std.specs.List.{range_with_len}
 use Rattle.osn_days.specs.Profile.{Profile}

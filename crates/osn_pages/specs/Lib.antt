@@ -3,6 +3,9 @@ pub mod Heading
 pub mod Nearest
 pub mod Reading
 pub mod Why
+pub mod Runs
+pub mod DateLines
+pub mod Remarks
 pub mod Conversion
 pub mod Periods
 pub mod Territory

@@ -3,7 +3,6 @@ use Rattle.std.specs.Prelude.{ℕ, pos, ◌-ℤ◌, ◌+◌, List, [], ◌∷◌
 use Rattle.std.specs.List.{range_with_len}
 use Rattle.osn_days.specs.Profile.{Profile}
 use Rattle.osn_lands.specs.declared.dated.DatedDay.{DatedDay}
-use Rattle.osn_lands.specs.declared.label.Label.{Label}
 use Rattle.osn_lands.specs.Dated.{dated_on}
 use Rattle.osn_lands.specs.Territory.{TerritoryModel, reading}
 use Rattle.osn_written.specs.declared.written_date.WrittenDate.{WrittenDate}

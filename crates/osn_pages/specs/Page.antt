@@ -1,38 +1,28 @@
 -- The pages: which there are, the text of each, and why a page is refused.
-use Rattle.std.specs.Prelude.{◌≡◌, ℕ, ⊤, pos, List, [], ◌∷◌, ◌++◌, map, Option, Some, None, codes}
+use Rattle.std.specs.Prelude.{ℕ, ⊤, pos, List, [], ◌++◌, map, Option, Some, None, codes}
 use Rattle.std.specs.Fmt.{decimal}
 use Rattle.std.specs.List.{flat_map}
 use Rattle.std.specs.Option.{option_to_list}
-use Rattle.osn_days.specs.declared.weekday.Weekday.{Weekday}
 use Rattle.osn_days.specs.Profile.{Profile}
-use Rattle.osn_lands.specs.declared.dated.DatedDay.{DatedDay}
 use Rattle.osn_lands.specs.Dated.{dated_on}
 use Rattle.osn_lands.specs.Runs.{days_of_month}
 use Rattle.osn_lands.specs.Territory.{TerritoryModel, periods_of}
 use Rattle.osn_register.specs.Answer.{period_on}
 use Rattle.osn_register.specs.Named.{named_of}
 use Rattle.osn_register.specs.Plain.{LandModel}
-use Rattle.osn_written.specs.declared.written_date.WrittenDate.{WrittenDate}
-use Rattle.osn_written.specs.Meaning.{meaning}
-use Rattle.osn_written.specs.Text.{written_text}
 use Rattle.osn_pages.specs.declared.page.Page.{Page}
 use Rattle.osn_pages.specs.declared.page.Page.TheVariants as pages
 use Rattle.osn_pages.specs.declared.page.Published.{Published}
+use Rattle.osn_pages.specs.DateLines.{date_lines}
 use Rattle.osn_pages.specs.Grid.{grids}
 use Rattle.osn_pages.specs.Heading.{land_heading, heading, pending_line}
 use Rattle.osn_pages.specs.Law.{ArePeriodsAnswered}
 use Rattle.osn_pages.specs.Periods.{period_line}
-use Rattle.osn_pages.specs.Reading.{days_text, plain_day_line}
+use Rattle.osn_pages.specs.Reading.{plain_day_line}
+use Rattle.osn_pages.specs.Remarks.{remark_lines, subject}
 use Rattle.osn_pages.specs.Territory.{territory_lines}
-use Rattle.osn_pages.specs.Why.{why_lines}
 
 -- ---- what a page says of a territory
-
--- the days that a date means, and where it means none why
-abbrev pub reading_lines : Profile → TerritoryModel → WrittenDate → Option Weekday → List DatedDay
-    → List ℕ
-reading_lines p t w given [] = why_lines p t w
-reading_lines p t w given (day ∷ days) = days_text w given (day ∷ days)
 
 -- a day as the territory dated it, and the period that holds it
 abbrev pub day_lines : Profile → TerritoryModel → ℕ → List ℕ
@@ -47,8 +37,8 @@ month_lines p t year month = grids (map (dated_on p t) (days_of_month p t (pos y
 -- the lines of a page, its heading first
 unfoldable pub land_lines : Profile → List ℕ → TerritoryModel → List ℕ → ℕ → Page → List ℕ
 land_lines p name t code edition (pages.Reading date given) =
-    heading (written_text date) name code edition
-    ++ reading_lines p t date given (meaning p t date given)
+    heading (subject date) name code edition
+    ++ (date_lines p t date given ++ remark_lines p t date given)
 land_lines p name t code edition (pages.OfDay day) =
     heading (codes "day " ++ decimal day) name code edition ++ day_lines p t day
 land_lines p name t code edition (pages.Month year month) =

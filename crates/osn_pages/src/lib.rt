@@ -4,6 +4,7 @@
 #![tactic(auto)]
 
 mod conversion;
+mod date_lines;
 mod grid;
 mod heading;
 mod month;
@@ -11,11 +12,14 @@ mod nearest;
 mod page;
 mod periods;
 mod reading;
+mod remarks;
+mod runs;
 mod territory;
 mod territory_list;
 mod why;
 mod words;
 
 pub use conversion::{conversion_page, day_of_written};
+pub use date_lines::has_no_day;
 pub use page::{Page, Published, page_text};
 pub use territory_list::territories_page;

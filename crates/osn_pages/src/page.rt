@@ -4,28 +4,29 @@ ghost use Rattle.std.specs.Fmt.{decimal};
 ghost use Rattle.osn_days.specs.Profile.{newest_rules};
 ghost use Rattle.osn_register.specs.Refusal.{IsRefusalOrNoMemory};
 ghost use Rattle.osn_register.specs.Plain.{code_refusal};
+ghost use Rattle.osn_pages.specs.DateLines.{date_lines};
 ghost use Rattle.osn_pages.specs.Heading.{heading, pending_line};
 ghost use Rattle.osn_pages.specs.Page as spec;
-ghost use Rattle.osn_written.specs.Meaning.{meaning};
-ghost use Rattle.osn_written.specs.Text.{written_text};
+ghost use Rattle.osn_pages.specs.Remarks.{remark_lines, subject};
 
+use crate::date_lines::push_date;
 use crate::heading::{push_land_heading, push_pending};
 use crate::month::push_month;
 use crate::periods::push_period;
-use crate::reading::{push_day, push_days};
+use crate::reading::push_day;
+use crate::remarks::{Subject, push_remarks};
 use crate::territory::push_territory;
-use crate::why::push_why;
 use osn_days::{Day, Weekday};
+use osn_grammar::WrittenDate;
 use osn_lands::Territory;
 use osn_register::{Refusal, Register};
-use osn_written::{WrittenDate, days_meant};
 use std::alloc::{AllocError, Global};
 use std::fmt::Write;
 
 /// What people may ask of a territory, and get a page on.
 #[derive(Clone, Copy, Debug, PartialEq, Eq)]
 pub enum Page {
-    /// Which days a written date means.
+    /// Which days a date means, with all that is written of it.
     Reading {
         date: WrittenDate,
         /// The weekday that is given beside the date, if any.
@@ -65,25 +66,6 @@ struct Place<'a> {
 /// The room that the text gets at first: that of most pages takes less than 500 bytes.
 const ROOM: usize = 512;
 
-/// Appends the days that a date means, and where it means none why.
-fn push_reading(
-    alloc: Global,
-    out: &mut String,
-    territory: &Territory,
-    date: WrittenDate,
-    given: Option<Weekday>,
-) -> Result<(), AllocError>
-    ensures { OnOk result (string_bytes out.new ≡ string_bytes out.old
-        ++ spec.reading_lines newest_rules territory.now date given
-        (meaning newest_rules territory.now date given)) }
-{
-    let days = days_meant(alloc, territory, date, given)?;
-    if days.is_empty() {
-        return push_why(alloc, out, territory, date);
-    }
-    push_days(out, date, given, days.as_slice())
-}
-
 /// Appends a day as the territory dated it, and the period that holds it.
 fn push_day_lines(out: &mut String, territory: &Territory, day: Day) -> Result<(), AllocError>
     ensures { OnOk result (string_bytes out.new
@@ -104,13 +86,14 @@ fn push_reading_page(
     given: Option<Weekday>,
 ) -> Result<(), AllocError>
     ensures { OnOk result (string_bytes out.new ≡ string_bytes out.old
-        ++ (heading (written_text date) place.entry.name.now place.entry.code.now
-        place.entry.edition ++ spec.reading_lines newest_rules place.entry.territory.now date given
-        (meaning newest_rules place.entry.territory.now date given))) }
+        ++ (heading (subject date) place.entry.name.now place.entry.code.now place.entry.edition
+        ++ (date_lines newest_rules place.entry.territory.now date given
+        ++ remark_lines newest_rules place.entry.territory.now date given))) }
 {
-    write!(out, "{} in ", date)?;
+    write!(out, "{} in ", Subject(date))?;
     push_land_heading(out, place.name, place.code, place.edition)?;
-    push_reading(alloc, out, place.territory, date, given)
+    push_date(alloc, out, place.territory, date, given)?;
+    push_remarks(alloc, out, place.territory, date, given)
 }
 
 /// Appends the page of a day.

@@ -257,7 +257,7 @@ fn push_not_in_year(
 }
 
 /// Appends the lines of a reason.
-fn push_reason(
+pub(crate) fn push_reason(
     alloc: Global,
     out: &mut String,
     territory: &Territory,

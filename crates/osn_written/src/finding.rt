@@ -55,7 +55,7 @@ pub fn by_reckoning(
 }
 
 /// The first day of a date, as it is written: of a month or a year its day 1.
-fn first_day_of(date: SimpleDate) -> WrittenDate
+pub fn first_day_of(date: SimpleDate) -> WrittenDate
     ensures { result ≡ spec.first_day_of date }
 {
     let (year, month, day) = match date {
@@ -80,8 +80,8 @@ fn absence_in(territory: &Territory, date: SimpleDate) -> Result<Absence, AllocE
     absence_of(territory, first_day_of(date))
 }
 
-/// The first date of what is written, and the last one.
-fn ends_of(extent: Extent) -> (SimpleDate, SimpleDate)
+/// The first date of what is written, and the last one. For one date or a bound both are that one.
+pub fn ends_of(extent: Extent) -> (SimpleDate, SimpleDate)
     ensures { result ≡ spec.ends_of extent }
 {
     match extent {
@@ -95,11 +95,7 @@ fn ends_of(extent: Extent) -> (SimpleDate, SimpleDate)
 }
 
 /// Why there is no span of days.
-fn reason_of(
-    territory: &Territory,
-    extent: Extent,
-    no_span: NoSpan,
-) -> Result<NoDay, AllocError>
+fn reason_of(territory: &Territory, extent: Extent, no_span: NoSpan) -> Result<NoDay, AllocError>
     ensures { IfOk result (λ reason.
         reason ≡ spec.reason_of newest_rules territory.now extent no_span) }
 {

@@ -17,9 +17,10 @@ mod written_text;
 
 pub use absence::{Absence, absence_of};
 pub use date_in_words::{DateInWords, is_writable};
-pub use finding::{NoDay, by_reckoning, find_runs, is_by_other_calendar};
+pub use finding::{NoDay, by_reckoning, ends_of, find_runs, first_day_of, is_by_other_calendar};
 pub use kind::{Kind, kind_of};
 pub use meaning::{days_meant, has_weekday, is_not_counted_double, is_on};
+pub use reading::plain_day;
 pub use runs::runs_meant;
 pub use said::read_date;
 pub use span::{NoSpan, span_meant};

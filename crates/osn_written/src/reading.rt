@@ -53,8 +53,12 @@ fn has_qualifier(date: AnyDate) -> bool
     date.reckoning.is_some() || date.is_approximate || date.is_uncertain || date.is_supplied
 }
 
-/// The date of one day, if nothing more is said of it.
-fn plain_day(date: AnyDate) -> Result<WrittenDate, DateFault>
+/// The date of one day with its weekday, if nothing more is said of it.
+///
+/// # Errors
+///
+/// `NotOneDay` for a month, a year, a range or a bound, then `Qualifier` where more is said.
+pub fn plain_day(date: AnyDate) -> Result<WrittenDate, DateFault>
     ensures { result ≡ other.plain_day date }
 {
     let day = day_in(date.extent, date.weekday)?;

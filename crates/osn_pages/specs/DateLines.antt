@@ -1,0 +1,75 @@
+-- The lines of a date with all that is written of it: its days, or why it has none. This project's
+-- profile.
+use Rattle.std.specs.Prelude.{ℕ, Bool, List, [], ◌∷◌, ◌++◌, Option, Some, None, Result, Ok, Err}
+use Rattle.std.specs.Prelude.{codes}
+use Rattle.std.specs.Result.{is_err}
+use Rattle.osn_days.specs.declared.weekday.Weekday.{Weekday}
+use Rattle.osn_days.specs.Profile.{Profile}
+use Rattle.osn_grammar.specs.declared.written.Extent.{Extent}
+use Rattle.osn_grammar.specs.declared.written.WrittenDate.{WrittenDate as AnyDate}
+use Rattle.osn_lands.specs.declared.dated.DatedDay.{DatedDay}
+use Rattle.osn_lands.specs.declared.runs.Run.{Run}
+use Rattle.osn_lands.specs.Territory.{TerritoryModel}
+use Rattle.osn_written.specs.declared.absence.Absence.{Absence}
+use Rattle.osn_written.specs.declared.finding.NoDay.{NoDay}
+use Rattle.osn_written.specs.declared.finding.NoDay.TheVariants.{Absent, LastAbsent, OutOfOrder}
+use Rattle.osn_written.specs.declared.finding.NoDay.TheVariants.{OffTheLine}
+use Rattle.osn_written.specs.declared.kind.Kind.{Kind}
+use Rattle.osn_written.specs.declared.kind.Kind.TheVariants as kinds
+use Rattle.osn_written.specs.declared.written_date.WrittenDate.{WrittenDate}
+use Rattle.osn_written.specs.Finding.{found, reckoned, ends_of, first_day_of}
+use Rattle.osn_written.specs.Kind.{kind_of}
+use Rattle.osn_written.specs.Meaning.{meaning}
+use Rattle.osn_written.specs.Said.{one_day}
+use Rattle.osn_pages.specs.Reading.{days_text}
+use Rattle.osn_pages.specs.Runs.{runs_text}
+use Rattle.osn_pages.specs.Why.{why_lines, why_text}
+
+-- ---- one day
+
+-- the days that a date means, and where it means none why
+abbrev pub reading_lines : Profile → TerritoryModel → WrittenDate → Option Weekday → List DatedDay
+    → List ℕ
+reading_lines p t w given [] = why_lines p t w
+reading_lines p t w given (day ∷ days) = days_text w given (day ∷ days)
+
+-- ---- a month, a year, a range or a bound
+
+-- no day of the line is before the date, or none is after it
+abbrev pub off_the_line : Kind → List ℕ
+off_the_line kinds.Before = codes "no day of the line is before it\n"
+off_the_line kind = codes "no day of the line is after it\n"
+
+-- why the last date of a range means no day
+abbrev pub last_absent_lines : Profile → TerritoryModel → WrittenDate → Absence → List ℕ
+last_absent_lines p t last absence = codes "of the last date:\n" ++ why_text p t last absence
+
+-- why no day is meant, as the territory by whose reckoning the date is read has it
+abbrev pub no_day_lines : Profile → TerritoryModel → Extent → NoDay → List ℕ
+no_day_lines p t e (Absent absence) = why_text p t (first_day_of (ends_of e).0) absence
+no_day_lines p t e (LastAbsent absence) =
+    last_absent_lines p t (first_day_of (ends_of e).1) absence
+no_day_lines p t e OutOfOrder = codes "the first date is after the last one\n"
+no_day_lines p t e OffTheLine = off_the_line (kind_of e)
+
+-- the days, as the place itself dated them, or why there is none
+abbrev pub found_lines : Profile → TerritoryModel → TerritoryModel → Extent
+    → Result (List Run) NoDay → List ℕ
+found_lines p own t e (Ok runs) = runs_text p own (kind_of e) runs
+found_lines p own t e (Err reason) = no_day_lines p t e reason
+
+-- ---- any date
+
+-- the date by the reckoning of a territory, in a place of its own reckoning
+abbrev pub lines_of : Profile → TerritoryModel → TerritoryModel → AnyDate → Option Weekday
+    → Option WrittenDate → List ℕ
+lines_of p own t w given (Some day) = reading_lines p t day given (meaning p t day given)
+lines_of p own t w given None = found_lines p own t w.extent (found p t w.extent)
+
+-- where the date names a calendar it is read as if the place had gone by that one
+abbrev pub date_lines : Profile → TerritoryModel → AnyDate → Option Weekday → List ℕ
+date_lines p t w given = lines_of p t (reckoned t w.reckoning) w given (one_day w)
+
+-- the date means no day
+abbrev pub has_no_day : Profile → TerritoryModel → AnyDate → Bool
+has_no_day p t w = is_err (found p (reckoned t w.reckoning) w.extent)

@@ -1,0 +1,81 @@
+-- What is remarked after the days of a date: how sure it is, by which calendar it was read, and that
+-- its weekday is not looked for. And how its page names it. This project's profile.
+use Rattle.std.specs.Prelude.{ℕ, Bool, if◌then◌else◌, List, [], ◌∷◌, ◌++◌, Option, Some, None}
+use Rattle.std.specs.Prelude.{Result, Ok, Err, codes}
+use Rattle.std.specs.Option.{option_or}
+use Rattle.osn_days.specs.declared.weekday.Weekday.{Weekday}
+use Rattle.osn_days.specs.Profile.{Profile}
+use Rattle.osn_days.specs.Weekday.{weekday_name}
+use Rattle.osn_grammar.specs.declared.written.WrittenDate.{WrittenDate as AnyDate}
+use Rattle.osn_lands.specs.Territory.{TerritoryModel}
+use Rattle.osn_written.specs.declared.written_date.DateFault.{DateFault}
+use Rattle.osn_written.specs.declared.written_date.WrittenDate.{WrittenDate}
+use Rattle.osn_written.specs.DateInWords.{words_of}
+use Rattle.osn_written.specs.Finding.{is_by_other_calendar}
+use Rattle.osn_written.specs.OtherForms.{plain_day}
+use Rattle.osn_written.specs.Said.{one_day}
+use Rattle.osn_written.specs.Text.{written_text}
+
+-- ---- the name of a date
+
+-- one day of which nothing more is said without its weekday, and any other date with all that is
+-- said of it
+abbrev pub subject_of : AnyDate → Result WrittenDate DateFault → List ℕ
+subject_of w (Ok day) = written_text day
+subject_of w (Err fault) = words_of w
+
+unfoldable pub subject : AnyDate → List ℕ
+subject w = subject_of w (plain_day w)
+
+-- ---- how sure it is
+
+-- a word where something is said
+abbrev pub word_if : Bool → List ℕ → List (List ℕ)
+word_if said word = if said then word ∷ [] else []
+
+-- words with `; ` between them, as a line, where there is one
+abbrev pub words_after : List (List ℕ) → List ℕ
+words_after [] = codes "\n"
+words_after (word ∷ words) = codes "; " ++ (word ++ words_after words)
+
+abbrev pub line_of_words : List (List ℕ) → List ℕ
+line_of_words [] = []
+line_of_words (word ∷ words) = word ++ words_after words
+
+-- which of these is said of a date: approximate; in doubt; supplied by an editor
+abbrev pub sureness : Bool → Bool → Bool → List ℕ
+sureness approximate uncertain supplied = line_of_words
+    (word_if approximate (codes "approximate")
+    ++ (word_if uncertain (codes "in doubt")
+    ++ word_if supplied (codes "supplied by an editor")))
+
+abbrev pub sureness_line : AnyDate → List ℕ
+sureness_line w = sureness w.is_approximate w.is_uncertain w.is_supplied
+
+-- ---- by which calendar
+
+abbrev pub calendar_line : Bool → List ℕ
+calendar_line is_other =
+    if is_other then
+    codes "by the calendar that the date names: by its own reckoning the place means other days\n"
+    else []
+
+-- ---- the weekday
+
+-- the weekday of a date that is no one day
+unfoldable pub not_sought_line : Option Weekday → List ℕ
+not_sought_line None = []
+not_sought_line (Some weekday) =
+    weekday_name weekday ++ codes " is not looked for: that is done for one day alone\n"
+
+abbrev pub weekday_line : Option Weekday → Option WrittenDate → List ℕ
+weekday_line weekday (Some day) = []
+weekday_line weekday None = not_sought_line weekday
+
+-- ---- all of them
+
+unfoldable pub remark_lines : Profile → TerritoryModel → AnyDate → Option Weekday → List ℕ
+remark_lines p t w given =
+    sureness_line w
+    ++ (calendar_line (is_by_other_calendar p t w)
+    ++ weekday_line (option_or w.weekday given) (one_day w))

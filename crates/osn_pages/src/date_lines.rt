@@ -1,0 +1,171 @@
+//! The lines of a date with all that is written of it: its days, or why it has none.
+ghost use Rattle.std.specs.Prelude.{◌≡◌, ◌++◌, IfOk, OnOk, string_bytes, is_err};
+ghost use Rattle.osn_days.specs.Profile.{newest_rules};
+ghost use Rattle.osn_written.specs.Finding.{found};
+ghost use Rattle.osn_written.specs.Meaning.{meaning};
+ghost use Rattle.osn_written.specs.Said.{one_day};
+ghost use Rattle.osn_pages.specs.DateLines as spec;
+
+use crate::reading::push_days;
+use crate::runs::push_runs;
+use crate::why::{push_reason, push_why};
+use osn_days::Weekday;
+use osn_grammar::{Extent, WrittenDate as AnyDate};
+use osn_lands::Territory;
+use osn_written::{
+    Absence, Kind, NoDay, WrittenDate, by_reckoning, days_meant, ends_of, find_runs, first_day_of,
+    kind_of,
+};
+use std::alloc::{AllocError, Global};
+
+/// Appends the days that a date means, and where it means none why.
+fn push_reading(
+    alloc: Global,
+    out: &mut String,
+    territory: &Territory,
+    date: WrittenDate,
+    given: Option<Weekday>,
+) -> Result<(), AllocError>
+    ensures { OnOk result (string_bytes out.new ≡ string_bytes out.old
+        ++ spec.reading_lines newest_rules territory.now date given
+        (meaning newest_rules territory.now date given)) }
+{
+    let days = days_meant(alloc, territory, date, given)?;
+    if days.is_empty() {
+        return push_why(alloc, out, territory, date);
+    }
+    push_days(out, date, given, days.as_slice())
+}
+
+/// The line of a bound beyond which the line has no day.
+fn off_the_line(kind: Kind) -> &'static str
+    ensures { result.now ≡ spec.off_the_line kind }
+{
+    match kind {
+        Kind::Before => "no day of the line is before it\n",
+        _ => "no day of the line is after it\n",
+    }
+}
+
+/// Appends why the last date of a range means no day.
+fn push_last_absent(
+    alloc: Global,
+    out: &mut String,
+    territory: &Territory,
+    last: WrittenDate,
+    absence: Absence,
+) -> Result<(), AllocError>
+    ensures { OnOk result (string_bytes out.new ≡ string_bytes out.old
+        ++ spec.last_absent_lines newest_rules territory.now last absence) }
+{
+    out.push_str("of the last date:\n")?;
+    push_reason(alloc, out, territory, last, absence)
+}
+
+/// Appends why no day is meant.
+fn push_no_day(
+    alloc: Global,
+    out: &mut String,
+    territory: &Territory,
+    extent: Extent,
+    reason: NoDay,
+) -> Result<(), AllocError>
+    ensures { OnOk result (string_bytes out.new ≡ string_bytes out.old
+        ++ spec.no_day_lines newest_rules territory.now extent reason) }
+{
+    let (first, last) = ends_of(extent);
+    match reason {
+        NoDay::Absent(absence) => {
+            push_reason(alloc, out, territory, first_day_of(first), absence)
+        }
+        NoDay::LastAbsent(absence) => {
+            push_last_absent(alloc, out, territory, first_day_of(last), absence)
+        }
+        NoDay::OutOfOrder => out.push_str("the first date is after the last one\n"),
+        NoDay::OffTheLine => out.push_str(off_the_line(kind_of(extent))),
+    }
+}
+
+/// Appends the days that are meant by the reckoning of a territory, as the place itself dated them,
+/// or why there is none.
+fn push_found(
+    alloc: Global,
+    out: &mut String,
+    own: &Territory,
+    territory: &Territory,
+    extent: Extent,
+) -> Result<(), AllocError>
+    ensures { OnOk result (string_bytes out.new ≡ string_bytes out.old
+        ++ spec.found_lines newest_rules own.now territory.now extent
+        (found newest_rules territory.now extent)) }
+{
+    match find_runs(alloc, territory, extent)? {
+        Ok(runs) => push_runs(out, own, kind_of(extent), runs.as_slice()),
+        Err(reason) => push_no_day(alloc, out, territory, extent, reason),
+    }
+}
+
+/// Appends the lines of a date by the reckoning of a territory, in a place of its own reckoning.
+fn push_lines(
+    alloc: Global,
+    out: &mut String,
+    own: &Territory,
+    territory: &Territory,
+    date: AnyDate,
+    given: Option<Weekday>,
+) -> Result<(), AllocError>
+    ensures { OnOk result (string_bytes out.new ≡ string_bytes out.old
+        ++ spec.lines_of newest_rules own.now territory.now date given (one_day date)) }
+{
+    match WrittenDate::of_one_day(date) {
+        Some(day) => push_reading(alloc, out, territory, day, given),
+        None => push_found(alloc, out, own, territory, date.extent),
+    }
+}
+
+/// Appends the lines of a date. Where it names a calendar it is read as if the place had gone by that
+/// one.
+pub(crate) fn push_date(
+    alloc: Global,
+    out: &mut String,
+    territory: &Territory,
+    date: AnyDate,
+    given: Option<Weekday>,
+) -> Result<(), AllocError>
+    ensures { OnOk result (string_bytes out.new ≡ string_bytes out.old
+        ++ spec.date_lines newest_rules territory.now date given) }
+{
+    match date.reckoning {
+        None => push_lines(alloc, out, territory, territory, date, given),
+        Some(reckoning) => {
+            let reckoned = by_reckoning(alloc, territory, reckoning)?;
+            push_lines(alloc, out, territory, &reckoned, date, given)
+        }
+    }
+}
+
+/// Whether an extent means no day by the reckoning of a territory.
+fn is_without_day(alloc: Global, territory: &Territory, extent: Extent) -> Result<bool, AllocError>
+    ensures { IfOk result (λ without.
+        without ≡ is_err (found newest_rules territory.now extent)) }
+{
+    Ok(find_runs(alloc, territory, extent)?.is_err())
+}
+
+/// Whether a date means no day in a territory. Where it names a calendar it is read as if the place
+/// had gone by that one.
+///
+/// # Errors
+///
+/// `AllocError` where there is no memory for the list of days.
+pub fn has_no_day(alloc: Global, territory: &Territory, date: AnyDate) -> Result<bool, AllocError>
+    ensures { IfOk result (λ none. none ≡ spec.has_no_day newest_rules territory.now date) }
+{
+    match date.reckoning {
+        None => is_without_day(alloc, territory, date.extent),
+        Some(reckoning) => {
+            let reckoned = by_reckoning(alloc, territory, reckoning)?;
+            is_without_day(alloc, &reckoned, date.extent)
+        }
+    }
+}
