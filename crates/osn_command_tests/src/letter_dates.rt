@@ -1,5 +1,5 @@
-//! What the fields after a letter say of a date that is more than a day in the usual forms. They were
-//! written apart, by counts of days.
+//! What the fields after a letter say of a date that is more than a day in the usual forms. They
+//! were written apart, by counts of days.
 use crate::compare::same;
 use crate::journals::europe;
 use csv::ByteRecord;
@@ -195,13 +195,7 @@ const MORE_DAYS: [Row; 9] = [
         "[March 1731]",
         None,
         "",
-        (
-            "",
-            "",
-            "month",
-            "",
-            "unknown place; supplied by an editor",
-        ),
+        ("", "", "month", "", "unknown place; supplied by an editor"),
     ),
 ];
 
@@ -265,12 +259,7 @@ fn is_told(
 }
 
 /// That the letter of each row has its fields, where a date's three numbers have that order.
-fn are_told(
-    rt: &impl Abort,
-    alloc: Global,
-    order: DateOrder,
-    rows: &[Row],
-) -> Result<(), Fail> {
+fn are_told(rt: &impl Abort, alloc: Global, order: DateOrder, rows: &[Row]) -> Result<(), Fail> {
     let object = europe(alloc)?;
     for row in rows {
         is_told(rt, alloc, object.register(), order, row)?;

@@ -145,8 +145,7 @@ GB,1752-09-02,XX,639796,1752-09-13,1752-09-02,2 September 1752,Wednesday,2361221
 ];
 
 /// A header with the twelve columns after it.
-const HEADER: &str =
-    "place,date,days,gregorian,julian,dual,weekday_found,jdn,earliest,latest,kind,
+const HEADER: &str = "place,date,days,gregorian,julian,dual,weekday_found,jdn,earliest,latest,kind,
   edtf,edition,remark\n";
 
 /// The header, and the row of 14 September 1752.

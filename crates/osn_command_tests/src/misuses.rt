@@ -294,8 +294,8 @@ MARGIN                   1
         "a,b;place;date;day\n;RM;1 January 1500;Monday\n",
         (
             0,
-            "a,b;place;date;day;days;gregorian;julian;dual;weekday_found;jdn;earliest;latest;kind;edtf;
-  edition;remark
+            "a,b;place;date;day;days;gregorian;julian;dual;weekday_found;jdn;earliest;latest;kind;
+  edtf;edition;remark
 ;RM;1 January 1500;Monday;547508;1500-01-10;1500-01-01;1 January 1500;Wednesday;2268933;
   1500-01-10;1500-01-10;day;1500-01-10;1;weekday differs
 ",

@@ -66,7 +66,8 @@ Runs limits (completing shell) CanFail d i o e status =
 Runs limits (reading_letters journal asked) CanFail d i o e status =
     MatchResult
     (settings_asked asked.place asked.date asked.weekday asked.separator asked.order)
-    (λ table. ReadsOne journal CanFail d (λ file. PrintsLetters limits file table asked.strict i o e status))
+    (λ table. ReadsOne journal CanFail d
+    (λ file. PrintsLetters limits file table asked.strict i o e status))
     (λ wrong. (d.after ≡ d.before) × (o.new ≡ o.old) × TellsMisuse e wrong.0 wrong.1 status)
 
 -- ---- a run

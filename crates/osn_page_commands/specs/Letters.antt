@@ -1,5 +1,6 @@
 -- What a command has written of a table of letters where it ends.
-use Rattle.std.specs.Prelude.{◌≡◌, ◌⊎◌, ◌≤◌, ◌++◌, ◌&&◌, ℕ, Bool, true, if◌then◌else◌, List, [], length, codes}
+use Rattle.std.specs.Prelude.{◌≡◌, ◌⊎◌, ◌≤◌, ◌++◌, ◌&&◌, ℕ, Bool, true, if◌then◌else◌}
+use Rattle.std.specs.Prelude.{List, [], length, codes}
 use Rattle.std.specs.Prelude.{Option, Some, None, IfSome, Result, Ok, Err, is_some, unwrap_or}
 use Rattle.std.specs.Fmt.{decimal}
 use Rattle.std.specs.Str.{bytes_eq}
@@ -13,7 +14,8 @@ use Rattle.osn_files.specs.declared.fault.FileFault.TheVariants as file_faults
 use Rattle.osn_letters.specs.AddedColumns.{added_name}
 use Rattle.osn_letters.specs.Columns.{NameTexts, names_of}
 use Rattle.osn_letters.specs.Faults.{EndsStream, is_read_fault, is_write_fault}
-use Rattle.osn_letters.specs.Table.{TableBasis, Written, letters_written, IsWhole, EndsEarly, EndsRead, IsLong}
+use Rattle.osn_letters.specs.Table.{TableBasis, Written, letters_written, IsWhole}
+use Rattle.osn_letters.specs.Table.{EndsEarly, EndsRead, IsLong}
 use Rattle.osn_letters.specs.Remarked.{letters_remarked}
 use Rattle.osn_letters.specs.declared.added_column.AddedColumn.{AddedColumn}
 use Rattle.osn_letters.specs.declared.fault.Column.{Column}
@@ -57,8 +59,8 @@ names_asked place date weekday = record {
   needs_weekday = is_some weekday;
 }
 
--- how a table is read: by the names of its columns, what separates its fields, if that is named, and
--- the order of a date's three numbers
+-- how a table is read: by the names of its columns, what separates its fields, if that is named,
+-- and the order of a date's three numbers
 pub record TableAsked : Type 0 where
   pub names : NameTexts
   pub separator : Option Separator

@@ -1,6 +1,6 @@
 //! The command `letters`.
-ghost use Rattle.std.specs.Prelude.{◌≡◌, [], Ok, Err, IfErr, IfOk, is_some, option_map, string_bytes};
-ghost use Rattle.std.specs.Prelude.{unwrap_or};
+ghost use Rattle.std.specs.Prelude.{◌≡◌, [], Ok, Err, IfErr, IfOk, is_some, option_map};
+ghost use Rattle.std.specs.Prelude.{string_bytes, unwrap_or};
 ghost use Rattle.osn_letters.specs.Columns.{names_of, weekday_name, is_required};
 ghost use Rattle.osn_lines.specs.Streams.{input_of, output_of};
 ghost use Rattle.osn_page_commands.specs.Letters as spec;
@@ -65,8 +65,8 @@ fn wrong_word<'a>(misuse: Misuse, word: Option<&'a str>) -> WrongWord<'a>
     WrongWord { misuse, typed }
 }
 
-/// How a table is read, by the names of its columns, the word of what separates its fields, and that
-/// of the order of a date's three numbers.
+/// How a table is read, by the names of its columns, the word of what separates its fields, and
+/// that of the order of a date's three numbers.
 ///
 /// # Errors
 ///
@@ -271,12 +271,12 @@ fn write_table<R: Source, W: Sink, E: Sink, P: Progress>(
     }
 }
 
-/// The command `letters`: writes the table of the input, CSV with a header, with twelve columns more
-/// after its own, which say of each row what its date means, by what the journal published under
-/// these limits. The journal is read whole before a record is, and what comes of a read is written
-/// before the next one. The settings name the columns that are read, what separates the fields, and the order
-/// of a date's three numbers.
-/// How much of the table was read is told on the way.
+/// The command `letters`: writes the table of the input, CSV with a header, with twelve columns
+/// more after its own, which say of each row what its date means, by what the journal published
+/// under these limits. The journal is read whole before a record is, and what comes of a read is
+/// written before the next one. The settings name the columns that are read, what separates the
+/// fields, and the order of a date's three numbers. How much of the table was read is told on the
+/// way.
 ///
 /// Where it ends early, standard error is told in a line why, and the status says it. Where it is
 /// written whole and a remark is a refusal, `Refused` says that a row has one.

@@ -1,8 +1,22 @@
-use Rattle.std.proofs.Common.{sym, inr, ap, length}
+use Rattle.std.proofs.Common.{sym, inl, inr, ap, length, refl}
 use Rattle.osn_lines.specs.Streams.{input_of, output_of}
 use Rattle.osn_page_commands.specs.Letters.{asked_of}
-use Rattle.osn_page_commands.proofs.LettersLemmas.{ended_table}
+use Rattle.osn_page_commands.proofs.LettersLemmas.{ended_table, whole_table}
 use Rattle.osn_page_commands.proofs.letters.write_table.Goals as goal
+
+pub returns-in-Ok : goal.returns-in-Ok
+returns-in-Ok g c =
+    let new = c.write_letters.new in
+    inl (whole_table c.args.object.now (asked_of c.args.settings) c.args.is_strict
+    c.in-Ok.has_remarks _ _
+    (input_of g.R.Source.remaining g.R.Source.has_failed c.args.input.now new.source)
+    (output_of g.W.Sink.contents g.W.Sink.has_failed g.W.Sink.holds_back c.args.output.now
+    new.sink)
+    (output_of g.E.Sink.contents g.E.Sink.has_failed g.E.Sink.holds_back c.args.errors.now
+    c.args.errors.now)
+    c.status_by.result (sym c.register-register.ensures.lands)
+    (sym (ap length c.batches-edition.ensures.value)) c.status_by.ensures (refl, refl)
+    c.in-Ok.ensures.whole c.in-Ok.ensures.remarked)
 
 pub returns-in-Err : goal.returns-in-Err
 returns-in-Err g c =
