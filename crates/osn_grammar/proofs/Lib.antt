@@ -1,5 +1,6 @@
 mod Digits
 mod NameFacts
+mod LanguageFacts
 mod Scanned
 pub mod TextFacts
 pub mod SaidFacts
