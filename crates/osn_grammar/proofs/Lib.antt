@@ -1,6 +1,6 @@
 mod Digits
-mod NameFacts
 mod LanguageFacts
+mod NameFacts
 mod Scanned
 pub mod TextFacts
 pub mod SaidFacts

@@ -152,7 +152,7 @@ fn said(order: DateOrder, parts: &[Part], timed: &[Part]) -> Result<Written, Dat
 /// # Errors
 ///
 /// Want of memory. What is wrong with a text that is no date is the result within.
-#[tactic(auto, using(crate::proofs::NameFacts::name_laws, crate::proofs::LanguageFacts::words_known, crate::proofs::DigitLaw::digits_law))]
+#[tactic(auto, using(crate::proofs::NameFacts::name_laws, crate::proofs::DigitLaw::digits_law))]
 pub fn parse(
     alloc: Global,
     text: &str,
