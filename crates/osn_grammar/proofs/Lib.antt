@@ -1,4 +1,5 @@
 mod Digits
+mod LanguageFacts
 mod NameFacts
 mod Scanned
 pub mod TextFacts

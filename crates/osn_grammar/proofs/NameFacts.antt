@@ -3,6 +3,7 @@ use Rattle.std.proofs.Common.{refl}
 use Rattle.osn_days.specs.Weekday.{weekday_numbered}
 use Rattle.osn_grammar.specs.Laws.{AreEnglishNamesKnown, AreCountedNamesKnown}
 use Rattle.osn_grammar.specs.Names.{AreNamesDistinct, names}
+use Rattle.osn_grammar.proofs.LanguageFacts.{words_known}
 
 pub names_distinct : AreNamesDistinct
 unfolding AreNamesDistinct names
@@ -16,5 +17,5 @@ pub counted_names_known : AreCountedNamesKnown
 unfolding AreCountedNamesKnown names
 counted_names_known = (refl, refl)
 
--- the three laws
-pub ruleset name_laws = (names_distinct, english_names_known, counted_names_known)
+-- the four laws
+pub ruleset name_laws = (names_distinct, english_names_known, counted_names_known, words_known)

@@ -5,4 +5,5 @@ pub mod Simple
 pub mod Extent
 pub mod Reading
 pub mod Laws
+pub mod Languages
 pub mod InDigits

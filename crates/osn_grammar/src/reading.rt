@@ -2,6 +2,7 @@
 ghost use Rattle.std.specs.Prelude.{◌≡◌, None, IfOk};
 ghost use Rattle.std.specs.List.{list_any};
 ghost use Rattle.osn_grammar.specs.InDigits.{AreDigitsRead};
+ghost use Rattle.osn_grammar.specs.Languages.{AreWordsKnown};
 ghost use Rattle.osn_grammar.specs.Laws.{AreCountedNamesKnown, AreEnglishNamesKnown};
 ghost use Rattle.osn_grammar.specs.Names.{AreNamesDistinct};
 ghost use Rattle.osn_grammar.specs.Reading as spec;
@@ -164,6 +165,8 @@ pub fn parse(
     ensures english { AreEnglishNamesKnown }
     // as a law: it has `8ber` and its like, which count the months from March on
     ensures counted { AreCountedNamesKnown }
+    // as a law: it has the months, weekdays, ordinals and other words of each language
+    ensures words { AreWordsKnown }
     // as a law: a date in digits is read as its day, with `?`, `~` and `%` after it, in a range and
     // with an open end
     ensures digits { AreDigitsRead }

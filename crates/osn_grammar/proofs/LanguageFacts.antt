@@ -1,0 +1,101 @@
+-- Each word of the table of names is read as its part.
+use Rattle.std.proofs.Common.{refl}
+use Rattle.osn_days.specs.Weekday.{weekday_numbered}
+use Rattle.osn_grammar.specs.Languages.{AreMonthsKnown, AreWeekdaysKnown, AreOtherWeekdaysKnown}
+use Rattle.osn_grammar.specs.Languages.{AreOrdinalsKnown, AreOtherWordsKnown, AreWordsKnown}
+use Rattle.osn_grammar.specs.Names.{names}
+
+months_known : AreMonthsKnown
+unfolding names lib.Utf8.encode
+months_known = record {
+  english = refl;
+  english_short = refl;
+  latin = refl;
+  latin_genitive = refl;
+  latin_ablative = refl;
+  latin_with_j = refl;
+  genitive_with_j = refl;
+  ablative_with_j = refl;
+  french = refl;
+  french_short = refl;
+  french_without_accents = refl;
+  french_short_without_accents = refl;
+  german = refl;
+  german_short = refl;
+  french_other = refl;
+  german_without_accents = refl;
+  italian_other = refl;
+  spanish_other = refl;
+  portuguese_without_accents = refl;
+  genitive_with_x = refl;
+  german_other = refl;
+  dutch = refl;
+  dutch_short = refl;
+  italian = refl;
+  italian_short = refl;
+  spanish = refl;
+  spanish_short = refl;
+  portuguese = refl;
+  portuguese_short = refl;
+  swedish = refl;
+  danish = refl;
+}
+
+weekdays_known : AreWeekdaysKnown
+unfolding names weekday_numbered lib.Utf8.encode
+weekdays_known = record {
+  english = refl;
+  english_short = refl;
+  latin = refl;
+  latin_with_j = refl;
+  french = refl;
+  german = refl;
+  dutch = refl;
+  italian = refl;
+  italian_without_accents = refl;
+  spanish = refl;
+  spanish_without_accents = refl;
+  portuguese = refl;
+  swedish = refl;
+  danish = refl;
+}
+
+other_weekdays_known : AreOtherWeekdaysKnown
+unfolding names weekday_numbered lib.Utf8.encode
+other_weekdays_known = record {
+  sunday = refl;
+  monday = refl;
+  tuesday = refl;
+  wednesday = refl;
+  thursday = refl;
+  friday = refl;
+  saturday = refl;
+}
+
+ordinals_known : AreOrdinalsKnown
+unfolding names lib.Utf8.encode
+ordinals_known = record {
+  english = refl;
+  french = refl;
+}
+
+others_known : AreOtherWordsKnown
+unfolding names lib.Utf8.encode
+others_known = record {
+  to = refl;
+  joining = refl;
+  before = refl;
+  after = refl;
+  about = refl;
+  doubt = refl;
+  old_style = refl;
+  new_style = refl;
+  undated = refl;
+  blank = refl;
+  feasts = refl;
+  fillers = refl;
+}
+
+pub words_known : AreWordsKnown
+unfolding AreWordsKnown
+words_known = (months_known, weekdays_known, other_weekdays_known, ordinals_known, others_known)

@@ -1,0 +1,160 @@
+-- What the words of dates are in each language, whatever else the table of names has. A text that
+-- is written out is read as these parts. This project's profile.
+use Rattle.std.specs.Prelude.{◌≡◌, ℕ, List, [], ◌∷◌, ◌++◌, map, codes}
+use Rattle.std.specs.List.{range_with_len}
+use Rattle.osn_days.specs.declared.weekday.Weekday.TheVariants.{Sunday, Monday, Tuesday, Wednesday}
+use Rattle.osn_days.specs.declared.weekday.Weekday.TheVariants.{Thursday, Friday, Saturday}
+use Rattle.osn_days.specs.Weekday.{weekday_numbered}
+use Rattle.osn_grammar.specs.declared.part.Part.{Part}
+use Rattle.osn_grammar.specs.declared.part.Part.TheVariants as part
+use Rattle.osn_grammar.specs.declared.written.Reckoning.TheVariants.{OldStyle, NewStyle}
+use Rattle.osn_grammar.specs.Scan.{parts_after}
+
+-- the characters have these parts
+abbrev pub Reads : List ℕ → List Part → Type 0
+Reads text parts = parts_after [] text ≡ parts
+
+-- as often as this
+abbrev pub times : ℕ → Part → List Part
+times n p = map (λ _. p) (range_with_len 0 n)
+
+-- ---- months, from January to December
+
+abbrev pub AreMonths : List ℕ → Type 0
+AreMonths text = Reads text (map part.Month (range_with_len 1 12))
+
+pub record AreMonthsKnown : Type 0 where
+  pub english : AreMonths
+      (codes "January February March April May June "
+      ++ codes "July August September October November December")
+  pub english_short : AreMonths (codes "Jan Feb Mar Apr May Jun Jul Aug Sep Oct Nov Dec")
+  pub latin : AreMonths
+      (codes "Ianuarius Februarius Martius Aprilis Maius Iunius "
+      ++ codes "Iulius Augustus September October November December")
+  pub latin_genitive : AreMonths
+      (codes "Ianuarii Februarii Martii Aprilis Maii Iunii "
+      ++ codes "Iulii Augusti Septembris Octobris Novembris Decembris")
+  pub latin_ablative : AreMonths
+      (codes "Ianuario Februario Martio Aprili Maio Iunio "
+      ++ codes "Iulio Augusto Septembri Octobri Novembri Decembri")
+  pub latin_with_j : AreMonths
+      (codes "Januarius Februarius Martius Aprilis Maius Junius "
+      ++ codes "Julius Augustus September October November December")
+  pub genitive_with_j : AreMonths
+      (codes "Januarii Februarii Martii Aprilis Maii Junii Julii Augusti 7bris 8bris 9bris 10bris")
+  pub ablative_with_j : AreMonths
+      (codes "Januario Februario Martio Aprili Maio Junio Julio Augusto 7ber 8ber 9ber 10ber")
+  pub french : AreMonths
+      (codes "janvier février mars avril mai juin juillet août septembre octobre novembre décembre")
+  pub french_short : AreMonths (codes "janv févr mars avr mai juin juil août sept oct nov déc")
+  pub french_without_accents : AreMonths
+      (codes "janvier fevrier mars avril mai juin juillet aout 7bre 8bre 9bre 10bre")
+  pub french_short_without_accents : AreMonths
+      (codes "janv fevr mars avr mai juin juil aout septembre octobre novembre decembre")
+  pub german : AreMonths
+      (codes "Januar Februar März April Mai Juni Juli August September Oktober November Dezember")
+  pub german_short : AreMonths (codes "Jan Feb Mär Apr Mai Jun Jul Aug Sept Okt Nov Dez")
+  pub french_other : AreMonths (codes "janv fév mars avr mai juin juil août 7bre 8bre 9bre Xbre")
+  pub german_without_accents : AreMonths
+      (codes "Januar Februar marz April Mai Juni Juli August September Oktober November Dezember")
+  pub italian_other : AreMonths (codes "gen febbr marzo apr mag giu lug ago sett ott nov dic")
+  pub spanish_other : AreMonths (codes "ene feb mar abr may jun jul ago setiembre octubre nov dic")
+  pub portuguese_without_accents : AreMonths
+      (codes "janeiro fevereiro marco abril maio junho "
+      ++ codes "julho agosto setembro outubro novembro dezembro")
+  pub genitive_with_x : AreMonths
+      (codes "Ianuarii Februarii Martii Aprilis Maii Iunii Iulii Augusti 7bris 8bris 9bris Xbris")
+  pub german_other : AreMonths (codes "Jänner Feb Maerz Apr Mai Juni Juli Aug 7ber 8ber 9ber Xber")
+  pub dutch : AreMonths
+      (codes "januari februari maart april mei juni "
+      ++ codes "juli augustus september oktober november december")
+  pub dutch_short : AreMonths (codes "jan febr mrt apr mei jun jul aug sept okt nov dec")
+  pub italian : AreMonths
+      (codes "gennaio febbraio marzo aprile maggio giugno "
+      ++ codes "luglio agosto settembre ottobre novembre dicembre")
+  pub italian_short : AreMonths (codes "genn febbr mar apr mag giu lug ago sett ott nov dic")
+  pub spanish : AreMonths
+      (codes "enero febrero marzo abril mayo junio "
+      ++ codes "julio agosto septiembre octubre noviembre diciembre")
+  pub spanish_short : AreMonths (codes "ene feb mar abr may jun jul ago set oct nov dic")
+  pub portuguese : AreMonths
+      (codes "janeiro fevereiro março abril maio junho "
+      ++ codes "julho agosto setembro outubro novembro dezembro")
+  pub portuguese_short : AreMonths (codes "jan fev mar abr mai jun jul ago set out nov dez")
+  pub swedish : AreMonths
+      (codes "januari februari mars april maj juni "
+      ++ codes "juli augusti september oktober november december")
+  pub danish : AreMonths
+      (codes "januar februar marts april maj juni juli august september oktober november december")
+
+-- ---- weekdays, from Sunday to Saturday
+
+abbrev pub AreWeekdays : List ℕ → Type 0
+AreWeekdays text =
+    Reads text (map (λ n. part.Weekday (weekday_numbered n)) (range_with_len 0 7))
+
+pub record AreWeekdaysKnown : Type 0 where
+  pub english : AreWeekdays (codes "Sunday Monday Tuesday Wednesday Thursday Friday Saturday")
+  pub english_short : AreWeekdays (codes "Sun Mon Tue Wed Thu Fri Sat")
+  pub latin : AreWeekdays (codes "Dominica Lunae Martis Mercurii Iovis Veneris Saturni")
+  pub latin_with_j : AreWeekdays (codes "Dominica Lunae Martis Mercurii Jovis Veneris Sabbati")
+  pub french : AreWeekdays (codes "dimanche lundi mardi mercredi jeudi vendredi samedi")
+  pub german : AreWeekdays (codes "Sonntag Montag Dienstag Mittwoch Donnerstag Freitag Samstag")
+  pub dutch : AreWeekdays (codes "zondag maandag dinsdag woensdag donderdag vrijdag zaterdag")
+  pub italian : AreWeekdays (codes "domenica lunedì martedì mercoledì giovedì venerdì sabato")
+  pub italian_without_accents : AreWeekdays
+      (codes "domenica lunedi martedi mercoledi giovedi venerdi sabato")
+  pub spanish : AreWeekdays (codes "domingo lunes martes miércoles jueves viernes sábado")
+  pub spanish_without_accents : AreWeekdays
+      (codes "domingo lunes martes miercoles jueves viernes sabado")
+  pub portuguese : AreWeekdays (codes "domingo segunda terça quarta quinta sexta sábado")
+  pub swedish : AreWeekdays (codes "söndag måndag tisdag onsdag torsdag fredag lördag")
+  pub danish : AreWeekdays (codes "søndag mandag tirsdag onsdag torsdag fredag lørdag")
+
+-- further names of each weekday
+pub record AreOtherWeekdaysKnown : Type 0 where
+  pub sunday : Reads (codes "dim Son zon dom sondag sön") (times 6 (part.Weekday Sunday))
+  pub monday : Reads (codes "lun maa mån man") (times 4 (part.Weekday Monday))
+  pub tuesday : Reads (codes "Tues terca tis tir") (times 4 (part.Weekday Tuesday))
+  pub wednesday : Reads (codes "woe mié mie ons") (times 4 (part.Weekday Wednesday))
+  pub thursday : Reads (codes "Thur Thurs jeu Don gio jue tor") (times 7 (part.Weekday Thursday))
+  pub friday : Reads (codes "ven vrij vie fre") (times 4 (part.Weekday Friday))
+  pub saturday : Reads (codes "Sabbato sam Sonnabend zat sab lordag lör")
+      (times 7 (part.Weekday Saturday))
+
+-- ---- ordinals
+
+-- an ordinal is read as the number: 1st is 1
+pub record AreOrdinalsKnown : Type 0 where
+  pub english : parts_after []
+      (codes "1st 2nd 3rd 4th 5th 6th 7th 8th 9th 10th 11th 12th 13th 14th 15th 16th "
+      ++ codes "17th 18th 19th 20th 21st 22nd 23rd 24th 25th 26th 27th 28th 29th 30th 31st")
+      ≡ parts_after []
+      (codes "1 2 3 4 5 6 7 8 9 10 11 12 13 14 15 16 17 18 19 20 21 22 23 24 25 26 27 28 29 30 31")
+  pub french : parts_after [] (codes "1er") ≡ parts_after [] (codes "1")
+
+-- ---- words around a date
+
+pub record AreOtherWordsKnown : Type 0 where
+  pub to : Reads (codes "to until till bis tot") (times 5 part.To)
+  pub joining : Reads (codes "from or between and")
+      (part.From ∷ part.Or ∷ part.Between ∷ part.And ∷ [])
+  pub before : Reads (codes "before ante by") (part.Before ∷ part.Before ∷ part.By ∷ [])
+  pub after : Reads (codes "after post not") (part.After ∷ part.After ∷ part.Not ∷ [])
+  pub about : Reads (codes "about around approximately c. ca. circa") (times 6 part.About)
+  pub doubt : Reads (codes "probably perhaps possibly") (times 3 part.Doubt)
+  pub old_style : Reads (codes "O.S. OS old") (times 3 (part.Reckoning OldStyle))
+  pub new_style : Reads (codes "N.S. NS new") (times 3 (part.Reckoning NewStyle))
+  pub undated : Reads (codes "n.d. s.d. undated no") (times 4 part.Undated)
+  pub blank : Reads (codes "XX") (times 1 part.Blank)
+  pub feasts : Reads
+      (codes "Easter Christmas Michaelmas Lady Whitsun Whitsunday Martinmas Candlemas Saints")
+      (times 9 part.Feast)
+  pub fillers : Reads
+      (codes "the of on in de del di le den der die dies anno date style feira")
+      (times 16 part.Filler)
+
+-- as a law: all these words are known
+unfoldable pub AreWordsKnown : Type 0
+AreWordsKnown =
+    AreMonthsKnown × AreWeekdaysKnown × AreOtherWeekdaysKnown × AreOrdinalsKnown × AreOtherWordsKnown
