@@ -12,8 +12,8 @@ and with a further member that no op has and whose value is a list, which is nev
 way and asks for the same. Both replies have to be the same. A line that is no object has no second
 form.
 
-Where an older program is named, files of the lines are sent to both, and they have to write the same
-bytes.
+Where an older program is named, which has to know the same ops, files of the lines are sent to both,
+and they have to write the same bytes.
 """
 import random
 import subprocess
@@ -27,13 +27,14 @@ CHANCE = random.Random(SEED)
 LINES_A_FILE = 32
 
 OPS = ["add_land", "add_change", "alter_change", "drop_change", "add_exception", "drop_exception",
-       "publish", "read", "day", "periods", "lands", "easter", "figures", "fly"]
-NAMES = ["op", "reader", "code", "name", "year", "month", "day", "calendar", "style", "rule", "step",
-         "ask", "journal", "Op", "op ", "", "~", "é", "o\\u0070", "\\u006fp", "co\\u0064e", "\\n"]
+       "publish", "read", "day", "periods", "lands", "easter", "figures", "written", "fly"]
+NAMES = ["op", "reader", "code", "name", "year", "month", "day", "calendar", "style", "rule", "date",
+         "weekday", "step", "ask", "journal", "Op", "op ", "", "~", "é", "o\\u0070", "\\u006fp",
+         "co\\u0064e", "\\n"]
 TEXTS = OPS + ["GB", "RM", "A1B2C3D4", "gb", "TOOLONGCODE", "Great Britain", "julian", "gregorian",
-               "swedish", "january", "annunciation", "easter", "pisan", "x" * 64, "x" * 65, "é", "",
-               "G\\u0042", "\\u0047B", "a\\\"b", "\\\\", "\\/", "\\ud83d\\ude00", "\\ud83d", "\t", "\\t",
-               "\x7f", "\\x", "\\u00"]
+               "swedish", "january", "annunciation", "easter", "pisan", "friday", "n.d.",
+               "x" * 64, "x" * 65, "é", "", "G\\u0042", "\\u0047B", "a\\\"b", "\\\\", "\\/",
+               "\\ud83d\\ude00", "\\ud83d", "\t", "\\t", "\x7f", "\\x", "\\u00"]
 NUMBERS = ["0", "1", "2", "7", "12", "13", "31", "1752", "9999", "10000", "639797", "3652059",
            "3652060", "-1", "-0", "-7", "00", "01", "1.0", "1.5", "1e0", "1E2", "12e-1", "1e400",
            "9223372036854775807", "9223372036854775808", "-9223372036854775808",
@@ -50,12 +51,14 @@ USUAL = {
     "drop_exception": ["code", "year"], "read": ["reader", "code", "year", "month", "day"],
     "day": ["reader", "code", "day"], "periods": ["reader", "code"], "lands": ["reader"],
     "easter": ["reader", "code", "year"], "figures": ["reader", "year"],
+    "written": ["reader", "code", "date", "weekday"],
 }
 VALUES = {
     "reader": ["1", "8", "9", "0"], "code": ['"GB"', '"RM"'], "name": ['"Rome"'],
     "year": ["1752", "1582", "1"], "month": ["9", "2"], "day": ["3", "29", "639797", "577725"],
     "calendar": ['"julian"', '"gregorian"'], "style": ['"january"', '"annunciation"'],
-    "rule": ['"julian"', '"gregorian"'],
+    "rule": ['"julian"', '"gregorian"'], "date": ['"3 September 1752"', '"March 1731"', '"z"'],
+    "weekday": ['"Friday"', '"SUNDAY"', '"Fryday"'],
 }
 
 

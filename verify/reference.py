@@ -4,7 +4,8 @@
 It answers request lines as the program does, from docs/FORMATS.md and docs/DEFINITIONS.md alone,
 for eight readers and the standard limits. Calendars are walks along every day of the line, a
 reading is a search through every day, Easter is found by the tables of the moon. Its replies are to
-be those of the program, byte for byte.
+be those of the program, byte for byte. Of `written` it answers dates in the usual forms alone, and
+fails at any other text.
 """
 import array
 import functools
@@ -256,6 +257,7 @@ MEMBERS = {
     "figures": "reader year",
     "lands": "reader",
     "periods": "reader code",
+    "written": "reader code date weekday",
 }
 
 
@@ -299,8 +301,10 @@ def request_of(line, readers):
         raise Fault(35)
     for member in MEMBERS[op].split():
         got = value.get(member)
-        if member in ("code", "name"):
+        if member in ("code", "name", "date"):
             is_right = isinstance(got, str)
+        elif member == "weekday":
+            is_right = member not in value or isinstance(got, str) and is_weekday(got)
         elif member in REGIME:
             is_right = isinstance(got, str) and got in REGIME[member]
         else:
@@ -404,6 +408,8 @@ class Service:
         if op == "periods":
             periods = land.periods()
             return {"periods": [{"first": p[0], "last": p[1], **regime_of(p[2])} for p in periods]}
+        if op == "written":
+            return written_answer(land, value["date"], value.get("weekday"))
         if op == "day":
             refuse((lambda: not 1 <= day <= HIGH, 5))
             first, last, regime = land.period(day)
@@ -417,6 +423,42 @@ class Service:
         refuse((lambda: not 1 <= month <= 12 or not 1 <= day <= 31, 18))
         key = key_of(year, month, day)
         return {"days": [land.found(d) for d in land.read(key)], "skipped": land.skipped(key)}
+
+
+def is_weekday(name):
+    return name.isascii() and name.capitalize() in WEEKDAYS
+
+
+def runs_of(days):
+    """The first and the last day of each run of days."""
+    runs = []
+    for day in sorted(days):
+        if runs and runs[-1][1] == day - 1:
+            runs[-1][1] = day
+        else:
+            runs.append([day, day])
+    return runs
+
+
+def written_answer(land, text, given):
+    """What a text in one of the usual forms means."""
+    from written import Malformed, Territory, has_weekday, parse
+
+    try:
+        date = parse(text)
+    except Malformed:
+        raise NotImplementedError(text) from None
+    territory, given = Territory(land), given and given.capitalize()
+    days = territory.days_meant(date)
+    is_on = any(has_weekday(date, given, day) for day in days)
+    runs = [[land.found(day) for day in run] for run in runs_of(days)]
+    return {
+        "approximate": False, "kind": "day", "other_calendar": False,
+        "reason": None if days else territory.absence(date),
+        "runs": [{"first": first, "last": last} for first, last in runs],
+        "supplied": False, "uncertain": False,
+        "weekday": is_on if date.weekday or given else None,
+    }
 
 
 def regime_of(regime):

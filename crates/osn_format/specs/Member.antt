@@ -3,7 +3,8 @@ use Rattle.std.specs.Prelude.{ℕ, List, codes}
 use Rattle.osn_format.specs.declared.member.Member.{Member}
 use Rattle.osn_format.specs.declared.member.Member.TheVariants.{Op, Code, Name, Calendar, Style}
 use Rattle.osn_format.specs.declared.member.Member.TheVariants.{Rule, Reader, Year, Month, Day}
-use Rattle.osn_format.specs.declared.member.Member.TheVariants.{Journal, Step, Ask, Reply, Edition}
+use Rattle.osn_format.specs.declared.member.Member.TheVariants.{Date, Weekday, Journal, Step, Ask}
+use Rattle.osn_format.specs.declared.member.Member.TheVariants.{Reply, Edition}
 
 abbrev pub member_name : Member → List ℕ
 member_name Op = codes "op"
@@ -16,6 +17,8 @@ member_name Reader = codes "reader"
 member_name Year = codes "year"
 member_name Month = codes "month"
 member_name Day = codes "day"
+member_name Date = codes "date"
+member_name Weekday = codes "weekday"
 member_name Journal = codes "journal"
 member_name Step = codes "step"
 member_name Ask = codes "ask"

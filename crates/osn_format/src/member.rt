@@ -24,6 +24,10 @@ pub enum Member {
     Month,
     /// A day of a label, or a day of the line by its number.
     Day,
+    /// A date as it is written.
+    Date,
+    /// A weekday that is given beside a date.
+    Weekday,
     /// The version of a journal, in its first line.
     Journal,
     /// The kind of step, in a line of a schedule.
@@ -52,6 +56,8 @@ impl Member {
             Member::Year => "year",
             Member::Month => "month",
             Member::Day => "day",
+            Member::Date => "date",
+            Member::Weekday => "weekday",
             Member::Journal => "journal",
             Member::Step => "step",
             Member::Ask => "ask",

@@ -12,6 +12,7 @@ use Rattle.osn_computus.proofs.KeptLetters.{same_letters}
 use Rattle.osn_days.specs.declared.calendar.Calendar.TheVariants as calendar
 use Rattle.osn_days.specs.Profile.{Profile, first_rules, newest_rules}
 use Rattle.osn_days.specs.Line.{line, IsOnLine, IsYear, IsYearNumber}
+use Rattle.osn_days.specs.declared.weekday.Weekday.{Weekday}
 use Rattle.osn_lands.specs.declared.regime.Regime.{Regime}
 use Rattle.osn_lands.specs.declared.label.Label.{Label}
 use Rattle.osn_lands.specs.declared.period.Period.{Period}
@@ -38,7 +39,7 @@ use Rattle.osn_register.specs.Answer.{answer, unless, found_under, found_on, per
 use Rattle.osn_register.specs.Answer.{on_day, day_answer, reading_answer, easters_answer}
 use Rattle.osn_register.specs.Answer.{figures_of, periods_answer, label_from}
 use Rattle.osn_register.specs.Answer.{read_refusal, day_refusal, year_refusal, easter_refusal}
-use Rattle.osn_register.specs.Answer.{date_refusal}
+use Rattle.osn_register.specs.Answer.{date_refusal, written_answer, refusal_in}
 use Rattle.osn_register.specs.Kept.{start_of, found_until, IsLabelYear, IsListedUntil, KeepsReading}
 use Rattle.osn_register.specs.Kept.{KeepsDay, KeepsAnswer}
 
@@ -268,6 +269,20 @@ same_unless : (now_refused refused : Option Refusal) (now before : Answer) → n
 same_unless now_refused refused now before same kept = ap (λ r. unless r now) same
     ∙ ap (unless refused) kept
 
+-- a date as it is written
+
+written_kept : (t : Option TerritoryModel) (text : List ℕ) (given : Option Weekday)
+    → refusal_in (written_answer newest_rules t text given)
+    ≡ refusal_in (written_answer first_rules t text given)
+written_kept None text given = refl
+written_kept (Some t) text given = refl
+
+refused_unless : (refused : Option Refusal) (now before : Answer)
+    → refusal_in now ≡ refusal_in before
+    → refusal_in (unless refused now) ≡ refusal_in (unless refused before)
+refused_unless None now before same = same
+refused_unless (Some f) now before same = refl
+
 -- what is answered to a query keeps what the first rules answer
 pub kept_answer : (lands : List LandModel) (q : Query)
     → KeepsAnswer first_rules lands q (answer newest_rules lands q)
@@ -302,3 +317,8 @@ kept_answer lands (queries.Periods code) =
     (periods_answer newest_rules (territory_of code lands))
     (periods_answer first_rules (territory_of code lands)) refl
     (periods_kept (territory_of code lands))
+kept_answer lands (queries.Written code date weekday) =
+    refused_unless (code_refusal lands code)
+    (written_answer newest_rules (territory_of code lands) date weekday)
+    (written_answer first_rules (territory_of code lands) date weekday)
+    (written_kept (territory_of code lands) date weekday)

@@ -1,28 +1,48 @@
--- What the register answers to a query.
-use Rattle.std.specs.Prelude.{ℕ, Bool, true, false, not, ◌&&◌, nat_le, ℤ, pos, unsigned_abs, List}
-use Rattle.std.specs.Prelude.{[], ◌∷◌, map, find, Option, Some, None, is_some}
+-- What the register answers to a query: this project's profile.
+use Rattle.std.specs.Prelude.{ℕ, Bool, true, false, not, ◌&&◌, ◌||◌, if◌then◌else◌, nat_le, ℤ, pos}
+use Rattle.std.specs.Prelude.{unsigned_abs, List, [], ◌∷◌, map, find, Option, Some, None, is_some}
+use Rattle.std.specs.Prelude.{option_map, Result, Ok, Err}
+use Rattle.std.specs.List.{list_any}
 use Rattle.osn_days.specs.Profile.{Profile}
 use Rattle.osn_days.specs.declared.calendar.Calendar.TheVariants as calendar
+use Rattle.osn_days.specs.declared.weekday.Weekday.{Weekday}
 use Rattle.osn_computus.specs.declared.rule.Rule.TheVariants as rule
 use Rattle.osn_computus.specs.declared.letters.Letters.{Letters}
 use Rattle.osn_computus.specs.Figures.{golden_number, indiction, julian_epact, gregorian_epact}
 use Rattle.osn_computus.specs.Letters.{letters_of}
 use Rattle.osn_computus.specs.Easter.{easter_of}
+use Rattle.osn_grammar.specs.declared.written.DateOrder.TheVariants.{Unknown}
+use Rattle.osn_grammar.specs.declared.written.Written.{Written as Said}
+use Rattle.osn_grammar.specs.declared.written.Written.TheVariants as say
+use Rattle.osn_grammar.specs.declared.written.WrittenDate.{WrittenDate as AnyDate}
 use Rattle.osn_lands.specs.declared.regime.Regime.{Regime}
 use Rattle.osn_lands.specs.declared.label.Label.{Label}
 use Rattle.osn_lands.specs.Label.{local_label}
 use Rattle.osn_lands.specs.Dual.{dual_text}
 use Rattle.osn_lands.specs.declared.period.Period.{Period}
+use Rattle.osn_lands.specs.declared.runs.Run.{Run}
 use Rattle.osn_lands.specs.Territory.{TerritoryModel, regime_at, periods_of, reading, skipped}
 use Rattle.osn_lands.specs.Exceptions.{exception_of}
 use Rattle.osn_lands.specs.Easters.{easters}
+use Rattle.osn_written.specs.declared.finding.NoDay.{NoDay}
+use Rattle.osn_written.specs.declared.written_date.DateFault.{DateFault}
+use Rattle.osn_written.specs.declared.written_date.DateFault.TheVariants.{NoDate}
+use Rattle.osn_written.specs.declared.written_date.WrittenDate.{WrittenDate}
+use Rattle.osn_written.specs.Finding.{found, reckoned, is_by_other_calendar}
+use Rattle.osn_written.specs.Kind.{kind_of}
+use Rattle.osn_written.specs.Meaning.{meaning, has_weekday}
+use Rattle.osn_written.specs.Said.{said, one_day}
 use Rattle.osn_register.specs.declared.query.Query.{Query}
 use Rattle.osn_register.specs.declared.query.Query.TheVariants as queries
 use Rattle.osn_register.specs.declared.answer.Answer.{Answer}
 use Rattle.osn_register.specs.declared.answer.Answer.TheVariants.{Reading, OnDay, Easters, Figures}
-use Rattle.osn_register.specs.declared.answer.Answer.TheVariants.{Lands, Periods, Refused}
+use Rattle.osn_register.specs.declared.answer.Answer.TheVariants.{Lands, Periods, Written, Refused}
 use Rattle.osn_register.specs.declared.answer.Found.{Found}
+use Rattle.osn_register.specs.declared.answer.FoundRun.{FoundRun}
 use Rattle.osn_register.specs.declared.answer.Land.{Land}
+use Rattle.osn_register.specs.declared.answer.Reason.{Reason}
+use Rattle.osn_register.specs.declared.answer.Reason.TheVariants as reasons
+use Rattle.osn_register.specs.declared.answer.WrittenAnswer.{WrittenAnswer}
 use Rattle.osn_register.specs.declared.refusal.Refusal.{Refusal}
 use Rattle.osn_register.specs.declared.refusal.Refusal.TheVariants.{UnknownLand, DayOffLine}
 use Rattle.osn_register.specs.declared.refusal.Refusal.TheVariants.{YearOffRange, BadDate}
@@ -63,6 +83,7 @@ query_refusal p lands (queries.Easter code year) = easter_refusal p lands code y
 query_refusal p lands (queries.YearFigures year) = year_refusal p year
 query_refusal p lands queries.Lands = None
 query_refusal p lands (queries.Periods code) = code_refusal lands code
+query_refusal p lands (queries.Written code date weekday) = code_refusal lands code
 
 -- a day as a regime names it
 abbrev pub found_under : Profile → Regime → ℕ → Found
@@ -122,6 +143,71 @@ abbrev pub periods_answer : Profile → Option TerritoryModel → Answer
 periods_answer p None = Refused UnknownLand
 periods_answer p (Some t) = Periods (periods_of p t)
 
+-- ---- a date as it is written
+
+-- days that follow one another, by the first and the last of them
+abbrev pub found_run : Profile → TerritoryModel → Run → FoundRun
+found_run p t run = record { first = found_on p t run.first; last = found_on p t run.last }
+
+-- the days that a date means, and why it means none
+abbrev pub runs_in : Result (List Run) NoDay → List Run
+runs_in (Ok runs) = runs
+runs_in (Err none) = []
+
+abbrev pub reason_in : Result (List Run) NoDay → Option Reason
+reason_in (Ok runs) = None
+reason_in (Err none) = Some (reasons.NoDay none)
+
+-- one of the days that a date means is of the weekday that it names, and of the one that is given
+abbrev pub is_on_weekday : Profile → TerritoryModel → Option Weekday → WrittenDate → Bool
+is_on_weekday p t given w = list_any (has_weekday w given) (meaning p t w given)
+
+-- the same where a weekday is named or given, and the date is that of one day
+abbrev pub if_weekday : Profile → TerritoryModel → AnyDate → Option Weekday → Option Bool
+if_weekday p t w given =
+    if is_some w.weekday || is_some given then option_map (is_on_weekday p t given) (one_day w)
+    else None
+
+-- what a date means in a territory: the days by the calendar that it names, each as the territory
+-- names it
+abbrev pub date_answer : Profile → TerritoryModel → AnyDate → Option Weekday → WrittenAnswer
+date_answer p t w given = record {
+  kind = Some (kind_of w.extent);
+  is_approximate = w.is_approximate;
+  is_uncertain = w.is_uncertain;
+  is_supplied = w.is_supplied;
+  is_by_other_calendar = is_by_other_calendar p t w;
+  reason = reason_in (found p (reckoned t w.reckoning) w.extent);
+  runs = map (found_run p t) (runs_in (found p (reckoned t w.reckoning) w.extent));
+  is_on_weekday = if_weekday p (reckoned t w.reckoning) w given;
+}
+
+-- where no date is read, it is told why
+abbrev pub no_date : DateFault → WrittenAnswer
+no_date fault = record {
+  kind = None;
+  is_approximate = false;
+  is_uncertain = false;
+  is_supplied = false;
+  is_by_other_calendar = false;
+  reason = Some (reasons.NotRead fault);
+  runs = [];
+  is_on_weekday = None;
+}
+
+-- what is answered about what a text says
+abbrev pub said_answer : Profile → TerritoryModel → Result Said DateFault → Option Weekday
+    → WrittenAnswer
+said_answer p t (Ok (say.Date w)) given = date_answer p t w given
+said_answer p t (Ok say.NoDate) given = no_date NoDate
+said_answer p t (Err fault) given = no_date fault
+
+abbrev pub written_answer : Profile → Option TerritoryModel → List ℕ → Option Weekday → Answer
+written_answer p None text given = Refused UnknownLand
+written_answer p (Some t) text given = Written (said_answer p t (said Unknown text) given)
+
+-- ---- each query
+
 abbrev pub unless : Option Refusal → Answer → Answer
 unless None answer = answer
 unless (Some f) answer = Refused f
@@ -151,6 +237,10 @@ abbrev pub periods_in_answer : Profile → List LandModel → List ℕ → Answe
 periods_in_answer p lands code =
     unless (code_refusal lands code) (periods_answer p (territory_of code lands))
 
+abbrev pub written_in_answer : Profile → List LandModel → List ℕ → List ℕ → Option Weekday → Answer
+written_in_answer p lands code text given =
+    unless (code_refusal lands code) (written_answer p (territory_of code lands) text given)
+
 -- what is answered to a query
 abbrev pub answer : Profile → List LandModel → Query → Answer
 answer p lands (queries.Read code year month day) = read_answer p lands code year month day
@@ -159,6 +249,7 @@ answer p lands (queries.Easter code year) = easter_answer p lands code year
 answer p lands (queries.YearFigures year) = figures_answer p year
 answer p lands queries.Lands = Lands (map listed lands)
 answer p lands (queries.Periods code) = periods_in_answer p lands code
+answer p lands (queries.Written code date weekday) = written_in_answer p lands code date weekday
 
 -- the refusal that an answer is, if it is one
 abbrev pub refusal_in : Answer → Option Refusal

@@ -1,4 +1,4 @@
--- The query that one with a borrowed code stands for.
+-- The query that one with borrowed texts stands for.
 use Rattle.osn_register.specs.declared.borrowed_query.BorrowedQuery.{BorrowedQuery}
 use Rattle.osn_register.specs.declared.borrowed_query.BorrowedQuery.TheVariants as borrowed
 use Rattle.osn_register.specs.declared.query.Query.{Query}
@@ -11,3 +11,4 @@ as_query (borrowed.Easter code year) = queries.Easter code.now year
 as_query (borrowed.YearFigures year) = queries.YearFigures year
 as_query borrowed.Lands = queries.Lands
 as_query (borrowed.Periods code) = queries.Periods code.now
+as_query (borrowed.Written code date weekday) = queries.Written code.now date.now weekday

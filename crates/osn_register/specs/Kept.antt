@@ -59,7 +59,8 @@ KeepsDay before now =
 
 -- what an answer keeps of the answer of these rules to the same query, where they have its year or
 -- its day: the Easters and the figures of a year and the territories are the same; a reading and a
--- day keep what the rules' own line has; and periods, their starts
+-- day keep what the rules' own line has; and periods, their starts. A date as it is written is
+-- refused alike, and nothing more is said of it
 abbrev pub KeepsAnswer : Profile → List LandModel → Query → Answer → Type 0
 KeepsAnswer p lands (queries.Read code year month day) now =
     IsLabelYear p year
@@ -74,3 +75,5 @@ KeepsAnswer p lands (queries.YearFigures year) now =
 KeepsAnswer p lands queries.Lands now = now ≡ answer p lands queries.Lands
 KeepsAnswer p lands (queries.Periods code) now =
     KeepsDay (answer p lands (queries.Periods code)) now
+KeepsAnswer p lands (queries.Written code date weekday) now =
+    refusal_in now ≡ refusal_in (answer p lands (queries.Written code date weekday))

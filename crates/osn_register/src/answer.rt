@@ -5,6 +5,7 @@ use crate::text::Text;
 use osn_computus::{Epact, Letters};
 use osn_days::{Day, Year};
 use osn_lands::{Label, Period};
+use osn_written::{DateFault, Kind, NoDay};
 
 /// A day as a territory names it: its label and its dual text, under the regime in force on it.
 #[derive(Debug, Drop)]
@@ -29,6 +30,47 @@ pub type LandList = Listing<Land>;
 
 /// The periods of a territory, in ascending order.
 pub type PeriodList = Listing<Period>;
+
+/// Days that follow one another, by the first and the last of them.
+#[derive(Debug, Drop)]
+pub struct FoundRun {
+    pub first: Found,
+    pub last: Found,
+}
+
+/// Runs of days, in ascending order.
+pub type RunList = Listing<FoundRun>;
+
+/// Why a text means no day in a territory.
+#[derive(Clone, Copy, Debug, PartialEq, Eq, Drop)]
+pub enum Reason {
+    /// The text is no date, or says that there is none.
+    NotRead(DateFault),
+    /// The date means no day of the territory.
+    NoDay(NoDay),
+}
+
+/// What a text means as a date in a territory.
+#[derive(Debug, Drop)]
+pub struct WrittenAnswer {
+    /// What kind of date the text is, where it is one.
+    pub kind: Option<Kind>,
+    /// The text says that the date is approximate.
+    pub is_approximate: bool,
+    /// The text says that the date is uncertain.
+    pub is_uncertain: bool,
+    /// The text says that the date is supplied.
+    pub is_supplied: bool,
+    /// The date names a calendar, and means other days by it than by the territory's reckoning.
+    pub is_by_other_calendar: bool,
+    /// Why it means no day, where it means none.
+    pub reason: Option<Reason>,
+    /// The days that it means, by the calendar that it names, as the territory names them.
+    pub runs: RunList,
+    /// Whether one of the days is of each weekday that is named or given, where one is and the
+    /// date is that of one day.
+    pub is_on_weekday: Option<bool>,
+}
 
 /// What the register answers to a query.
 #[derive(Debug, Drop)]
@@ -65,6 +107,8 @@ pub enum Answer {
     Lands(LandList),
     /// The periods of a territory.
     Periods(PeriodList),
+    /// What a date means as it is written.
+    Written(WrittenAnswer),
     /// The query is refused.
     Refused(Refusal),
 }

@@ -1,14 +1,15 @@
-//! A query whose code is borrowed.
+//! A query whose texts are borrowed.
 ghost use Rattle.std.specs.Prelude.{◌≡◌, true, IfOk, OnErr};
 ghost use Rattle.osn_register.specs.Query.{names_land};
 ghost use Rattle.osn_register.specs.BorrowedQuery.{as_query};
 
 use crate::query::Query;
 use crate::text::Text;
+use osn_days::Weekday;
 use std::alloc::{AllocError, Global};
 
-/// A `Query` whose code is borrowed, so that it takes no memory. Its variants are those of `Query`,
-/// with their members in the same order.
+/// A `Query` whose texts are borrowed, so that it takes no memory. Its variants are those of
+/// `Query`, with their members in the same order.
 #[derive(Clone, Copy, Debug, Drop)]
 pub enum BorrowedQuery<'a> {
     Read(&'a str, i64, i64, i64),
@@ -17,10 +18,11 @@ pub enum BorrowedQuery<'a> {
     YearFigures(i64),
     Lands,
     Periods(&'a str),
+    Written(&'a str, &'a str, Option<Weekday>),
 }
 
 impl<'a> BorrowedQuery<'a> {
-    /// The query that it stands for, with a code of its own.
+    /// The query that it stands for, with texts of its own.
     ///
     /// # Errors
     ///
@@ -48,6 +50,11 @@ impl<'a> BorrowedQuery<'a> {
             BorrowedQuery::Lands => Query::Lands,
             BorrowedQuery::Periods(code) => Query::Periods {
                 code: Text::from_str(alloc, code)?,
+            },
+            BorrowedQuery::Written(code, date, weekday) => Query::Written {
+                code: Text::from_str(alloc, code)?,
+                date: Text::from_str(alloc, date)?,
+                weekday,
             },
         })
     }

@@ -20,8 +20,11 @@ mod register;
 mod territory_answer;
 mod text;
 mod unanswered;
+mod written_answer;
 
-pub use answer::{Answer, Found, FoundList, Land, LandList, PeriodList};
+pub use answer::{
+    Answer, Found, FoundList, FoundRun, Land, LandList, PeriodList, Reason, RunList, WrittenAnswer,
+};
 pub use borrowed_query::BorrowedQuery;
 pub use edit::Edit;
 pub use limits::Limits;

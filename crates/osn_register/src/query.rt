@@ -5,6 +5,7 @@ ghost use Rattle.osn_register.specs.BorrowedQuery.{as_query};
 
 use crate::borrowed_query::BorrowedQuery;
 use crate::text::Text;
+use osn_days::Weekday;
 use std::alloc::AllocError;
 
 /// A question to the register.
@@ -38,6 +39,13 @@ pub enum Query {
     Periods {
         code: Text,
     },
+    /// Which days a date means in a territory, as the date is written, and whether they are of a
+    /// weekday, where one is given.
+    Written {
+        code: Text,
+        date: Text,
+        weekday: Option<Weekday>,
+    },
 }
 
 impl Query {
@@ -56,11 +64,12 @@ impl Query {
             Query::Read { code, .. }
             | Query::DayIn { code, .. }
             | Query::Easter { code, .. }
-            | Query::Periods { code } => self.borrowed().to_query(code.allocator()),
+            | Query::Periods { code }
+            | Query::Written { code, .. } => self.borrowed().to_query(code.allocator()),
         }
     }
 
-    /// This query, with its code borrowed.
+    /// This query, with its texts borrowed.
     pub fn borrowed(&self) -> BorrowedQuery<'_>
         ensures { as_query result ≡ self.now }
     {
@@ -76,6 +85,11 @@ impl Query {
             Query::YearFigures { year } => BorrowedQuery::YearFigures(*year),
             Query::Lands => BorrowedQuery::Lands,
             Query::Periods { code } => BorrowedQuery::Periods(code.as_str()),
+            Query::Written {
+                code,
+                date,
+                weekday,
+            } => BorrowedQuery::Written(code.as_str(), date.as_str(), *weekday),
         }
     }
 }

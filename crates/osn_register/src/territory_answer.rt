@@ -33,14 +33,21 @@ fn found_under(alloc: Global, regime: Regime, day: Day, label: Label) -> Result<
     })
 }
 
+/// A day as the territory names it.
+pub(crate) fn found_on(alloc: Global, territory: &Territory, day: Day) -> Result<Found, AllocError>
+    ensures { IfOk result (λ f. f ≡ spec.found_on newest_rules territory.now day) }
+{
+    let regime = territory.regime_at(day);
+    found_under(alloc, regime, day, label_of(regime, day))
+}
+
 /// Days as the territory names them.
 fn found_days(alloc: Global, territory: &Territory, days: &[Day]) -> Result<Vec<Found>, AllocError>
     ensures { IfOk result (λ v. v.items ≡ map (spec.found_on newest_rules territory.now) days.now) }
 {
     let mut found = Vec::with_capacity(alloc, days.len())?;
     for day in days {
-        let regime = territory.regime_at(*day);
-        found.push(found_under(alloc, regime, *day, label_of(regime, *day))?)?;
+        found.push(found_on(alloc, territory, *day)?)?;
     }
     Ok(found)
 }

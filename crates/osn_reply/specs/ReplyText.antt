@@ -1,7 +1,7 @@
 -- The JSON value of each outcome, and the line that is its text: this project's profile. The
 -- members of an object stand in ascending order of their names.
-use Rattle.std.specs.Prelude.{ℕ, Bool, List, [], ◌∷◌, ◌++◌, map, codes}
-use Rattle.serde_json.specs.Data.{Data, boolean, string, object, member, no_members}
+use Rattle.std.specs.Prelude.{ℕ, Bool, List, [], ◌∷◌, ◌++◌, map, codes, Option, Some, None}
+use Rattle.serde_json.specs.Data.{Data, null, boolean, string, object, member, no_members}
 use Rattle.serde_json.specs.Written.{compact_text}
 use Rattle.osn_computus.specs.declared.letters.Letters.{Letters}
 use Rattle.osn_computus.specs.FigureTexts.{epact_text, letters_text}
@@ -15,10 +15,17 @@ use Rattle.osn_days.specs.CalendarWords.{calendar_word}
 use Rattle.osn_lands.specs.declared.regime.Regime.{Regime}
 use Rattle.osn_lands.specs.declared.period.Period.{Period}
 use Rattle.osn_lands.specs.StyleWords.{style_word}
+use Rattle.osn_written.specs.declared.kind.Kind.{Kind}
+use Rattle.osn_written.specs.Kind.{kind_word}
+use Rattle.osn_written.specs.Words.{no_day_words, fault_words}
 use Rattle.osn_register.specs.declared.answer.Answer.{Answer}
 use Rattle.osn_register.specs.declared.answer.Answer.TheVariants as answers
 use Rattle.osn_register.specs.declared.answer.Found.{Found}
+use Rattle.osn_register.specs.declared.answer.FoundRun.{FoundRun}
 use Rattle.osn_register.specs.declared.answer.Land.{Land}
+use Rattle.osn_register.specs.declared.answer.Reason.{Reason}
+use Rattle.osn_register.specs.declared.answer.Reason.TheVariants.{NotRead, NoDay}
+use Rattle.osn_register.specs.declared.answer.WrittenAnswer.{WrittenAnswer}
 use Rattle.osn_register.specs.Refusal.{refusal_number, refusal_name}
 use Rattle.osn_format.specs.declared.wire_fault.WireFault.{WireFault}
 use Rattle.osn_format.specs.declared.wire_fault.WireFault.TheVariants as faults
@@ -113,6 +120,44 @@ abbrev pub periods_data : List Period → Data
 periods_data periods =
     object (member (codes "periods") (list_data (map period_data periods)) no_members)
 
+-- a value, or null where there is none
+abbrev pub option_data : {A : Type 0} → (A → Data) → Option A → Data
+option_data shown None = null
+option_data shown (Some x) = shown x
+
+-- the word of a date's kind
+abbrev pub word_of_kind : Option Kind → List ℕ
+word_of_kind None = codes "none"
+word_of_kind (Some kind) = kind_word kind
+
+-- why a text means no day, in a few words
+abbrev pub reason_words : Reason → List ℕ
+reason_words (NotRead fault) = fault_words fault
+reason_words (NoDay none) = no_day_words none
+
+abbrev pub reason_data : Reason → Data
+reason_data reason = string (reason_words reason)
+
+-- days that follow one another, by the first and the last of them
+abbrev pub found_run_data : FoundRun → Data
+found_run_data run = object (
+    member (codes "first") (found_data run.first)
+    (member (codes "last") (found_data run.last)
+    no_members))
+
+-- what a text means as a date
+abbrev pub written_data : WrittenAnswer → Data
+written_data w = object (
+    member (codes "approximate") (boolean w.is_approximate)
+    (member (codes "kind") (string (word_of_kind w.kind))
+    (member (codes "other_calendar") (boolean w.is_by_other_calendar)
+    (member (codes "reason") (option_data reason_data w.reason)
+    (member (codes "runs") (list_data (map found_run_data w.runs))
+    (member (codes "supplied") (boolean w.is_supplied)
+    (member (codes "uncertain") (boolean w.is_uncertain)
+    (member (codes "weekday") (option_data boolean w.is_on_weekday)
+    no_members))))))))
+
 abbrev pub answered_data : ℕ → ℕ → Data → Data
 answered_data reader edition answer = object (
     member (codes "answer") answer
@@ -137,6 +182,8 @@ replied_data reader edition
 replied_data reader edition (answers.Lands lands) = answered_data reader edition (lands_data lands)
 replied_data reader edition (answers.Periods periods) =
     answered_data reader edition (periods_data periods)
+replied_data reader edition (answers.Written written) =
+    answered_data reader edition (written_data written)
 replied_data reader edition (answers.Refused f) = object (
     member (codes "edition") (whole edition)
     (member (codes "fault") (whole (refusal_number f))

@@ -16,6 +16,7 @@ mod period;
 mod step_out;
 mod transcript_record;
 mod write_json;
+mod written;
 
 use crate::line_writer::LineWriter;
 use crate::outcome::Outcome;

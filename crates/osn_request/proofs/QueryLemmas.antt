@@ -49,6 +49,7 @@ asked_by_code readers ops.Read d asked is names = refl
 asked_by_code readers ops.DayIn d asked is names = refl
 asked_by_code readers ops.Easter d asked is names = refl
 asked_by_code readers ops.Periods d asked is names = refl
+asked_by_code readers ops.Written d asked is names = refl
 asked_by_code readers ops.YearFigures d asked is names =
     sym (subst NamesNone is (figures_asked readers d)) ∙ names
 asked_by_code readers ops.Lands d asked is names =

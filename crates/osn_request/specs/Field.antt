@@ -1,14 +1,17 @@
 -- The members of a line's object by their types, or the first that is missing, of another type or
 -- not one of its words: this project's profile, over the value that `serde_json` reads.
-use Rattle.std.specs.Prelude.{ℕ, ℤ, List, Option, Some, None, option_and_then, Result, Ok, Err}
+use Rattle.std.specs.Prelude.{ℕ, ℤ, Bool, true, false, List, Option, Some, None, is_some}
+use Rattle.std.specs.Prelude.{option_and_then, Result, Ok, Err}
 use Rattle.serde_json.specs.Data.{Data}
 use Rattle.serde_json.specs.Find.{get, as_str, as_number, as_i64}
 use Rattle.osn_days.specs.Profile.{Profile}
 use Rattle.osn_days.specs.CalendarWords.{calendar_named}
+use Rattle.osn_days.specs.declared.weekday.Weekday.{Weekday}
 use Rattle.osn_computus.specs.RuleWords.{rule_named}
 use Rattle.osn_lands.specs.declared.regime.Regime.{Regime}
 use Rattle.osn_lands.specs.declared.style.Style.{Style}
 use Rattle.osn_lands.specs.StyleWords.{style_named}
+use Rattle.osn_written.specs.WrittenDate.{weekday_named}
 use Rattle.osn_format.specs.declared.member.Member.{Member}
 use Rattle.osn_format.specs.declared.member.Member.TheVariants as members
 use Rattle.osn_format.specs.declared.wire_fault.WireFault.{WireFault}
@@ -39,6 +42,15 @@ whole_at m d =
 -- a member that is one of some words
 abbrev pub word_at : {A : Type 0} → Member → (List ℕ → Option A) → Data → Result A WireFault
 word_at m named d = text_at m d >>= λ word. or_fault (BadField m) (named word)
+
+-- the weekday that a member names, where the member is there
+abbrev pub weekday_if : Bool → Data → Result (Option Weekday) WireFault
+weekday_if false d = Ok None
+weekday_if true d = word_at members.Weekday weekday_named d >>= λ weekday. Ok (Some weekday)
+
+-- the weekday of a member that may be left out, by its English name in letters of any case
+abbrev pub weekday_at : Data → Result (Option Weekday) WireFault
+weekday_at d = weekday_if (is_some (get (member_name members.Weekday) d)) d
 
 -- the member that is a style's word, where the rules have it
 abbrev pub style_at : Profile → Data → Result Style WireFault

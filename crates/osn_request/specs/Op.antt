@@ -26,6 +26,7 @@ op_named = meaning (
     ∷ (codes "figures", Query queries.YearFigures)
     ∷ (codes "lands", Query queries.Lands)
     ∷ (codes "periods", Query queries.Periods)
+    ∷ (codes "written", Query queries.Written)
     ∷ [])
 
 -- what the object of a line asks for

@@ -12,7 +12,7 @@ use Rattle.osn_request.specs.declared.request.op.QueryOp.{QueryOp}
 use Rattle.osn_request.specs.declared.request.op.QueryOp.TheVariants as ops
 use Rattle.osn_format.specs.declared.wire_fault.WireFault.{WireFault}
 use Rattle.osn_format.specs.declared.wire_fault.WireFault.TheVariants.{UnknownReader}
-use Rattle.osn_request.specs.Field.{◌>>=◌, text_at, whole_at}
+use Rattle.osn_request.specs.Field.{◌>>=◌, text_at, weekday_at, whole_at}
 
 -- the readers are counted from 1
 abbrev pub reader_in : ℕ → ℤ → Result ℕ WireFault
@@ -49,6 +49,13 @@ periods_of d = do
   code ← text_at members.Code d
   Ok (queries.Periods code)
 
+unfoldable pub written_of : Data → Result Query WireFault
+written_of d = do
+  code ← text_at members.Code d
+  date ← text_at members.Date d
+  weekday ← weekday_at d
+  Ok (queries.Written code date weekday)
+
 -- the query of an object that asks for this one, without the reader who asks it
 abbrev pub query_by : QueryOp → Data → Result Query WireFault
 query_by ops.Read d = read_of d
@@ -57,6 +64,7 @@ query_by ops.Easter d = easter_of d
 query_by ops.YearFigures d = year_figures_of d
 query_by ops.Lands d = Ok queries.Lands
 query_by ops.Periods d = periods_of d
+query_by ops.Written d = written_of d
 
 -- a query that has a territory's code
 abbrev pub has_code : QueryOp → Bool
@@ -66,6 +74,7 @@ has_code ops.Easter = true
 has_code ops.YearFigures = false
 has_code ops.Lands = false
 has_code ops.Periods = true
+has_code ops.Written = true
 
 -- the number of the reader who asks, and the query
 unfoldable pub query_of : ℕ → QueryOp → Data → Result (ℕ × Query) WireFault

@@ -19,6 +19,8 @@ use crate::register::Register;
 use crate::territory_answer::{easters, on_day, periods, reading};
 use crate::text::Text;
 use crate::unanswered::Unanswered;
+use crate::written_answer::written;
+use osn_days::Weekday;
 use std::alloc::{AllocError, Global};
 
 /// A territory as it is listed.
@@ -98,6 +100,7 @@ impl Register {
             BorrowedQuery::YearFigures(year) => Ok(figures(year_in_range(year)?)),
             BorrowedQuery::Lands => Ok(Answer::Lands(Listing::new(self.listed()?))),
             BorrowedQuery::Periods(code) => self.periods(code),
+            BorrowedQuery::Written(code, date, weekday) => self.written(code, date, weekday),
         }
     }
 
@@ -138,6 +141,20 @@ impl Register {
     {
         let territory = self.known_territory(code)?;
         Ok(periods(self.alloc, territory)?)
+    }
+
+    fn written(
+        &self,
+        code: &str,
+        date: &str,
+        weekday: Option<Weekday>,
+    ) -> Result<Answer, Unanswered>
+        ensures { IsAnswered
+            (code_refusal self.now.lands code.now)
+            (spec.written_in_answer newest_rules self.now.lands code.now date.now weekday) result }
+    {
+        let territory = self.known_territory(code)?;
+        Ok(written(self.alloc, territory, date, weekday)?)
     }
 
     /// The territories with their names, in the order in which they were added.

@@ -7,6 +7,7 @@ ghost use Rattle.osn_reply.specs.ReplyText as spec;
 use crate::line_writer::LineWriter;
 use crate::reply::figures::Reckoning;
 use crate::reply::write_json::{WriteJson, write_flag, write_list, write_member};
+use crate::reply::written::write_written;
 use osn_computus::Epact;
 use osn_core::Reply;
 use osn_days::{Day, Year};
@@ -165,6 +166,7 @@ pub(crate) fn write_reply(
         }
         Answer::Lands(lands) => write_lands(out, lands.as_slice()),
         Answer::Periods(periods) => write_periods(out, periods.as_slice()),
+        Answer::Written(written) => write_written(out, written),
         Answer::Refused(refusal) => return write_refused(out, reader, edition, *refusal),
     };
     begun?;

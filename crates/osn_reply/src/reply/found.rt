@@ -1,11 +1,11 @@
-//! Days and territories in a reply.
-ghost use Rattle.osn_reply.specs.ReplyText.{found_data, land_data};
+//! Days, runs of them and territories in a reply.
+ghost use Rattle.osn_reply.specs.ReplyText.{found_data, found_run_data, land_data};
 
 use crate::line_writer::LineWriter;
 use crate::reply::date::{write_date_of, write_label};
-use crate::reply::write_json::WriteJson;
+use crate::reply::write_json::{WriteJson, write_member};
 use osn_days::Calendar;
-use osn_register::{Found, Land};
+use osn_register::{Found, FoundRun, Land};
 use std::alloc::AllocError;
 
 impl WriteJson for Found {
@@ -20,6 +20,16 @@ impl WriteJson for Found {
         write_date_of(out, r#","julian":"#, Calendar::Julian, day)?;
         write_label(out, r#","label":"#, self.label)?;
         out.push_text(r#","weekday":"#, day.weekday().name())?;
+        out.push("}")
+    }
+}
+
+impl WriteJson for FoundRun {
+    ghost shown = { found_run_data };
+
+    fn write_json(&self, out: &mut LineWriter) -> Result<(), AllocError> {
+        write_member(out, r#"{"first":"#, &self.first)?;
+        write_member(out, r#","last":"#, &self.last)?;
         out.push("}")
     }
 }

@@ -8,6 +8,7 @@ use crate::line_writer::LineWriter;
 use crate::reply::answer::write_reply;
 use crate::reply::write_json::WriteJson;
 use osn_core::Reply;
+use osn_days::Weekday;
 use osn_register::{Query, Text};
 use std::alloc::AllocError;
 
@@ -88,6 +89,30 @@ fn write_periods(out: &mut LineWriter, reader: u32, code: &Text) -> Result<(), A
     out.push("}")
 }
 
+fn write_written(
+    out: &mut LineWriter,
+    reader: u32,
+    code: &Text,
+    date: &Text,
+    weekday: Option<Weekday>,
+) -> Result<(), AllocError>
+    ensures text { OnOk result (out.new.text ≡ out.old.text
+        ++ compact_text (spec.query_data reader (queries.Written code.now date.now weekday))) }
+    ensures before { out.new.before ≡ out.old.before }
+{
+    out.push_text(r#"{"code":"#, code.as_str())?;
+    out.push_text(r#","date":"#, date.as_str())?;
+    out.push_text(r#","op":"#, "written")?;
+    out.push_number(r#","reader":"#, reader)?;
+    match weekday {
+        Some(weekday) => {
+            out.push_text(r#","weekday":"#, weekday.name())?;
+            out.push("}")
+        }
+        None => out.push("}"),
+    }
+}
+
 fn write_query(out: &mut LineWriter, reader: u32, query: &Query) -> Result<(), AllocError>
     ensures text { OnOk result (out.new.text ≡ out.old.text
         ++ compact_text (spec.query_data reader query.now)) }
@@ -105,6 +130,11 @@ fn write_query(out: &mut LineWriter, reader: u32, query: &Query) -> Result<(), A
         Query::YearFigures { year } => write_figures(out, reader, *year),
         Query::Lands => write_lands(out, reader),
         Query::Periods { code } => write_periods(out, reader, code),
+        Query::Written {
+            code,
+            date,
+            weekday,
+        } => write_written(out, reader, code, date, *weekday),
     }
 }
 

@@ -3,6 +3,7 @@ ghost use Rattle.std.specs.Prelude.{◌≡◌, ◌++◌, OnOk, map};
 ghost use Rattle.serde_json.specs.Data.{Data, boolean};
 ghost use Rattle.serde_json.specs.Written.{compact_text, comma_if};
 ghost use Rattle.osn_format.specs.Json.{whole, list_data};
+ghost use Rattle.osn_reply.specs.ReplyText.{option_data};
 
 use crate::line_writer::LineWriter;
 use osn_days::Day;
@@ -25,6 +26,26 @@ impl WriteJson for Day {
 
     fn write_json(&self, out: &mut LineWriter) -> Result<(), AllocError> {
         out.push_number("", self.number())
+    }
+}
+
+impl WriteJson for bool {
+    ghost shown = { boolean };
+
+    fn write_json(&self, out: &mut LineWriter) -> Result<(), AllocError> {
+        out.push(if *self { "true" } else { "false" })
+    }
+}
+
+// A value, or null where there is none.
+impl<J: WriteJson> WriteJson for Option<J> {
+    ghost shown = { option_data J.shown };
+
+    fn write_json(&self, out: &mut LineWriter) -> Result<(), AllocError> {
+        match self {
+            Some(value) => value.write_json(out),
+            None => out.push("null"),
+        }
     }
 }
 

@@ -1,12 +1,15 @@
 //! The members of a line's object, by their types.
 ghost use Rattle.std.specs.Prelude.{◌≡◌, MatchResult, Ok, Err};
+ghost use Rattle.osn_written.specs.WrittenDate.{weekday_named};
+ghost use Rattle.osn_format.specs.declared.member.Member.TheVariants as members;
 ghost use Rattle.osn_request.specs.Field as spec;
 ghost use Rattle.osn_format.specs.Version.{rules_of};
 
 use crate::request::json_object::JsonObject;
-use osn_days::Keyword;
+use osn_days::{Keyword, Weekday};
 use osn_format::{Member, Version, WireFault};
 use osn_lands::{Regime, Style};
+use osn_written::weekday_named;
 
 /// A member that is a text.
 pub fn text_at<O: JsonObject>(object: &O, member: Member) -> Result<&str, WireFault>
@@ -38,6 +41,26 @@ fn word_at<O: JsonObject, W: Keyword>(object: &O, member: Member) -> Result<W, W
         Some(meaning) => Ok(meaning),
         None => Err(WireFault::BadField(member)),
     }
+}
+
+/// The weekday that a member names, which has to be there.
+fn named_weekday_at<O: JsonObject>(object: &O) -> Result<Weekday, WireFault>
+    ensures { result ≡ spec.word_at members.Weekday weekday_named (O.value object.now) }
+{
+    match weekday_named(text_at(object, Member::Weekday)?) {
+        Some(weekday) => Ok(weekday),
+        None => Err(WireFault::BadField(Member::Weekday)),
+    }
+}
+
+/// The weekday of a member that may be left out, by its English name in letters of any case.
+pub fn weekday_at<O: JsonObject>(object: &O) -> Result<Option<Weekday>, WireFault>
+    ensures { result ≡ spec.weekday_at (O.value object.now) }
+{
+    if !object.has(Member::Weekday.name()) {
+        return Ok(None);
+    }
+    Ok(Some(named_weekday_at(object)?))
 }
 
 /// The style that a member gives, if its word is one of the version's.

@@ -63,6 +63,10 @@ impl<'a> JsonObject for FlatObject<'a> {
 
     ghost value = { λ f. object (flat_members f) };
 
+    fn has(&self, name: &str) -> bool {
+        self.find(name).is_some()
+    }
+
     fn text(&self, name: &str) -> Option<&str> {
         match self.find(name) {
             Some(Scalar::Text(text)) => Some(text),

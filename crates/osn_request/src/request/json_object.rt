@@ -1,5 +1,5 @@
-//! What is asked of a line's object: its texts and its whole numbers.
-ghost use Rattle.std.specs.Prelude.{◌≡◌, option_and_then, option_map};
+//! What is asked of a line's object: which members it has, its texts and its whole numbers.
+ghost use Rattle.std.specs.Prelude.{◌≡◌, is_some, option_and_then, option_map};
 ghost use Rattle.serde_json.specs.Data.{Data};
 ghost use Rattle.serde_json.specs.Find.{as_i64, as_number, as_str, get};
 
@@ -9,6 +9,10 @@ use serde_json::Value;
 pub trait JsonObject {
     // The value that it is.
     ghost value: { Self → Data };
+
+    /// Whether it has a member.
+    fn has(&self, name: &str) -> bool
+        ensures { result ≡ is_some (get name.now (value self.now)) };
 
     /// A member that is a text.
     fn text(&self, name: &str) -> Option<&str>
@@ -25,6 +29,10 @@ impl JsonObject for Value {
     ghost use Rattle.serde_json.specs.View.{view};
 
     ghost value = { view };
+
+    fn has(&self, name: &str) -> bool {
+        self.get(name).is_some()
+    }
 
     fn text(&self, name: &str) -> Option<&str> {
         self.get(name).and_then(Value::as_str)

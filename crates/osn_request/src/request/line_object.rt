@@ -36,6 +36,13 @@ impl<'a> JsonObject for LineObject<'a> {
 
     ghost value = { line_data };
 
+    fn has(&self, name: &str) -> bool {
+        match self {
+            LineObject::Flat(object) => object.has(name),
+            LineObject::Tree(value) => value.has(name),
+        }
+    }
+
     fn text(&self, name: &str) -> Option<&str> {
         match self {
             LineObject::Flat(object) => object.text(name),

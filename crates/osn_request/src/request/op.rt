@@ -34,6 +34,7 @@ pub enum QueryOp {
     YearFigures,
     Lands,
     Periods,
+    Written,
 }
 
 fn op_named(word: &str) -> Option<Op>
@@ -53,6 +54,7 @@ fn op_named(word: &str) -> Option<Op>
         "figures" => Some(Op::Query(QueryOp::YearFigures)),
         "lands" => Some(Op::Query(QueryOp::Lands)),
         "periods" => Some(Op::Query(QueryOp::Periods)),
+        "written" => Some(Op::Query(QueryOp::Written)),
         _ => None,
     }
 }

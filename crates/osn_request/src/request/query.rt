@@ -7,7 +7,7 @@ ghost use Rattle.osn_request.specs.QueryRequest as spec;
 ghost use Rattle.osn_request.specs.Request.{GivesLast};
 
 use crate::request::RequestError;
-use crate::request::field::{text_at, whole_at};
+use crate::request::field::{text_at, weekday_at, whole_at};
 use crate::request::json_object::JsonObject;
 use crate::request::op::QueryOp;
 use osn_format::{Member, WireFault};
@@ -73,6 +73,16 @@ fn year_figures_of<O: JsonObject>(object: &O) -> Result<BorrowedQuery<'_>, WireF
     Ok(BorrowedQuery::YearFigures(year))
 }
 
+#[tactic(auto, unfolding(crate::specs::QueryRequest::written_of))]
+fn written_of<O: JsonObject>(object: &O) -> Result<BorrowedQuery<'_>, WireFault>
+    ensures { spec.Reads result (spec.written_of (O.value object.now)) }
+{
+    let code = text_at(object, Member::Code)?;
+    let date = text_at(object, Member::Date)?;
+    let weekday = weekday_at(object)?;
+    Ok(BorrowedQuery::Written(code, date, weekday))
+}
+
 /// The query of a line's object by itself, without the reader who asks it.
 fn query_by<O: JsonObject>(op: QueryOp, object: &O) -> Result<BorrowedQuery<'_>, WireFault>
     ensures { spec.Reads result (spec.query_by op (O.value object.now)) }
@@ -84,11 +94,12 @@ fn query_by<O: JsonObject>(op: QueryOp, object: &O) -> Result<BorrowedQuery<'_>,
         QueryOp::YearFigures => year_figures_of(object),
         QueryOp::Lands => Ok(BorrowedQuery::Lands),
         QueryOp::Periods => periods_of(object),
+        QueryOp::Written => written_of(object),
     }
 }
 
-/// The number of the reader who asks, and the query of a line's object, whose code stays where it
-/// is in the object.
+/// The number of the reader who asks, and the query of a line's object, whose texts stay where they
+/// are in the object.
 #[tactic(auto, unfolding(crate::specs::QueryRequest::query_of))]
 pub fn borrowed_query_of<O: JsonObject>(
     readers: u32,
@@ -111,7 +122,7 @@ pub fn borrowed_query_of<O: JsonObject>(
 /// readers.
 ///
 /// # Errors
-/// Memory is taken for the code of a query that has one, once every member was found good.
+/// Memory is taken for the texts of a query that has a code, once every member was found good.
 pub fn query_of<O: JsonObject>(
     alloc: Global,
     readers: u32,

@@ -54,4 +54,8 @@ returns-clause-text c =
           (ap (λ l. spec.periods_data l) w.as_slice-in-Periods.ensures)
           (ap (λ v. v.text) w.out-is
           ∙ given _ _ _ c.in_ok-begun.was w.begun-is w.write_periods-begun.ensures.text) e)
+      | goal.in-Written w ↦
+          rw w.in-Written.is (reply _ (spec.written_data w.in-Written.written) refl
+          (ap (λ v. v.text) w.out-is
+          ∙ given _ _ _ c.in_ok-begun.was w.begun-is w.write_written-begun.ensures.text) e)
     ])

@@ -1,0 +1,181 @@
+//! The answer about a date as it is written.
+ghost use Rattle.std.specs.Prelude.{◌≡◌, Some, IfOk, map};
+ghost use Rattle.osn_days.specs.Profile.{newest_rules};
+ghost use Rattle.osn_register.specs.Answer as spec;
+ghost use Rattle.osn_written.specs.Finding as finding;
+
+use crate::answer::{Answer, FoundRun, Reason, WrittenAnswer};
+use crate::listing::Listing;
+use crate::territory_answer::found_on;
+use osn_days::Weekday;
+use osn_grammar::{DateOrder, Written, WrittenDate as AnyDate};
+use osn_lands::{Run, Territory};
+use osn_written::{
+    DateFault, NoDay, WrittenDate, by_reckoning, days_meant, find_runs, has_weekday,
+    is_by_other_calendar, kind_of, read_date,
+};
+use std::alloc::{AllocError, Global};
+
+/// A run by its first and its last day, as the territory names them.
+fn found_run(alloc: Global, territory: &Territory, run: Run) -> Result<FoundRun, AllocError>
+    ensures { IfOk result (λ f. f ≡ spec.found_run newest_rules territory.now run) }
+{
+    Ok(FoundRun {
+        first: found_on(alloc, territory, run.first)?,
+        last: found_on(alloc, territory, run.last)?,
+    })
+}
+
+/// Runs by their first and their last days, as the territory names them.
+fn found_runs(
+    alloc: Global,
+    territory: &Territory,
+    runs: &[Run],
+) -> Result<Vec<FoundRun>, AllocError>
+    ensures { IfOk result (λ v.
+        v.items ≡ map (spec.found_run newest_rules territory.now) runs.now) }
+{
+    let mut found = Vec::with_capacity(alloc, runs.len())?;
+    for run in runs {
+        found.push(found_run(alloc, territory, *run)?)?;
+    }
+    Ok(found)
+}
+
+/// The runs that a date means, and why it means none.
+fn runs_and_reason(
+    alloc: Global,
+    territory: &Territory,
+    found: Result<Vec<Run>, NoDay>,
+) -> Result<(Vec<FoundRun>, Option<Reason>), AllocError>
+    ensures runs { IfOk result (λ told. told.0.items
+        ≡ map (spec.found_run newest_rules territory.now) (spec.runs_in (finding.list_of found))) }
+    ensures reason { IfOk result (λ told. told.1 ≡ spec.reason_in (finding.list_of found)) }
+{
+    match found {
+        Ok(runs) => Ok((found_runs(alloc, territory, runs.as_slice())?, None)),
+        Err(no_day) => Ok((Vec::new(alloc), Some(Reason::NoDay(no_day)))),
+    }
+}
+
+/// Whether one of the days that a date means is of the weekday that it names, and of the one that
+/// is given.
+fn is_on_weekday(
+    alloc: Global,
+    territory: &Territory,
+    given: Option<Weekday>,
+    date: WrittenDate,
+) -> Result<bool, AllocError>
+    ensures { IfOk result (λ on.
+        on ≡ spec.is_on_weekday newest_rules territory.now given date) }
+{
+    let days = days_meant(alloc, territory, date, given)?;
+    Ok(days.iter().any(|day| has_weekday(date, given, day)))
+}
+
+/// The same where a weekday is named or given, and the date is that of one day.
+fn if_weekday(
+    alloc: Global,
+    territory: &Territory,
+    date: AnyDate,
+    given: Option<Weekday>,
+) -> Result<Option<bool>, AllocError>
+    ensures { IfOk result (λ on. on ≡ spec.if_weekday newest_rules territory.now date given) }
+{
+    if date.weekday.is_none() && given.is_none() {
+        return Ok(None);
+    }
+    match WrittenDate::of_one_day(date) {
+        Some(day) => Ok(Some(is_on_weekday(alloc, territory, given, day)?)),
+        None => Ok(None),
+    }
+}
+
+/// What a date means by the reckoning of one territory, each day as another one names it.
+fn answer_by(
+    alloc: Global,
+    territory: &Territory,
+    reckoned: &Territory,
+    date: AnyDate,
+    given: Option<Weekday>,
+) -> Result<WrittenAnswer, AllocError>
+    requires { reckoned.now ≡ finding.reckoned territory.now date.reckoning }
+    ensures { IfOk result (λ a. a ≡ spec.date_answer newest_rules territory.now date given) }
+{
+    let found = find_runs(alloc, reckoned, date.extent)?;
+    let (runs, reason) = runs_and_reason(alloc, territory, found)?;
+    Ok(WrittenAnswer {
+        kind: Some(kind_of(date.extent)),
+        is_approximate: date.is_approximate,
+        is_uncertain: date.is_uncertain,
+        is_supplied: date.is_supplied,
+        is_by_other_calendar: is_by_other_calendar(alloc, territory, date)?,
+        reason,
+        runs: Listing::new(runs),
+        is_on_weekday: if_weekday(alloc, reckoned, date, given)?,
+    })
+}
+
+/// What a date means in a territory, by the calendar that it names.
+fn date_answer(
+    alloc: Global,
+    territory: &Territory,
+    date: AnyDate,
+    given: Option<Weekday>,
+) -> Result<WrittenAnswer, AllocError>
+    ensures { IfOk result (λ a. a ≡ spec.date_answer newest_rules territory.now date given) }
+{
+    match date.reckoning {
+        None => answer_by(alloc, territory, territory, date, given),
+        Some(reckoning) => {
+            let reckoned = by_reckoning(alloc, territory, reckoning)?;
+            answer_by(alloc, territory, &reckoned, date, given)
+        }
+    }
+}
+
+/// What is told where no date is read.
+fn no_date(alloc: Global, fault: DateFault) -> WrittenAnswer
+    ensures { result ≡ spec.no_date fault }
+{
+    WrittenAnswer {
+        kind: None,
+        is_approximate: false,
+        is_uncertain: false,
+        is_supplied: false,
+        is_by_other_calendar: false,
+        reason: Some(Reason::NotRead(fault)),
+        runs: Listing::new(Vec::new(alloc)),
+        is_on_weekday: None,
+    }
+}
+
+/// What is told of what a text says.
+fn said_answer(
+    alloc: Global,
+    territory: &Territory,
+    said: Result<Written, DateFault>,
+    given: Option<Weekday>,
+) -> Result<WrittenAnswer, AllocError>
+    ensures { IfOk result (λ a. a ≡ spec.said_answer newest_rules territory.now said given) }
+{
+    match said {
+        Ok(Written::Date(date)) => date_answer(alloc, territory, date, given),
+        Ok(Written::NoDate) => Ok(no_date(alloc, DateFault::NoDate)),
+        Err(fault) => Ok(no_date(alloc, fault)),
+    }
+}
+
+/// What a text means as a date in a territory.
+pub(crate) fn written(
+    alloc: Global,
+    territory: &Territory,
+    text: &str,
+    given: Option<Weekday>,
+) -> Result<Answer, AllocError>
+    ensures { IfOk result (λ a.
+        a ≡ spec.written_answer newest_rules (Some territory.now) text.now given) }
+{
+    let said = read_date(alloc, text, DateOrder::Unknown)?;
+    Ok(Answer::Written(said_answer(alloc, territory, said, given)?))
+}
