@@ -14,10 +14,12 @@ invariant_of-result c = covers_of c.in_ok-julian_periods.field-0.items c.as_slic
 pub returns : goal.returns
 returns c =
     let starts : map start_of c.in_ok-julian_periods.field-0.items
-        ≡ map (λ s. (s.0, by_julian s.1)) (map start_of c.self.inside.periods.items) =
-        starts_of c.in_ok-julian_periods.field-0.items c.as_slice.result.now
-        c.self.inside.periods.items c.in_ok-julian_periods.ensures c.as_slice.ensures.value in
-    ap (λ entries. record { starts = map start_of c.in_ok-julian_periods.field-0.items;
-      exceptions = entries }) c.new.ensures.empty
+    ≡ map (λ s. (s.0, by_julian s.1)) (map start_of c.self.inside.periods.items) =
+    starts_of c.in_ok-julian_periods.field-0.items c.as_slice.result.now
+    c.self.inside.periods.items c.in_ok-julian_periods.ensures c.as_slice.ensures.value in
+    ap (λ entries. record {
+      starts = map start_of c.in_ok-julian_periods.field-0.items;
+      exceptions = entries;
+    }) c.new.ensures.empty
     ∙ ap (λ starts. record { starts = starts; exceptions = [] }) starts
     ∙ ap in_julian_calendar c.self.view_is
