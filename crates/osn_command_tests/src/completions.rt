@@ -61,7 +61,6 @@ _oldstyle_row letters --weekday TEXT
 _oldstyle_row letters --separator comma semicolon tab
 _oldstyle_row letters --order dmy mdy
 _oldstyle_row letters --strict
-_oldstyle_row letters --summary
 _oldstyle_row letters --limits TEXT
 _oldstyle_row serve
 _oldstyle_row serve --journal FILE

@@ -161,7 +161,6 @@ lack]
 header]
       --order <ORDER>     How a date of three numbers, as 11/2/1731, is read: dmy or mdy
       --strict...         Ends with status 1 where a row has a remark
-      --summary...        Tells standard error at the end how many rows had each remark
       --limits <LIMITS>   The most that the register holds, as lands=5000,changes=200
   -h, --help              Print help
 

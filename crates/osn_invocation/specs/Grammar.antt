@@ -98,13 +98,13 @@ territory_grammar = with_rule
     (optional_arg (codes "code"))
 
 -- `letters JOURNAL [--place NAME] [--date NAME] [--weekday NAME] [--separator NAME]
--- [--order ORDER] [--strict] [--summary]`
+-- [--order ORDER] [--strict]`
 abbrev pub letters_grammar : App
-letters_grammar = with_rule (with_rule (with_rule (with_rule (with_rule (with_rule (with_rule
+letters_grammar = with_rule (with_rule (with_rule (with_rule (with_rule (with_rule
     (with_rule (new_app (codes "letters")) (required_arg (codes "journal")))
     (value_option (codes "place"))) (value_option (codes "date")))
     (value_option (codes "weekday"))) (value_option (codes "separator")))
-    (value_option (codes "order"))) (flag_option (codes "strict"))) (flag_option (codes "summary"))
+    (value_option (codes "order"))) (flag_option (codes "strict"))
 
 -- `audit JOURNAL TRANSCRIPT`
 abbrev pub audit_grammar : App

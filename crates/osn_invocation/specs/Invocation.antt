@@ -38,7 +38,7 @@ pub record ServiceModel : Type 0 where
 
 -- what the letters of a table are asked for: the names of the columns of places and dates, and, if
 -- they are named, that of the weekdays, what separates the fields, and the order of a date's three
--- numbers; whether a remark is a refusal, and whether the remarks are counted
+-- numbers; whether a remark is a refusal
 pub record LettersModel : Type 0 where
   pub place : Text
   pub date : Text
@@ -46,7 +46,6 @@ pub record LettersModel : Type 0 where
   pub separator : Option Text
   pub order : Option Text
   pub strict : Bool
-  pub summary : Bool
 
 -- what a command is asked for: the service by a journal, where to save it, where to keep it, and
 -- the rest; a replay by readers and a schedule; a desk by a script and questions; a page by a
@@ -130,7 +129,6 @@ letters_command given = reading_letters (text_of (codes "journal") given) (recor
   separator = first_of (codes "separator") given;
   order = first_of (codes "order") given;
   strict = is_given (codes "strict") given;
-  summary = is_given (codes "summary") given;
 })
 
 -- a command that prints a page of a journal
@@ -217,7 +215,6 @@ letters_model given = record {
   separator = option_map (λ word. word.now) given.separator;
   order = option_map (λ word. word.now) given.order;
   strict = given.strict;
-  summary = given.summary;
 }
 
 abbrev pub command_model : CommandWords → CommandModel

@@ -227,10 +227,7 @@ fn letters_grammar<'a>(alloc: Global) -> Result<Command<'a>, AllocError>
             "What stands between two fields: comma, semicolon or tab [default: by the header]",
         ))?
         .arg(option_arg(alloc, "order", "ORDER").help(ORDER_HELP))?
-        .arg(flag_arg(alloc, "strict").help("Ends with status 1 where a row has a remark"))?
-        .arg(flag_arg(alloc, "summary").help(
-            "Tells standard error at the end how many rows had each remark",
-        ))
+        .arg(flag_arg(alloc, "strict").help("Ends with status 1 where a row has a remark"))
 }
 
 const LETTERS_EXAMPLE: &str = "Example:

@@ -54,8 +54,6 @@ pub struct LettersOptions<'a> {
     pub order: Option<&'a str>,
     /// Whether a remark is a refusal.
     pub strict: bool,
-    /// Whether the remarks are counted.
-    pub summary: bool,
 }
 
 /// A page of what a journal published, by the words of the command line.
@@ -311,7 +309,6 @@ fn letters_of<'a>(given: &ArgMatches<'a>) -> CommandWords<'a>
             separator: value_of(given, "separator"),
             order: value_of(given, "order"),
             strict: is_given(given, "strict"),
-            summary: is_given(given, "summary"),
         },
     }
 }

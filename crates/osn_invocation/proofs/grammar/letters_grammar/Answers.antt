@@ -24,10 +24,7 @@ returns c =
     c.help-6.ensures c.option_arg-5.ensures in
     let strict = helped c.flag_arg.result c.help-7.result _ _
     c.help-7.ensures c.flag_arg.ensures in
-    let summary = helped c.flag_arg-2.result c.help-8.result _ _
-    c.help-8.ensures c.flag_arg-2.ensures in
     let fifth = one_more_arg _ _ _ _ _ c.in_ok-arg-5.ensures fourth separator in
     let sixth = one_more_arg _ _ _ _ _ c.in_ok-arg-6.ensures fifth order in
-    let seventh = one_more_arg _ _ _ _ _ c.in_ok-arg-7.ensures sixth strict in
-    IfOk-weaker c.arg-8.result _ _
-    (λ new added. one_more_arg _ new _ _ _ added seventh summary) c.arg-8.ensures
+    IfOk-weaker c.arg-7.result _ _
+    (λ new added. one_more_arg _ new _ _ _ added sixth strict) c.arg-7.ensures
