@@ -258,6 +258,7 @@ trimmed-figures (answers.OnDay found period) = tt
 trimmed-figures (answers.Easters found is_listed) = tt
 trimmed-figures (answers.Lands lands) = tt
 trimmed-figures (answers.Periods periods) = tt
+trimmed-figures (answers.Written w) = tt
 trimmed-figures (answers.Refused f) = tt
 
 ends-change : (dual : List ℕ) (day : ℕ) (calendar style rule : List ℕ)
@@ -297,6 +298,7 @@ trimmed-changes p year (answers.OnDay found period) = tt
 trimmed-changes p year (answers.Easters found is_listed) = tt
 trimmed-changes p year (answers.Figures y golden indiction jepact gepact jletters gletters je ge) = tt
 trimmed-changes p year (answers.Lands lands) = tt
+trimmed-changes p year (answers.Written w) = tt
 trimmed-changes p year (answers.Refused f) = tt
 
 ends-day_line : (name : List ℕ) (d : ℕ) (date : List ℕ) → IsTrue (no_space_last date)
@@ -368,6 +370,7 @@ trimmed-easters p lands code
     (answers.Figures y golden indiction jepact gepact jletters gletters je ge) = tt
 trimmed-easters p lands code (answers.Lands others) = tt
 trimmed-easters p lands code (answers.Periods periods) = tt
+trimmed-easters p lands code (answers.Written w) = tt
 trimmed-easters p lands code (answers.Refused f) = tt
 
 ends-month_day : (month : ℕ) (found : Found) → IsTrue (is_trimmed (month_day_line month found))
@@ -389,6 +392,7 @@ trimmed-month month (answers.Figures y golden indiction jepact gepact jletters g
     none-in-month month
 trimmed-month month (answers.Lands lands) = none-in-month month
 trimmed-month month (answers.Periods periods) = none-in-month month
+trimmed-month month (answers.Written w) = none-in-month month
 trimmed-month month (answers.Refused f) = none-in-month month
 
 trimmed-month_lines : (p : Profile) (lands : List LandModel) (code : List ℕ) (year : ℤ) (month : ℕ)
