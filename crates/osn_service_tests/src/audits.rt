@@ -24,7 +24,7 @@ enum End {
 }
 
 /// Transcripts, and how the audit of each ends. The numbers are those of the formats.
-const AUDITS: [(&str, End); 21] = [
+const AUDITS: [(&str, End); 22] = [
     ("", End::Agree(0)),
     (r#"{"reply":{}}"#, End::Refused(Role::Transcript, 1, 34)),
     (
@@ -131,6 +131,18 @@ const AUDITS: [(&str, End); 21] = [
 {"ask":{"op":"read","reader":1,"code":"RM","year":1582,"month":10,"day":4},
   "reply":{"answer":{"days":[{"day":577735,"dual":"4 October 1582","gregorian":"1582-10-14",
   "jdn":2299160,"julian":"1582-10-04","label":"1582-10-04","weekday":"Thursday"}],"skipped":[]},
+  "edition":1,"reader":1}}
+"#,
+        End::Agree(1),
+    ),
+    (
+        r#"
+{"ask":{"code":"RM","date":"4 Oct. 1582","op":"written","reader":1,"weekday":"Thursday"},
+  "reply":{"answer":{"approximate":false,"kind":"day","other_calendar":false,"reason":null,
+  "runs":[{"first":{"day":577735,"dual":"4 October 1582","gregorian":"1582-10-14","jdn":2299160,
+  "julian":"1582-10-04","label":"1582-10-04","weekday":"Thursday"},"last":{"day":577735,
+  "dual":"4 October 1582","gregorian":"1582-10-14","jdn":2299160,"julian":"1582-10-04",
+  "label":"1582-10-04","weekday":"Thursday"}}],"supplied":false,"uncertain":false,"weekday":true},
   "edition":1,"reader":1}}
 "#,
         End::Agree(1),

@@ -67,3 +67,5 @@ mod streams;
 mod takers;
 #[cfg(test)]
 mod whole_writes;
+#[cfg(test)]
+mod written;
