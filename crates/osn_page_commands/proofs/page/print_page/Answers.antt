@@ -12,6 +12,6 @@ returns-in-Ok g c =
     let told = output_of g.E.Sink.contents g.E.Sink.has_failed g.E.Sink.holds_back
     c.args.errors.now c.print.new.errors in
     page_made s c.args.path.now c.args.code.now c.args.asked.now wrote told c.ended.result
-    c.print.result c.in-Ok.lacks_day c.in-Ok.ensures.lawful c.in-Ok.ensures.lacks
+    c.print.result c.in-Ok.field-0.lacks_day c.in-Ok.ensures.lawful c.in-Ok.ensures.lacks
     (c.print.ensures (asked_text s c.args.code.now c.args.asked.now) c.in-Ok.ensures.text)
     c.ended.ensures
