@@ -1,5 +1,5 @@
 -- A run of the program did what its contract says of that.
-use Rattle.std.proofs.Common.{◌≡◌, ◌≢◌, ◌⊎◌, Bool, List, ℕ, Ok, Err, refl, sym, subst, inl, inr}
+use Rattle.std.proofs.Common.{◌≡◌, ◌≢◌, Bool, List, ℕ, Ok, sym, subst, inl, inr}
 use Rattle.clap.specs.Words.{HasKind, fault_of, kind_of}
 use Rattle.clap.specs.declared.error.Error.{Error}
 use Rattle.clap.specs.declared.error.kind.ErrorKind.{ErrorKind}
@@ -30,16 +30,6 @@ pub letters_ran : (limits : Limits) (journal : List ℕ) (words : LettersModel) 
     → ReadsOne journal CanFail d (λ file. PrintsLetters limits file table words.strict i o e status)
     → Runs limits (reading_letters journal words) CanFail d i o e status
 letters_ran limits journal words table CanFail d i o e status asked h = rw asked h
-
--- a word was told that is wrong
-pub letters_refused : (limits : Limits) (journal : List ℕ) (words : LettersModel) (misuse : Misuse)
-    (typed : List ℕ) (CanFail : Bool → Type 0) (d : Folders) (i : Input) (o e : Output)
-    (status : Status)
-    → settings_asked words.place words.date words.weekday words.separator words.order
-    ≡ Err (misuse, typed)
-    → (d.after ≡ d.before) × (o.new ≡ o.old) × TellsMisuse e misuse typed status
-    → Runs limits (reading_letters journal words) CanFail d i o e status
-letters_refused limits journal words misuse typed CanFail d i o e status asked h = rw asked h
 
 -- help is no want of memory
 help_is_no_fault : (kind : ErrorKind) → IsHelp kind → kind ≢ OutOfMemory
