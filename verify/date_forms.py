@@ -2,8 +2,8 @@
 """Holds the forms of dates that docs/DATES.md shows against the program: verify/date_forms.py.
 
 A text of the table of days is read as the day beside it, and a text of the tables of months,
-years, ranges and bounds is refused as no single day where the page of a day is asked for. Prints
-each text that is told otherwise, and ends with status 1 where one is.
+years, ranges and bounds has a page too, and is refused as no single day by `convert`. Prints each
+text that is told otherwise, and ends with status 1 where one is.
 """
 import os
 import re
@@ -35,21 +35,21 @@ def expected(document):
             yield from ((text, NOT_ONE_DAY) for text in texts)
 
 
+def holds(text, told):
+    """Whether the program tells a text so. What is no single day has a page of `read` too."""
+    page = run(PROGRAM, ["read", "examples/samples.journal", "GB", text])
+    if told != NOT_ONE_DAY:
+        return page.stdout.startswith(f"{told} in Great Britain")
+    done = run(PROGRAM, ["convert", "gregorian", text])
+    return page.returncode == 0 and f"oldstyle: {text}: {told}" in done.stderr
+
+
 PROGRAM = program(1)
 os.chdir(os.path.join(HERE, ".."))
 with open("docs/DATES.md", encoding="utf-8") as file:
     pairs = list(expected(file.read()))
-status = 0
-for text, told in pairs:
-    command = "day" if told == NOT_ONE_DAY else "read"
-    done = run(PROGRAM, [command, "examples/samples.journal", "GB", text])
-    holds = (
-        f"oldstyle: {text}: {told}" in done.stderr
-        if told == NOT_ONE_DAY
-        else done.stdout.startswith(f"{told} in Great Britain")
-    )
-    if not holds:
-        print(f"{text}: not {told}: {done.stdout}{done.stderr}")
-        status = 1
-print(f"{len(pairs)} texts")
-sys.exit(status)
+others = [(text, told) for text, told in pairs if not holds(text, told)]
+for text, told in others:
+    print(f"{text}: not {told}")
+print(f"{len(pairs)} texts, {len(others)} told otherwise")
+sys.exit(1 if others else 0)
