@@ -214,15 +214,19 @@ def simple_text(chance, date):
 
 
 def range_text(chance, first, last):
-    """A range, of which the first date may lack what the last one has."""
+    """A range, of which the first date may lack what the last one has.
+
+    After a double year a dash and a number are its month.
+    """
     begin, end = simple_text(chance, first), simple_text(chance, last)
     if first.day and last.day and first[:2] == last[:2] and chance.random() < 0.5:
         end = f"{last.day} {month_name(chance, last.month)} {years_text(chance, last)}"
         begin = str(first.day)
         if first.month != last.month or chance.random() < 0.3:
             begin += f" {month_name(chance, first.month)}"
-    forms = [f"{begin} to {end}", f"{begin} - {end}", f"{begin}\u2013{end}",
-             f"from {begin} to {end}", f"between {begin} and {end}"]
+    forms = [f"{begin} to {end}", f"from {begin} to {end}", f"between {begin} and {end}"]
+    if first.month or not first.is_double:
+        forms += [f"{begin} - {end}", f"{begin}\u2013{end}"]
     return chance.choice(forms)
 
 
