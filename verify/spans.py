@@ -216,7 +216,7 @@ def simple_text(chance, date):
 def range_text(chance, first, last):
     """A range, of which the first date may lack what the last one has.
 
-    After a double year a dash and a number are its month.
+    After a double year or a month in digits, a dash and a number are a part of that date.
     """
     begin, end = simple_text(chance, first), simple_text(chance, last)
     if first.day and last.day and first[:2] == last[:2] and chance.random() < 0.5:
@@ -225,7 +225,7 @@ def range_text(chance, first, last):
         if first.month != last.month or chance.random() < 0.3:
             begin += f" {month_name(chance, first.month)}"
     forms = [f"{begin} to {end}", f"from {begin} to {end}", f"between {begin} and {end}"]
-    if first.month or not first.is_double:
+    if "-" not in begin and (first.month or not first.is_double):
         forms += [f"{begin} - {end}", f"{begin}\u2013{end}"]
     return chance.choice(forms)
 
