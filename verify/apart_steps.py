@@ -7,7 +7,7 @@
         what the model gives at the steps of one schedule
 
 The model has two copies of the territories, each with its edits made one by one, and a list of the
-edits that the standby lacks. It was written from docs/DEFINITIONS.md alone, and shares the rules of
+edits that the standby lacks. It was written from docs/FORMATS.md alone, and shares the rules of
 edits and queries with reference.py.
 """
 import json

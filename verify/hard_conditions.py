@@ -7,9 +7,9 @@ The conditions are: standard output that is full, closed or a pipe that nobody r
 error full as well; standard input that is closed or a folder; a folder in the place of each file
 that is read or saved; a file that grows shorter while it is read; a full disk under `--save`, and
 a limit on the length of files; and 6 MB of addresses. Under each one every command that it concerns
-is run. Held against what docs/FORMATS.md says are the status, what is written, and that the files
-of the folder are as they were, their permissions too, with none beside them; and once the condition
-is over, the same command saves what it should. A row is written for each condition. The status is
+is run. Held against docs/PAGES.md and docs/SERVING.md are the status, what is written, and that the
+files of the folder are as they were, their permissions too, with none beside them; and once the
+condition is over, the same command saves what it should. A row is written for each condition. The status is
 1 where a run went otherwise, which is told above the rows; what could not be tried is told as well.
 
 A disk that is full is one in memory, which only root may mount.

@@ -1,6 +1,6 @@
 """The twelve fields that letters puts after a row, over written.py: of dates that are one day.
 
-Written from docs/FORMATS.md alone, for letters.py and dual_dates.py.
+Written from docs/PAGES.md alone, for letters.py and dual_dates.py.
 """
 from reference import dates, written
 from written import Malformed, has_weekday, is_not_counted_double, parse, weekday_named, weekday_of

@@ -1,6 +1,6 @@
 """The pages of read, day, month, territory and convert, line by line, over written.py.
 
-Written from docs/FORMATS.md alone, for pages.py.
+Written from docs/PAGES.md alone, for pages.py.
 """
 from typing import NamedTuple
 

@@ -9,7 +9,7 @@ edits that wait. Of each date the page of `read` is held against the one of `pag
 asks every day of the line that has the month and day. So are those of months, years, ranges and
 bounds in random forms, by `spans.py`, and the pages of days about the changes, of the date's month,
 of conversions, and of the territories. Words that are wrong, codes that are unknown and files that
-are not there have to be told as docs/FORMATS.md says.
+are not there have to be told as docs/PAGES.md says.
 """
 import os
 import random

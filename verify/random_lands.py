@@ -7,7 +7,7 @@
 The search shares no rule of conversion with the service. The calendars are laid out month by month
 over all 3,652,059 days, each day is given its label under each calendar and style, and what a label
 means is looked up among all of them: that gives the readings and the skipped dates, the latter by
-the definition in docs/DEFINITIONS.md. Easter is found in the tables of the computus, day by day.
+the definition in docs/CALENDARS.md. Easter is found in the tables of the computus, day by day.
 Changes and labels come anywhere, and near Easter and 25 March, where years begin.
 
 Each 30 territories are a run of their own. It takes two minutes, and the time of the program for

@@ -1,7 +1,7 @@
 #!/usr/bin/env python3
 """The service written apart, slowly: verify/reference.py < examples/rome.jsonl
 
-It answers request lines as the program does, from docs/FORMATS.md and docs/DEFINITIONS.md alone,
+It answers request lines as the program does, from docs/FORMATS.md and docs/CALENDARS.md alone,
 for eight readers and the standard limits. Calendars are walks along every day of the line, a
 reading is a search through every day, Easter is found by the tables of the moon. Its replies are to
 be those of the program, byte for byte. Of `written` it answers dates in the usual forms alone, and

@@ -1,6 +1,6 @@
 """Months, years, ranges and bounds as people write them, and the days that they may mean.
 
-Written from docs/DATES.md and docs/FORMATS.md alone, over written.py, for pages.py. Texts are drawn
+Written from docs/DATES.md and docs/PAGES.md alone, over written.py, for pages.py. Texts are drawn
 in random forms; their days are found by a search through every day about their years.
 """
 from typing import NamedTuple, Optional

@@ -1,6 +1,6 @@
 """Which days a written date means in a territory, and why it means none, by the days of the line.
 
-Written from docs/FORMATS.md and docs/DEFINITIONS.md alone, over the calendars of reference.py, for
+Written from docs/PAGES.md and docs/CALENDARS.md alone, over the calendars of reference.py, for
 pages.py, letters.py and dual_dates.py.
 """
 import bisect
