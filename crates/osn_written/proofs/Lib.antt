@@ -5,5 +5,6 @@ mod DualLaw
 mod Meant
 pub mod RunFacts
 pub mod OrderFacts
+pub mod OneDayFacts
 mod SpanFacts
 mod WordsLaw

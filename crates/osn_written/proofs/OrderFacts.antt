@@ -126,7 +126,7 @@ both_ways false true = refl
 both_ways false false = refl
 
 -- of the days that a double year means, those without the first year have the later one
-later_alone : (j f g m t : Bool) → (f ≡ true → g ≡ true → ⊥)
+pub later_alone : (j f g m t : Bool) → (f ≡ true → g ≡ true → ⊥)
     → (((j && (f || (g && m))) && t) && not (f && t))
     ≡ ((g && t) && ((j && (f || (g && m))) && t))
 later_alone true true true m t apart = absurd (apart refl refl)
@@ -146,14 +146,14 @@ later_alone true false false m false apart = refl
 later_alone false false false m true apart = refl
 later_alone false false false m false apart = refl
 
-two_years : (y : ℤ) (n : ℕ) → int_eq y (pos n) ≡ true → int_eq y (pos (n + 1)) ≡ true → ⊥
+pub two_years : (y : ℤ) (n : ℕ) → int_eq y (pos n) ≡ true → int_eq y (pos (n + 1)) ≡ true → ⊥
 two_years y n first later =
     let one : y ≡ pos n = (Decides-int_eq y (pos n)).0 first in
     let other : y ≡ pos (n + 1) = (Decides-int_eq y (pos (n + 1))).0 later in
     omega (arith, ints, one, other)
 
 -- a filter of numbers in a row is another one's part and the rest, each filtered again
-in_parts : (f g h : ℕ → Bool) (a n : ℕ)
+pub in_parts : (f g h : ℕ → Bool) (a n : ℕ)
     → ((d : ℕ) → (h d && not (f d)) ≡ (g d && h d))
     → IsPermutation (filter h (range_with_len a n))
     (filter h (filter f (range_with_len a n)) ++ filter h (filter g (range_with_len a n)))

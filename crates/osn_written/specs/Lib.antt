@@ -6,6 +6,7 @@ pub mod Meaning
 pub mod Absence
 pub mod Law
 pub mod Runs
+pub mod OneDay
 pub mod Spans
 pub mod Kind
 pub mod Finding

@@ -4,6 +4,7 @@ ghost use Rattle.osn_days.specs.Profile.{newest_rules};
 ghost use Rattle.osn_lands.specs.Dated.{dated_on};
 ghost use Rattle.osn_lands.specs.Style.{is_before_25_march};
 ghost use Rattle.osn_written.specs.Law.{AreDualTextsMeant};
+ghost use Rattle.osn_written.specs.OneDay.{AreSameDays};
 ghost use Rattle.osn_written.specs.Meaning as spec;
 
 use crate::written_date::WrittenDate;
@@ -172,7 +173,7 @@ fn first_by_weekday(
 /// # Errors
 ///
 /// `AllocError` where there is no memory for the list.
-#[tactic(auto, using(crate::proofs::Meant::texts_meant), unfolding(crate::specs::Meaning::meaning))]
+#[tactic(auto, using(crate::proofs::Meant::texts_meant, crate::proofs::OneDayFacts::same_days), unfolding(crate::specs::Meaning::meaning))]
 pub fn days_meant(
     alloc: Global,
     territory: &Territory,
@@ -181,8 +182,10 @@ pub fn days_meant(
 ) -> Result<Vec<DatedDay>, AllocError>
     ensures value { IfOk result (λ days.
         days.items ≡ spec.meaning newest_rules territory.now date given) }
-    // as a law: the dual text of each day means that day
+    // as laws: the dual text of each day means that day; and the days of the label are those that a
+    // search through every day finds
     ensures dual { AreDualTextsMeant newest_rules territory.now }
+    ensures same { AreSameDays newest_rules territory.now }
 {
     let days = plain_days_meant(alloc, territory, date)?;
     let dated = dated_days(alloc, territory, days.as_slice())?;
