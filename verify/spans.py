@@ -209,25 +209,21 @@ def simple_text(chance, date):
         forms = [f"{name} {years}", f"{name}, {years}", f"{years} {name}"]
         return chance.choice(forms + [f"{years}-{date.month:02}"])
     forms = [f"{date.day} {name} {years}", f"the {date.day} of {name}, {years}",
-             f"{name} {date.day}, {years}", f"{date.day}.{date.month}.{years}"]
+             f"{name} {date.day}, {years}", f"{date.day}.{date.month}.{years}",
+             f"{date.day}. {date.month}. {years}"]
     return chance.choice(forms)
 
 
 def range_text(chance, first, last):
-    """A range, of which the first date may lack what the last one has.
-
-    After a double year or a month in digits, a dash and a number are a part of that date.
-    """
+    """A range, of which the first date may lack what the last one has."""
     begin, end = simple_text(chance, first), simple_text(chance, last)
     if first.day and last.day and first[:2] == last[:2] and chance.random() < 0.5:
         end = f"{last.day} {month_name(chance, last.month)} {years_text(chance, last)}"
         begin = str(first.day)
         if first.month != last.month or chance.random() < 0.3:
             begin += f" {month_name(chance, first.month)}"
-    forms = [f"{begin} to {end}", f"from {begin} to {end}", f"between {begin} and {end}"]
-    if "-" not in begin and (first.month or not first.is_double):
-        forms += [f"{begin} - {end}", f"{begin}\u2013{end}"]
-    return chance.choice(forms)
+    return chance.choice([f"{begin} to {end}", f"from {begin} to {end}", f"{begin} - {end}",
+                          f"{begin}\u2013{end}", f"between {begin} and {end}"])
 
 
 def text_of(chance, span):

@@ -13,7 +13,7 @@ use std::process::Abort;
 use std::test::Fail;
 
 /// The year began on 25 March up to 1751, and 2 September 1752 was followed by 14 September.
-const BRITISH: [(&str, &str); 62] = [
+const BRITISH: [(&str, &str); 69] = [
     ("11 February 1731", "day: 1732-02-22"),
     ("11 Feb. 1731/32", "day: 1732-02-22"),
     ("Feb 11, 1731", "day: 1732-02-22"),
@@ -91,6 +91,13 @@ const BRITISH: [(&str, &str); 62] = [
     ("11/2/1731", "open between day and month"),
     ("45-05-11", "year of one or two digits"),
     ("9/10-02-01", "year of one or two digits"),
+    ("11. 2. 1731", "day: 1732-02-22"),
+    ("1731 2 11", "day: 1732-02-22"),
+    ("25/12/1731", "day: 1732-01-05"),
+    ("11 2 1731", "open between day and month"),
+    ("1731/2-1735", "range: 1732-01-12..1736-04-04"),
+    ("1731/2-02-1735", "range: 1732-02-12..1736-04-04"),
+    ("1698-07 - 1699", "range: 1698-07-11..1700-04-04"),
 ];
 
 /// February 1712 had 30 days, and 17 February 1753 was followed by 1 March.

@@ -105,13 +105,13 @@ fn are_read(
     Ok(())
 }
 
-const DAYS: [(&str, &str); 28] = [
+const DAYS: [(&str, &str); 40] = [
     ("11 February 1731", "1731 2 11"),
     ("February 11, 1731", "1731 2 11"),
     ("1731 February 11", "1731 2 11"),
     ("1731-02-11", "1731 2 11"),
     ("11.2.1731", "1731 2 11"),
-    ("11. 2. 1731", "Malformed"),
+    ("11. 2. 1731", "1731 2 11"),
     ("the 11th of February, 1731.", "1731 2 11"),
     ("Feb. 1st 1731", "1731 2 1"),
     ("11.Feb.1731", "1731 2 11"),
@@ -133,7 +133,19 @@ const DAYS: [(&str, &str); 28] = [
     ("Xbris 5 1640", "1640 12 5"),
     ("5 7bris 1640", "1640 9 5"),
     ("5 9ber 1640", "1640 11 5"),
-    ("13-13-1640", "DayOrMonth"),
+    ("13-13-1640", "Month"),
+    ("29.8ber 1640", "1640 10 29"),
+    ("29. 8bris 1640", "1640 10 29"),
+    ("Feb. 11. 1731", "1731 2 11"),
+    ("Feb. 11. 1731/2", "1731+ 2 11"),
+    ("11.\u{a0}2.\u{a0}1731", "1731 2 11"),
+    ("1731 2 11", "1731 2 11"),
+    ("1731.02.11", "1731 2 11"),
+    ("1731/02/11", "1731 2 11"),
+    ("25/12/1640", "1640 12 25"),
+    ("12/25/1640", "1640 12 25"),
+    ("5/5/1640", "1640 5 5"),
+    ("1640, 3 May", "1640 5 3"),
 ];
 
 #[test]
@@ -141,7 +153,7 @@ fn days(rt: HostRuntime) -> Result<(), Fail> {
     are_read(&rt, rt.alloc(), DateOrder::Unknown, &DAYS)
 }
 
-const LANGUAGES: [(&str, &str); 14] = [
+const LANGUAGES: [(&str, &str); 20] = [
     ("3 Martii 1640", "1640 3 3"),
     ("le 3 août 1640", "1640 8 3"),
     ("3 AOÛT 1640", "1640 8 3"),
@@ -156,6 +168,12 @@ const LANGUAGES: [(&str, &str); 14] = [
     ("mardi 3 mars 1640", "1640 3 3, Tuesday"),
     ("3 Mar 1640", "1640 3 3"),
     ("Dienstag 3 Dezember 1640", "1640 12 3, Tuesday"),
+    ("Di 3. Mai 1640", "1640 5 3"),
+    ("il 3 maggio 1640", "1640 5 3"),
+    ("d. 3 Maij 1640", "1640 5 3"),
+    ("1º de mayo de 1640", "1640 5 1"),
+    ("A.D. 1640", "1640"),
+    ("3 Maii 1640 stilo novo", "1640 5 3, NewStyle"),
 ];
 
 #[test]
@@ -182,7 +200,7 @@ fn months_and_years(rt: HostRuntime) -> Result<(), Fail> {
     are_read(&rt, rt.alloc(), DateOrder::Unknown, &MONTHS_AND_YEARS)
 }
 
-const RANGES: [(&str, &str); 25] = [
+const RANGES: [(&str, &str); 40] = [
     ("3-10 May 1640", "1640 5 3 to 1640 5 10"),
     ("3–10 May 1640", "1640 5 3 to 1640 5 10"),
     ("3 to 10 May 1640", "1640 5 3 to 1640 5 10"),
@@ -208,6 +226,21 @@ const RANGES: [(&str, &str); 25] = [
     ("../1640-05-03", "not after 1640 5 3"),
     ("1640/..", "not before 1640"),
     ("3 and 10 May 1640", "Malformed"),
+    ("1731/2-1735", "1731+ to 1735"),
+    ("1731/2-02-1735", "1731+ 2 to 1735"),
+    ("1698-07 - 1699", "1698 7 to 1699"),
+    ("1698-07-1699", "1698 7 to 1699"),
+    ("1698-1699-11", "1698 to 1699 11"),
+    ("1698-07-11", "1698 7 11"),
+    ("1698-7-11", "1698 7 11"),
+    ("1731/2-2", "1731+ 2"),
+    ("1731/2-2-3", "1731+ 2 3"),
+    ("3.5.—10.6.1640", "1640 5 3 to 1640 6 10"),
+    ("vom 3. bis 10. Mai 1640", "1640 5 3 to 1640 5 10"),
+    ("entre 1640 et 1645", "1640 to 1645"),
+    ("until 1640", "not after 1640"),
+    ("antes de 1640", "before 1640"),
+    ("1640, 1641, 1642", "Malformed"),
 ];
 
 #[test]
@@ -237,7 +270,7 @@ fn certainty(rt: HostRuntime) -> Result<(), Fail> {
     are_read(&rt, rt.alloc(), DateOrder::Unknown, &CERTAINTY)
 }
 
-const NOTHING: [(&str, &str); 7] = [
+const NOTHING: [(&str, &str); 8] = [
     ("", "no date"),
     ("  ", "no date"),
     ("n.d.", "no date"),
@@ -245,6 +278,7 @@ const NOTHING: [(&str, &str); 7] = [
     ("[n.d.]", "no date"),
     ("undated", "no date"),
     ("no date", "no date"),
+    ("ohne Datum", "no date"),
 ];
 
 #[test]
@@ -252,7 +286,7 @@ fn nothing(rt: HostRuntime) -> Result<(), Fail> {
     are_read(&rt, rt.alloc(), DateOrder::Unknown, &NOTHING)
 }
 
-const FAULTS: [(&str, &str); 27] = [
+const FAULTS: [(&str, &str); 33] = [
     ("11/2/1731", "DayOrMonth"),
     ("2/11/1731", "DayOrMonth"),
     ("11-2-1731", "DayOrMonth"),
@@ -280,6 +314,12 @@ const FAULTS: [(&str, &str); 27] = [
     ("3 Brumaire 1640", "Malformed"),
     ("1234567890", "Malformed"),
     ("32 to 33 May 1640", "Day"),
+    ("11 2 1731", "DayOrMonth"),
+    ("den 11/2 1731", "DayOrMonth"),
+    ("11. 2. 31", "ShortYear"),
+    ("31/12/16", "ShortYear"),
+    ("1731/2 11", "Malformed"),
+    ("mid-May 1640", "Malformed"),
 ];
 
 #[test]
@@ -287,9 +327,19 @@ fn faults(rt: HostRuntime) -> Result<(), Fail> {
     are_read(&rt, rt.alloc(), DateOrder::Unknown, &FAULTS)
 }
 
-const DAY_FIRST: [(&str, &str); 2] = [("11/2/1731", "1731 2 11"), ("11-2-1731", "1731 2 11")];
+const DAY_FIRST: [(&str, &str); 4] = [
+    ("11/2/1731", "1731 2 11"),
+    ("11-2-1731", "1731 2 11"),
+    ("11 2 1731", "1731 2 11"),
+    ("11/2 1731", "1731 2 11"),
+];
 
-const MONTH_FIRST: [(&str, &str); 2] = [("2/11/1731", "1731 2 11"), ("11.2.1731", "1731 2 11")];
+const MONTH_FIRST: [(&str, &str); 4] = [
+    ("2/11/1731", "1731 2 11"),
+    ("11.2.1731", "1731 2 11"),
+    ("2 11 1731", "1731 2 11"),
+    ("11. 2. 1731", "1731 2 11"),
+];
 
 #[test]
 fn orders(rt: HostRuntime) -> Result<(), Fail> {

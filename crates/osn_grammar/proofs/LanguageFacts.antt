@@ -3,6 +3,7 @@ use Rattle.std.proofs.Common.{refl}
 use Rattle.osn_days.specs.Weekday.{weekday_numbered}
 use Rattle.osn_grammar.specs.Languages.{AreMonthsKnown, AreWeekdaysKnown, AreOtherWeekdaysKnown}
 use Rattle.osn_grammar.specs.Languages.{AreOrdinalsKnown, AreOtherWordsKnown, AreWordsKnown}
+use Rattle.osn_grammar.specs.Languages.{AreOtherLanguagesKnown}
 use Rattle.osn_grammar.specs.Names.{names}
 
 months_known : AreMonthsKnown
@@ -39,6 +40,8 @@ months_known = record {
   portuguese_short = refl;
   swedish = refl;
   danish = refl;
+  danish_old = refl;
+  genitive_with_ij = refl;
 }
 
 weekdays_known : AreWeekdaysKnown
@@ -76,7 +79,8 @@ ordinals_known : AreOrdinalsKnown
 unfolding names lib.Utf8.encode
 ordinals_known = record {
   english = refl;
-  french = refl;
+  english_short = refl;
+  first = refl;
 }
 
 others_known : AreOtherWordsKnown
@@ -96,6 +100,29 @@ others_known = record {
   fillers = refl;
 }
 
+other_languages_known : AreOtherLanguagesKnown
+unfolding names lib.Utf8.encode
+other_languages_known = record {
+  to = refl;
+  or = refl;
+  and = refl;
+  between = refl;
+  before = refl;
+  after = refl;
+  about = refl;
+  old_style = refl;
+  new_style = refl;
+  undated = refl;
+  fillers = refl;
+}
+
 pub words_known : AreWordsKnown
 unfolding AreWordsKnown
-words_known = (months_known, weekdays_known, other_weekdays_known, ordinals_known, others_known)
+words_known = (
+  months_known,
+  weekdays_known,
+  other_weekdays_known,
+  ordinals_known,
+  others_known,
+  other_languages_known,
+)

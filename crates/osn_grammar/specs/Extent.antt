@@ -6,7 +6,7 @@ use Rattle.osn_grammar.specs.declared.extent.Joining.{Joining}
 use Rattle.osn_grammar.specs.declared.extent.Joining.TheVariants as joins
 use Rattle.osn_grammar.specs.declared.part.Numeral.{Numeral}
 use Rattle.osn_grammar.specs.declared.part.Part.{Part}
-use Rattle.osn_grammar.specs.declared.part.Part.TheVariants.{Number, Month, Dash, Slash, Open, To}
+use Rattle.osn_grammar.specs.declared.part.Part.TheVariants.{Number, Month, Dash, Slash, Dot, Open, To}
 use Rattle.osn_grammar.specs.declared.part.Part.TheVariants.{Or, And, Between, From, Before, After}
 use Rattle.osn_grammar.specs.declared.part.Part.TheVariants.{Not, By}
 use Rattle.osn_grammar.specs.declared.written.DateFault.{DateFault}
@@ -20,8 +20,8 @@ use Rattle.osn_grammar.specs.Simple.{◌>>=◌, is_long, month_in, day_in, date_
 
 -- ---- ranges
 
--- what the first date of a range says by itself: `3`, `28 February`, `February 28`, `March`, and
--- else a whole date
+-- what the first date of a range says by itself: `3`, `28 February`, `February 28`, `28.2`, `March`,
+-- and else a whole date
 abbrev pub lone_day : Numeral → Beginning
 lone_day d = if is_long d then begins.Whole else begins.Day d.value
 
@@ -32,6 +32,7 @@ abbrev pub beginning_of : List Part → Beginning
 beginning_of (Number d ∷ []) = lone_day d
 beginning_of (Number d ∷ Month m ∷ []) = day_of_month m d
 beginning_of (Month m ∷ Number d ∷ []) = day_of_month m d
+beginning_of (Number d ∷ Dot ∷ Number m ∷ []) = day_of_month m.value d
 beginning_of (Month m ∷ []) = begins.Month m
 beginning_of _ = begins.Whole
 
@@ -127,6 +128,7 @@ extent_of o (After ∷ parts) = do
 extent_of o (Not ∷ Before ∷ parts) = not_before o parts
 extent_of o (Not ∷ After ∷ parts) = not_after o parts
 extent_of o (By ∷ parts) = not_after o parts
+extent_of o (To ∷ parts) = not_after o parts
 extent_of o (Between ∷ parts) = range_after o joins.And [] parts
 extent_of o (From ∷ parts) = range_after o joins.To [] parts
 extent_of o parts = date_or_range o parts

@@ -86,6 +86,11 @@ pub record AreMonthsKnown : Type 0 where
       ++ codes "juli augusti september oktober november december")
   pub danish : AreMonths
       (codes "januar februar marts april maj juni juli august september oktober november december")
+  pub danish_old : AreMonths
+      (codes "januar februar marts april maji juni juli august september oktober november december")
+  pub genitive_with_ij : AreMonths
+      (codes "Januarij Februarij Martij Aprilis Maij Junij "
+      ++ codes "Julij Augusti 7bris 8bris 9bris 10bris")
 
 -- ---- weekdays, from Sunday to Saturday
 
@@ -131,7 +136,8 @@ pub record AreOrdinalsKnown : Type 0 where
       ++ codes "17th 18th 19th 20th 21st 22nd 23rd 24th 25th 26th 27th 28th 29th 30th 31st")
       ≡ parts_after []
       (codes "1 2 3 4 5 6 7 8 9 10 11 12 13 14 15 16 17 18 19 20 21 22 23 24 25 26 27 28 29 30 31")
-  pub french : parts_after [] (codes "1er") ≡ parts_after [] (codes "1")
+  pub english_short : parts_after [] (codes "2d 3d 22d 23d") ≡ parts_after [] (codes "2 3 22 23")
+  pub first : parts_after [] (codes "1er 1º 1°") ≡ parts_after [] (codes "1 1 1")
 
 -- ---- words around a date
 
@@ -145,16 +151,39 @@ pub record AreOtherWordsKnown : Type 0 where
   pub doubt : Reads (codes "probably perhaps possibly") (times 3 part.Doubt)
   pub old_style : Reads (codes "O.S. OS old") (times 3 (part.Reckoning OldStyle))
   pub new_style : Reads (codes "N.S. NS new") (times 3 (part.Reckoning NewStyle))
-  pub undated : Reads (codes "n.d. s.d. undated no") (times 4 part.Undated)
+  pub undated : Reads (codes "n.d. s.d. undated no unknown") (times 5 part.Undated)
   pub blank : Reads (codes "XX") (times 1 part.Blank)
   pub feasts : Reads
-      (codes "Easter Christmas Michaelmas Lady Whitsun Whitsunday Martinmas Candlemas Saints")
-      (times 9 part.Feast)
+      (codes "Easter Christmas Michaelmas Lady Whitsun Whitsunday Martinmas Candlemas Saints "
+      ++ codes "Trinity Midsummer Pentecost Epiphany Lammas")
+      (times 14 part.Feast)
   pub fillers : Reads
       (codes "the of on in de del di le den der die dies anno date style feira")
       (times 16 part.Filler)
+
+-- the same in the other languages
+pub record AreOtherLanguagesKnown : Type 0 where
+  pub to : Reads (codes "til") (times 1 part.To)
+  pub or : Reads (codes "ou oder eller") (times 3 part.Or)
+  pub and : Reads (codes "et und och og e y") (times 6 part.And)
+  pub between : Reads (codes "zwischen entre tra tussen mellan mellem") (times 6 part.Between)
+  pub before : Reads (codes "vor avant voor vóór före før antes") (times 7 part.Before)
+  pub after : Reads (codes "nach après apres efter después despues depois dopo")
+      (times 8 part.After)
+  pub about : Reads (codes "vers environ etwa gegen cirka omstreeks omkring hacia")
+      (times 8 part.About)
+  pub old_style : Reads (codes "veteri vetere") (times 2 (part.Reckoning OldStyle))
+  pub new_style : Reads (codes "novo") (times 1 (part.Reckoning NewStyle))
+  pub undated : Reads
+      (codes "undatiert udateret odaterat ohne sans senza sin sem zonder uden utan sine")
+      (times 12 part.Undated)
+  pub fillers : Reads
+      (codes "dated ad domini stilo stylo am im vom von van från fra ce en el "
+      ++ codes "il li dì adì addì a ao aos d datum dato fecha data")
+      (times 28 part.Filler)
 
 -- as a law: all these words are known
 unfoldable pub AreWordsKnown : Type 0
 AreWordsKnown =
     AreMonthsKnown × AreWeekdaysKnown × AreOtherWeekdaysKnown × AreOrdinalsKnown × AreOtherWordsKnown
+    × AreOtherLanguagesKnown

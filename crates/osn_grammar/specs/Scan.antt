@@ -1,6 +1,6 @@
 -- How a text is cut into its parts: words, which are runs of letters and digits, and marks. It is
 -- told by its characters. This project's profile.
-use Rattle.std.specs.Prelude.{ℕ, Bool, false, not, ◌&&◌, ◌||◌, nat_le, nat_lt, ◌==◌, ◌+◌}
+use Rattle.std.specs.Prelude.{ℕ, Bool, true, false, not, ◌&&◌, ◌||◌, nat_le, nat_lt, ◌==◌, ◌+◌}
 use Rattle.std.specs.Prelude.{if◌then◌else◌, List, [], ◌∷◌, ◌++◌, Option, Some, None, length}
 use Rattle.std.specs.Prelude.{chars, encode_utf8}
 use Rattle.std.specs.Option.{option_to_list}
@@ -17,10 +17,19 @@ is_from_to low high c = nat_le low c && nat_le c high
 abbrev pub is_digit : ℕ → Bool
 is_digit c = is_from_to 48 57 c
 
--- a letter: of ASCII, or any other character but the dash U+2013
+-- a dash: the hyphens - and U+2011, the dashes U+2013 and U+2014, and the minus sign U+2212
+abbrev pub is_dash : ℕ → Bool
+is_dash c = c == 45 || (c == 8209 || (c == 8211 || (c == 8212 || c == 8722)))
+
+-- a blank: a space, a tab, and the spaces U+00A0, U+2009 and U+202F
+abbrev pub is_blank : ℕ → Bool
+is_blank c = c == 32 || (c == 9 || (c == 160 || (c == 8201 || c == 8239)))
+
+-- a letter: of ASCII, or any other character beyond it but such a dash or blank
 abbrev pub is_letter : ℕ → Bool
 is_letter c =
-    is_from_to 65 90 c || (is_from_to 97 122 c || (nat_lt 127 c && not (c == 8211)))
+    is_from_to 65 90 c
+    || (is_from_to 97 122 c || (nat_lt 127 c && not (is_dash c || is_blank c)))
 
 -- the small letter of a capital one of ASCII, or of U+00C0 to U+00DE
 abbrev pub small : ℕ → ℕ
@@ -39,24 +48,40 @@ is_name word = not (all_ascii_digits word)
 abbrev pub is_number : List ℕ → Bool
 is_number word = not (length word == 0) && all_ascii_digits word
 
--- of full stops, two in a row are an open end, and one between two digits is a mark
-abbrev pub mark_of_stop : List ℕ → Option ℕ → Option Part
-mark_of_stop word next =
-    if next_is (λ c. c == 46) next then Some part.Open
-    else (if is_number word && next_is is_digit next then Some part.Dot else None)
+-- the first character
+abbrev pub first_of : List ℕ → Option ℕ
+first_of [] = None
+first_of (c ∷ rest) = Some c
 
--- the mark that a character is, after a word and before the next character. Spaces, commas and round
--- brackets are none
-abbrev pub mark_of : List ℕ → ℕ → Option ℕ → Option Part
-mark_of word c next =
-    if c == 45 || c == 8211 then Some part.Dash
+-- no letter stands right after the digits at the front
+abbrev pub are_digits_alone : List ℕ → Bool
+are_digits_alone [] = true
+are_digits_alone (c ∷ rest) = if is_digit c then are_digits_alone rest else not (is_letter c)
+
+-- a number comes next, after any blanks: `8bris` is none
+abbrev pub is_number_next : List ℕ → Bool
+is_number_next [] = false
+is_number_next (c ∷ rest) =
+    if is_blank c then is_number_next rest else is_digit c && are_digits_alone rest
+
+-- of full stops, two in a row are an open end, and one between two numbers is a mark
+abbrev pub mark_of_stop : List ℕ → List ℕ → Option Part
+mark_of_stop word rest =
+    if next_is (λ c. c == 46) (first_of rest) then Some part.Open
+    else (if is_number word && is_number_next rest then Some part.Dot else None)
+
+-- the mark that a character is, after a word and before the rest of the text. Blanks, commas and
+-- round brackets are none
+abbrev pub mark_of : List ℕ → ℕ → List ℕ → Option Part
+mark_of word c rest =
+    if is_dash c then Some part.Dash
     else (if c == 47 then Some part.Slash
     else (if c == 63 then Some part.Doubt
     else (if c == 126 then Some part.About
     else (if c == 37 then Some part.AboutAndDoubt
     else (if c == 91 || c == 93 then Some part.Bracket
-    else (if c == 46 then mark_of_stop word next
-    else (if c == 32 || (c == 9 || (c == 44 || (c == 40 || c == 41))) then None
+    else (if c == 46 then mark_of_stop word rest
+    else (if is_blank c || (c == 44 || (c == 40 || c == 41)) then None
     else Some part.Unknown)))))))
 
 -- the part of a word, which may be empty
@@ -74,21 +99,16 @@ word_after word c next =
     else (if is_passed_over word c next then word else [])
 
 -- the parts that end with a character: a word, and the mark after it
-abbrev pub parts_ended : List ℕ → ℕ → Option ℕ → List Part
-parts_ended word c next =
-    if is_letter c || (is_digit c || is_passed_over word c next) then []
-    else option_to_list (part_of_run word) ++ option_to_list (mark_of word c next)
-
--- the first character
-abbrev pub first_of : List ℕ → Option ℕ
-first_of [] = None
-first_of (c ∷ rest) = Some c
+abbrev pub parts_ended : List ℕ → ℕ → List ℕ → List Part
+parts_ended word c rest =
+    if is_letter c || (is_digit c || is_passed_over word c (first_of rest)) then []
+    else option_to_list (part_of_run word) ++ option_to_list (mark_of word c rest)
 
 -- the parts of a word so far and of the characters after it
 abbrev pub parts_after : List ℕ → List ℕ → List Part
 parts_after word [] = option_to_list (part_of_run word)
 parts_after word (c ∷ rest) =
-    parts_ended word c (first_of rest) ++ parts_after (word_after word c (first_of rest)) rest
+    parts_ended word c rest ++ parts_after (word_after word c (first_of rest)) rest
 
 -- the parts of a text
 abbrev pub parts_in : List ℕ → List Part

@@ -1,6 +1,6 @@
 -- Simple dates, a day, a month or a year, and the forms in which they are written. This project's
 -- profile.
-use Rattle.std.specs.Prelude.{ℕ, Bool, true, ◌&&◌, not, nat_le, nat_lt, ◌==◌, ◌+◌, ◌%◌, ◌^◌}
+use Rattle.std.specs.Prelude.{ℕ, Bool, true, ◌&&◌, ◌||◌, not, nat_le, nat_lt, ◌==◌, ◌+◌, ◌%◌, ◌^◌}
 use Rattle.std.specs.Prelude.{if◌then◌else◌, List, [], ◌∷◌, Option, Some, None, is_some}
 use Rattle.std.specs.Prelude.{Result, Ok, Err}
 use Rattle.osn_grammar.specs.declared.part.Numeral.{Numeral}
@@ -87,17 +87,41 @@ day_of years month day = do
   year ← year_of years
   day_in year month day
 
+-- a month in digits has one or two of them: a longer number is a year, and no part of the date
+abbrev pub month_in_digits : YearNumbers → Numeral → Result SimpleDate DateFault
+month_in_digits years month =
+    if is_long month then Err faults.Malformed else month_of years month.value
+
+-- the same of month and day
+abbrev pub day_in_digits : YearNumbers → Numeral → Numeral → Result SimpleDate DateFault
+day_in_digits years month day =
+    if is_long month || is_long day then Err faults.Malformed
+    else day_of years month.value day.value
+
+-- each of two numbers may be the month, and it is not the same day either way
+abbrev pub is_either_month : ℕ → ℕ → Bool
+is_either_month a b = is_between 1 12 a && (is_between 1 12 b && not (a == b))
+
 -- three numbers that end with the year are open between day and month, unless their order is known
+-- or only one of them may be the month
 abbrev pub by_order : DateOrder → Numeral → Numeral → Numeral → Result SimpleDate DateFault
-by_order order.Unknown a b year = Err faults.DayOrMonth
+by_order order.Unknown a b year =
+    if is_either_month a.value b.value then Err faults.DayOrMonth
+    else (if nat_lt 12 b.value then day_of (one year) a.value b.value
+    else day_of (one year) b.value a.value)
 by_order order.DayMonth a b year = day_of (one year) b.value a.value
 by_order order.MonthDay a b year = day_of (one year) a.value b.value
 
--- with dashes, they end with the year where that is long and the first one is not
-abbrev pub with_dashes : DateOrder → Numeral → Numeral → Numeral → Result SimpleDate DateFault
-with_dashes order a b c =
-    if is_long c && not (is_long a) then by_order order a b c
-    else day_of (one a) b.value c.value
+-- three numbers end with the year where that is long and the first one is not, and else begin with
+-- it: 11-2-1731, 1731-2-11
+abbrev pub three_numbers : DateOrder → Numeral → Numeral → Numeral → Result SimpleDate DateFault
+three_numbers order a b c =
+    if is_long c && not (is_long a) then by_order order a b c else day_in_digits (one a) b c
+
+-- `11/2 1731` ends with its year, `1731/2 11` is none
+abbrev pub year_last : DateOrder → Numeral → Numeral → Numeral → Result SimpleDate DateFault
+year_last order a b year =
+    if is_long year && not (is_long a) then by_order order a b year else Err faults.Malformed
 
 -- of two numbers with a month between them the first one is the year if it is long
 abbrev pub around_month : Numeral → ℕ → Numeral → Result SimpleDate DateFault
@@ -114,6 +138,11 @@ abbrev pub year_and_name : Numeral → ℕ → Result SimpleDate DateFault
 year_and_name year month =
     if is_long year then month_of (one year) month else Err faults.Malformed
 
+-- `1640, 3 May` begins with its year
+abbrev pub year_and_day : Numeral → Numeral → ℕ → Result SimpleDate DateFault
+year_and_day year day month =
+    if is_long year then day_of (one year) month day.value else Err faults.Malformed
+
 -- `1731/2 February 11` has a double year, `11/22 February 1731` the day by both calendars
 abbrev pub double_year_or_days : Numeral → Numeral → ℕ → Numeral → Result SimpleDate DateFault
 double_year_or_days a b month c =
@@ -121,20 +150,23 @@ double_year_or_days a b month c =
 
 -- ---- the forms
 
--- a day in numbers: 1731-02-11, 1731/2-02-11, 11.2.1731, 11.2.1731/2, 11/2/1731
+-- a day in numbers: 1731-02-11, 1731/2-02-11, 11.2.1731, 11.2.1731/2, 11/2/1731, 11/2 1731, 11 2 1731.
+-- With full stops the day is before the month
 abbrev pub day_in_numbers : DateOrder → List Part → Result SimpleDate DateFault
-day_in_numbers o (Number a ∷ Dash ∷ Number b ∷ Dash ∷ Number c ∷ []) = with_dashes o a b c
+day_in_numbers o (Number a ∷ Dash ∷ Number b ∷ Dash ∷ Number c ∷ []) = three_numbers o a b c
+day_in_numbers o (Number a ∷ Slash ∷ Number b ∷ Slash ∷ Number c ∷ []) = three_numbers o a b c
+day_in_numbers o (Number a ∷ Number b ∷ Number c ∷ []) = three_numbers o a b c
+day_in_numbers o (Number a ∷ Dot ∷ Number b ∷ Dot ∷ Number c ∷ []) =
+    three_numbers order.DayMonth a b c
+day_in_numbers o (Number a ∷ Slash ∷ Number b ∷ Number y ∷ []) = year_last o a b y
 day_in_numbers o (Number y ∷ Slash ∷ Number l ∷ Dash ∷ Number m ∷ Dash ∷ Number d ∷ []) =
-    day_of (two y l) m.value d.value
-day_in_numbers o (Number d ∷ Dot ∷ Number m ∷ Dot ∷ Number y ∷ []) =
-    day_of (one y) m.value d.value
+    day_in_digits (two y l) m d
 day_in_numbers o (Number d ∷ Dot ∷ Number m ∷ Dot ∷ Number y ∷ Slash ∷ Number l ∷ []) =
     day_of (two y l) m.value d.value
-day_in_numbers o (Number a ∷ Slash ∷ Number b ∷ Slash ∷ Number y ∷ []) = by_order o a b y
 day_in_numbers o _ = Err faults.Malformed
 
--- a day with its month's name: 11 February 1731, 11-Feb-1731, 1731 February 11, February 11 1731, and
--- with 1731/2
+-- a day with its month's name: 11 February 1731, 11-Feb-1731, 1731 February 11, 1731 11 February,
+-- February 11 1731, February 11. 1731, and with 1731/2
 abbrev pub day_in_words : List Part → Result SimpleDate DateFault
 day_in_words (Number a ∷ Month m ∷ Number b ∷ []) = around_month a m b
 day_in_words (Number a ∷ Dash ∷ Month m ∷ Dash ∷ Number b ∷ []) = around_month a m b
@@ -142,8 +174,12 @@ day_in_words (Number d ∷ Month m ∷ Number y ∷ Slash ∷ Number l ∷ []) =
 day_in_words (Number a ∷ Slash ∷ Number b ∷ Month m ∷ Number c ∷ []) = double_year_or_days a b m c
 day_in_words (Number a ∷ Slash ∷ Number b ∷ Month m ∷ Number y ∷ Slash ∷ Number l ∷ []) =
     Err faults.TwoDays
+day_in_words (Number y ∷ Number d ∷ Month m ∷ []) = year_and_day y d m
 day_in_words (Month m ∷ Number d ∷ Number y ∷ []) = day_of (one y) m d.value
 day_in_words (Month m ∷ Number d ∷ Number y ∷ Slash ∷ Number l ∷ []) = day_of (two y l) m d.value
+day_in_words (Month m ∷ Number d ∷ Dot ∷ Number y ∷ []) = day_of (one y) m d.value
+day_in_words (Month m ∷ Number d ∷ Dot ∷ Number y ∷ Slash ∷ Number l ∷ []) =
+    day_of (two y l) m d.value
 day_in_words _ = Err faults.Malformed
 
 -- a month or a year: February 1731, 1731 February, 1731-02, 1731-02-XX, 1731-XX-XX, 1731, and with
@@ -154,7 +190,7 @@ month_or_year (Month m ∷ Number y ∷ Slash ∷ Number l ∷ []) = month_of (t
 month_or_year (Number y ∷ Month m ∷ []) = year_and_name y m
 month_or_year (Number y ∷ Slash ∷ Number l ∷ Month m ∷ []) = month_of (two y l) m
 month_or_year (Number y ∷ Dash ∷ Number m ∷ []) = year_and_month y m
-month_or_year (Number y ∷ Slash ∷ Number l ∷ Dash ∷ Number m ∷ []) = month_of (two y l) m.value
+month_or_year (Number y ∷ Slash ∷ Number l ∷ Dash ∷ Number m ∷ []) = month_in_digits (two y l) m
 month_or_year (Number y ∷ Dash ∷ Number m ∷ Dash ∷ Blank ∷ []) = month_of (one y) m.value
 month_or_year (Number y ∷ Dash ∷ Blank ∷ Dash ∷ Blank ∷ []) = whole_year (one y)
 month_or_year (Number y ∷ []) = whole_year (one y)

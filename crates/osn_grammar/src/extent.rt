@@ -4,7 +4,7 @@ ghost use Rattle.osn_grammar.specs.Extent as spec;
 
 use crate::part::Numeral;
 use crate::part::Part::{
-    self, After, And, Before, Between, By, Dash, From, Month, Not, Number, Open, Or, Slash, To,
+    self, After, And, Before, Between, By, Dash, Dot, From, Month, Not, Number, Open, Or, Slash, To,
 };
 use crate::simple::{date_in_digits, day_in, is_long, month_in, simple_date};
 use crate::written::{DateFault, DateOrder, Extent, SimpleDate};
@@ -24,7 +24,7 @@ enum Joining {
 #[derive(Clone, Copy, Debug, PartialEq, Eq)]
 enum Beginning {
     Day(u32),
-    DayOfMonth { month: u8, day: u32 },
+    DayOfMonth { month: u32, day: u32 },
     Month(u8),
     /// A date that lacks nothing, or none.
     Whole,
@@ -42,7 +42,7 @@ fn lone_day(day: Numeral) -> Beginning
 }
 
 /// A day of a month, or of a number that can only be a year a whole date.
-fn day_of_month(month: u8, day: Numeral) -> Beginning
+fn day_of_month(month: u32, day: Numeral) -> Beginning
     ensures { result ≡ spec.day_of_month month day }
 {
     if is_long(day) {
@@ -61,8 +61,9 @@ fn beginning_of(parts: &[Part]) -> Beginning
 {
     match parts {
         [Number(d)] => lone_day(*d),
-        [Number(d), Month(m)] => day_of_month(*m, *d),
-        [Month(m), Number(d)] => day_of_month(*m, *d),
+        [Number(d), Month(m)] => day_of_month(u32::from(*m), *d),
+        [Month(m), Number(d)] => day_of_month(u32::from(*m), *d),
+        [Number(d), Dot, Number(m)] => day_of_month(m.value, *d),
         [Month(m)] => Beginning::Month(*m),
         _ => Beginning::Whole,
     }
@@ -81,7 +82,7 @@ fn first_date(
             day_in(year, u32::from(month), day)
         }
         (Beginning::DayOfMonth { month, day }, SimpleDate::Day { year, .. }) => {
-            day_in(year, u32::from(month), day)
+            day_in(year, month, day)
         }
         (Beginning::Month(month), SimpleDate::Month { year, .. }) => {
             month_in(year, u32::from(month))
@@ -213,7 +214,7 @@ pub fn extent_of(order: DateOrder, parts: &[Part]) -> Result<Extent, DateFault>
         [After, date @ ..] => Ok(Extent::After(simple_date(order, date)?)),
         [Not, Before, date @ ..] => not_before(order, date),
         [Not, After, date @ ..] => not_after(order, date),
-        [By, date @ ..] => not_after(order, date),
+        [By | To, date @ ..] => not_after(order, date),
         [Between, dates @ ..] => range_in(order, Joining::And, dates),
         [From, dates @ ..] => range_in(order, Joining::To, dates),
         _ => date_or_range(order, parts),

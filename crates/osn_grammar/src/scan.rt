@@ -1,5 +1,5 @@
 //! A text is cut into its parts.
-ghost use Rattle.std.specs.Prelude.{◌≡◌, ◌++◌, [], IfOk, OnOk, string_bytes};
+ghost use Rattle.std.specs.Prelude.{◌≡◌, ◌<◌, ◌+◌, ◌++◌, [], IfOk, OnOk, drop, length, string_bytes};
 ghost use Rattle.std.specs.Option.{option_to_list};
 ghost use Rattle.osn_grammar.specs.Scan as spec;
 
@@ -13,11 +13,26 @@ fn is_digit(character: char) -> bool
     matches!(character, '0'..='9')
 }
 
-/// Whether a character is a letter: of ASCII, or any other but the dash U+2013.
+/// Whether a character is a dash: a hyphen, a dash or a minus sign.
+fn is_dash(character: char) -> bool
+    ensures { result ≡ spec.is_dash character }
+{
+    matches!(character, '-' | '\u{2011}' | '–' | '—' | '\u{2212}')
+}
+
+/// Whether a character is a blank: a space, a tab, or a space that doesn't break or is thin.
+fn is_blank(character: char) -> bool
+    ensures { result ≡ spec.is_blank character }
+{
+    matches!(character, ' ' | '\t' | '\u{a0}' | '\u{2009}' | '\u{202f}')
+}
+
+/// Whether a character is a letter: of ASCII, or any other beyond it but a dash or a blank.
 fn is_letter(character: char) -> bool
     ensures { result ≡ spec.is_letter character }
 {
-    matches!(character, 'A'..='Z' | 'a'..='z') || (character > '\u{7f}' && character != '–')
+    matches!(character, 'A'..='Z' | 'a'..='z')
+        || (character > '\u{7f}' && !(is_dash(character) || is_blank(character)))
 }
 
 /// The small letter of a capital one, up to U+00DE.
@@ -38,16 +53,6 @@ fn is_number(word: &str) -> bool
     !word.is_empty() && are_digits(word.as_bytes())
 }
 
-/// Whether the next character is a digit.
-fn is_digit_next(next: Option<char>) -> bool
-    ensures { result ≡ spec.next_is spec.is_digit next }
-{
-    match next {
-        Some(character) => is_digit(character),
-        None => false,
-    }
-}
-
 /// Whether the next character is a letter.
 fn is_letter_next(next: Option<char>) -> bool
     ensures { result ≡ spec.next_is spec.is_letter next }
@@ -58,32 +63,73 @@ fn is_letter_next(next: Option<char>) -> bool
     }
 }
 
-/// The mark that a full stop is, after a word and before the next character.
-fn mark_of_stop(word: &str, next: Option<char>) -> Option<Part>
-    ensures { result ≡ spec.mark_of_stop word.now next }
+/// The first character.
+fn first_of(characters: &[char]) -> Option<char>
+    ensures { result ≡ spec.first_of characters.now }
 {
-    if let Some('.') = next {
+    match characters {
+        [first, ..] => Some(*first),
+        [] => None,
+    }
+}
+
+/// Whether no letter stands right after the digits at the front.
+fn are_digits_alone(characters: &[char]) -> bool
+    ensures { result ≡ spec.are_digits_alone characters.now }
+{
+    for character in characters {
+        if !is_digit(*character) {
+            return !is_letter(*character);
+        }
+    }
+    true
+}
+
+/// Whether a number comes next, after any blanks.
+fn is_number_next(rest: &[char]) -> bool
+    ensures { result ≡ spec.is_number_next rest.now }
+{
+    let mut place = 0;
+    while place < rest.len() {
+        if !is_blank(rest[place]) {
+            return is_digit(rest[place]) && are_digits_alone(&rest[place + 1..]);
+        }
+        place += 1;
+    }
+    false
+}
+
+/// The mark that a full stop is, after a word and before the rest of the text.
+fn mark_of_stop(word: &str, rest: &[char]) -> Option<Part>
+    ensures { result ≡ spec.mark_of_stop word.now rest.now }
+{
+    if let Some('.') = first_of(rest) {
         Some(Part::Open)
-    } else if is_number(word) && is_digit_next(next) {
+    } else if is_number(word) && is_number_next(rest) {
         Some(Part::Dot)
     } else {
         None
     }
 }
 
-/// The mark that a character is, after a word and before the next character.
-fn mark_of(word: &str, character: char, next: Option<char>) -> Option<Part>
-    ensures { result ≡ spec.mark_of word.now character next }
+/// The mark that a character is, after a word and before the rest of the text.
+fn mark_of(word: &str, character: char, rest: &[char]) -> Option<Part>
+    ensures { result ≡ spec.mark_of word.now character rest.now }
 {
+    if is_dash(character) {
+        return Some(Part::Dash);
+    }
+    if is_blank(character) {
+        return None;
+    }
     match character {
-        '-' | '–' => Some(Part::Dash),
         '/' => Some(Part::Slash),
         '?' => Some(Part::Doubt),
         '~' => Some(Part::About),
         '%' => Some(Part::AboutAndDoubt),
         '[' | ']' => Some(Part::Bracket),
-        '.' => mark_of_stop(word, next),
-        ' ' | '\t' | ',' | '(' | ')' => None,
+        '.' => mark_of_stop(word, rest),
+        ',' | '(' | ')' => None,
         _ => Some(Part::Unknown),
     }
 }
@@ -116,29 +162,45 @@ fn is_passed_over(word: &str, character: char, next: Option<char>) -> bool
     character == '.' && !are_digits(word.as_bytes()) && is_letter_next(next)
 }
 
-/// Takes one more character, of which the next one is known.
+/// Takes one more character, before the rest of the text.
 fn take(
     parts: &mut Vec<Part>,
     word: &mut String,
     character: char,
-    next: Option<char>,
+    rest: &[char],
 ) -> Result<(), AllocError>
     ensures parts { OnOk result
         (parts.new.items ≡ parts.old.items
-        ++ spec.parts_ended (string_bytes word.old) character next) }
+        ++ spec.parts_ended (string_bytes word.old) character rest.now) }
     ensures word { OnOk result
-        (string_bytes word.new ≡ spec.word_after (string_bytes word.old) character next) }
+        (string_bytes word.new
+        ≡ spec.word_after (string_bytes word.old) character (spec.first_of rest.now)) }
 {
     if is_letter(character) || is_digit(character) {
         return word.push(small(character));
     }
-    if is_passed_over(word.as_str(), character, next) {
+    if is_passed_over(word.as_str(), character, first_of(rest)) {
         return Ok(());
     }
     push_some(parts, part_of_run(word.as_str()))?;
-    push_some(parts, mark_of(word.as_str(), character, next))?;
+    push_some(parts, mark_of(word.as_str(), character, rest))?;
     word.clear();
     Ok(())
+}
+
+/// Takes the character at a place.
+fn take_at(
+    parts: &mut Vec<Part>,
+    word: &mut String,
+    characters: &[char],
+    place: usize,
+) -> Result<(), AllocError>
+    requires { place < length characters.now }
+    ensures { OnOk result
+        (parts.new.items ++ spec.parts_after (string_bytes word.new) (drop (place + 1) characters.now)
+        ≡ parts.old.items ++ spec.parts_after (string_bytes word.old) (drop place characters.now)) }
+{
+    take(parts, word, characters[place], &characters[place + 1..])
 }
 
 /// The parts of these characters.
@@ -149,8 +211,7 @@ fn parts_of(alloc: Global, characters: &[char]) -> Result<Vec<Part>, AllocError>
     let mut word = String::new(alloc);
     let mut place = 0;
     while place < characters.len() {
-        let next = characters.get(place + 1).copied();
-        take(&mut parts, &mut word, characters[place], next)?;
+        take_at(&mut parts, &mut word, characters, place)?;
         place += 1;
     }
     push_some(&mut parts, part_of_run(word.as_str()))?;

@@ -1,6 +1,7 @@
 //! Simple dates: a day, a month or a year, by the forms in which they are written.
 ghost use Rattle.std.specs.Prelude.{◌≡◌, ◌+◌, ◌%◌, ◌^◌, ◌==◌, ◌<◌, ◌≤◌};
 ghost use Rattle.osn_grammar.specs.Simple as spec;
+ghost use Rattle.osn_grammar.specs.declared.written.DateOrder.TheVariants.{Unknown};
 
 use crate::part::Numeral;
 use crate::part::Part::{self, Blank, Dash, Dot, Month, Number, Slash};
@@ -79,7 +80,7 @@ fn year_of(years: YearNumbers) -> Result<Year, DateFault>
 pub fn month_in(year: Year, month: u32) -> Result<SimpleDate, DateFault>
     ensures { result ≡ spec.month_in year month }
 {
-    if month < 1 || month > 12 {
+    if !is_month(month) {
         return Err(DateFault::Month);
     }
     Ok(SimpleDate::Month {
@@ -92,7 +93,7 @@ pub fn month_in(year: Year, month: u32) -> Result<SimpleDate, DateFault>
 pub fn day_in(year: Year, month: u32, day: u32) -> Result<SimpleDate, DateFault>
     ensures { result ≡ spec.day_in year month day }
 {
-    if month < 1 || month > 12 {
+    if !is_month(month) {
         return Err(DateFault::Month);
     }
     if day < 1 || day > 31 {
@@ -126,6 +127,55 @@ fn day_of(years: YearNumbers, month: u32, day: u32) -> Result<SimpleDate, DateFa
     day_in(year_of(years)?, month, day)
 }
 
+/// The month of a number in digits, where it has one or two of them.
+fn month_in_digits(years: YearNumbers, month: Numeral) -> Result<SimpleDate, DateFault>
+    ensures { result ≡ spec.month_in_digits years month }
+{
+    if is_long(month) {
+        Err(DateFault::Malformed)
+    } else {
+        month_of(years, month.value)
+    }
+}
+
+/// The day of two numbers in digits, where each has one or two of them.
+fn day_in_digits(years: YearNumbers, month: Numeral, day: Numeral) -> Result<SimpleDate, DateFault>
+    ensures { result ≡ spec.day_in_digits years month day }
+{
+    if is_long(month) || is_long(day) {
+        Err(DateFault::Malformed)
+    } else {
+        day_of(years, month.value, day.value)
+    }
+}
+
+/// Whether a number is that of a month.
+fn is_month(number: u32) -> bool
+    ensures { result ≡ spec.is_between 1 12 number }
+{
+    number >= 1 && number <= 12
+}
+
+/// Whether each of two numbers may be the month, and it is not the same day either way.
+fn is_either_month(first: u32, second: u32) -> bool
+    ensures { result ≡ spec.is_either_month first second }
+{
+    is_month(first) && is_month(second) && first != second
+}
+
+/// The date of three numbers that ends with its year, where their order is not known.
+fn in_unknown_order(first: Numeral, second: Numeral, year: Numeral) -> Result<SimpleDate, DateFault>
+    ensures { result ≡ spec.by_order Unknown first second year }
+{
+    if is_either_month(first.value, second.value) {
+        Err(DateFault::DayOrMonth)
+    } else if second.value > 12 {
+        day_of(one(year), first.value, second.value)
+    } else {
+        day_of(one(year), second.value, first.value)
+    }
+}
+
 /// The date of three numbers that ends with its year.
 fn by_order(
     order: DateOrder,
@@ -136,25 +186,41 @@ fn by_order(
     ensures { result ≡ spec.by_order order first second year }
 {
     match order {
-        DateOrder::Unknown => Err(DateFault::DayOrMonth),
+        DateOrder::Unknown => in_unknown_order(first, second, year),
         DateOrder::DayMonth => day_of(one(year), second.value, first.value),
         DateOrder::MonthDay => day_of(one(year), first.value, second.value),
     }
 }
 
-/// The date of three numbers with dashes between them, which begins with its year or ends with it.
-fn with_dashes(
+/// The date of three numbers, which ends with its year or begins with it.
+fn three_numbers(
     order: DateOrder,
     first: Numeral,
     second: Numeral,
     third: Numeral,
 ) -> Result<SimpleDate, DateFault>
-    ensures { result ≡ spec.with_dashes order first second third }
+    ensures { result ≡ spec.three_numbers order first second third }
 {
     if is_long(third) && !is_long(first) {
         by_order(order, first, second, third)
     } else {
-        day_of(one(first), second.value, third.value)
+        day_in_digits(one(first), second, third)
+    }
+}
+
+/// The date of two numbers with a `/` between them and a year after them.
+fn year_last(
+    order: DateOrder,
+    first: Numeral,
+    second: Numeral,
+    year: Numeral,
+) -> Result<SimpleDate, DateFault>
+    ensures { result ≡ spec.year_last order first second year }
+{
+    if is_long(year) && !is_long(first) {
+        by_order(order, first, second, year)
+    } else {
+        Err(DateFault::Malformed)
     }
 }
 
@@ -191,6 +257,17 @@ fn year_and_name(year: Numeral, month: u8) -> Result<SimpleDate, DateFault>
     }
 }
 
+/// The date of a year, a day and the name of a month after them.
+fn year_and_day(year: Numeral, day: Numeral, month: u8) -> Result<SimpleDate, DateFault>
+    ensures { result ≡ spec.year_and_day year day month }
+{
+    if is_long(year) {
+        day_of(one(year), u32::from(month), day.value)
+    } else {
+        Err(DateFault::Malformed)
+    }
+}
+
 /// The date of two numbers with a `/` between them before a month: they are a double year, or two
 /// days.
 fn double_year_or_days(
@@ -213,7 +290,13 @@ fn day_in_numbers(order: DateOrder, parts: &[Part]) -> Result<SimpleDate, DateFa
     ensures { result ≡ spec.day_in_numbers order parts.now }
 {
     match parts {
-        [Number(a), Dash, Number(b), Dash, Number(c)] => with_dashes(order, *a, *b, *c),
+        [Number(a), Dash, Number(b), Dash, Number(c)]
+        | [Number(a), Slash, Number(b), Slash, Number(c)]
+        | [Number(a), Number(b), Number(c)] => three_numbers(order, *a, *b, *c),
+        [Number(a), Dot, Number(b), Dot, Number(c)] => {
+            three_numbers(DateOrder::DayMonth, *a, *b, *c)
+        }
+        [Number(a), Slash, Number(b), Number(y)] => year_last(order, *a, *b, *y),
         [
             Number(y),
             Slash,
@@ -222,12 +305,10 @@ fn day_in_numbers(order: DateOrder, parts: &[Part]) -> Result<SimpleDate, DateFa
             Number(m),
             Dash,
             Number(d),
-        ] => { day_of(two(*y, *l), m.value, d.value) }
-        [Number(d), Dot, Number(m), Dot, Number(y)] => day_of(one(*y), m.value, d.value),
+        ] => { day_in_digits(two(*y, *l), *m, *d) }
         [Number(d), Dot, Number(m), Dot, Number(y), Slash, Number(l)] => {
             day_of(two(*y, *l), m.value, d.value)
         }
-        [Number(a), Slash, Number(b), Slash, Number(y)] => by_order(order, *a, *b, *y),
         _ => Err(DateFault::Malformed),
     }
 }
@@ -254,8 +335,12 @@ fn day_in_words(parts: &[Part]) -> Result<SimpleDate, DateFault>
             Slash,
             Number(_),
         ] => { Err(DateFault::TwoDays) }
-        [Month(m), Number(d), Number(y)] => day_of(one(*y), u32::from(*m), d.value),
-        [Month(m), Number(d), Number(y), Slash, Number(l)] => {
+        [Number(y), Number(d), Month(m)] => year_and_day(*y, *d, *m),
+        [Month(m), Number(d), Number(y)] | [Month(m), Number(d), Dot, Number(y)] => {
+            day_of(one(*y), u32::from(*m), d.value)
+        }
+        [Month(m), Number(d), Number(y), Slash, Number(l)]
+        | [Month(m), Number(d), Dot, Number(y), Slash, Number(l)] => {
             day_of(two(*y, *l), u32::from(*m), d.value)
         }
         _ => Err(DateFault::Malformed),
@@ -272,7 +357,7 @@ fn month_or_year(parts: &[Part]) -> Result<SimpleDate, DateFault>
         [Number(y), Month(m)] => year_and_name(*y, *m),
         [Number(y), Slash, Number(l), Month(m)] => month_of(two(*y, *l), u32::from(*m)),
         [Number(y), Dash, Number(m)] => year_and_month(*y, *m),
-        [Number(y), Slash, Number(l), Dash, Number(m)] => month_of(two(*y, *l), m.value),
+        [Number(y), Slash, Number(l), Dash, Number(m)] => month_in_digits(two(*y, *l), *m),
         [Number(y), Dash, Number(m), Dash, Blank] => month_of(one(*y), m.value),
         [Number(y), Dash, Blank, Dash, Blank] => whole_year(one(*y)),
         [Number(y)] => whole_year(one(*y)),
