@@ -144,7 +144,7 @@ const HEAD: [File; 1] = [("a.journal", OLD)];
 const AGREES: &str = "{\"ask\":{\"op\":\"lands\",\"reader\":1},\"reply\":{\"answer\":\
 {\"lands\":[]},\"edition\":0,\"reader\":1}";
 
-/// Writes a transcript of so many lines, each of 65,536 bytes with its line feed.
+/// Writes a transcript with this number of lines, each of 65,536 bytes with its line feed.
 fn write_transcript<R: Files + AllocGlobal>(rt: &R, path: &str, lines: u32) -> Result<(), Fail> {
     let spaces = " ".repeat(rt.alloc(), 65_534usize.saturating_sub(AGREES.len()))?;
     let mut file = fs::create(rt, path)?;

@@ -1,5 +1,5 @@
-//! What is told of words that are wrong, of codes that no territory has and of tables of letters
-//! that end early: what was typed, what is allowed and the next step. Beside them stand the words
+//! Messages about words that are wrong, codes that no territory has and tables of letters that end
+//! early. Each names what was typed, what is allowed and the next step. Beside them stand the words
 //! that are taken.
 use crate::commands::{RunRow, left_of};
 use crate::files::{File, NAMED};
