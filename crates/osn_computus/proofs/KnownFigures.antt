@@ -5,8 +5,8 @@ use Rattle.osn_computus.specs.Figures.{golden_number, indiction, julian_epact, g
 use Rattle.osn_computus.specs.Moon.{april, plain, twenty_five_prime, julian_full_moon}
 use Rattle.osn_computus.specs.Moon.{gregorian_new_moon}
 
--- the first row of the table of Dionysius Exiguus (525): in 532, the first year of a cycle, the
--- indiction is 10, the epact none and the full moon on 5 April
+-- the first row of the table of Dionysius Exiguus (525). In 532, the first year of a cycle, the
+-- indiction is 10, the epact is 0 and the full moon is on 5 April
 first_row : (golden_number 532 ≡ 1) × (indiction 532 ≡ 10) × (julian_epact 532 ≡ 0)
     × (julian_full_moon 1 ≡ Some (april 5))
 unfolding julian_full_moon
