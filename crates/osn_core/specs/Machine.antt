@@ -70,8 +70,8 @@ out_of p c Claim =
     claim_out (is_marked (1 - c.control.side) c.control.readers) c.control.phase
 out_of p c Absorb = absorb_out (c.control.lag == 0) c.control.phase
 
--- whether a step that gives this takes memory: one that is not enabled or is refused takes none,
--- and neither does a look that notes no code, an answer that takes none, or a standby that lacks
+-- whether a step that gives this takes memory. One that is not enabled or is refused takes none.
+-- Neither does a look that notes no code, an answer that takes none, or a standby that lacks
 -- nothing
 abbrev pub step_takes_memory : Step → Out → Bool
 step_takes_memory step Says.NotNow = false
