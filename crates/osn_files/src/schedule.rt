@@ -13,7 +13,7 @@ use osn_lines::Source;
 use osn_request::LineObject;
 use std::alloc::Global;
 
-/// The steps of one editor and of so many readers.
+/// The steps of one editor and of a number of readers.
 #[derive(Drop)]
 struct Steps {
     readers: u32,
@@ -48,7 +48,7 @@ impl LineFold for Steps {
     }
 }
 
-/// The steps of a schedule, a line each, of one editor and so many readers.
+/// The steps of a schedule, a line each, of one editor and this many readers.
 ///
 /// # Errors
 ///

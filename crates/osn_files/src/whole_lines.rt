@@ -39,7 +39,7 @@ struct Count {
 #[derive(Drop)]
 struct Measure {
     count: Count,
-    /// What stands behind the last line feed.
+    /// What stands after the last line feed.
     front: LineFront,
 }
 
@@ -134,8 +134,8 @@ fn part_of(alloc: Global, measure: &Measure) -> Result<WholePart, AllocError>
     })
 }
 
-/// Reads a source to its end, and says how much of it counts. Besides one read of at most 65,536
-/// bytes there are the first 65,537 bytes at most behind the last line feed, and the value of that
+/// Reads a source to its end, and says how much of it counts. Memory holds one read of at most
+/// 65,536 bytes, at most the first 65,537 bytes after the last line feed, and the value of that
 /// line.
 ///
 /// # Errors
