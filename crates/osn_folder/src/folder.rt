@@ -39,8 +39,8 @@ pub trait Folder {
             (λ file. IsFileOf (known self.old) path.now (Self.File.remaining file)) }
         ensures none { OnErr result (HasNoFile (known self.old) path.now) };
 
-    /// Opens a file to be kept. It is made where there is none, and locked, so that no other run of
-    /// the program keeps it or saves to it at the same time. The second part of the answer reads
+    /// Opens a file to be kept. It is made where no file is there, and locked, so that no other run
+    /// of the program keeps it or saves to it at the same time. The second part of the answer reads
     /// the same open file, from its first byte on, as long as the first part has not changed it.
     ///
     /// # Errors
@@ -116,8 +116,8 @@ pub trait Folder {
             (known self.old) (known self.new)) }
         ensures err { OnErr result (Changes Fails (known self.old) (known self.new)) };
 
-    /// Puts a file at a place, which a reader finds as it was or as it is then, if the place still
-    /// names the file that is locked, or still nothing where nothing was.
+    /// Puts a file at a place, if that still names the file that is locked, or still nothing where
+    /// nothing was. A reader finds the place as it was or as it is then.
     ///
     /// # Errors
     ///
