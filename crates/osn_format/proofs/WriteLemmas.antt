@@ -1,4 +1,4 @@
--- What is written behind what is written.
+-- What is written after what is written.
 use Rattle.std.proofs.Common.{Result, Ok, Err, OnOk, IsOk, MatchResult, refl}
 use Rattle.std.proofs.lemmas.Result.{on_ok_weaker}
 
