@@ -15,7 +15,7 @@ use std::alloc::Global;
 /// and keeps a file, which is loaded as the object. Answers how many were answered.
 ///
 /// Each edit that is taken and each publish is appended to the file, as a line of the journal,
-/// before its reply is written, and a publish is on the disk before that. What is refused appends
+/// before its reply is written. A publish is also on the disk before that. What is refused appends
 /// nothing. What the file held is not read, and need not be what is written of the object. If it
 /// ends with a line feed and is loaded as the object that is given, it is loaded as what becomes of
 /// it. Where its head says the first version, it is so only as long as no edit has a style that
