@@ -58,7 +58,7 @@ AreInYears p c l f =
 abbrev pub days_found : ThreeDays → List ℕ
 days_found f = option_to_list f.before ++ (option_to_list f.same ++ option_to_list f.after)
 
--- there is none of them
+-- no day was found, or none was looked for
 abbrev pub are_none_in : Option ThreeDays → Bool
 are_none_in None = true
 are_none_in (Some f) = is_empty (days_found f)

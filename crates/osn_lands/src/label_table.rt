@@ -95,7 +95,7 @@ fn ends_of(days: Option<ThreeDays>) -> Option<(Day, Day)>
     }
 }
 
-/// Whether there is none of them.
+/// Whether no day was found, or none was looked for.
 fn are_none(days: Option<ThreeDays>) -> bool
     ensures { result ≡ are_none_in days }
 {
