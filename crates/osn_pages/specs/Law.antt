@@ -41,8 +41,8 @@ abbrev pub periods_in : Answer → List Period
 periods_in (answers.Periods periods) = periods
 periods_in other = []
 
--- so it is with each period of the territory: the day from which the page of the territory says
--- that it is in force, and that until which it is, are named alike by the pages of those days
+-- so it is with each period of the territory. Its page says from which day and until which one the
+-- period is in force. The pages of these two days name them alike
 unfoldable pub ArePeriodsAnswered : Profile → List LandModel → List ℕ → Type 0
 ArePeriodsAnswered p lands code =
     All (IsPeriodAnswered p lands code) (periods_in (answer p lands (Periods code)))
