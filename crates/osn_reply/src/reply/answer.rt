@@ -94,7 +94,7 @@ fn write_figures(
     out.push("}")
 }
 
-/// Ends a reply behind its answer.
+/// Ends a reply after its answer.
 fn end_reply(out: &mut LineWriter, edition: u32, reader: u32) -> Result<(), AllocError>
     ensures text { OnOk result (out.new.text ≡ out.old.text
         ++ (codes ",\"edition\":" ++ (decimal edition
