@@ -50,8 +50,8 @@ fn take_apart(
     Ok(())
 }
 
-/// A session's requests and replies apart, a line feed behind each. Every second line of a session
-/// is a reply. Empty lines, and remarks behind a number sign, are passed over.
+/// A session's requests and replies apart, a line feed after each. Every second line of a session
+/// is a reply. Empty lines, and remarks after a number sign, are passed over.
 pub fn apart(alloc: Global, session: &str) -> Result<(String, String), AllocError> {
     let text = joined(alloc, session)?;
     let mut requests = String::new(alloc);
