@@ -1,5 +1,5 @@
--- What the service has done over the files of a folder: the one that a journal is loaded from, the
--- one that it is saved to, and the one that it is kept in.
+-- What the service has done over the files of a folder. They are the one that a journal is loaded
+-- from, the one that it is saved to, and the one that it is kept in.
 use Rattle.std.specs.Prelude.{◌≡◌, ◌⊎◌, Bool, List, [], ℕ, Option, Some, None, IfSome, option_map}
 use Rattle.std.specs.Prelude.{Result, if◌then◌else◌}
 use Rattle.std.specs.Str.{bytes_eq}
