@@ -24,8 +24,9 @@ abbrev pub MatchEnd : Result ℕ (Interrupted ServeFault) → (ℕ → Type 0) �
 MatchEnd (Ok n) All P Q R = All n
 MatchEnd (Err end) All P Q R = MatchFault end.cause (P end.lines) (Q end.lines) (R end.lines)
 
--- a fact of an end that an object by itself has too, one of the number of lines where the last of
--- them was refused and was to be the last, and one where a change was not kept
+-- a fact for each end. One is of an end that an object by itself has too, and one of the number of
+-- lines where the last of them was refused and was to be the last. One is where a change was not
+-- kept
 abbrev pub MatchServed : Bool → (ℕ → Type 0) → (ℕ → Type 0) → ℕ → Type 0
 MatchServed false P Q n = P n
 MatchServed true P Q n = Q n

@@ -171,7 +171,7 @@ fn answer<W: Sink, S: Store>(
     answer_read(alloc, rules, store, sink, waiting, &read)
 }
 
-/// Writes what waits where it is so much that it is to be written, so that less waits then.
+/// Writes what waits where enough waits to be written, so that less waits then.
 fn make_room<W: Sink>(sink: &mut W, waiting: &mut ReplyBuffer) -> Result<(), UnwrittenReplies>
     ensures ok { OnOk result
         (Settles (W.contents sink.old) (W.contents sink.new) waiting.old waiting.new) }
