@@ -48,7 +48,7 @@ fn audit_lines<S: Source>(
 ///
 /// # Errors
 ///
-/// `BadLine` for the first line that is refused, with its file: the journal is loaded first, as by
+/// `BadLine` for the first line that is refused, with its file. The journal is loaded first, as by
 /// `load_journal`, and nothing of the transcript is read where that fails. `ReadFault` where a
 /// source failed, or gave no end within 4,294,967,295 reads. `NoMemory` where a growth of memory
 /// was refused, which leaves open whether the line that was being read has a fault.
