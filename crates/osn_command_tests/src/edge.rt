@@ -1,5 +1,5 @@
-//! Where the program meets files: what is saved where, and what stands there where it can't be; and
-//! what a terminal is told. Each test works in a folder of its own.
+//! How the program reads and writes files: what is saved where, and what stands there where it
+//! can't be. Also what a terminal is told. Each test works in a folder of its own.
 use crate::commands::{RunRow, are_run, left_over};
 use crate::compare::same;
 use crate::files::{entered, has_text};

@@ -343,7 +343,7 @@ fn nothing_is_opened_after_a_file_that_is_gone(rt: HostRuntime) -> Result<(), Fa
     are_gone(&rt, &GONE, "oldstyle: read fault\n")
 }
 
-/// Runs, and what a file holds then. A text is written beside its place, and moved from there; a
+/// Runs, and what a file holds then. A text is written beside its place, and moved from there. A
 /// journal that is kept is there from the start, and is given back with what was added.
 const SAVES: [(Row, &str, Option<&str>); 4] = [
     (
