@@ -12,8 +12,8 @@ first_row : (golden_number 532 ≡ 1) × (indiction 532 ≡ 10) × (julian_epact
 unfolding julian_full_moon
 first_row = (refl, refl, refl, refl)
 
--- the first and the second canon: in 1582 the golden number is 6, and the epact of the reform 26;
--- in 1583 both are 7
+-- the first and the second canon: in 1582 the golden number is 6, and the epact of the reform 26.
+-- In 1583 both are 7
 reform : (golden_number 1582 ≡ 6) × (gregorian_epact 1582 ≡ plain 26)
     × (golden_number 1583 ≡ 7) × (gregorian_epact 1583 ≡ plain 7)
 reform = (refl, refl, refl, refl)

@@ -1,6 +1,6 @@
 -- The tables of the paschal moon. The Julian rule goes by the 19 full moons of the cycle of 19
 -- years (Reingold and Dershowitz, Calendrical Calculations, "The Ecclesiastical Calendars"). The
--- Gregorian rule goes by epacts: the second canon of Inter gravissimas (1582) and the calendar of
+-- Gregorian rule goes by epacts. The second canon of Inter gravissimas (1582) and the calendar of
 -- the canons set them beside the days on which a paschal new moon can fall.
 use Rattle.std.specs.Prelude.{ℕ, ◌+◌, ◌-◌, ◌==◌, ◌&&◌, Bool, true, false, not, nat_lt}
 use Rattle.std.specs.Prelude.{if◌then◌else◌, List, [], ◌∷◌, Option, slice_get}

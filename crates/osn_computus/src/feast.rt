@@ -27,7 +27,7 @@ fn sunday_after(moon: Day) -> Day
 /// the same rules.
 pub fn easter(rule: Rule, year: Year) -> Day
     ensures value { easter_of newest_rules rule year ≡ Some result }
-    // in the subject's own words
+    // it is a Sunday, from 22 March to 25 April, and in the week after the moon
     ensures sunday { weekday result ≡ 0 }
     ensures season { IsEasterDate year (date_of (feast.calendar_of rule) result) }
     ensures moon { IsSomeAnd (feast.paschal_moon newest_rules rule year)
