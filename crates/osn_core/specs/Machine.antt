@@ -41,7 +41,7 @@ answer p s reader (Entered query side edition) = record {
 }
 answer p s reader at = stays at
 
--- what a step of a reader does with where that reader is; one of the editor does nothing with it
+-- what a step of a reader does with where that reader is. A step of the editor does nothing with it
 abbrev pub move_of : Profile → CoreState → Step → ReaderState → Move
 move_of p c (Look reader query) at = look c.control.side query at
 move_of p c (Pin reader) at = pin at

@@ -22,7 +22,7 @@ pub const MOST_READERS: u32 = 64;
 /// One editor and its readers over two copies of the register, a step at a time.
 ///
 /// Readers are in the live side, and the editor works on the other one, the standby. A publish
-/// exchanges the two; those who are still in the side that was live go on there, and the editor
+/// exchanges the two. Those who are still in the side that was live go on there, and the editor
 /// waits until the last of them has left.
 #[derive(Drop)]
 pub struct Core {
