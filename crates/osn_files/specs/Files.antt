@@ -21,7 +21,7 @@ pub record SparesRead {A : Type 0} (rule : List (List ℕ) → Result A (ℕ × 
 
 -- A file of this role is read by a rule, which says what lines make, or the first fault and the
 -- number of its line, counted from 1. What is made has this view. The source stood so before, and
--- stands so now; what it still has is said only where that is known.
+-- stands so now. What it still has is said only where that is known.
 pub record ReadsFile {A T S : Type 0} (role : Role)
     (rule : List (List ℕ) → Result A (ℕ × LineFault)) (view : T → A) (result : Result T FileFault)
     (remaining : S → Option (List ℕ)) (has_failed : S → Bool) (old new : S) : Type 0 where

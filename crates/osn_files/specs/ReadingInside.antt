@@ -65,7 +65,7 @@ Spares step state begun lines =
     (more : List (List ℕ))
     → IfErr (goes_on step state begun 1 (lines ++ more)) (λ e. length lines < e.0)
 
--- where memory ran out the lines that were taken have no fault; a fault is that of the next
+-- where memory ran out the lines that were taken have no fault. A fault is that of the next
 abbrev pub StopsReading : {S A : Type 0} → (S → Version → A → Data → Result A LineFault)
     → (S → A) → Reading S → List (List ℕ) → Option (List ℕ) → LineStop → Type 0
 StopsReading step state begun lines at NoMemory = Spares step state begun lines

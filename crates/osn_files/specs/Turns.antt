@@ -24,7 +24,7 @@ go_on n (Err f) next = Err (n, f)
 
 -- What lines make of a value, each by its object and by the rules of a version. Where a line has a
 -- fault, it is the first fault and the number of its line, where the first line has this number.
--- Where no version is known, the first line is a head that says it; line 1 has a fault where there
+-- Where no version is known, the first line is a head that says it. Line 1 has a fault where there
 -- is no line.
 abbrev pub in_turn : {S : Type 0} → (Version → S → Data → Result S LineFault) → ℕ
     → Option Version → S → List (List ℕ) → Result S (ℕ × LineFault)

@@ -38,7 +38,7 @@ pub fn load_journal<R: Source>(
         R.remaining R.has_failed source.old source.new }
 
     // Whatever the lines: a journal of the first version that the first rules load, the newest
-    // rules load too, and each of its editions is the same register under both.
+    // rules load too. Each of its editions is the same register under both.
     ensures kept { (journal : List (List ℕ)) → KeepsEditions limits journal }
 
     // Whatever the lines: a journal that these limits load, greater ones load too, as the same

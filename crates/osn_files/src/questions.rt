@@ -17,8 +17,8 @@ use std::alloc::Global;
 ///
 /// # Errors
 ///
-/// `BadLine` for the first line that is no query; `ReadFault` where the source failed, or gave no
-/// end within 4,294,967,295 reads; `NoMemory`.
+/// `BadLine` for the first line that is no query. `ReadFault` where the source failed, or gave no
+/// end within 4,294,967,295 reads. `NoMemory` where memory ran out.
 pub fn read_questions<R: Source>(
     alloc: Global,
     source: &mut R,

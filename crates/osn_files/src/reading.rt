@@ -42,7 +42,7 @@ pub trait LineFold {
     ///
     /// # Errors
     ///
-    /// The line's fault; or want of memory, where the object has what is asked of it before memory
+    /// The line's fault, or want of memory where the object has what is asked of it before memory
     /// is taken. No further line is given to it then.
     fn take_object(
         &mut self,

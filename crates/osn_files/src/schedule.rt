@@ -52,8 +52,8 @@ impl LineFold for Steps {
 ///
 /// # Errors
 ///
-/// `BadLine` for the first line that is no step; `ReadFault` where the source failed, or gave no
-/// end within 4,294,967,295 reads; `NoMemory`.
+/// `BadLine` for the first line that is no step. `ReadFault` where the source failed, or gave no
+/// end within 4,294,967,295 reads. `NoMemory` where memory ran out.
 pub fn read_schedule<R: Source>(
     alloc: Global,
     readers: u32,

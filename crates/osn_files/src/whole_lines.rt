@@ -140,7 +140,8 @@ fn part_of(alloc: Global, measure: &Measure) -> Result<WholePart, AllocError>
 ///
 /// # Errors
 ///
-/// `ReadFault` where the source failed, or gave no end within 4,294,967,295 reads; `NoMemory`.
+/// `ReadFault` where the source failed, or gave no end within 4,294,967,295 reads. `NoMemory` where
+/// memory ran out.
 pub fn whole_part<R: Source>(alloc: Global, source: &mut R) -> Result<WholePart, FileFault>
     ensures ok { IfOk result (λ part. IfSome (R.remaining source.old) (IsWholePart part)) }
     // A further line can be counted.
