@@ -181,7 +181,7 @@ abbrev pub CannotMove : List ℕ → MoveFault → Known → Known → Type 0
 CannotMove to moves.Changed k n = Stays k n × (k.paths.is_changed to ≡ true)
 CannotMove to moves.Failed k n = Fails k n
 
--- what is at this place is what was there at first: no one else put another file there, and it
+-- what is at this place is what was there at first. No one else put another file there, and it
 -- holds what was loaded from it, where that is given
 abbrev pub IsUnchanged : List ℕ → Option (List ℕ) → Known → Type 0
 IsUnchanged place loaded k =
@@ -192,7 +192,7 @@ HasChanged place loaded k =
     (k.paths.is_changed place ≡ true)
     ⊎ ((bytes : List ℕ) × (loaded ≡ Some bytes) × (k.at place ≢ Some bytes))
 
--- the text stands at this place, and all other paths are as they were; a file that it replaced was
+-- the text stands at this place, and all other paths are as they were. A file that it replaced was
 -- what was there at first
 abbrev pub SavesAt : List ℕ → Option (List ℕ) → List ℕ → Known → Known → Type 0
 SavesAt place loaded text k n =

@@ -75,11 +75,11 @@ pub trait Folder {
         ensures err { IfErr result
             (λ why. Changes (CannotLock path.now why) (known self.old) (known self.new)) };
 
-    /// Where a path leads, through links; the path itself where nothing is there.
+    /// Where a path leads, through links, or the path itself where nothing is there.
     ///
     /// # Errors
     ///
-    /// `NoMemory` where memory ran out; `WriteFault` where it isn't known, or a link leads nowhere.
+    /// `NoMemory` where memory ran out. `WriteFault` where it isn't known, or a link leads nowhere.
     fn place(&mut self, alloc: Global, path: &str) -> Result<String, SaveFault>
         ensures ok { IfOk result (λ place. Changes (IsPlaceOf path.now (string_bytes place))
             (known self.old) (known self.new)) }
