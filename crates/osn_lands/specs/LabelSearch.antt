@@ -158,7 +158,7 @@ abbrev pub three_if : Bool → ℕ
 three_if true = 3
 three_if false = 0
 
--- the label is skipped at the change, where the two regimes have it on these days: the fourth
+-- the label is skipped at the change, where the two regimes have it on these days. The fourth
 -- condition asks of each regime's days only those in its own period
 abbrev pub is_skipped_by_days : Period → Period → List ℕ → List ℕ → Bool
 is_skipped_by_days old new old_days new_days =

@@ -1,4 +1,4 @@
-//! The days of a label by calendar, for all regimes of a territory at once: a label is one of three
+//! The days of a label by calendar, for all regimes of a territory at once. A label is one of three
 //! dates in each calendar, whatever the style.
 ghost use Rattle.std.specs.Prelude.{◌≡◌, ◌+◌, ◌*◌, ◌≤◌, ◌&&◌, IfSome, Some, is_some, length};
 ghost use Rattle.std.specs.Option.{option_to_list};
