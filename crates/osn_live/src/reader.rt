@@ -82,7 +82,7 @@ impl Reader {
     ///
     /// # Errors
     ///
-    /// `NoPlace` where the editor was closed; nothing has changed then. `NoMemory` where none is
+    /// `NoPlace` where the editor was closed. Nothing has changed then. `NoMemory` where none is
     /// found, of which a refused query, the figures of a year and an empty list of territories take
     /// none.
     pub fn ask(&mut self, query: &Query) -> Result<Reply, AskFault>
