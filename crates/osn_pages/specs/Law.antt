@@ -1,4 +1,4 @@
--- What is written of a day by a calendar is read again as that day's date; and the periods of a
+-- What is written of a day by a calendar is read again as that day's date. The periods of a
 -- territory are those that hold its days.
 use Rattle.std.specs.Prelude.{◌≡◌, ◌≤◌, ℕ, List, [], ◌∷◌, Ok, pos}
 use Rattle.std.specs.List.{All}
