@@ -113,7 +113,7 @@ fn tree_of(alloc: Global, text: &str) -> Result<Value, RequestError>
 }
 
 /// The object that a text is. The scratch serves one text after another, and grows to the length of
-/// the longest one; the object may borrow from it.
+/// the longest one. The object may borrow from it.
 ///
 /// # Errors `NotJson` and `NotObject`, or want of memory. An empty text takes no memory, and
 /// neither does a flat object where the scratch has room for its text.
@@ -170,7 +170,7 @@ pub fn text_of<'a>(line: Line<'a>) -> Result<&'a str, WireFault>
 }
 
 /// The object of a line. The scratch serves one line after another, and grows to the length of the
-/// longest one; the object may borrow from it.
+/// longest one. The object may borrow from it.
 ///
 /// # Errors Memory is taken only for the object of a line that is a text and not too long.
 pub fn object_of<'a>(
