@@ -84,7 +84,7 @@ pub record ServesAndSaves (limits : Limits) (save : Option (List ℕ)) (rules : 
 abbrev pub CanFailIf : (Bool → Type 0) → Option Input → Type 0
 CanFailIf CanFail begun = IfSome begun (λ journal. CanFail journal.unread)
 
--- how a run of the service ended: it had no object to begin with, and wrote nothing; or it answered
+-- how a run of the service ended. It had no object to begin with, and wrote nothing; or it answered
 -- the lines, and its journal was saved
 abbrev pub EndsServing : Limits → Option (List ℕ) → ServeRules → Option Input → Option (List ℕ)
     → Option Known → Option Known → Input → Output → Output → Status → Type 0

@@ -70,7 +70,7 @@ pub record ServesLines (rules : ServeRules) (s : ObjectState) (saves : Bool) (i 
   -- this many editions were published
   pub published : editions ≡ length object.batches - length s.batches
 
--- what the service did that was to begin with this journal, if any: there was no object, and it
+-- what the service did that was to begin with this journal, if any. There was no object, and it
 -- wrote nothing; or there was one, and it answered the lines
 abbrev pub Serves : Limits → ServeRules → Option Input → Bool → Input → Output → Output
     → Option (List ℕ) → ℕ → Status → Type 0

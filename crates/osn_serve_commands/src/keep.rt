@@ -262,7 +262,7 @@ fn keep_lines<K: KeptFile, R: Source, W: Sink, E: Sink>(
 /// answered, or those up to the first refused one where the rules say so, which is a fault then.
 ///
 /// The source gives what the file holds, which is loaded as far as lines count. A last line that
-/// was not finished is cut off, and standard error is told so; one that counts and lacks its line
+/// was not finished is cut off, and standard error is told so. One that counts and lacks its line
 /// feed gets it. A file with no line gets a head. All of it is on the disk before the first line is
 /// answered. A file with a bad line, or with a head of an older version, is left as it is.
 ///
