@@ -1,4 +1,4 @@
--- An input may be cut between its lines and answered in parts: what is written for one part after
+-- An input may be cut between its lines and answered in parts. What is written for one part after
 -- another is what is written for the whole.
 use Rattle.std.specs.Prelude.{◌≡◌, ◌⊎◌, ℕ, List, [], ◌∷◌, ◌++◌, Result, Ok, Err, ⊤}
 use Rattle.std.specs.List.{All, concat, flat_map}

@@ -19,16 +19,16 @@ use Rattle.osn_service.specs.Served.{StandsNear, after_lines}
 -- The lines of an input were answered by these rules from the object s, and the object is t then.
 pub record Serves (rules : ServeRules) (s t : ObjectState) (i : Input) (o : Output)
     (end : Result ℕ (Interrupted ServeFault)) : Type 0 where
-  -- Exactly the replies to all lines are written, and their number is answered. Ended early,
-  -- exactly those to the first lines are; or where a write failed a front of all replies, with
-  -- those to as many lines whole as are told.
+  -- Exactly the replies to all lines are written, and their number is answered. Where it ended
+  -- early, exactly those to the first lines are written. Where a write failed it is a front of all
+  -- replies, with those to as many lines whole as are told.
   pub written : IfSome i.bytes (λ bytes. MatchEnd end
       (WritesAll rules s o.old o.new (lines bytes))
       (WritesFirst rules s o.old o.new (lines bytes))
       (WritesFirst rules s o.old o.new (lines bytes))
       (WritesInPart rules s o.old o.new (lines bytes)))
-  -- The object stands after all lines. Ended early it stands after those; or where a write failed
-  -- after those or one more.
+  -- The object stands after all lines. Where it ended early, it stands after those. Where a write
+  -- failed, it stands after those or one more.
   pub object : IfSome i.bytes (λ bytes. MatchEnd end
       (λ _. StandsAfter rules s t (lines bytes))
       (StandsAt rules s t (lines bytes))

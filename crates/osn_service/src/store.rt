@@ -87,7 +87,7 @@ pub trait Store {
     ///
     /// # Errors
     ///
-    /// `NoMemory` where none is found, and nothing has changed then; `NotKept` where the change was
+    /// `NoMemory` where none is found, and nothing has changed then. `NotKept` where the change was
     /// made and could not be kept.
     fn make(&mut self, change: Change) -> Result<(), StoreFault<Self::Fault>>
         requires { change_refusal (state self.old) change ≡ None }
