@@ -1,5 +1,5 @@
 //! One worked session, cut anywhere, with reads that fail inside a line, and over a writer that
-//! takes one byte a call; and lines of deep lists.
+//! takes one byte a call. Also lines of deep lists.
 use crate::compare::same;
 use crate::failing::{Course, FailingSink, FailingSource};
 use crate::session::served;
@@ -98,8 +98,8 @@ fn each_cut_of_a_session(rt: HostRuntime) -> Result<(), Fail> {
     are_cut(&rt, rt.alloc(), &CUTS)
 }
 
-/// How many bytes of the input are read, and how many reads go well; how the session ends, and how
-/// many bytes of the replies are written.
+/// How many bytes of the input are read, and how many reads go well. Then how the session ends, and
+/// how many bytes of the replies are written.
 const ENDINGS: [(usize, usize, &str, usize); 3] = [
     (
         116,
