@@ -110,8 +110,8 @@ list_of = result_map_both (λ runs. runs.items) (λ reason. reason)
 abbrev pub new_style : Regime
 new_style = record { calendar = Calendar.Gregorian; style = Style.January; rule = Easter.Gregorian }
 
--- the territory as if it had gone by the calendar that a date names: by the old style the Julian
--- one, with its own beginnings of the year
+-- the territory as if it had gone by the calendar that a date names. By the old style that is the
+-- Julian one, with its own beginnings of the year
 abbrev pub by_reckoning : TerritoryModel → Reckoning → TerritoryModel
 by_reckoning t OldStyle = in_julian_calendar t
 by_reckoning t NewStyle = opened new_style

@@ -55,7 +55,7 @@ all_meant p t date = filter (λ d. is_meant date (dated_on p t d)) (line p)
 
 -- ---- their runs
 
--- a run and days after it: a day that follows the run at once is one more of it, and any other one
+-- a run and days after it. A day that follows the run at once is one more of it, and any other one
 -- begins the next run
 abbrev pub runs_from : Run → List ℕ → List Run
 runs_from run [] = run ∷ []
