@@ -35,7 +35,7 @@ fn copy(alloc: Global, bytes: &[u8]) -> Result<Vec<u8>, AllocError>
 }
 
 impl MemoryFile {
-    /// Remembers that a change failed, for this reason.
+    /// Notes that a change failed, for this reason.
     fn fail(&mut self, fault: KeptFileFault) -> Result<(), KeptFileFault>
         ensures told { result ≡ Err fault }
         ensures fault { self.new.fault ≡ Some fault }

@@ -51,7 +51,7 @@ const WHOLE: End = ("whole", 0, "");
 
 const REMARKED: End = ("whole, with a remark", 0, "");
 
-/// How a table is read, the table, what is written, and how it ends.
+/// How a table is read, the table, the output, and how it ends.
 type Row = (TableSettings<'static>, &'static str, &'static str, End);
 
 const TABLES: [Row; 7] = [

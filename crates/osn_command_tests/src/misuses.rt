@@ -10,7 +10,7 @@ use std::sync::Wait;
 use std::test::Fail;
 use std::thread::Threads;
 
-/// A row of a misuse: the words with a bar between two, and what is told.
+/// A row of a misuse: the words with a bar between two, and the message.
 pub(crate) type Misused = (&'static str, &'static str);
 
 const DATES: [Misused; 12] = [
