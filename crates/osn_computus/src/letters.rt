@@ -1,4 +1,4 @@
-//! The Sunday letters.
+//! The Sunday letters of a year, and how they are written.
 ghost use Rattle.std.specs.Prelude.{◌≡◌, ◌≢◌, ◌↔◌, ◌+◌, ◌%◌, pos, false, Some, IsNone, IfSome};
 ghost use Rattle.std.specs.Prelude.{IfOk, string_bytes};
 ghost use Rattle.osn_days.specs.Profile.{first_rules, newest_rules};
