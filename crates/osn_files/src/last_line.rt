@@ -87,7 +87,7 @@ impl LineFront {
         self.bytes.extend_from_slice(&more[..room.min(more.len())])
     }
 
-    /// Forgets what stands there.
+    /// Clears the bytes that stand there.
     pub(crate) fn clear(&mut self)
         ensures { IsFrontOf self.new [] }
     {

@@ -140,7 +140,7 @@ impl<F: LineFold> Reading<F> {
         }
     }
 
-    /// Takes the text of a line: its object is gone before the next line is read.
+    /// Takes the text of a line. Its object is dropped before the next line is read.
     fn take_text(
         alloc: Global,
         scratch: &mut Scratch,

@@ -169,7 +169,7 @@ pub fn head_line(alloc: Global, room: usize) -> Result<Vec<u8>, AllocError>
 ///
 /// # Errors
 ///
-/// Only where no memory is found. The bytes are gone then.
+/// Only where no memory is found. The bytes are dropped then.
 pub fn with_edit(bytes: Vec<u8>, edit: &Edit) -> Result<Vec<u8>, AllocError>
     ensures { IfOk result (λ more.
         more.items ≡ bytes.items ++ spec.line_text (spec.edit_data edit.now)) }
@@ -183,7 +183,7 @@ pub fn with_edit(bytes: Vec<u8>, edit: &Edit) -> Result<Vec<u8>, AllocError>
 ///
 /// # Errors
 ///
-/// Only where no memory is found. The bytes are gone then.
+/// Only where no memory is found. The bytes are dropped then.
 pub fn with_publish(bytes: Vec<u8>) -> Result<Vec<u8>, AllocError>
     ensures { IfOk result (λ more.
         more.items ≡ bytes.items ++ spec.line_text spec.publish_data) }
