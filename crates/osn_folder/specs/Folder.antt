@@ -100,7 +100,7 @@ KeepsOthers path k n =
     (n.opened ≡ k.opened) × (n.paths ≡ k.paths)
     × ((other : List ℕ) → other ≢ path → n.at other ≡ k.at other)
 
--- the file of this path holds this now, or is gone, and nothing else was changed
+-- the file of this path holds this now, or was taken away, and nothing else was changed
 abbrev pub Becomes : List ℕ → Option (List ℕ) → Known → Known → Type 0
 Becomes path file k n =
     KeepsOthers path k n × (n.at path ≡ file) × (n.has_failed ≡ k.has_failed)

@@ -83,7 +83,7 @@ impl<R: Files> DiskFile<'_, R> {
         self.check_path()
     }
 
-    /// Remembers the fault of a change that failed.
+    /// Notes the fault of a change that failed.
     fn remember(&mut self, change: Result<(), KeptFileFault>) -> Result<(), KeptFileFault>
         ensures same { result ≡ change }
         ensures fault { self.new.fault ≡ fault_after change self.old.fault }

@@ -64,7 +64,7 @@ pub trait Folder {
             (known self.old) (known self.new) };
 
     /// Locks the file of a path, through links, to save a text to it later. Where nothing is there,
-    /// the lock remembers that. What is no file, as a pipe, takes no lock.
+    /// the lock notes that. What is no file, as a pipe, takes no lock.
     ///
     /// # Errors
     ///
