@@ -1,4 +1,4 @@
-//! Where bytes go.
+//! What bytes are written to.
 ghost use Rattle.std.specs.Prelude.{◌≡◌, ◌<◌, ◌≤◌, ℕ, List, Option, Bool, true, false, is_ok};
 ghost use Rattle.std.specs.Prelude.{length, take, IfOk, IfErr, OnOk, OnErr, if◌then◌else◌};
 ghost use Rattle.std.specs.Io.{WritesAtMost};
@@ -9,7 +9,7 @@ ghost use Rattle.osn_lines.specs.Faults.{WriteFails};
 #[derive(Clone, Copy, Debug, PartialEq, Eq)]
 pub struct WriteFailed;
 
-/// What bytes are written to, one call at a time, and what remembers that a call failed.
+/// What bytes are written to, one call at a time, and what notes that a call failed.
 pub trait Sink {
     // The bytes that have been written, where they are known.
     ghost contents: { Self → Option (List ℕ) };
