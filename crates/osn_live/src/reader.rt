@@ -44,10 +44,10 @@ impl Model for Reader {
     ghost invariant = { IsPlaced };
 }
 
-/// What was read at one moment: the batches that were published then, and the answer under them.
+/// A look at one moment: the batches that were published then, and the answer under them.
 type Look = (Certificate, Result<Reply, AllocError>);
 
-/// The place once it was left, and what was read there, if the reader was let in.
+/// The place once it was left, and the look, if the reader was let in.
 type ReadResult = (Place, Option<Look>);
 
 fn look(place: Place, query: &Query) -> ReadResult
