@@ -15,7 +15,7 @@ use osn_lands::Period;
 use osn_register::{Answer, Found, Land, Refusal};
 use std::alloc::AllocError;
 
-/// Begins a reply with what was read.
+/// Begins a reply with a reading.
 fn write_reading(out: &mut LineWriter, found: &[Found], skipped: &[Day]) -> Result<(), AllocError>
     ensures text { OnOk result (out.new.text ≡ out.old.text
         ++ (codes "{\"answer\":" ++ compact_text
