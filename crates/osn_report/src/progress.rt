@@ -1,4 +1,4 @@
-//! How far a long run is, for whoever waits at a terminal.
+//! How far a long run is, for people who wait at a terminal.
 
 use osn_letters::Progress;
 use osn_lines::{ReadFailed, Sink, Source, write_all};
