@@ -1,5 +1,5 @@
 //! The command `serve` with a journal that is kept: the service begins with what the file holds,
-//! and each change is in it before its reply goes out.
+//! and each change is in it before its reply is written.
 ghost use Rattle.std.specs.Prelude.{◌≡◌, ◌≢◌, ◌^◌, ◌<◌, ℕ, List, Option, Ok, IfOk, IfErr, OnOk};
 ghost use Rattle.std.specs.Prelude.{None, false, string_bytes, ◌+◌, option_map, take};
 ghost use Rattle.osn_format.specs.Version.{newest_version};
@@ -258,8 +258,9 @@ fn keep_lines<K: KeptFile, R: Source, W: Sink, E: Sink>(
 
 /// The command `serve` with a journal that is kept: answers the request lines of the input, by
 /// these rules. The object is the one that the kept file holds, or an empty one under these limits
-/// where no line of it counts. Each change is in the file before its reply goes out. All lines are
-/// answered, or those up to the first refused one where the rules say so, which is a fault then.
+/// where no line of it counts. Each change is in the file before its reply is written. All lines
+/// are answered, or those up to the first refused one where the rules say so, which is a fault
+/// then.
 ///
 /// The source gives what the file holds, which is loaded as far as lines count. A last line that
 /// was not finished is cut off, and standard error is told so. One that counts and lacks its line
