@@ -1,4 +1,4 @@
--- What stands where a write failed.
+-- Which replies are written whole, and where the object stands, where a write failed.
 use Rattle.std.proofs.Common.{◌≡◌, ◌≤◌, ◌<◌, ◌+◌, ◌⊎◌, ℕ, zero, suc, Bool, true, false, cond, List}
 use Rattle.std.proofs.Common.{[], ◌∷◌, ◌++◌, Option, length, take, fold, refl, sym, ap, subst, ◌∙◌}
 use Rattle.std.proofs.Common.{length-append, arith, ⊎_elim, inl, inr, add-one}
