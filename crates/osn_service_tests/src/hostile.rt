@@ -52,7 +52,7 @@ const WRITTEN: &str = concat!(
 );
 
 /// How many bytes of the input are read, from a number up to another one. Then how many bytes of
-/// the replies are written, and whether a line that was cut is told of after them.
+/// the replies are written, and whether a reply to a line that was cut follows them.
 const CUTS: [(usize, usize, usize, bool); 7] = [
     (0, 1, 0, false),
     (1, 97, 0, true),
@@ -63,7 +63,7 @@ const CUTS: [(usize, usize, usize, bool); 7] = [
     (182, 184, 259, false),
 ];
 
-/// The first bytes of the replies, this many, and what is told of a line that was cut.
+/// The first bytes of the replies, this many, and the reply to a line that was cut.
 fn replies(alloc: Global, count: usize, is_cut: bool) -> Result<Vec<u8>, AllocError> {
     let whole = WRITTEN.as_bytes().get(..count).unwrap_or_default();
     let mut replies = Vec::from_slice(alloc, whole)?;

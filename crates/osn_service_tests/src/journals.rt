@@ -1,4 +1,4 @@
-//! Journals: what is written of an object, what is loaded from lines, and what is refused.
+//! Journals: the text of an object, the object that lines load, and the lines that are refused.
 use crate::compare::same;
 use osn_core::Object;
 use osn_register::Limits;

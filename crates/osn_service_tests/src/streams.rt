@@ -191,7 +191,7 @@ pub const WRITTEN: &str = r#"{"ok":"staged","pending":1}
 /// What is told of a line that is no JSON.
 const NOT_JSON: &str = "{\"fault\":32,\"name\":\"NotJson\"}\n";
 
-/// What is read, what is written for it, and the number of lines.
+/// The input, the output for it, and the number of lines.
 const ANSWERED: [(&str, &str, u64); 3] = [("", "", 0), ("\n", NOT_JSON, 1), (READ, WRITTEN, 3)];
 
 fn are_answered(
@@ -218,7 +218,7 @@ fn bytes_in_any_pieces(rt: HostRuntime) -> Result<(), Fail> {
 }
 
 /// How many bytes of the input are read, from a number up to another one. Then how many bytes of
-/// the replies are written, and whether a line that was cut is told of after them. A line whose
+/// the replies are written, and whether a reply to a line that was cut follows them. A line whose
 /// line feed alone is missing is whole.
 const STARTS: [(usize, usize, usize, bool); 7] = [
     (0, 1, 0, false),
@@ -236,7 +236,7 @@ fn written_for(alloc: Global, count: usize) -> Result<Vec<u8>, AllocError> {
     Ok(tried(alloc, input, WHOLE)?.text)
 }
 
-/// The first bytes of the replies, this many, and what is told of a line that was cut.
+/// The first bytes of the replies, this many, and the reply to a line that was cut.
 fn replies(alloc: Global, count: usize, is_cut: bool) -> Result<Vec<u8>, AllocError> {
     let whole = WRITTEN.as_bytes().get(..count).unwrap_or_default();
     let mut replies = Vec::from_slice(alloc, whole)?;
