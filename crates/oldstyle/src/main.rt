@@ -25,8 +25,9 @@ fn in_place(opened: io::Result<File>, number: RawFd) -> Option<File> {
 }
 
 fn main(rt: HostRuntime) -> ExitCode {
-    // A file takes the first number that is free. Where a standard stream is closed, one stands in
-    // its place that can't be read, or not be written, so that no reply goes to a journal.
+    // A file takes the first free number, so each of these files replaces a standard stream that is
+    // closed. The first can't be read and the others can't be written, so no reply goes to a
+    // journal.
     let _input = in_place(OpenOptions::new().write(true).open(&rt, "/dev/null"), 0);
     let _output = in_place(fs::open(&rt, "/dev/null"), 1);
     let _errors = in_place(fs::open(&rt, "/dev/null"), 2);

@@ -1,5 +1,5 @@
--- The feasts that are counted from Easter, with their English names: the movable feasts of the
--- Western church, by weeks and days as in the tables of the Book of Common Prayer (1662).
+-- The feasts that are counted from Easter, with their English names. They are the movable feasts of
+-- the Western church, by weeks and days as in the tables of the Book of Common Prayer (1662).
 use Rattle.std.specs.Prelude.{ℕ, ℤ, pos, ◌-ℤ◌, List, [], ◌∷◌, codes}
 use Rattle.osn_almanac.specs.declared.feast.Feast.{Feast}
 use Rattle.osn_almanac.specs.declared.feast.Feast.TheVariants.{Septuagesima, AshWednesday, Easter}

@@ -35,9 +35,9 @@ fn text_of_year(
     Ok(text)
 }
 
-/// The almanac of a territory and a year from 1 to 9999: the figures of the year, the changes that
-/// fall in it, its feasts and the first days of its months. The figures, the Easters and the
-/// heading count the year from 1 January, and the months count it as the territory does.
+/// The almanac of a territory and a year from 1 to 9999. It has the figures of the year, the
+/// changes that fall in it, its feasts and the first days of its months. The figures, the Easters
+/// and the heading count the year from 1 January, and the months count it as the territory does.
 ///
 /// # Errors
 ///

@@ -1,6 +1,5 @@
-//! Lines about a day, in columns: 13 places for a name, as long as `Ash Wednesday`, 9 for a
-//! weekday, as long as `Wednesday`, and 7 for the number of a day, of which the line has no more
-//! digits.
+//! Lines about a day, in columns. A name has 13 places, as many as `Ash Wednesday`, and a weekday
+//! 9, as many as `Wednesday`. The number of a day has 7, the most digits of a day of the line.
 ghost use Rattle.std.specs.Prelude.{◌≡◌, ◌++◌, OnOk, string_bytes};
 ghost use Rattle.osn_almanac.specs.Columns as spec;
 

@@ -1,4 +1,4 @@
--- The registers that replies are held against, one for each reader.
+-- The registers that replies are compared with, one for each reader.
 use Rattle.std.proofs.Common.{◌≡◌, ℕ, zero, suc, ◌<◌, ◌≤◌, Bool, true, false, List, [], ◌∷◌}
 use Rattle.std.proofs.Common.{length, get_or, map, set, replicate, Ok, Err}
 use Rattle.std.proofs.Common.{refl, sym, ap, ap₂, subst, ◌∙◌, arith}
@@ -70,7 +70,7 @@ pub All-one : (P : Place → Type 0) (p : Place) → P p → All P (p ∷ [])
 All-one P p h zero d within = h
 All-one P p h (suc k) d within = absurd (omega (arith, within))
 
--- an edition that is known is one of so many
+-- a known edition is at most the number of editions
 there_by : (editions edition : ℕ) (a b : Bool) → nat_lt editions edition ≡ a
     → (if a then Err UnknownEdition else (if b then Err EditionFell else Ok edition)) ≡ Ok edition
     → edition ≤ editions

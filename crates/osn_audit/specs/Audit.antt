@@ -78,8 +78,8 @@ agreed reply line = if has_line reply line then Ok reply else Err WrongReply
 abbrev pub last_of : List ℕ → ℕ → ℕ
 last_of last reader = slice_index last (reader - 1)
 
--- an entry that may be held against the object: its edition is one that its reader may be told, and
--- its reply has no number that is read as a float
+-- an entry that may be compared with the object: its reader may be told its edition, and its reply
+-- has no number that is read as a float
 abbrev pub checked : ObjectState → List ℕ → TranscriptLine → Result TranscriptLine WireFault
 checked s last e =
     known_edition (length s.batches) (last_of last e.reader) e.edition

@@ -1,4 +1,4 @@
--- The registers that replies are held against.
+-- The registers that replies are compared with.
 use Rattle.std.specs.Prelude.{◌≡◌, ◌≤◌, List, length, map}
 use Rattle.std.specs.List.{All}
 use Rattle.osn_register.specs.declared.edit.Edit.{Edit}

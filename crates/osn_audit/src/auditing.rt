@@ -1,4 +1,4 @@
-//! A line of a transcript, held against the journal.
+//! A line of a transcript, compared with the journal.
 ghost use Rattle.std.specs.Prelude.{◌≡◌, ◌<◌, ◌≤◌, ◌-◌, Ok, Err, IfOk, IfErr, OnOk, is_ok};
 ghost use Rattle.std.specs.Prelude.{true, false, length, slice_set, take};
 ghost use Rattle.serde_json.specs.View.{view};
@@ -77,8 +77,8 @@ fn put_line_due(
     push_reply(alloc, &outcome, line)
 }
 
-/// Whether an entry may be held against the journal: its edition is one that its reader may be told
-/// now, and its reply has no float. This takes no memory.
+/// Whether an entry may be compared with the journal: its reader may be told its edition now, and
+/// its reply has no float. This takes no memory.
 fn check_entry(followers: &Followers, entry: &TranscriptLine) -> Result<(), WireFault>
     requires counted { 0 < entry.now.reader }
     requires known { entry.now.reader ≤ MOST_READERS }
@@ -98,11 +98,10 @@ fn check_entry(followers: &Followers, entry: &TranscriptLine) -> Result<(), Wire
     Ok(())
 }
 
-/// Holds an entry against the journal. The line that is due stands in the room of the one before.
+/// Compares an entry with the journal. The line that is due stands in the room of the one before.
 ///
-/// # Errors
-/// The entry's fault; want of memory, where its edition is one that its reader may be told and its
-/// reply has no float.
+/// # Errors The entry's fault, or want of memory where its edition is one that its reader may be
+/// told and its reply has no float.
 pub(crate) fn take_entry(
     alloc: Global,
     followers: &mut Followers,

@@ -1,4 +1,4 @@
-//! The lines of a transcript, taken in turn, each held against the journal.
+//! The lines of a transcript, taken in turn, each compared with the journal.
 ghost use Rattle.std.specs.Prelude.{◌≡◌, IfOk};
 
 use crate::auditing::take_entry;
@@ -10,7 +10,7 @@ use osn_format::Version;
 use osn_request::LineObject;
 use std::alloc::{AllocError, Global};
 
-/// A transcript that is being held against an object.
+/// A transcript that is being compared with an object.
 #[derive(Drop)]
 pub(crate) struct Auditor {
     followers: Followers,

@@ -1,5 +1,5 @@
-//! The registers that replies are held against: one of the greatest edition that a reply named, and
-//! one for each reader who was told an edition before that.
+//! The registers that replies are compared with: one of the greatest edition that a reply named,
+//! and one for each reader who was told an edition before that.
 ghost use Rattle.std.specs.Prelude.{◌≡◌, ◌<◌, ◌≤◌, ◌-◌, Ok, Err, IfOk, OnOk, MatchResult, length};
 ghost use Rattle.std.specs.Prelude.{take, slice_set};
 ghost use Rattle.osn_days.specs.Profile.{newest_rules};

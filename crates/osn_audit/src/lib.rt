@@ -1,6 +1,7 @@
-//! Transcripts held against journals. What the crate promises to those above: `audit` answers how
-//! many lines a transcript has, each of which is a query with the very reply that the journal gives
-//! under the edition that the reply names, or the first fault with its file and its line.
+//! Transcripts compared with journals. What the crate promises to those above: `audit` answers how
+//! many lines a transcript has, or the first fault with its file and its line. Where it answers a
+//! number, each line is a query with the very reply that the journal gives under the edition that
+//! the reply names.
 #![tactic(auto)]
 
 mod auditing;

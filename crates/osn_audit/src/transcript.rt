@@ -1,4 +1,4 @@
-//! Holds a transcript against a journal.
+//! Compares a transcript with a journal.
 ghost use Rattle.std.specs.Prelude.{◌≡◌, Ok, length, IfOk, IfSome};
 ghost use Rattle.osn_days.specs.Profile.{newest_rules};
 ghost use Rattle.osn_core.specs.Sequential.{ObjectState};
@@ -18,7 +18,7 @@ use osn_lines::Source;
 use osn_register::Limits;
 use std::alloc::Global;
 
-/// Holds a transcript against an object, and answers the number of its lines.
+/// Compares a transcript with an object, and answers the number of its lines.
 fn audit_lines<S: Source>(
     alloc: Global,
     object: Object,
@@ -35,22 +35,22 @@ fn audit_lines<S: Source>(
     Ok(count)
 }
 
-/// Holds a transcript against the object of a journal under these limits, and answers the number of
+/// Compares a transcript with the object of a journal under these limits, and answers the number of
 /// its lines, all of which agree. A line of a transcript has an `ask`, which is the request of a
 /// query by a reader from 1 to 64, and a `reply`. They agree where the reply names an edition of
-/// the journal that is not before the reader's last one in the transcript, and is, written with no
-/// space, the reply line to the query under that edition. Edits that the journal leaves pending
-/// are in no edition.
+/// the journal that is not before the reader's last one in the transcript. Written with no space,
+/// the reply also has to be the reply line to the query under that edition. Edits that the journal
+/// leaves pending are in no edition.
 ///
-/// Besides the object there is a register of the greatest edition that a reply named, one for each
-/// reader who was told an edition before that, what `take_lines` has, the value of one line, and
-/// the texts of its reply and of the one that is due.
+/// Besides the object, memory holds a register of the greatest edition that a reply named, and one
+/// for each reader who was told an edition before that. It also holds what `take_lines` has, the
+/// value of one line, and the texts of its reply and of the one that is due.
 ///
 /// # Errors
 ///
-/// `BadLine` for the first line that is refused, with its file: the journal is loaded first, as by
+/// `BadLine` for the first line that is refused, with its file. The journal is loaded first, as by
 /// `load_journal`, and nothing of the transcript is read where that fails. `ReadFault` where a
-/// source failed, or gave no end within 4,294,967,295 reads; `NoMemory` where a growth of memory
+/// source failed, or gave no end within 4,294,967,295 reads. `NoMemory` where a growth of memory
 /// was refused, which leaves open whether the line that was being read has a fault.
 pub fn audit<R: Source, S: Source>(
     alloc: Global,

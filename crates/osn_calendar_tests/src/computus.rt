@@ -1,6 +1,6 @@
-//! The calls of `osn_computus`, with values from outside: `ncal` 12.1.8 of Debian, Python's
-//! `datetime`, and the cycles and epacts of years by the formulas of *Calendrical Calculations*,
-//! run in Python.
+//! The calls of `osn_computus`, with values from outside. They are those of `ncal` 12.1.8 of
+//! Debian, Python's `datetime`, and the cycles and epacts of years by the formulas of *Calendrical
+//! Calculations*, run in Python.
 use crate::compare::same;
 use osn_computus::{
     Letter, Letters, Rule, easter, golden_number, gregorian_epact, indiction, julian_epact,
@@ -40,7 +40,7 @@ fn cycles(rt: HostRuntime) -> Result<(), Fail> {
     has_cycles(&rt, &CYCLES)
 }
 
-/// Years with their Gregorian epacts, on both sides of changes of centuries. 0 is the star; 1916,
+/// Years with their Gregorian epacts, on both sides of changes of centuries. 0 is the star. 1916,
 /// 1954 and 3108, the first one of the golden number 12, have the epact 25 with its prime.
 const EPACTS: [(i64, u8, bool); 13] = [
     (1583, 7, false),

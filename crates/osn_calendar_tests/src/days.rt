@@ -1,4 +1,4 @@
-//! The calls of `osn_days`, with values from outside: the sample dates of *Calendrical
+//! The calls of `osn_days`, with values from outside. They are the sample dates of *Calendrical
 //! Calculations*, appendix C, the numbers of Python's `datetime.date.toordinal`, and the Julian day
 //! numbers that astronomers give.
 use crate::compare::same;

@@ -1,6 +1,6 @@
-//! Years from Easter to Easter, in which a date of spring may fall twice or never, and the years
-//! of Pisa beside them: labels, texts, and the days of labels. The days were found apart, by walks
-//! along every day and the table of the Julian full moons.
+//! Years from Easter to Easter, in which a date of spring may fall twice or never, and the years of
+//! Pisa beside them. Here are their labels, texts, and the days of labels. The days were found
+//! apart, by walks along every day and the table of the Julian full moons.
 use crate::compare::same;
 use crate::named::{Named, are_named, day_of, label, regime_of};
 use osn_computus::Rule;

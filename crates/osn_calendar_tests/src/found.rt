@@ -1,6 +1,6 @@
-//! Dates of all forms as people write them, and the days that they may mean in a territory: the
-//! kind, and then the Gregorian dates of each run, or why there is none. The days were found apart,
-//! by a walk along every day.
+//! Dates of all forms as people write them, and the days that they may mean in a territory. A row
+//! has the kind, and then the Gregorian dates of each run, or why the date means no day. The days
+//! were found apart, by a walk along every day.
 use crate::compare::same;
 use crate::gaps::{britain, france, sweden};
 use osn_days::{Calendar, Day, date_of};

@@ -1,7 +1,7 @@
 //! The dates that a change passes over, labels off the line, and how a territory dates its days.
 //! The days are Python's `toordinal` and those of the Julian day number's formula. The changes are
-//! those of the Calendar (New Style) Act 1750, of Sweden in 1700, 1712 and 1753, and of the French
-//! edict that moved the beginning of the year to 1 January 1567.
+//! those of the Calendar (New Style) Act 1750, and of Sweden in 1700, 1712 and 1753. One is that of
+//! the French edict that moved the beginning of the year to 1 January 1567.
 use crate::compare::same;
 use crate::named::{day_of, label, regime_of};
 use osn_computus::Rule;

@@ -1,5 +1,5 @@
-//! Dates as people write them. Each row is a text and what it says, in a short text of our own: the
-//! numbers of year, month and day, `+` after a double year, then what is said beside the day.
+//! Dates as people write them. Each row is a text and what it says, in a short notation. It has the
+//! numbers of year, month and day, `+` after a double year, and then what is said beside the day.
 use crate::compare::same;
 use osn_grammar::{DateFault, DateOrder, Extent, SimpleDate, Written, WrittenDate, Year, parse};
 use std::alloc::Global;

@@ -1,6 +1,6 @@
-//! Labels and texts of days, and the days of labels: worked days of the Calendar (New Style) Act
-//! 1750 and of Sweden, and days beside the beginnings of years and the ends of the line, whose
-//! numbers are Python's `toordinal` and those of the Julian day number's formula.
+//! Labels and texts of days, and the days of labels. They are worked days of the Calendar (New
+//! Style) Act 1750 and of Sweden, and days beside the beginnings of years and the ends of the line.
+//! The numbers of those are Python's `toordinal` and those of the Julian day number's formula.
 use crate::compare::same;
 use crate::named::{Named, are_named, label, regime_of};
 use osn_days::{Calendar, HIGH};

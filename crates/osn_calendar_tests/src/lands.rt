@@ -1,6 +1,6 @@
 //! The calls of a territory: changes and exceptions that are made, refused and copied, and what is
 //! read and skipped then. The days are those of the Calendar (New Style) Act 1750, and days beside
-//! the ends of the line, whose numbers are Python's `toordinal` and those of the Julian day
+//! the ends of the line. The numbers of those are Python's `toordinal` and those of the Julian day
 //! number's formula.
 use crate::compare::same;
 use crate::named::{day_of, label};

@@ -7,7 +7,7 @@ use std::alloc::AllocError;
 use std::process::Abort;
 use std::test::Fail;
 
-/// The first day, the last, and how many there are: all 0 where there is none.
+/// The first day, the last and the number of days: all 0 where there are no days.
 type Days = (u32, u32, u32);
 
 /// The days of runs.

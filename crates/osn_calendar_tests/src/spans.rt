@@ -10,7 +10,7 @@ use std::alloc::{AllocError, Global};
 use std::process::Abort;
 use std::test::Fail;
 
-/// The first and the last day, or why there is none.
+/// The first and the last day, or why no day is meant.
 type Span = Result<(u32, u32), NoSpan>;
 
 /// The first and the last date of a range.

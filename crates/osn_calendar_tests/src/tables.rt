@@ -1,5 +1,5 @@
-//! The slow programs of the figures: the tables as they stand, searches through the line of days,
-//! and a walk that keeps the letter of the day. Beside them the quick calls.
+//! The slow programs of the figures. They are the tables as they stand, searches through the line
+//! of days, and a walk that keeps the letter of the day. Beside them the quick calls.
 use crate::compare::same;
 use crate::walk::day_at;
 use osn_computus::{Epact, Letter, Letters, Rule, golden_number, gregorian_epact};

@@ -1,5 +1,4 @@
-//! The commands of the program over memory: the status, what is written, and what standard error is
-//! told.
+//! The commands of the program over memory: the status, the output and the text on standard error.
 use crate::compare::same;
 use crate::printed::{Left, Wanted, is_left, left_by, sink};
 use osn_commands::{run, tell_no_words};
@@ -27,7 +26,8 @@ const RM: &str = r#"{"journal":1}
 const RM_PENDING: &str = r#"{"journal":1}
 {"op":"add_land","code":"RM","name":"Rome","calendar":"julian","style":"january","rule":"julian"}"#;
 
-/// A journal or none, request lines, what is left of them, and the journal that is left.
+/// A journal or none, request lines, the outcome that is wanted, and the journal that is saved, if
+/// any.
 type Row = (
     Option<&'static str>,
     &'static str,
@@ -87,7 +87,7 @@ const SERVED: [Row; 6] = [
     ),
 ];
 
-/// What the service leaves of request lines after a journal, and the journal.
+/// The outcome of the service for request lines after a journal, and the journal that it leaves.
 fn served(alloc: Global, journal: Option<&str>, requests: &str) -> (Left, Option<String>) {
     let (mut output, mut errors) = (sink(alloc), sink(alloc));
     let mut input = Plain::new(requests.as_bytes());
@@ -281,7 +281,7 @@ fn words_and_statuses(rt: HostRuntime) -> Result<(), Fail> {
     have_status(&rt, &LINES)
 }
 
-/// A command line, what is read, and what is left.
+/// A command line, its standard input, and the outcome that is wanted.
 pub type RunRow = (&'static str, &'static str, Wanted);
 
 const FAULTS: [RunRow; 8] = [

@@ -1,4 +1,4 @@
-//! The very text by which bash completes the words.
+//! The exact text by which bash completes the words.
 use crate::help::{Printed, are_shown};
 use std::test::Fail;
 

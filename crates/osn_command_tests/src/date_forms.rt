@@ -1,5 +1,5 @@
-//! Dates in other forms than the usual ones: what the commands print, what is told of texts that are
-//! no date, and how a command ends whose date means no day.
+//! Dates in other than the usual forms: what the commands print, what they say of texts that are no
+//! date, and how they end where a date means no day.
 use crate::commands::RunRow;
 use crate::journals::EUROPE;
 use crate::misuses::{Misused, are_misused, are_run, are_run_over};
@@ -128,7 +128,8 @@ skipped: Wednesday 2 September 1752 was followed by Thursday 14 September 1752 (
 2 edits are not published yet
 ";
 
-/// Dates of which a day is asked for, or not. The status alone says that there is none.
+/// Dates with `--strict` and without it. That option changes the status alone, which then says that
+/// the date means no day.
 const STRICT: [RunRow; 4] = [
     (
         "oldstyle|read|e.journal|GB|3 September 1752",

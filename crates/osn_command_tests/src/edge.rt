@@ -1,5 +1,5 @@
-//! Where the program meets files: what is saved where, and what stands there where it can't be; and
-//! what a terminal is told. Each test works in a folder of its own.
+//! How the program reads and writes files: what is saved where, and what stands there where it
+//! can't be. Also what a terminal is told. Each test works in a folder of its own.
 use crate::commands::{RunRow, are_run, left_over};
 use crate::compare::same;
 use crate::files::{entered, has_text};
@@ -144,7 +144,7 @@ const HEAD: [File; 1] = [("a.journal", OLD)];
 const AGREES: &str = "{\"ask\":{\"op\":\"lands\",\"reader\":1},\"reply\":{\"answer\":\
 {\"lands\":[]},\"edition\":0,\"reader\":1}";
 
-/// Writes a transcript of so many lines, each of 65,536 bytes with its line feed.
+/// Writes a transcript with this number of lines, each of 65,536 bytes with its line feed.
 fn write_transcript<R: Files + AllocGlobal>(rt: &R, path: &str, lines: u32) -> Result<(), Fail> {
     let spaces = " ".repeat(rt.alloc(), 65_534usize.saturating_sub(AGREES.len()))?;
     let mut file = fs::create(rt, path)?;

@@ -1,4 +1,4 @@
-//! The very texts of help, and of the version.
+//! The exact texts of help, and of the version.
 use crate::commands::left_over;
 use crate::compare::same;
 use std::process::Abort;

@@ -57,7 +57,7 @@ const TORN: &str = r#"{"journal":2}
 {"calendar":"julian","code":"RM","name":"Rome","op":"add_land","rule":"julian","style":"january"}
 {"op":"publi"#;
 
-/// One with a line that is none before such a line.
+/// One with a line that a journal can't have, before a line that was not finished.
 const BROKEN: &str = "{\"journal\":2}\n[]\n{\"op\":\"publi";
 
 const LETTER: &str = "Honoured Sir";
@@ -77,8 +77,8 @@ const FILES: [File; 8] = [
     ("rome.journal", KEPT),
 ];
 
-/// A new file, of which the runs know in turn what those before them did; a run that is refused a
-/// change; and files whose last line lacks its line feed.
+/// A new file, in which each run finds what those before it did. Then a run that is refused a
+/// change, and files whose last line lacks its line feed.
 const KEEPING: [Row; 7] = [
     (
         ("oldstyle serve --keep a.journal", LANDS, (0, NO_LANDS, "")),

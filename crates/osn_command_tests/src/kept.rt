@@ -15,7 +15,7 @@ use std::process::Abort;
 use std::str;
 use std::test::Fail;
 
-/// A file in memory that is kept. It takes so many appends and no more.
+/// A file in memory that is kept. It takes this number of appends and no more.
 #[derive(Drop)]
 pub struct MemoryFile {
     pub alloc: Global,
@@ -35,7 +35,7 @@ fn copy(alloc: Global, bytes: &[u8]) -> Result<Vec<u8>, AllocError>
 }
 
 impl MemoryFile {
-    /// Remembers that a change failed, for this reason.
+    /// Notes that a change failed, for this reason.
     fn fail(&mut self, fault: KeptFileFault) -> Result<(), KeptFileFault>
         ensures told { result ≡ Err fault }
         ensures fault { self.new.fault ≡ Some fault }
@@ -105,8 +105,8 @@ const KEPT: [&str; 4] = [
 
 const FAILED: ServiceFault<KeptFileFault> = ServiceFault::NotKept(KeptFileFault::ChangeFailed);
 
-/// A file that takes so many appends: what comes of the lines; so many replies are written, and the
-/// file holds so many lines, of which so many are on the disk.
+/// The number of appends that a file takes, and what comes of the lines. Then how many replies are
+/// written, how many lines the file holds, and how many of them are on the disk.
 type Row = (
     u32,
     Result<u64, (u64, ServiceFault<KeptFileFault>)>,

@@ -51,7 +51,7 @@ const WHOLE: End = ("whole", 0, "");
 
 const REMARKED: End = ("whole, with a remark", 0, "");
 
-/// How a table is read, the table, what is written, and how it ends.
+/// How a table is read, the table, the output, and how it ends.
 type Row = (TableSettings<'static>, &'static str, &'static str, End);
 
 const TABLES: [Row; 7] = [
@@ -316,7 +316,7 @@ fn faults_end_a_table(rt: HostRuntime) -> Result<(), Fail> {
     are_written(&rt, rt.alloc(), &FAULTS)
 }
 
-/// How a table ends whose second record has so many letters after the date.
+/// How a table ends whose second record has this number of letters after the date.
 fn end_of_long(alloc: Global, letters: usize) -> Result<(&'static str, u64), Fail> {
     let mut table = String::from_str(alloc, "place,date,text\nGB,1752-09-14,")?;
     for _letter in 0..letters {

@@ -63,8 +63,8 @@ fn dates_without_a_day_have_a_reason(rt: HostRuntime) -> Result<(), Fail> {
     Ok(())
 }
 
-/// A day: its number, its year there and counted from 1 January, whether it is of Tuesday, and
-/// whether the date has both years and the place did not count it double.
+/// A day: its number, its year there and counted from 1 January, and whether it is a Tuesday. The
+/// last part is whether the date has both years and the place did not count it double.
 type Told = (u32, i32, i32, bool, bool);
 
 /// What is told of a day that a date means.

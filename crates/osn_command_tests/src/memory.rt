@@ -22,7 +22,8 @@ use std::thread::Threads;
 /// A path, and the text that it was left with, or nothing.
 type Change = (String, Option<String>);
 
-/// Files by what was done to them in turn, and the paths that were opened. No memory ends a test.
+/// Files by what was done to them in turn, and the paths that were opened. Want of memory ends a
+/// test.
 #[derive(Drop)]
 pub struct MemoryFolder<'a, R> {
     pub rt: &'a R,
@@ -238,7 +239,7 @@ fn are_opened(
     are_paths(rt, alloc, &paths, wanted)
 }
 
-/// That these paths were changed, in this order, after the first so many.
+/// That these paths were changed, in this order, after this number of earlier changes.
 fn are_changed(
     rt: &impl Abort,
     alloc: Global,
@@ -342,7 +343,7 @@ fn nothing_is_opened_after_a_file_that_is_gone(rt: HostRuntime) -> Result<(), Fa
     are_gone(&rt, &GONE, "oldstyle: read fault\n")
 }
 
-/// Runs, and what a file holds then. A text is written beside its place, and moved from there; a
+/// Runs, and what a file holds then. A text is written beside its place, and moved from there. A
 /// journal that is kept is there from the start, and is given back with what was added.
 const SAVES: [(Row, &str, Option<&str>); 4] = [
     (

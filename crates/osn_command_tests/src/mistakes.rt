@@ -1,4 +1,4 @@
-//! The very texts of what is told of mistakes in the words.
+//! The exact messages about mistakes in the words of the command line.
 use crate::commands::{RunRow, are_run};
 use std::test::Fail;
 

@@ -1,5 +1,5 @@
-//! What is told of words that are wrong, of codes that no territory has and of tables of letters
-//! that end early: what was typed, what is allowed and the next step. Beside them stand the words
+//! Messages about words that are wrong, codes that no territory has and tables of letters that end
+//! early. Each names what was typed, what is allowed and the next step. Beside them stand the words
 //! that are taken.
 use crate::commands::{RunRow, left_of};
 use crate::files::{File, NAMED};
@@ -10,7 +10,7 @@ use std::sync::Wait;
 use std::test::Fail;
 use std::thread::Threads;
 
-/// A row of a misuse: the words with a bar between two, and what is told.
+/// A row of a misuse: the words with a bar between two, and the message.
 pub(crate) type Misused = (&'static str, &'static str);
 
 const DATES: [Misused; 12] = [

@@ -1,5 +1,5 @@
-//! The commands that print what they make of files, over memory: the number of the status, what is
-//! written, and what standard error is told.
+//! The commands that print what they make of files, over memory: the number of the status, the
+//! output and the text on standard error.
 use crate::compare::same;
 use osn_file_commands::{audit_command, desk_command, replay_command};
 use osn_invocation::PageWords;
@@ -15,7 +15,7 @@ use std::sync::Wait;
 use std::test::Fail;
 use std::thread::Threads;
 
-/// What a command left.
+/// How a command ended: its status, its output and its text on standard error.
 #[derive(Drop)]
 pub struct Left {
     pub status: Status,
@@ -43,7 +43,7 @@ fn is_text(rt: &impl Abort, bytes: &[u8], wanted: &str) -> Result<(), Fail> {
     Ok(())
 }
 
-/// The number of a status, what is written, and what standard error is told.
+/// The number of a status, the output and the text on standard error.
 pub type Wanted = (u8, &'static str, &'static str);
 
 pub fn is_left(rt: &impl Abort, alloc: Global, left: Left, wanted: &Wanted) -> Result<(), Fail> {

@@ -1,4 +1,4 @@
-//! Dates as people write them, and what is wrong with a text that is none.
+//! Dates as people write them, and what is wrong with a text that is no date.
 use crate::compare::same;
 use osn_days::{Weekday, month_named};
 use osn_written::{DateFault, WrittenDate, number_of, parts_at, weekday_named};

@@ -5,15 +5,15 @@ use Rattle.osn_computus.specs.Figures.{golden_number, indiction, julian_epact, g
 use Rattle.osn_computus.specs.Moon.{april, plain, twenty_five_prime, julian_full_moon}
 use Rattle.osn_computus.specs.Moon.{gregorian_new_moon}
 
--- the first row of the table of Dionysius Exiguus (525): in 532, the first year of a cycle, the
--- indiction is 10, the epact none and the full moon on 5 April
+-- the first row of the table of Dionysius Exiguus (525). In 532, the first year of a cycle, the
+-- indiction is 10, the epact is 0 and the full moon is on 5 April
 first_row : (golden_number 532 ≡ 1) × (indiction 532 ≡ 10) × (julian_epact 532 ≡ 0)
     × (julian_full_moon 1 ≡ Some (april 5))
 unfolding julian_full_moon
 first_row = (refl, refl, refl, refl)
 
--- the first and the second canon: in 1582 the golden number is 6, and the epact of the reform 26;
--- in 1583 both are 7
+-- the first and the second canon: in 1582 the golden number is 6, and the epact of the reform 26.
+-- In 1583 both are 7
 reform : (golden_number 1582 ≡ 6) × (gregorian_epact 1582 ≡ plain 26)
     × (golden_number 1583 ≡ 7) × (gregorian_epact 1583 ≡ plain 7)
 reform = (refl, refl, refl, refl)

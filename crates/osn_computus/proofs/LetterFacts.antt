@@ -224,7 +224,7 @@ has_letters_is Julian months = refl
 has_letters_is Gregorian months = refl
 has_letters_is Swedish months = absurd (months refl)
 
--- so the walk through the year gives them
+-- so the letters of the definition, day by day through the year, are these
 pub letters_are : (c : Calendar) → c ≢ Swedish → (y : ℕ) (letters : Letters) → IsYear newest_rules y
     → AreSundayLetters newest_rules c y letters → letters_of newest_rules c y ≡ Some letters
 unfolding letters_of

@@ -1,5 +1,5 @@
--- The place of each date of a chain that goes by the lengths of the months: how many days it lies
--- after 1 March, and which letter it has.
+-- The place of each date of a chain that goes by the lengths of the months. It says how many days
+-- the date lies after 1 March, and which letter it has.
 use Rattle.std.proofs.Common.{◌≡◌, ◌≢◌, ℕ, zero, suc, ◌+◌, ◌-◌, ◌%◌, ◌<◌, ◌≤◌, inl, inr, ◌==◌, ◌&&◌}
 use Rattle.std.proofs.Common.{false, nat_lt, if◌then◌else◌, refl, ap, subst, ◌∙◌, arith, ℤ}
 use Rattle.std.proofs.Common.{pos}

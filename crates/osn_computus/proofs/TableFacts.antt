@@ -1,5 +1,5 @@
--- The closed formulas agree with the tables: tests that are computed once, over the 19 golden
--- numbers and over the 30 epacts and the 25 with prime, and what they say of the moon of any year.
+-- The closed formulas agree with the tables. The tests are computed once, over the 19 golden
+-- numbers and over the 30 epacts and the 25 with prime. From them follows the moon of any year.
 use Rattle.std.proofs.Common.{◌≡◌, ℕ, zero, suc, ◌+◌, ◌-◌, ◌*◌, ◌%◌, ◌<◌, ◌==◌, ◌&&◌, ◌||◌, inl}
 use Rattle.std.proofs.Common.{inr, Bool, true, false, nat_lt, if◌then◌else◌, Option, Some, None}
 use Rattle.std.proofs.Common.{refl, ap, ◌∙◌, arith, ℤ, pos, negsuc, unsigned_abs}

@@ -1,5 +1,6 @@
--- Easter, the first Sunday strictly after the paschal full moon: the fifth canon of Inter
--- gravissimas (1582), and for the Julian rule the cycle of 19 years in the Julian calendar.
+-- Easter, the first Sunday strictly after the paschal full moon, by the fifth canon of Inter
+-- gravissimas (1582). For the Julian rule the moon is that of the cycle of 19 years in the Julian
+-- calendar.
 use Rattle.std.specs.Prelude.{◌≡◌, ℕ, ◌+◌, ◌<◌, ◌≤◌, ◌==◌, ◌&&◌, ◌⊎◌, nat_lt, Option, pos}
 use Rattle.std.specs.List.{find}
 use Rattle.std.specs.Option.{option_map, option_and_then}

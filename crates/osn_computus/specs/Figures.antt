@@ -30,8 +30,8 @@ solar_correction y = (3 * century y) / 4
 abbrev pub lunar_correction : ℕ → ℕ
 lunar_correction y = (8 * century y + 5) / 25
 
--- canon 2: the epact of the first golden number in the first century is 8, that of each further
--- one 11 more, with both corrections, and 30 are a whole month
+-- canon 2: the epact of the first golden number in the first century is 8, and that of each further
+-- one 11 more. Both corrections apply, and 30 are a whole month
 abbrev pub epact_number : ℕ → ℕ
 epact_number y =
     let older = pos (8 + 11 * (golden_number y - 1) + lunar_correction y) in

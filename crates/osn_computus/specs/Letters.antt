@@ -1,5 +1,5 @@
 -- The Sunday letters, by the third canon of Inter gravissimas (1582) and the calendar of the
--- canons, in which each day of the year stands beside one of the letters A to G.
+-- canons. In that calendar each day of the year stands beside one of the letters A to G.
 use Rattle.std.specs.Prelude.{◌≡◌, ℕ, zero, suc, ◌-◌, ◌==◌, ◌&&◌, nat_lt, nat_le, pos, codes}
 use Rattle.std.specs.Prelude.{Bool, true, false, if◌then◌else◌, Option, None, List}
 use Rattle.std.specs.List.{find}

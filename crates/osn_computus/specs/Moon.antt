@@ -1,7 +1,7 @@
--- The tables of the paschal moon: the 19 full moons of the cycle of 19 years, by which the Julian
--- rule goes (Reingold and Dershowitz, Calendrical Calculations, "The Ecclesiastical Calendars"),
--- and the epacts that the second canon of Inter gravissimas (1582) and the calendar of the canons
--- set beside the days on which a paschal new moon can fall.
+-- The tables of the paschal moon. The Julian rule goes by the 19 full moons of the cycle of 19
+-- years (Reingold and Dershowitz, Calendrical Calculations, "The Ecclesiastical Calendars"). The
+-- Gregorian rule goes by epacts. The second canon of Inter gravissimas (1582) and the calendar of
+-- the canons set them beside the days on which a paschal new moon can fall.
 use Rattle.std.specs.Prelude.{ℕ, ◌+◌, ◌-◌, ◌==◌, ◌&&◌, Bool, true, false, not, nat_lt}
 use Rattle.std.specs.Prelude.{if◌then◌else◌, List, [], ◌∷◌, Option, slice_get}
 use Rattle.std.specs.List.{find, list_any}

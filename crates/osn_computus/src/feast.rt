@@ -22,12 +22,12 @@ fn sunday_after(moon: Day) -> Day
 }
 
 /// Easter of the year, the first Sunday strictly after the rule's paschal moon (the fifth canon of
-/// *Inter gravissimas*): by the Julian rule from 22 March to 25 April of the Julian calendar, by
-/// the Gregorian rule in the same dates of the Gregorian. Years before 1583 are counted by the
-/// same rules.
+/// *Inter gravissimas*). By the Julian rule it is from 22 March to 25 April of the Julian calendar,
+/// by the Gregorian rule between the same dates of the Gregorian. Years before 1583 are counted by
+/// the same rules.
 pub fn easter(rule: Rule, year: Year) -> Day
     ensures value { easter_of newest_rules rule year ≡ Some result }
-    // in the subject's own words
+    // it is a Sunday, from 22 March to 25 April, and in the week after the moon
     ensures sunday { weekday result ≡ 0 }
     ensures season { IsEasterDate year (date_of (feast.calendar_of rule) result) }
     ensures moon { IsSomeAnd (feast.paschal_moon newest_rules rule year)

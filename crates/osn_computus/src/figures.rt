@@ -37,8 +37,8 @@ pub fn gregorian_epact(year: Year) -> Epact
 {
     let golden = golden_number(year);
     let century = year.number() / 100 + 1;
-    // The cycle begins with 8 and adds 11 a year. The corrections: the moon's adds 8 days in 25
-    // centuries, the sun's takes 3 in 4.
+    // The cycle begins with 8 and adds 11 a year. Of the corrections the lunar one adds 8 days in
+    // 25 centuries, and the solar one takes 3 in 4.
     let added = 8 + (golden as u32 - 1) * 11 + (century * 8 + 5) / 25;
     let passed_over = century * 3 / 4;
     let number = (added as i32 - passed_over as i32).rem_euclid(30) as u8;

@@ -1,4 +1,4 @@
-//! The Sunday letters.
+//! One Sunday letter, and how it is written.
 ghost use Rattle.std.specs.Prelude.{◌≡◌, ◌<◌};
 ghost use Rattle.osn_computus.specs.Letters.{letter_name, letter_number};
 

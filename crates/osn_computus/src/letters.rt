@@ -1,4 +1,4 @@
-//! The Sunday letters.
+//! The Sunday letters of a year, and how they are written.
 ghost use Rattle.std.specs.Prelude.{◌≡◌, ◌≢◌, ◌↔◌, ◌+◌, ◌%◌, pos, false, Some, IsNone, IfSome};
 ghost use Rattle.std.specs.Prelude.{IfOk, string_bytes};
 ghost use Rattle.osn_days.specs.Profile.{first_rules, newest_rules};
@@ -56,7 +56,7 @@ pub fn sunday_letters(calendar: Calendar, year: Year) -> Option<Letters>
     // as a law: a year of the first rules keeps its letters
     ensures kept { IsYear first_rules year → result ≡ letters_of first_rules calendar year }
     ensures none { IsNone result ↔ (calendar ≡ Swedish) }
-    // in the subject's own words
+    // each Sunday has its letter, and in a common year both letters are the same
     ensures sundays { IfSome result (AreSundayLetters newest_rules calendar year) }
     ensures common_year { IfSome result (λ letters. chain.is_leap calendar (pos year) ≡ false
         → letters.january ≡ letters.march) }

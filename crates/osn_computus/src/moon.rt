@@ -25,8 +25,8 @@ fn julian_moon_days(year: Year) -> u32
 
 /// The days from 21 March to the fourteenth day of the moon of the Gregorian rule, 13 days after
 /// the new moon. Epact 23 has its new moon on 8 March, and each epact that is less by one a day
-/// later; but 24 stands a day before its turn, with 25 on 5 April, and 25 with a prime with 26 on
-/// 4 April.
+/// later. But 24 stands a day before its turn, with 25 on 5 April, and 25 with a prime stands with
+/// 26 on 4 April.
 fn gregorian_moon_days(year: Year) -> u32
     ensures table { gregorian_new_moon (figure.gregorian_epact year)
         ≡ Some (after_march_1 (7 + result)) }

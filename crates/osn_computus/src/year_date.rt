@@ -1,4 +1,4 @@
-//! A date in a year.
+//! The date of a month and a day in a year.
 ghost use Rattle.std.specs.Prelude.{◌≡◌};
 ghost use Rattle.osn_days.specs.Profile.{newest_rules};
 ghost use Rattle.osn_days.specs.Line.{IsYear};

@@ -1,5 +1,5 @@
--- What the core gives over every list of steps, against the sequential object run on the history:
--- the editor is told the same, and each reader is told the first of the replies.
+-- What the core gives over every list of steps, compared with the sequential object run on the
+-- history. The editor is told the same, and each reader is told the first of the replies.
 use Rattle.std.proofs.Common.{◌≡◌, ℕ, ◌+◌, ◌==◌, Bool, true, false}
 use Rattle.std.proofs.Common.{List, [], ◌∷◌, ◌++◌, length, Option, Some}
 use Rattle.std.proofs.Common.{None, refl, sym, ap, ◌∙◌, ◌-◌, append_assoc}

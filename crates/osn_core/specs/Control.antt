@@ -52,7 +52,7 @@ abbrev pub pin : ReaderState → Move
 pin (Noted query side) = record { out = Says.Moved; at = Marked query side }
 pin at = stays at
 
--- it enters a side that is live, with the number of editions then; else it notes the live side
+-- it enters a side that is live, with the number of editions then. Else it notes the live side
 abbrev pub entering : Bool → ℕ → ℕ → Query → ℕ → Move
 entering true live editions query side = record {
   out = Says.Entered;

@@ -53,8 +53,9 @@ abbrev pub asked : Option Query → ℕ → List Call
 asked (Some query) reader = Asks reader query ∷ []
 asked None reader = []
 
--- the call that a step with this out is, if it is one: a stage or a publish that was taken or
--- refused, and a check that entered, which asks for the query of the reader's last look that moved
+-- the call that a step with this out is, if it is one. It is one for a stage or a publish that was
+-- taken or refused, and for a check that entered. That check asks for the query of the reader's
+-- last look that moved
 abbrev pub call_of : Looks → Step → Out → List Call
 call_of looks (Stage edit) (Staged n) = Stages edit ∷ []
 call_of looks (Stage edit) (Refused f) = Stages edit ∷ []

@@ -41,7 +41,7 @@ answer p s reader (Entered query side edition) = record {
 }
 answer p s reader at = stays at
 
--- what a step of a reader does with where that reader is; one of the editor does nothing with it
+-- what a step of a reader does with where that reader is. A step of the editor does nothing with it
 abbrev pub move_of : Profile → CoreState → Step → ReaderState → Move
 move_of p c (Look reader query) at = look c.control.side query at
 move_of p c (Pin reader) at = pin at
@@ -70,8 +70,8 @@ out_of p c Claim =
     claim_out (is_marked (1 - c.control.side) c.control.readers) c.control.phase
 out_of p c Absorb = absorb_out (c.control.lag == 0) c.control.phase
 
--- whether a step that gives this takes memory: one that is not enabled or is refused takes none,
--- and neither does a look that notes no code, an answer that takes none, or a standby that lacks
+-- whether a step that gives this takes memory. One that is not enabled or is refused takes none.
+-- Neither does a look that notes no code, an answer that takes none, or a standby that lacks
 -- nothing
 abbrev pub step_takes_memory : Step → Out → Bool
 step_takes_memory step Says.NotNow = false

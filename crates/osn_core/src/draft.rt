@@ -10,8 +10,8 @@ use osn_register::{Edit, Limits, Refusal, Register};
 use std::alloc::{AllocError, Global};
 use std::marker::Model;
 
-/// What the next edit and the next edition of a sequential object depend on: the register of all
-/// its edits, published and pending, the pending ones, and how many edits and editions there are.
+/// What the next edit and the next edition of a sequential object depend on. It has the register of
+/// all edits, published and pending, the pending ones, and how many edits and editions there are.
 #[derive(Drop)]
 pub struct Draft {
     alloc: Global,

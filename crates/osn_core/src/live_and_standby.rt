@@ -13,7 +13,7 @@ use osn_register::{Edit, Limits, Refusal, Register};
 use std::alloc::{AllocError, Global};
 use std::marker::Model;
 
-/// The batches and the pending edits, and two registers of them: the live one has the batches, and
+/// The batches and the pending edits, and two registers of them. The live one has the batches, and
 /// the standby all edits but the last ones of the last batch, which it lacks for a while.
 ///
 /// While edits are pending the draft's register is the standby, and else it is the live one. So a

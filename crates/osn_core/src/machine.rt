@@ -22,7 +22,7 @@ pub const MOST_READERS: u32 = 64;
 /// One editor and its readers over two copies of the register, a step at a time.
 ///
 /// Readers are in the live side, and the editor works on the other one, the standby. A publish
-/// exchanges the two; those who are still in the side that was live go on there, and the editor
+/// exchanges the two. Those who are still in the side that was live go on there, and the editor
 /// waits until the last of them has left.
 #[derive(Drop)]
 pub struct Core {
@@ -86,8 +86,8 @@ impl Core {
     ///
     /// # Errors
     ///
-    /// Only where no memory is found, of which pins, checks, leaves and claims, a step that is not
-    /// enabled, a refusal, and a query of the figures of a year take none.
+    /// Only where no memory is found. Pins, checks, leaves and claims take none. Neither does a
+    /// step that is not enabled, a refusal, or a query of the figures of a year.
     pub fn step(&mut self, step: &Step) -> Result<Out, AllocError>
         ensures out { IfOk result (λ o. o ≡ out_of newest_rules self.old step.now) }
         ensures ok { OnOk result (self.new ≡ core_after newest_rules self.old step.now) }

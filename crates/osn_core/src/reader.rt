@@ -36,7 +36,7 @@ pub enum ReaderState {
 }
 
 impl ReaderState {
-    /// A look.
+    /// Notes a query and the live side, if the reader is idle.
     ///
     /// # Errors
     ///
@@ -60,7 +60,7 @@ impl ReaderState {
         }
     }
 
-    /// A pin.
+    /// Marks the side that was noted, if one was.
     pub fn pin(&mut self) -> Out
         ensures out { result ≡ (pin self.old).out }
         ensures after { self.new ≡ (pin self.old).at }
@@ -77,7 +77,8 @@ impl ReaderState {
         }
     }
 
-    /// A check, under a live side that has that many editions.
+    /// Enters the side that was marked, if it is still the live one, which has that many editions.
+    /// Else it notes the live side.
     pub fn check(&mut self, live: u8, edition: u32) -> Out
         ensures out { result ≡ (check live edition self.old).out }
         ensures after { self.new ≡ (check live edition self.old).at }
@@ -91,7 +92,7 @@ impl ReaderState {
         }
     }
 
-    /// Enters a side that it marked, if that one is live, and else notes the live side.
+    /// Enters a side that was marked, if that one is live, and else notes the live side.
     fn enter(&mut self, query: Query, side: u8, live: u8, edition: u32) -> Out
         ensures out { result ≡ (entering (side == live) live edition query side).out }
         ensures after { self.new ≡ (entering (side == live) live edition query side).at }
@@ -109,7 +110,7 @@ impl ReaderState {
         }
     }
 
-    /// A leave.
+    /// Gives the mark up, if the reader was answered.
     pub fn leave(&mut self) -> Out
         ensures out { result ≡ (leave self.old).out }
         ensures after { self.new ≡ (leave self.old).at }
@@ -123,7 +124,7 @@ impl ReaderState {
         }
     }
 
-    /// Puts it elsewhere.
+    /// Puts the reader in another state.
     pub fn put(&mut self, state: ReaderState)
         ensures { self.new ≡ state }
     {

@@ -71,7 +71,7 @@ impl Readers {
         self.states[(reader - 1) as usize].put(state);
     }
 
-    /// A look of a reader, while this side is live.
+    /// Has a reader look, while this side is live.
     ///
     /// # Errors
     ///
@@ -91,7 +91,7 @@ impl Readers {
         }
     }
 
-    /// A pin of a reader.
+    /// Has a reader pin the side that it noted.
     pub fn pin(&mut self, reader: u32) -> Out
         ensures out { result ≡ out_at pin (reader_at self.old reader) }
         ensures after { self.new ≡ readers_after pin (reader_at self.old reader) self.old reader }
@@ -102,7 +102,7 @@ impl Readers {
         }
     }
 
-    /// A check of a reader, while this side is live and has that many editions.
+    /// Has a reader check, while this side is live and has that many editions.
     pub fn check(&mut self, reader: u32, live: u8, edition: u32) -> Out
         ensures out { result ≡ out_at (check live edition) (reader_at self.old reader) }
         ensures after { self.new
@@ -114,7 +114,7 @@ impl Readers {
         }
     }
 
-    /// A leave of a reader.
+    /// Has a reader leave its side.
     pub fn leave(&mut self, reader: u32) -> Out
         ensures out { result ≡ out_at leave (reader_at self.old reader) }
         ensures after { self.new ≡ readers_after leave (reader_at self.old reader) self.old reader }

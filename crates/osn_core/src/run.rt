@@ -17,7 +17,7 @@ use std::alloc::{AllocError, Global};
 ///
 /// Whatever the steps, the sequential object is run on their history from the empty state. It tells
 /// the editor what the editor was told, and its replies to a reader begin with those that the
-/// reader was told: each is the reply at the check by which its reader entered. The editions that
+/// reader was told. Each is the reply at the check by which its reader entered. The editions that
 /// one reader is given never fall.
 ///
 /// # Errors

@@ -18,7 +18,7 @@ pub enum Step {
     /// A reader enters the side that it marked where that one is still live, and else gives the
     /// mark up and notes the live side.
     Check { reader: u32 },
-    /// A reader is told the answer that the side has which it entered.
+    /// A reader is told the answer of the side that it entered.
     Answer { reader: u32 },
     /// A reader that was answered gives its mark up.
     Leave { reader: u32 },

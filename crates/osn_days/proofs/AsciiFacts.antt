@@ -1,4 +1,4 @@
--- Bytes of ASCII.
+-- Bytes of ASCII are a text of UTF-8.
 use Rattle.std.proofs.Common.{◌<◌, ℕ, zero, suc, List, [], ◌∷◌, arith}
 use Rattle.std.specs.Str.{IsAscii, IsUtf8}
 use Rattle.std.proofs.lemmas.Str.{IsUtf8-from_ascii}

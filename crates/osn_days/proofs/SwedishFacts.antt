@@ -1,5 +1,5 @@
--- The dates of the Swedish calendar by those of the Julian: the same before day 620617 and from day
--- 625001 on, and from day 620617 to 624999 those of the next day.
+-- The dates of the Swedish calendar by those of the Julian. They are the same before day 620617 and
+-- from day 625001 on, and from day 620617 to 624999 those of the next day.
 use Rattle.std.proofs.Common.{◌≡◌, ◌≢◌, ℕ, zero, suc, ◌+◌, ◌-◌, ◌≤◌, inl, inr, false, refl, sym, ap}
 use Rattle.std.proofs.Common.{subst, ◌∙◌, arith}
 use Rattle.std.proofs.lemmas.Bool.{cases_order, cases_lt}

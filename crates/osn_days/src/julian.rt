@@ -1,6 +1,6 @@
 //! The Julian calendar by division, in years that begin on 1 March, so that a leap day comes last.
 //! January and February are the months 13 and 14 of the year before. Four years have 1461 days.
-//! From March and from August five months have 31, 30, 31, 30 and 31 days, 153 in all: so the days
+//! From March and from August five months have 31, 30, 31, 30 and 31 days, 153 in all. So the days
 //! of the months before one are 153 fifths of a day for each, and 2 fifths, without the fraction.
 ghost use Rattle.std.specs.Prelude.{◌≡◌, pos};
 ghost use Rattle.std.specs.Option.{option_to_list};

@@ -1,7 +1,8 @@
-//! The line of days and the calendars on it: the fixed dates of Reingold and Dershowitz,
-//! *Calendrical Calculations* (chapter 1), with the Gregorian (chapter 2), the Julian (chapter 3)
-//! and the Swedish calendar as chains of dates; the words of calendars, and how dates are written.
-//! What the crate promises to those above is `date_of` and `day_of`: a calendar's chain, both ways.
+//! The line of days and the calendars on it. The line is the fixed dates of Reingold and
+//! Dershowitz, *Calendrical Calculations* (chapter 1). The Gregorian (chapter 2), the Julian
+//! (chapter 3) and the Swedish calendar are chains of dates. The words of calendars and the texts
+//! of dates stand here too. What the crate promises to those above is `date_of` and `day_of`: a
+//! calendar's chain, both ways.
 #![tactic(auto)]
 
 mod calendar;

@@ -1,4 +1,4 @@
-//! The Swedish calendar by the Julian. From 1 March 1700 to 29 February 1712 it is a day ahead: the
+//! The Swedish calendar by the Julian. From 1 March 1700 to 29 February 1712 it is a day ahead. The
 //! date of a day is that of the next day in the Julian calendar. Then comes 30 February 1712, and
 //! the two agree again.
 ghost use Rattle.std.specs.Prelude.{◌≡◌};

@@ -71,7 +71,7 @@ readers_end reader ls ms (inl e) = rw e refl
 readers_end reader [] ms (inr e) = refl
 readers_end reader (qs ∷ lists) ms (inr e) = rw e refl
 
--- so many readers are left behind the first
+-- how many readers are left after the first
 pub few_left : {X : Type 0} (reader : ℕ) (ls : List X) (x : X) (xs : List X)
     → ls ≡ x ∷ xs → reader + length ls ≤ 64 → reader + 1 + length xs ≤ 64
 few_left reader ls x xs e few =

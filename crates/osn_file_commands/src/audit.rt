@@ -16,9 +16,9 @@ fn agreed_line(alloc: Global, replies: u64) -> Result<String, AllocError>
     format!(in alloc; "audit: {replies} replies agree\n")
 }
 
-/// The command `audit`: holds a transcript against what a journal published under these limits, and
-/// prints how many replies it has, which all agree. The journal is read whole before the transcript,
-/// and both before anything is printed.
+/// The command `audit`: compares a transcript with what a journal published under these limits, and
+/// prints how many replies it has, which all agree. The journal is read whole before the
+/// transcript, and both before anything is printed.
 ///
 /// Where a line is refused, as that of a reply that the journal does not give, standard error is
 /// told in a line why, and the status says it.

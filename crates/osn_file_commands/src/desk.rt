@@ -53,11 +53,11 @@ fn print_desk<R: Threads + Wait + AllocGlobal, W: Sink, E: Sink>(
     }
 }
 
-/// The command `desk`: an editor works through the commands of a script, under these limits,
-/// while readers ask the questions of a question file, each in a thread of its own; then what each
-/// reader asked is printed with the reply to it, a line for each, by reader and then by place. What
-/// the editor asks for and is refused is passed over. The script is read whole before the
-/// questions, and both before a thread is started.
+/// The command `desk`: an editor works through the commands of a script, under these limits, while
+/// readers ask the questions of a question file, each in its own thread. Then what each reader
+/// asked is printed with the reply to it, a line for each, by reader and then by place. A command
+/// of the editor that is refused is passed over. The script is read whole before the questions, and
+/// both before a thread is started.
 ///
 /// Where a line is refused, or there is no question, standard error is told in a line why, and the
 /// status says it.

@@ -1,6 +1,6 @@
 //! The commands over files of lines: `audit`, `replay` and `desk`. What the crate promises to those
-//! above: a command writes what its definition says of what it reads, ends with the status of what
-//! happened, and tells standard error in one line why it ended early.
+//! above: a command writes what its definition says of what it reads, and ends with the status of
+//! what happened. It tells standard error in one line why it ended early.
 #![tactic(auto)]
 
 mod audit;

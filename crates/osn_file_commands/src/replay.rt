@@ -45,7 +45,7 @@ fn print_steps<W: Sink, E: Sink>(
 }
 
 /// The command `replay`: takes the steps of a schedule, of one editor and this many readers, from
-/// the first state on under these limits, and prints a line for what each of them gives. The
+/// the first state on under these limits. It prints a line for what each of them gives. The
 /// schedule is read whole and all steps are taken before anything is printed.
 ///
 /// Where a line is refused, or the readers are not 1 to 64, standard error is told in a line why,

@@ -70,7 +70,7 @@ query_by-other reader r q other =
 query_by-own : (r : ℕ) (q : Query) → query_by r (r, q) ≡ Some q
 query_by-own r q = ap (λ b. if b then Some q else None) (eq-eqb r r refl)
 
--- a reader behind the greatest one asks nothing
+-- a reader after the greatest one asks nothing
 queries_of-none : (asked : List (ℕ × Query)) (r : ℕ) → greatest_reader asked < r
     → queries_of asked r ≡ []
 queries_of-none [] r late = refl

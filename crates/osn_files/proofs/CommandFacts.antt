@@ -42,7 +42,7 @@ pub record Says (d : Data) (c : Command) : Type 0 where
   pub line : IsLine d
   pub command : command_in newest_rules d ≡ Ok c
 
--- the test at hand does not apply, and neither do those behind it
+-- the first test does not apply, and neither do those after it
 pub next_test : (b : Bool) (f : Refusal) (r : Option Refusal) → cond b (Some f) r ≡ None
     → (b ≡ false) × (r ≡ None)
 next_test true f r h = absurd (false≢true (sym (ap is_some h)))

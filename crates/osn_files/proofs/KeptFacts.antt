@@ -163,7 +163,7 @@ read_goes : (limits : Limits) (s made : ObjectState) (r : Result Command WireFau
 read_goes limits s made (Ok c) old fixed is = command_goes limits s made c old (fixed c refl) is
 read_goes limits s made (Err f) old fixed is = absurd (cc)
 
--- a line behind a head of the first version
+-- a line after a head of the first version
 line_goes : (limits : Limits) (s made : ObjectState) (r : Result Data WireFault) → IsOld limits s
     → on_read r (after_object first_rules First s) ≡ Ok made
     → Goes limits (on_read r (after_object newest_rules First s)) made
@@ -181,7 +181,7 @@ record Ends (limits : Limits) (r : Result ObjectState (ℕ × LineFault)) (made 
   ends : r ≡ Ok made
   old : IsOld limits made
 
--- a line, and then those behind it
+-- a line, and then those after it
 ends_by : (limits : Limits) (n : ℕ) (made : ObjectState) (ls : List (List ℕ))
     (r newest : Result ObjectState LineFault)
     → ((t : ObjectState) → r ≡ Ok t → Goes limits newest t)
@@ -200,7 +200,7 @@ ends_by limits n made ls (Ok t) newest first rest is =
     }
 ends_by limits n made ls (Err f) newest first rest is = absurd (cc)
 
--- lines behind it in turn
+-- lines after it in turn
 lines_end : (limits : Limits) (n : ℕ) (s made : ObjectState) (ls : List (List ℕ)) → IsOld limits s
     → behind_first first_rules n s ls ≡ Ok made
     → Ends limits (behind_first newest_rules n s ls) made
@@ -213,7 +213,7 @@ lines_end limits n s made (l ∷ ls) old is =
     (λ t old_t e. lines_end limits (n + 1) t made ls old_t e)
     is
 
--- what is loaded behind a head
+-- what is loaded after a head
 abbrev behind : Profile → Limits → List (List ℕ) → Result Version WireFault
     → Result ObjectState (ℕ × LineFault)
 behind p limits rest r =

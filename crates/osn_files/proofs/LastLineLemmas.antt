@@ -14,7 +14,7 @@ use Rattle.osn_files.specs.Version.{head_data}
 use Rattle.osn_files.specs.declared.last_line.LastLine.{LastLine}
 use Rattle.osn_files.specs.declared.last_line.LastLine.TheVariants.{Ended, LacksFeed, Unfinished}
 
--- so much more was put behind the front of a line
+-- more bytes were put after the front of a line
 pub front_added : (n : ℕ) (line more : List ℕ)
     → take n line ++ take (min (n - length (take n line)) (length more)) more
     ≡ take n (line ++ more)
@@ -38,7 +38,7 @@ front_kept n (Ok u) old new more room is size = λ line known.
     ∙ ap (λ l. l ++ take (min (n - length l) (length more)) more) known
     ∙ front_added n line more
 
--- of a line whose front is empty there is none
+-- a line whose front is empty has no byte, so no line stands there
 pub none_ended : (front line : List ℕ) (n : ℕ) → length front ≡ 0 → front ≡ take 65537 line
     → Ended ≡ last_line n line
 none_ended front [] n none known = refl

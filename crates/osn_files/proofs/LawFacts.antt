@@ -34,7 +34,7 @@ use Rattle.osn_files.specs.JournalText.{batches_text, journal_text}
 use Rattle.osn_files.proofs.CommandFacts.{Says}
 use Rattle.osn_files.proofs.SaysFacts.{Says-publish, Says-lawful, IsLine-head, version_of-head}
 
--- lines that are run behind a head of the newest version
+-- lines that are run after a head of the newest version
 abbrev run : ℕ → ObjectState → List (List ℕ) → Result ObjectState (ℕ × LineFault)
 run n s ls = in_turn (after_object newest_rules) n (Some newest_version) s ls
 
@@ -62,7 +62,7 @@ pub lawful_front : (p : Profile) (limits : Limits) (lands : List LandModel) (es 
 lawful_front p limits lands [] fs h = tt
 lawful_front p limits lands (e ∷ es) fs h = (h.0, lawful_front p limits (effect lands e) es fs h.1)
 
--- and so are the others behind them
+-- and so are the others after them
 pub lawful_rest : (limits : Limits) (lands : List LandModel) (es fs : List Edit)
     → AreLawful newest_rules limits lands (es ++ fs)
     → AreLawful newest_rules limits (applied_all newest_rules limits lands es) fs

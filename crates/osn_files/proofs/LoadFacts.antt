@@ -45,7 +45,7 @@ goes n (Ok s) next t h = record { now = s; is = refl; rest = h }
 goes n (Err f) next t h = absurd (cc)
 
 module _ {S : Type 0} (step : Version → S → Data → Result S LineFault) where
-  -- a line more, behind a head
+  -- a line more, after a head
   line_more : (n : ℕ) (version : Version) (s t u : S) (ls : List (List ℕ)) (line : List ℕ)
       → in_turn step n (Some version) s ls ≡ Ok t
       → on_read (object_of line) (step version t) ≡ Ok u
@@ -61,7 +61,7 @@ module _ {S : Type 0} (step : Version → S → Data → Result S LineFault) whe
       ap (λ r. go_on n r (λ v. in_turn step (n + 1) (Some version) v (ls ++ line ∷ []))) first.is
       ∙ line_more (n + 1) version first.now t u ls line first.rest one
 
-  -- what is made of the lines behind a head
+  -- what is made of the lines after a head
   abbrev behind : ℕ → S → List (List ℕ) → Result Version WireFault → Result S (ℕ × LineFault)
   behind n s ls r =
       go_on n (on_read r Ok) (λ version. in_turn step (n + 1) (Some version) s ls)

@@ -1,4 +1,4 @@
--- What stands behind the last line feed of bytes that were read piece by piece.
+-- What stands after the last line feed of bytes that were read piece by piece.
 use Rattle.std.proofs.Common.{◌≡◌, ◌+◌, ◌-◌, ◌≤◌, ◌==◌, ℕ, zero, suc, Bool, true, false, List, []}
 use Rattle.std.proofs.Common.{◌∷◌, ◌++◌, length, take, drop, refl, sym, ap, ◌∙◌, arith, cond}
 use Rattle.std.proofs.Common.{zero-le, take_all}
@@ -6,13 +6,13 @@ use Rattle.std.proofs.lemmas.List.{drop-append-le, length-drop}
 use Rattle.std.proofs.Math.Seq.{drop-append-add}
 use Rattle.osn_files.specs.WholePart.{with_byte, ended_length, unended_bytes}
 
--- behind what has no line feed the ended lines are as they were
+-- bytes with no line feed that come last leave the ended lines as they were
 ended-before : (xs ys : List ℕ) → ended_length ys ≡ 0
     → ended_length (xs ++ ys) ≡ ended_length xs
 ended-before [] ys none = none
 ended-before (x ∷ xs) ys none = ap (with_byte x) (ended-before xs ys none)
 
--- behind what has one they reach into it
+-- where those bytes have a line feed, the ended lines reach into them
 ended-within : (xs ys : List ℕ) (k : ℕ) → ended_length ys ≡ suc k
     → ended_length (xs ++ ys) ≡ suc (length xs + k)
 ended-within [] ys k some = omega (arith, some)
@@ -32,7 +32,7 @@ ended-le : (xs : List ℕ) → ended_length xs ≤ length xs
 ended-le [] = zero-le
 ended-le (x ∷ xs) = with_byte-le x (ended_length xs) (length xs) (ended-le xs)
 
--- a piece with no line feed stands behind what stood behind the last one
+-- a piece with no line feed goes after what stood after the last line feed
 pub piece_behind : (before piece : List ℕ) → ended_length (before ++ piece) ≤ length before
     → unended_bytes (before ++ piece) ≡ unended_bytes before ++ piece
 piece_behind before piece low = behind (ended_length piece) refl
@@ -44,7 +44,7 @@ piece_behind before piece low = behind (ended_length piece) refl
         ∙ drop-append-le (ended_length before) before piece (ended-le before)
     behind (suc k) some = absurd (omega (arith, low, ended-within before piece k some))
 
--- of a piece with one the end stands behind it
+-- where a piece has a line feed, the end of the piece stands after the last one
 pub piece_end : (before piece : List ℕ) (n : ℕ)
     → n ≡ ended_length (before ++ piece) - length before
     → length before ≤ ended_length (before ++ piece)

@@ -1,5 +1,5 @@
--- What rules don't refuse, rules of a line and of years that are as long or longer don't refuse
--- either, where no edit has a style that goes from Easter to Easter.
+-- What rules don't refuse, other rules whose line and years are as long or longer don't refuse
+-- either. No edit here has a style that goes from Easter to Easter.
 use Rattle.std.proofs.Common.{◌≡◌, ℕ, ◌≤◌, ◌==◌, ◌&&◌, Bool, true, false, not, ℤ, pos, negsuc}
 use Rattle.std.proofs.Common.{nat_le, List, [], ◌∷◌, Option, Some, None, is_some}
 use Rattle.std.proofs.Common.{unsigned_abs, refl, sym, ap, ◌∙◌, arith, leb-true}

@@ -5,7 +5,7 @@ use Rattle.std.proofs.lemmas.List.{map-append, length-map}
 use Rattle.osn_register.specs.declared.query.Query.{Query}
 use Rattle.osn_files.specs.QuestionsInside.{with_query_at, with_query}
 
--- an empty list behind those that are there makes no difference to a query of a later reader
+-- an empty list after those that are there makes no difference to a query of a later reader
 with_query_at-empty : (lists : List (List Query)) (n : ℕ) (q : Query) → length lists ≤ n
     → with_query_at (lists ++ [] ∷ []) n q ≡ with_query_at lists n q
 with_query_at-empty [] zero q short = refl
@@ -27,7 +27,7 @@ with_query_at-grown vs new v n q grown empty short =
     ∙ with_query_at-empty (lists_of vs) n q
     (subst (λ k. k ≤ n) (sym (length-map vs (λ qs. qs.items))) short)))
 
--- a query behind those of a reader who has a list
+-- a query after those of a reader who has a list
 pub with_query_at-put : (vs : List (Vec Query Global)) (v w : Vec Query Global) (n : ℕ) (q : Query)
     → n < length vs → w ≡ get_or vs n w → v.items ≡ w.items ++ q ∷ []
     → lists_of (set vs n v) ≡ with_query_at (lists_of vs) n q

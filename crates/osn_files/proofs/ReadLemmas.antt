@@ -40,7 +40,7 @@ use Rattle.osn_files.proofs.TurnLemmas.{faults_after}
 abbrev Rule : Type 0 → Type 0 → Type 0
 Rule S A = S → Version → A → Data → Result A LineFault
 
--- what a line makes, and then those behind it
+-- what a line makes, and then those after it
 in_turn-line : {A : Type 0} (step : Version → A → Data → Result A LineFault) (n : ℕ)
     (version : Option Version) (a : A) (line : List ℕ) (more : List (List ℕ))
     → in_turn step n version a (line ∷ more)
@@ -103,7 +103,7 @@ head_says {A = A} line a b new step =
     said (Some v) h = subst (KnownBy (Ok v)) (ap version_read h) refl
     said None h = absurd (cc)
 
--- of one behind a head
+-- of one after a head
 is_same : {A : Type 0} (line : List ℕ) (a b : A) (version : Version) (new : Option Version)
     (step : Version → A → Data → Result A LineFault)
     → on_read (object_of line) (taken step (Some version) a) ≡ Ok (new, b) → Some version ≡ new
@@ -230,7 +230,7 @@ begun_so : {S A : Type 0} (step : Rule S A) (state : S → A) (begun : Reading S
 begun_so step state begun =
     (λ more. refl, λ none. subst (IsKnownOf []) (sym none) refl, stays_so begun.version)
 
--- where all lines were taken, what comes of them is what comes of none behind them
+-- where all lines were taken, what comes of them is what comes of no lines after them
 ended : {S A : Type 0} (step : Rule S A) (state : S → A) (begun now : Reading S)
     (input : Option (List ℕ)) (n : ℕ) (r : Result A (ℕ × LineFault))
     → TakesAll (Reads step state) begun now input n

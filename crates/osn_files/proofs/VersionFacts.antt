@@ -29,13 +29,13 @@ use Rattle.osn_request.specs.Op.{op_of}
 use Rattle.osn_files.specs.Commands.{command_by, command_in}
 use Rattle.osn_files.specs.Loaded.{HasStyle, HasEdit}
 
--- what two readings give behind the same one
+-- what two readings give after the same one
 same_first : {A B : Type 0} (r : Result A WireFault) (f g : A → Result B WireFault) (b : B)
     → r >>= f ≡ Ok b → ((a : A) → f a ≡ Ok b → g a ≡ Ok b) → r >>= g ≡ Ok b
 same_first (Ok a) f g b h each = each a h
 same_first (Err x) f g b h each = absurd (cc)
 
--- what the same reading gives behind two
+-- what the same reading gives after two
 same_last : {A B : Type 0} (r q : Result A WireFault) (f : A → Result B WireFault) (b : B)
     → r >>= f ≡ Ok b → ((a : A) → r ≡ Ok a → f a ≡ Ok b → q ≡ Ok a) → q >>= f ≡ Ok b
 same_last (Ok a) q f b h each = ap (λ x. x >>= f) (each a refl h) ∙ h

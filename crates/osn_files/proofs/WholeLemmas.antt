@@ -11,13 +11,13 @@ use Rattle.osn_files.specs.WholePartInside.{IsCountOf, IsMeasureOf}
 use Rattle.osn_files.specs.declared.last_line.LineFront.{LineFront}
 use Rattle.osn_files.specs.declared.whole_lines.Count.{Count}
 
--- behind a line feed all lines are ended
+-- after a line feed all lines are ended
 ended_length-feed : (b : ℕ) (bs : List ℕ) → (b == 10) ≡ true
     → ended_length (bs ++ b ∷ []) ≡ suc (length bs)
 ended_length-feed b [] feed = ap (λ t. cond t 1 0) feed
 ended_length-feed b (c ∷ bs) feed = ap (with_byte c) (ended_length-feed b bs feed)
 
--- behind another byte those that are ended are as they were
+-- after another byte those that are ended are as they were
 ended_length-other : (b : ℕ) (bs : List ℕ) → (b == 10) ≡ false
     → ended_length (bs ++ b ∷ []) ≡ ended_length bs
 ended_length-other b [] other = ap (λ t. cond t 1 0) other
@@ -89,7 +89,7 @@ read_whole (Some bytes) None read consumed end P h = absurd consumed
 read_whole (Some bytes) (Some rest) read consumed end P h =
     subst P (sym (consumed ∙ ap (λ l. read ++ l) end ∙ append-nil read)) h
 
--- an input of which so much was read is as long
+-- an input is at least as long as the bytes that were read of it
 pub input_long : (input left : Option (List ℕ)) (read : List ℕ) (n : ℕ) → n ≤ length read
     → Consumes input left read → IfSome input (λ bytes. n ≤ length bytes)
 input_long None left read n long consumed = tt

@@ -8,8 +8,8 @@ use Rattle.osn_files.specs.declared.fault.LineFault.{LineFault}
 use Rattle.osn_files.specs.declared.fault.Role.{Role}
 use Rattle.osn_files.specs.Faults.{MatchFileFault, FailsAsTold}
 
--- Of the bytes that were read of a source, but for the last ones, which are at most so many, the
--- rule refuses no line that ended in them.
+-- The rule refuses no line that ended in the earlier bytes of those that were read of a source. The
+-- last ones are at most this many.
 pub record SparesRead {A : Type 0} (rule : List (List ℕ) → Result A (ℕ × LineFault))
     (old new : Option (List ℕ)) (most : ℕ) : Type 0 where
   pub earlier : List ℕ
@@ -21,7 +21,7 @@ pub record SparesRead {A : Type 0} (rule : List (List ℕ) → Result A (ℕ × 
 
 -- A file of this role is read by a rule, which says what lines make, or the first fault and the
 -- number of its line, counted from 1. What is made has this view. The source stood so before, and
--- stands so now; what it still has is said only where that is known.
+-- stands so now. What it still has is said only where that is known.
 pub record ReadsFile {A T S : Type 0} (role : Role)
     (rule : List (List ℕ) → Result A (ℕ × LineFault)) (view : T → A) (result : Result T FileFault)
     (remaining : S → Option (List ℕ)) (has_failed : S → Bool) (old new : S) : Type 0 where
@@ -31,9 +31,9 @@ pub record ReadsFile {A T S : Type 0} (role : Role)
   -- all of the source was read, and it didn't fail
   pub end : OnOk result (IsAtEnd (remaining new))
   pub sound : OnOk result (has_failed new ≡ has_failed old)
-  -- a line that is told is one of this file, and the first that the rule refuses, with its fault; a
-  -- read fault is told only where none of those that had ended is refused, and want of memory only
-  -- where none is that had ended before the last 65,536 bytes were read
+  -- a line that is told is one of this file, and the first that the rule refuses, with its fault. A
+  -- read fault is told only where no line that had ended is refused. Want of memory is told only
+  -- where no line is refused that had ended before the last 65,536 bytes were read
   pub fault : IfErr result (λ fault. MatchFileFault fault
       (SparesRead rule (remaining old) (remaining new) 65536)
       (SparesRead rule (remaining old) (remaining new) 0) (λ named line why.

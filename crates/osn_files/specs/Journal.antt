@@ -1,5 +1,5 @@
--- What is loaded from the lines of a journal: a head, and behind it commands that are run in turn
--- on a new object, up to the first that is refused. This project's profile.
+-- What is loaded from the lines of a journal. They are a head and then commands, which are run in
+-- turn on a new object up to the first that is refused. This project's profile.
 use Rattle.std.specs.Prelude.{ℕ, List, Option, Some, None, Result, Ok, Err}
 use Rattle.serde_json.specs.Data.{Data}
 use Rattle.osn_days.specs.Profile.{Profile}

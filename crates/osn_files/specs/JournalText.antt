@@ -1,4 +1,4 @@
--- The text of a journal: a head, the edits of each batch with a publish behind them, and then the
+-- The text of a journal: a head, the edits of each batch with a publish after them, and then the
 -- pending edits, a line each. The members of a line stand in ascending order of their names. This
 -- project's profile.
 use Rattle.std.specs.Prelude.{ℕ, ℤ, List, [], ◌∷◌, ◌++◌, codes}

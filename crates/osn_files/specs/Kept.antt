@@ -20,9 +20,9 @@ abbrev pub IsSameRegister : Limits → List Edit → Type 0
 IsSameRegister limits es = folded first_rules limits es ≡ folded newest_rules limits es
 
 -- Lines that say the first version, and that the first rules load as an object, are loaded as the
--- same object by the newest rules: its batches and its pending edits are the same ones. And the
--- register of each of its editions, which is that of so many batches, is the same one under both
--- rules, and so is that of all its edits, the pending ones included.
+-- same object by the newest rules. Its batches and its pending edits are the same ones. The
+-- register of each of its editions, which is that of its first batches, is the same one under both
+-- rules. So is that of all its edits, the pending ones included.
 unfoldable pub KeepsEditions : Limits → List (List ℕ) → Type 0
 KeepsEditions limits lines =
     IsOfFirstVersion lines → (object : ObjectState) → load first_rules limits lines ≡ Ok object

@@ -15,15 +15,15 @@ use Rattle.osn_files.specs.declared.last_line.LastLine.TheVariants.{Ended, Lacks
 abbrev pub is_no_json : List ℕ → Bool
 is_no_json line = if nat_lt longest_line (length line) then false else not (is_some (value_of line))
 
--- Whether bytes behind so many lines, and with no line feed behind them, were not finished: they
--- are no JSON text. In place of the first line they are a front of the head that a journal gets as
--- well, so that a file that is no journal has no such line.
+-- Whether bytes after this many lines, and with no line feed after them, were not finished: they
+-- are no JSON text. In place of the first line they are also a front of the head that a journal
+-- gets. So a file that is no journal has no such line.
 abbrev pub is_unfinished : ℕ → List ℕ → Bool
 is_unfinished zero bytes =
     is_no_json bytes && starts_with nat_eq (line_text (head_data newest_version)) bytes
 is_unfinished (suc n) bytes = is_no_json bytes
 
--- how the last line stands, by the number of line feeds and the bytes behind the last one
+-- how the last line stands, by the number of line feeds and the bytes after the last one
 abbrev pub last_line : ℕ → List ℕ → LastLine
 last_line n [] = Ended
 last_line n (b ∷ bs) = if is_unfinished n (b ∷ bs) then Unfinished else LacksFeed

@@ -53,9 +53,9 @@ pub record IsJournalOf (version : Version) (limits : Limits) (s : ObjectState) (
   pub ends : EndsWithFeed text
   pub loads : load newest_rules limits (lines text) ≡ Ok s
 
--- Where a text is loaded as an object, the line of an edit that is not refused, and that the text's
--- version has, makes of it a text that is loaded with one edit more that is pending; and the line
--- of a publish that is not refused one that is loaded with one edition more.
+-- What the lines of changes make of a text that is loaded as an object. With the line of an edit
+-- that is not refused, and that the text's version has, it is loaded with one edit more that is
+-- pending. With the line of a publish that is not refused it is loaded with one edition more.
 pub record LoadsByLines (version : Version) (limits : Limits) (s : ObjectState) (text : List ℕ)
     : Type 0 where
   pub edit : (e : Edit) → HasEdit version e → stage_refusal newest_rules s e ≡ None

@@ -41,7 +41,7 @@ StaysKnown None now = Unit {0}
 StaysKnown (Some version) now = now ≡ Some version
 
 -- what was begun is now, once it took these lines: the same comes of it by whatever stands after
--- them, and the version is known where it wasn't, and stays where it was
+-- them. The version is known where it wasn't, and stays where it was
 abbrev pub Reads : {S A : Type 0} → (S → Version → A → Data → Result A LineFault) → (S → A)
     → Reading S → List (List ℕ) → Reading S → Type 0
 Reads step state begun lines now =
@@ -50,7 +50,7 @@ Reads step state begun lines now =
     × (begun.version ≡ None → IsKnownOf lines now.version)
     × StaysKnown begun.version now.version
 
--- what was begun took these lines and met a fault at the next, whatever stands behind it
+-- what was begun took these lines and met a fault at the next, whatever stands after it
 abbrev pub Faults : {S A : Type 0} → (S → Version → A → Data → Result A LineFault) → (S → A)
     → Reading S → List (List ℕ) → Option (List ℕ) → LineFault → Type 0
 Faults step state begun lines None f = ⊥
@@ -65,7 +65,7 @@ Spares step state begun lines =
     (more : List (List ℕ))
     → IfErr (goes_on step state begun 1 (lines ++ more)) (λ e. length lines < e.0)
 
--- where memory ran out the lines that were taken have no fault; a fault is that of the next
+-- where memory ran out the lines that were taken have no fault. A fault is that of the next
 abbrev pub StopsReading : {S A : Type 0} → (S → Version → A → Data → Result A LineFault)
     → (S → A) → Reading S → List (List ℕ) → Option (List ℕ) → LineStop → Type 0
 StopsReading step state begun lines at NoMemory = Spares step state begun lines

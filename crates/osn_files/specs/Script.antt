@@ -1,4 +1,4 @@
--- What is read from the lines of a script: a head, and behind it the commands of one editor, which
+-- What is read from the lines of a script: a head, and after it the commands of one editor, which
 -- are not run. This project's profile.
 use Rattle.std.specs.Prelude.{ℕ, List, [], ◌∷◌, ◌++◌, None, Result, Ok}
 use Rattle.serde_json.specs.Data.{Data}

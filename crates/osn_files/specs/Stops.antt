@@ -21,7 +21,7 @@ abbrev pub Stops : {A : Type 0} → Result A LineFault → LineStop → Type 0
 Stops said NoMemory = Unit {0}
 Stops said (Fault f) = said ≡ Err f
 
--- the fault of a file of this role that ended early behind so many lines
+-- the fault of a file of this role that ended early after this many lines
 abbrev pub file_fault : Role → ℕ → TakeFault LineStop → FileFault
 file_fault role n ends.NoMemory = faults.NoMemory
 file_fault role n ends.ReadFault = faults.ReadFault

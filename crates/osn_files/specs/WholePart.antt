@@ -9,8 +9,8 @@ use Rattle.osn_files.specs.declared.whole_lines.WholePart.{WholePart}
 
 -- ---- the lines that a line feed ends
 
--- a byte in front of so many bytes of such lines: it is one of them, but where there are none it
--- has to be a line feed
+-- a byte before this many bytes of such lines: it is one of them, but where there are none it has
+-- to be a line feed
 abbrev pub with_byte : ℕ → ℕ → ℕ
 with_byte b zero = if b == 10 then 1 else 0
 with_byte b (suc n) = suc (suc n)
@@ -24,7 +24,7 @@ ended_length (b ∷ bs) = with_byte b (ended_length bs)
 abbrev pub ended_count : List ℕ → ℕ
 ended_count = count_by (λ b. b == 10)
 
--- what stands behind the last line feed
+-- what stands after the last line feed
 abbrev pub unended_bytes : List ℕ → List ℕ
 unended_bytes input = drop (ended_length input) input
 
@@ -52,7 +52,7 @@ whole_bytes input = take (whole_length input) input
 abbrev pub whole_count : List ℕ → ℕ
 whole_count input = by_last (last_line_of input) (ended_count input) (ended_count input + 1)
 
--- so much of this input counts, and its last line stands so
+-- this part of this input counts, and its last line stands as the part says
 pub record IsWholePart (part : WholePart) (input : List ℕ) : Type 0 where
   pub bytes : part.bytes ≡ whole_length input
   pub lines : part.lines ≡ whole_count input

@@ -9,9 +9,9 @@ use thiserror::Error;
 /// What a file is read as.
 #[derive(Clone, Copy, Debug, PartialEq, Eq, Hash)]
 pub enum Role {
-    /// The edits and publishes of an object, behind a head.
+    /// The edits and publishes of an object, after a head.
     Journal,
-    /// The edits and publishes of one editor, behind a head.
+    /// The edits and publishes of one editor, after a head.
     Script,
     /// The queries of readers.
     Questions,
@@ -24,7 +24,7 @@ pub enum Role {
 /// Why a line of a file is refused.
 #[derive(Clone, Copy, Debug, PartialEq, Eq, Hash)]
 pub enum LineFault {
-    /// The line is none of this file.
+    /// No line of this file may be so.
     Wire(WireFault),
     /// What the line asks for is refused.
     Register(Refusal),

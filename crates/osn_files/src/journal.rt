@@ -19,14 +19,15 @@ use std::alloc::Global;
 
 /// The object of a journal, which is a head and then edits and publishes, a line each. They are
 /// read by the words of the head's version, and run in turn, by the newest rules, on a new object
-/// of these limits. Edits behind the last publish are pending.
+/// of these limits. Edits after the last publish are pending.
 ///
-/// Besides the object there is what `take_lines` has, and the value of one line.
+/// Besides the object, memory holds what `take_lines` has, and the value of one line.
 ///
 /// # Errors
 ///
-/// `BadLine` for the first line that is refused, or for line 1 where there is no line; `ReadFault`
-/// where the source failed, or gave no end within 4,294,967,295 reads; `NoMemory`.
+/// `BadLine` for the first line that is refused, or for line 1 where there is no line. `ReadFault`
+/// where the source failed, or gave no end within 4,294,967,295 reads. `NoMemory` where memory ran
+/// out.
 #[tactic(auto, using(crate::proofs::KeptFacts::keeps_editions, crate::proofs::Greater::loads_same))]
 pub fn load_journal<R: Source>(
     alloc: Global,
@@ -37,7 +38,7 @@ pub fn load_journal<R: Source>(
         R.remaining R.has_failed source.old source.new }
 
     // Whatever the lines: a journal of the first version that the first rules load, the newest
-    // rules load too, and each of its editions is the same register under both.
+    // rules load too. Each of its editions is the same register under both.
     ensures kept { (journal : List (List ℕ)) → KeepsEditions limits journal }
 
     // Whatever the lines: a journal that these limits load, greater ones load too, as the same

@@ -24,7 +24,7 @@ pub enum LastLine {
     Ended,
     /// Its line feed is missing, and it counts as a line.
     LacksFeed,
-    /// It was not finished, and counts as none.
+    /// It was not finished, and does not count as a line.
     Unfinished,
 }
 
@@ -50,7 +50,7 @@ fn is_head_front(alloc: Global, bytes: &[u8]) -> Result<bool, AllocError>
     Ok(head.starts_with(bytes))
 }
 
-/// Whether bytes behind so many lines are a line that was not finished.
+/// Whether bytes after this many lines are a line that was not finished.
 fn is_unfinished(alloc: Global, lines: u64, bytes: &[u8]) -> Result<bool, AllocError>
     requires { length bytes.now ≤ LONGEST_LINE }
     ensures { IfOk result (λ is. is ≡ spec.is_unfinished lines bytes.now) }
@@ -61,8 +61,8 @@ fn is_unfinished(alloc: Global, lines: u64, bytes: &[u8]) -> Result<bool, AllocE
     is_no_json(alloc, bytes)
 }
 
-/// What stands behind the last line feed: its first bytes, as many as a line has at most and one
-/// more, since no more are needed to say how the last line stands.
+/// What stands after the last line feed: its first bytes, as many as a line has at most and one
+/// more. No more are needed to say how the last line stands.
 #[derive(Drop)]
 pub(crate) struct LineFront {
     bytes: Vec<u8>,
@@ -87,14 +87,14 @@ impl LineFront {
         self.bytes.extend_from_slice(&more[..room.min(more.len())])
     }
 
-    /// Forgets what stands there.
+    /// Clears the bytes that stand there.
     pub(crate) fn clear(&mut self)
         ensures { IsFrontOf self.new [] }
     {
         self.bytes.clear();
     }
 
-    /// How the last line stands, behind so many lines.
+    /// How the last line stands, after this many lines.
     pub(crate) fn last_line(&self, alloc: Global, lines: u64) -> Result<LastLine, AllocError>
         ensures { IfOk result (λ last. (line : List ℕ) → IsFrontOf self.now line →
             last ≡ spec.last_line lines line) }

@@ -1,9 +1,9 @@
-//! Files of lines: a journal, which keeps an object, read and written; scripts, question files and
-//! schedules, and what else a `LineFold` makes of lines, read. What the crate promises to those
-//! above: each call that reads gives what the definition makes of the lines, in whatever pieces the
-//! bytes come, or the first fault with its line; and what `journal_text` writes of an object is
-//! loaded as that object again, its pending edits included. `head_line`, `with_edit` and
-//! `with_publish` write the lines of which that text consists.
+//! Files of lines. A journal, which keeps an object, is read and written. Scripts, question files
+//! and schedules are read, and what else a `LineFold` makes of lines. What the crate promises to
+//! those above: each call that reads gives what the definition makes of the lines, however the
+//! bytes come, or the first fault with its line. What `journal_text` writes of an object is loaded
+//! as that object again, its pending edits included. `head_line`, `with_edit` and `with_publish`
+//! write the lines of which that text consists.
 #![tactic(auto)]
 
 mod command_line;

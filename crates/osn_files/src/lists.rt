@@ -56,7 +56,7 @@ impl Lists {
         Ok(())
     }
 
-    /// Puts a query behind those of its reader.
+    /// Puts a query after those of its reader.
     ///
     /// # Errors
     /// Only where no memory is found.

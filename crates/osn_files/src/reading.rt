@@ -42,7 +42,7 @@ pub trait LineFold {
     ///
     /// # Errors
     ///
-    /// The line's fault; or want of memory, where the object has what is asked of it before memory
+    /// The line's fault, or want of memory where the object has what is asked of it before memory
     /// is taken. No further line is given to it then.
     fn take_object(
         &mut self,
@@ -140,7 +140,7 @@ impl<F: LineFold> Reading<F> {
         }
     }
 
-    /// Takes the text of a line: its object is gone before the next line is read.
+    /// Takes the text of a line. Its object is dropped before the next line is read.
     fn take_text(
         alloc: Global,
         scratch: &mut Scratch,
@@ -269,13 +269,13 @@ pub(crate) fn read_file<F: LineFold + Drop, R: Source>(
 }
 
 /// What the lines of a file of this role make, from what was begun, and their number. They are read
-/// by the rules of the version; where there is none, the first line is a head that says it.
+/// by the rules of the version. Where no version is given, the first line is a head that says it.
 ///
 /// # Errors
 ///
 /// `BadLine` for the first line that has a fault, or for line 1 where it is to be a head and there
-/// is no line; `ReadFault` where the source failed, or gave no end within 4,294,967,295 reads;
-/// `NoMemory`.
+/// is no line. `ReadFault` where the source failed, or gave no end within 4,294,967,295 reads.
+/// `NoMemory` where memory ran out.
 pub fn read_lines<F: LineFold + Drop, R: Source>(
     alloc: Global,
     role: Role,

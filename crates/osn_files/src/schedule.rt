@@ -13,7 +13,7 @@ use osn_lines::Source;
 use osn_request::LineObject;
 use std::alloc::Global;
 
-/// The steps of one editor and of so many readers.
+/// The steps of one editor and of a number of readers.
 #[derive(Drop)]
 struct Steps {
     readers: u32,
@@ -48,12 +48,12 @@ impl LineFold for Steps {
     }
 }
 
-/// The steps of a schedule, a line each, of one editor and so many readers.
+/// The steps of a schedule, a line each, of one editor and this many readers.
 ///
 /// # Errors
 ///
-/// `BadLine` for the first line that is no step; `ReadFault` where the source failed, or gave no
-/// end within 4,294,967,295 reads; `NoMemory`.
+/// `BadLine` for the first line that is no step. `ReadFault` where the source failed, or gave no
+/// end within 4,294,967,295 reads. `NoMemory` where memory ran out.
 pub fn read_schedule<R: Source>(
     alloc: Global,
     readers: u32,

@@ -111,7 +111,7 @@ fn step_by(
     }
 }
 
-/// The step of a line's object by the rules of a version, where there are so many readers.
+/// The step of a line's object by the rules of a version, where there are this many readers.
 ///
 /// # Errors
 /// The first fault of the object; want of memory, once nothing was found at fault.

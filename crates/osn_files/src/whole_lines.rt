@@ -39,7 +39,7 @@ struct Count {
 #[derive(Drop)]
 struct Measure {
     count: Count,
-    /// What stands behind the last line feed.
+    /// What stands after the last line feed.
     front: LineFront,
 }
 
@@ -134,13 +134,14 @@ fn part_of(alloc: Global, measure: &Measure) -> Result<WholePart, AllocError>
     })
 }
 
-/// Reads a source to its end, and says how much of it counts. Besides one read of at most 65,536
-/// bytes there are the first 65,537 bytes at most behind the last line feed, and the value of that
+/// Reads a source to its end, and says how much of it counts. Memory holds one read of at most
+/// 65,536 bytes, at most the first 65,537 bytes after the last line feed, and the value of that
 /// line.
 ///
 /// # Errors
 ///
-/// `ReadFault` where the source failed, or gave no end within 4,294,967,295 reads; `NoMemory`.
+/// `ReadFault` where the source failed, or gave no end within 4,294,967,295 reads. `NoMemory` where
+/// memory ran out.
 pub fn whole_part<R: Source>(alloc: Global, source: &mut R) -> Result<WholePart, FileFault>
     ensures ok { IfOk result (λ part. IfSome (R.remaining source.old) (IsWholePart part)) }
     // A further line can be counted.

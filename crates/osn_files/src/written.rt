@@ -140,7 +140,7 @@ fn write_head(out: &mut Writer, version: Version) -> Result<(), AllocError>
     out.end_object()
 }
 
-/// Ends the line of a value that was written behind other bytes.
+/// Ends the line of a value that was written after other bytes.
 fn end_line(out: Writer) -> Result<Vec<u8>, AllocError>
     ensures { IfOk result (λ bytes. (d : Data) → out.tokens ≡ value_tokens d →
         bytes.items ≡ out.before ++ spec.line_text d) }
@@ -151,7 +151,7 @@ fn end_line(out: Writer) -> Result<Vec<u8>, AllocError>
 }
 
 /// The bytes of the first line of a journal: a head of the newest version. They get this room at
-/// first, so that more can be put behind them.
+/// first, so that more can be put after them.
 ///
 /// # Errors
 ///
@@ -165,11 +165,11 @@ pub fn head_line(alloc: Global, room: usize) -> Result<Vec<u8>, AllocError>
     end_line(out)
 }
 
-/// The bytes, and behind them an edit as a line of a journal.
+/// The bytes, and after them an edit as a line of a journal.
 ///
 /// # Errors
 ///
-/// Only where no memory is found. The bytes are gone then.
+/// Only where no memory is found. The bytes are dropped then.
 pub fn with_edit(bytes: Vec<u8>, edit: &Edit) -> Result<Vec<u8>, AllocError>
     ensures { IfOk result (λ more.
         more.items ≡ bytes.items ++ spec.line_text (spec.edit_data edit.now)) }
@@ -179,11 +179,11 @@ pub fn with_edit(bytes: Vec<u8>, edit: &Edit) -> Result<Vec<u8>, AllocError>
     end_line(out)
 }
 
-/// The bytes, and behind them a publish as a line of a journal.
+/// The bytes, and after them a publish as a line of a journal.
 ///
 /// # Errors
 ///
-/// Only where no memory is found. The bytes are gone then.
+/// Only where no memory is found. The bytes are dropped then.
 pub fn with_publish(bytes: Vec<u8>) -> Result<Vec<u8>, AllocError>
     ensures { IfOk result (λ more.
         more.items ≡ bytes.items ++ spec.line_text spec.publish_data) }
@@ -193,7 +193,7 @@ pub fn with_publish(bytes: Vec<u8>) -> Result<Vec<u8>, AllocError>
     end_line(out)
 }
 
-/// The bytes, and edits behind them.
+/// The bytes, and edits after them.
 fn with_edits(bytes: Vec<u8>, edits: &[Edit]) -> Result<Vec<u8>, AllocError>
     ensures { IfOk result (λ more. more.items ≡ bytes.items ++ spec.edits_text edits.now) }
 {
@@ -204,7 +204,7 @@ fn with_edits(bytes: Vec<u8>, edits: &[Edit]) -> Result<Vec<u8>, AllocError>
     Ok(more)
 }
 
-/// The bytes, and batches behind them, each with its publish.
+/// The bytes, and batches after them, each with its publish.
 fn with_batches(bytes: Vec<u8>, batches: &[Batch]) -> Result<Vec<u8>, AllocError>
     ensures { IfOk result (λ more. more.items ≡ bytes.items ++ spec.batches_text batches.now) }
 {
@@ -227,7 +227,7 @@ fn journal_bytes(alloc: Global, object: &Object) -> Result<Vec<u8>, AllocError>
 }
 
 /// The journal of an object: a head of the newest version, the edits of each batch with a publish
-/// behind them, and then the pending edits. What is loaded from it under the object's limits is
+/// after them, and then the pending edits. What is loaded from it under the object's limits is
 /// that object again.
 ///
 /// # Errors

@@ -10,18 +10,19 @@ use Rattle.osn_folder.specs.declared.fault.MoveFault.TheVariants as moves
 use Rattle.osn_folder.specs.declared.fault.SaveFault.{SaveFault}
 use Rattle.osn_folder.specs.declared.fault.SaveFault.TheVariants as saves
 
--- what no call changes of paths: where a path leads, through links; whether something is there that
--- is no file, as a pipe; whether another run of the program keeps the file of it, or saves to it;
--- and whether anyone else puts another file there, or takes it away, while this run is at work
+-- what no call changes of paths: where a path leads, through links, and whether something is there
+-- that is no file, as a pipe. Also whether another run of the program keeps the file of it, or
+-- saves to it. And whether anyone else puts another file there, or takes it away, while this run is
+-- at work
 pub record Paths : Type 0 where
   pub place : List ℕ → List ℕ
   pub is_stream : List ℕ → Bool
   pub is_held : List ℕ → Bool
   pub is_changed : List ℕ → Bool
 
--- what is known of a folder: what the file of a path holds, where there is one; which paths were
--- opened to be read, in order; its paths; and whether the system has ever failed to keep, lock or
--- change a file
+-- what is known of a folder: what the file of a path holds, where a file is there, and which paths
+-- were opened to be read, in order. Also its paths, and whether the system has ever failed to keep,
+-- lock or change a file
 pub record Known : Type 0 where
   pub at : List ℕ → Option (List ℕ)
   pub opened : List (List ℕ)
@@ -99,23 +100,23 @@ KeepsOthers path k n =
     (n.opened ≡ k.opened) × (n.paths ≡ k.paths)
     × ((other : List ℕ) → other ≢ path → n.at other ≡ k.at other)
 
--- the file of this path holds this now, or is gone, and nothing else was changed
+-- the file of this path holds this now, or was taken away, and nothing else was changed
 abbrev pub Becomes : List ℕ → Option (List ℕ) → Known → Known → Type 0
 Becomes path file k n =
     KeepsOthers path k n × (n.at path ≡ file) × (n.has_failed ≡ k.has_failed)
 
--- what the file of this path holds, or nothing where there is none
+-- what the file of this path holds, or nothing where no file is there
 abbrev pub held_at : Known → List ℕ → List ℕ
 held_at k path = unwrap_or (k.at path) []
 
--- the file of this path, which no other run has, is there with what it held, or empty where there
--- was none, and nothing else was changed
+-- the file of this path, which no other run has, is there with what it held, or empty where no file
+-- was, and nothing else was changed
 abbrev pub Keeps : List ℕ → Known → Known → Type 0
 Keeps path k n =
     Becomes path (Some (held_at k path)) k n
     × (k.paths.is_stream path ≡ false) × (k.paths.is_held path ≡ false)
 
--- a file that is kept holds what that of this path did, or nothing where there was none
+-- a file that is kept holds what that of this path did, or nothing where no file was
 abbrev pub IsKeptAt : Option Known → List ℕ → Option (List ℕ) → Type 0
 IsKeptAt None path contents = ⊤
 IsKeptAt (Some k) path contents = contents ≡ Some (held_at k path)
@@ -133,7 +134,7 @@ Leaves path contents k n =
 
 -- ---- what is saved
 
--- the file of this path, or the name where there is none, is locked, and no other run has it
+-- the file of this path, or the name where no file is, is locked, and no other run has it
 abbrev pub Locks : List ℕ → Known → Known → Type 0
 Locks path k n =
     Stays k n × (k.paths.is_stream path ≡ false → k.paths.is_held path ≡ false)
@@ -180,7 +181,7 @@ abbrev pub CannotMove : List ℕ → MoveFault → Known → Known → Type 0
 CannotMove to moves.Changed k n = Stays k n × (k.paths.is_changed to ≡ true)
 CannotMove to moves.Failed k n = Fails k n
 
--- what is at this place is what was there at first: no one else put another file there, and it
+-- what is at this place is what was there at first. No one else put another file there, and it
 -- holds what was loaded from it, where that is given
 abbrev pub IsUnchanged : List ℕ → Option (List ℕ) → Known → Type 0
 IsUnchanged place loaded k =
@@ -191,7 +192,7 @@ HasChanged place loaded k =
     (k.paths.is_changed place ≡ true)
     ⊎ ((bytes : List ℕ) × (loaded ≡ Some bytes) × (k.at place ≢ Some bytes))
 
--- the text stands at this place, and all other paths are as they were; a file that it replaced was
+-- the text stands at this place, and all other paths are as they were. A file that it replaced was
 -- what was there at first
 abbrev pub SavesAt : List ℕ → Option (List ℕ) → List ℕ → Known → Known → Type 0
 SavesAt place loaded text k n =

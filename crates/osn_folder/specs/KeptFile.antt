@@ -1,4 +1,4 @@
--- What a file that is kept remembers.
+-- The fault that a kept file has noted after a change.
 use Rattle.std.specs.Prelude.{Option, Some, Result, Ok, Err}
 use Rattle.osn_folder.specs.declared.fault.KeptFileFault.{KeptFileFault}
 

@@ -83,7 +83,7 @@ impl<R: Files> DiskFile<'_, R> {
         self.check_path()
     }
 
-    /// Remembers the fault of a change that failed.
+    /// Notes the fault of a change that failed.
     fn remember(&mut self, change: Result<(), KeptFileFault>) -> Result<(), KeptFileFault>
         ensures same { result ≡ change }
         ensures fault { self.new.fault ≡ fault_after change self.old.fault }
@@ -142,7 +142,8 @@ pub(crate) fn keep_file<'a, R: Files<File = File> + AllocGlobal>(
     kept
 }
 
-/// Whether nothing is at a path. What is there has to be a file; a link that leads nowhere is none.
+/// Whether nothing is at a path. What is there has to be a file, which a link that leads nowhere is
+/// not.
 fn has_no_file(files: &impl Files, path: &str) -> Result<bool, KeepFault> {
     if fs::metadata(files, path).is_ok_and(|found| found.is_file()) {
         return Ok(false);

@@ -131,7 +131,7 @@ fn rename(files: &impl Files, from: &str, place: &str) -> Result<(), MoveFault> 
     }
 }
 
-/// Puts a file at a path at which nothing is: a second name of the file is made there, which
+/// Puts a file at a path at which nothing is. A second name of the file is made there, which
 /// replaces nothing, and the first is taken away. A file system that has no second names gets the
 /// file moved, after a look that nothing is there.
 fn move_to_nothing(files: &impl Files, from: &str, place: &str) -> Result<(), MoveFault> {

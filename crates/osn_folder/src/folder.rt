@@ -39,8 +39,8 @@ pub trait Folder {
             (λ file. IsFileOf (known self.old) path.now (Self.File.remaining file)) }
         ensures none { OnErr result (HasNoFile (known self.old) path.now) };
 
-    /// Opens a file to be kept. It is made where there is none, and locked, so that no other run of
-    /// the program keeps it or saves to it at the same time. The second part of the answer reads
+    /// Opens a file to be kept. It is made where no file is there, and locked, so that no other run
+    /// of the program keeps it or saves to it at the same time. The second part of the answer reads
     /// the same open file, from its first byte on, as long as the first part has not changed it.
     ///
     /// # Errors
@@ -64,7 +64,7 @@ pub trait Folder {
             (known self.old) (known self.new) };
 
     /// Locks the file of a path, through links, to save a text to it later. Where nothing is there,
-    /// the lock remembers that. What is no file, as a pipe, takes no lock.
+    /// the lock notes that. What is no file, as a pipe, takes no lock.
     ///
     /// # Errors
     ///
@@ -75,11 +75,11 @@ pub trait Folder {
         ensures err { IfErr result
             (λ why. Changes (CannotLock path.now why) (known self.old) (known self.new)) };
 
-    /// Where a path leads, through links; the path itself where nothing is there.
+    /// Where a path leads, through links, or the path itself where nothing is there.
     ///
     /// # Errors
     ///
-    /// `NoMemory` where memory ran out; `WriteFault` where it isn't known, or a link leads nowhere.
+    /// `NoMemory` where memory ran out. `WriteFault` where it isn't known, or a link leads nowhere.
     fn place(&mut self, alloc: Global, path: &str) -> Result<String, SaveFault>
         ensures ok { IfOk result (λ place. Changes (IsPlaceOf path.now (string_bytes place))
             (known self.old) (known self.new)) }
@@ -116,8 +116,8 @@ pub trait Folder {
             (known self.old) (known self.new)) }
         ensures err { OnErr result (Changes Fails (known self.old) (known self.new)) };
 
-    /// Puts a file at a place, which a reader finds as it was or as it is then, if the place still
-    /// names the file that is locked, or still nothing where nothing was.
+    /// Puts a file at a place, if that still names the file that is locked, or still nothing where
+    /// nothing was. A reader finds the place as it was or as it is then.
     ///
     /// # Errors
     ///

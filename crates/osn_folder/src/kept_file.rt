@@ -45,7 +45,7 @@ pub trait KeptFile {
     ///
     /// # Errors
     ///
-    /// `ChangeFailed` where it isn't sure that all is on the disk; what was there before still is.
+    /// `ChangeFailed` where it isn't sure that all is on the disk. What was there before still is.
     /// `Replaced` where the path names another file now, or none, or the file is not as long as
     /// what it was given.
     fn sync(&mut self) -> Result<(), KeptFileFault>

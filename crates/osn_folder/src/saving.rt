@@ -19,11 +19,11 @@ use std::alloc::Global;
 ///
 /// # Errors
 ///
-/// `NoMemory` where memory ran out, `WriteFault` where a step failed; the file is as it was then,
+/// `NoMemory` where memory ran out, `WriteFault` where a step failed. The file is as it was then,
 /// and nothing is left beside it. `NotSynced` where the text stands there, and it isn't sure that
 /// this is on the disk. `Changed` where the path leads to another file now, or to one where nothing
-/// was, or the file holds anything but the bytes that are given: all is left as it is, and the text
-/// stands in the file beside it.
+/// was, or the file holds anything but the bytes that are given. All is left as it is then, and the
+/// text stands in the file beside it.
 pub fn save_file<D: Folder>(
     folder: &mut D,
     alloc: Global,

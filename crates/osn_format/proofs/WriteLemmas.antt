@@ -1,4 +1,4 @@
--- What is written behind what is written.
+-- The last step of a writing, and a text that is taken for a text.
 use Rattle.std.proofs.Common.{Result, Ok, Err, OnOk, IsOk, MatchResult, refl}
 use Rattle.std.proofs.lemmas.Result.{on_ok_weaker}
 

@@ -1,4 +1,4 @@
--- How values are written as JSON: the tokens of each, one behind another.
+-- How values are written as JSON: the tokens of each, one after another.
 use Rattle.std.specs.Prelude.{ℕ, ℤ, List, ◌∷◌}
 use Rattle.json.specs.Token.{Token, key}
 use Rattle.json.specs.Tree.{json_tokens}

@@ -1,3 +1,4 @@
+//! The members of a line's object, by their names.
 ghost use Rattle.std.specs.Prelude.{◌≡◌};
 ghost use Rattle.osn_format.specs.Member.{member_name};
 

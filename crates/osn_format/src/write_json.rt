@@ -1,4 +1,4 @@
-//! How the members of an object are written as JSON: by their tokens, one behind another.
+//! How the members of an object are written as JSON: by their tokens, one after another.
 ghost use Rattle.std.specs.Prelude.{◌≡◌, ◌++◌, OnOk};
 ghost use Rattle.serde_json.specs.Data.{string};
 ghost use Rattle.osn_format.specs.Json.{whole, signed, member_tokens};

@@ -1,4 +1,4 @@
--- What holds of all journals.
+-- Every journal grows by the line of each change.
 use Rattle.std.proofs.Common.{◌≡◌, ◌∙◌, ℕ, List, [], ◌∷◌, ◌++◌, sym, ap, append_assoc, append-nil}
 use Rattle.std.proofs.lemmas.List.{flat_map_more}
 use Rattle.osn_register.specs.declared.edit.Edit.{Edit}

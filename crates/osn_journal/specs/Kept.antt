@@ -1,4 +1,4 @@
--- The file that is kept while lines are served: the lines of what was changed stand after what it
+-- The file that is kept while lines are served. The lines of what was changed stand after what it
 -- held, and up to the last publish all of it is on the disk.
 use Rattle.std.specs.Prelude.{◌≡◌, ℕ, List, ◌++◌, take, Option, Some, IfSome, Result}
 use Rattle.std.specs.Io.KnownBytes.{Appends}
@@ -41,7 +41,7 @@ pub record Keeps (s t : ObjectState) (old new old_synced new_synced : Option (Li
   -- where all but lines of pending edits was on the disk, it is
   pub disk : IsOnDisk s old old_synced → IsOnDisk t new new_synced
 
--- The file was kept for an object that was s and then u, and failed at the line of the change that
+-- The file was kept for an object that was s and then u. It failed at the line of the change that
 -- made it t, a front of which was appended. Up to u the file held `kept`.
 pub record KeepsInPart (s u t : ObjectState) (old new old_synced new_synced : Option (List ℕ))
     : Type 0 where

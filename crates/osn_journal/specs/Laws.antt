@@ -1,4 +1,4 @@
--- What a journal grows by.
+-- The lines by which a journal grows.
 use Rattle.std.specs.Prelude.{◌≡◌, ℕ, List, ◌++◌}
 use Rattle.osn_days.specs.Profile.{newest_rules}
 use Rattle.osn_register.specs.declared.edit.Edit.{Edit}

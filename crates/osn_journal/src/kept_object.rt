@@ -17,7 +17,7 @@ use std::alloc::{AllocError, Global};
 ///
 /// # Errors
 ///
-/// `NoMemory` where none is found, and nothing has changed then; `NotKept` where the file failed
+/// `NoMemory` where none is found, and nothing has changed then. `NotKept` where the file failed
 /// after the object had changed.
 fn stage<K: KeptFile>(
     alloc: Global,

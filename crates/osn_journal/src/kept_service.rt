@@ -11,11 +11,11 @@ use osn_lines::{Interrupted, Sink, Source};
 use osn_service::{ServeRules, Served, ServiceFault, serve_store};
 use std::alloc::Global;
 
-/// Answers every line of the source up to its end, by these rules, from the object that is given,
-/// and keeps a file, which is loaded as the object. Answers how many were answered.
+/// Answers every line of the source up to its end, by these rules, from the object that is given.
+/// Keeps a file, which is loaded as the object. Answers how many were answered.
 ///
 /// Each edit that is taken and each publish is appended to the file, as a line of the journal,
-/// before its reply is written, and a publish is on the disk before that. What is refused appends
+/// before its reply is written. A publish is also on the disk before that. What is refused appends
 /// nothing. What the file held is not read, and need not be what is written of the object. If it
 /// ends with a line feed and is loaded as the object that is given, it is loaded as what becomes of
 /// it. Where its head says the first version, it is so only as long as no edit has a style that
@@ -23,9 +23,9 @@ use std::alloc::Global;
 ///
 /// # Errors
 ///
-/// The number of lines whose reply was written whole, and why no more: `Serve` for what ends
+/// The number of lines whose reply was written whole, and why no more. It is `Serve` for what ends
 /// `serve_from` too, and `NotKept` where the file failed, with its fault. A front of the line of
-/// what the next request changed may stand in the file then; the object has changed, and nobody was
+/// what the next request changed may stand in the file then. The object has changed, and nobody was
 /// told.
 #[tactic(auto, using(crate::proofs::JournalLemmas::each_journal_grows_by_lines))]
 pub fn serve_kept<R: Source, W: Sink, K: KeptFile>(

@@ -1,5 +1,5 @@
 //! The journal that is kept in a file while lines are answered. What the crate promises to those
-//! above: `serve_kept` answers as `serve_store` does. Before the reply to a change goes out, the
+//! above: `serve_kept` answers as `serve_store` does. Before the reply to a change is written, the
 //! line of that change stands in the file, and that of a publish on the disk.
 #![tactic(auto)]
 

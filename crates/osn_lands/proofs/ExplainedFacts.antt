@@ -1,5 +1,5 @@
--- A label that some regime has, and that is read on no day, is skipped at a change: for any number
--- of days that a label may have under one regime.
+-- A label that some regime has, and that is read on no day, is skipped at a change. This holds for
+-- any number of days that a label may have under one regime.
 use Rattle.std.proofs.Common.{◌≡◌, ℕ, ◌+◌, ◌≤◌, Bool, true, false, not, ◌&&◌, ◌||◌, nat_le, nat_lt}
 use Rattle.std.proofs.Common.{◌⊎◌, inl, inr, if◌then◌else◌, List, [], ◌∷◌, map, refl, sym, subst}
 use Rattle.std.proofs.Common.{ap, ◌∙◌, arith}

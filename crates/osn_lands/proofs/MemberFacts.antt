@@ -1,4 +1,4 @@
--- What is known of days of which there are none.
+-- What a filter that passes nothing says of each day.
 use Rattle.std.proofs.Common.{◌≡◌, ℕ, ◌≤◌, Bool, true, false, List, [], ◌∷◌, filter, refl, sym}
 use Rattle.std.proofs.Common.{arith}
 use Rattle.std.specs.List.{range_with_len, list_any}

@@ -1,5 +1,5 @@
--- What a period reads is what it holds of the days with the label; and what periods read in order,
--- the line reads.
+-- What a period reads is what it holds of the days with the label. What periods read in order, the
+-- line reads.
 use Rattle.std.proofs.Common.{◌≡◌, ℕ, ◌+◌, ◌-◌, ◌≤◌, Bool, nat_le, List, [], ◌∷◌}
 use Rattle.std.proofs.Common.{◌++◌, filter, map, drop, length, refl, sym, ap, ◌∙◌}
 use Rattle.std.proofs.Common.{arith}

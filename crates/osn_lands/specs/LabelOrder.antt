@@ -1,5 +1,5 @@
 -- Where a label stands among the days of a regime, whether a day has it or not, and the changes in
--- whose gap it lies: this project's profile.
+-- whose gap it lies. This project's profile.
 use Rattle.std.specs.Prelude.{ℕ, ◌-◌, ◌==◌, ◌&&◌, ◌||◌, nat_lt, Bool, false, not, if◌then◌else◌}
 use Rattle.std.specs.Prelude.{ℤ, pos, ◌+ℤ◌, ◌-ℤ◌, int_lt, unsigned_abs, List, filter}
 use Rattle.std.specs.Prelude.{Option, Some, None}
@@ -73,7 +73,7 @@ is_after p r l d = is_earlier (date_of r.calendar d) (label_date p r l)
 abbrev pub is_before : Profile → Regime → Label → ℕ → Bool
 is_before p r l d = is_earlier (label_date p r l) (date_of r.calendar d)
 
--- the label comes after the last day before a change, and before the day of the change: it lies
+-- the label comes after the last day before a change, and before the day of the change. It lies
 -- among the dates that the change passes over
 abbrev pub is_in_gap : Profile → TerritoryModel → Label → ℕ → Bool
 is_in_gap p t l f =

@@ -58,7 +58,7 @@ AreInYears p c l f =
 abbrev pub days_found : ThreeDays → List ℕ
 days_found f = option_to_list f.before ++ (option_to_list f.same ++ option_to_list f.after)
 
--- there is none of them
+-- no day was found, or none was looked for
 abbrev pub are_none_in : Option ThreeDays → Bool
 are_none_in None = true
 are_none_in (Some f) = is_empty (days_found f)
@@ -158,7 +158,7 @@ abbrev pub three_if : Bool → ℕ
 three_if true = 3
 three_if false = 0
 
--- the label is skipped at the change, where the two regimes have it on these days: the fourth
+-- the label is skipped at the change, where the two regimes have it on these days. The fourth
 -- condition asks of each regime's days only those in its own period
 abbrev pub is_skipped_by_days : Period → Period → List ℕ → List ℕ → Bool
 is_skipped_by_days old new old_days new_days =

@@ -1,5 +1,5 @@
--- Days that follow one another, as runs; and the days that a territory dates in a year and in a
--- month of it: this project's profile.
+-- Days that follow one another, as runs, and the days that a territory dates in a year and in a
+-- month of it. This project's profile.
 use Rattle.std.specs.Prelude.{ℕ, ◌+◌, ◌-◌, ◌<◌, ◌≤◌, ◌==◌, ◌&&◌, ℤ, List, [], ◌∷◌, filter}
 use Rattle.std.specs.List.{range_with_len, flat_map}
 use Rattle.std.specs.Ordering.{int_eq}

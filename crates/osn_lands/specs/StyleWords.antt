@@ -1,5 +1,5 @@
 -- The words of year styles, in a line and in a reply, which of them the rules have, and when the
--- years of a style begin: this project's profile.
+-- years of a style begin. This project's profile.
 use Rattle.std.specs.Prelude.{ℕ, Bool, if◌then◌else◌, List, [], ◌∷◌, codes}
 use Rattle.std.specs.Prelude.{Option, Some, None, option_and_then}
 use Rattle.std.specs.List.{list_any}

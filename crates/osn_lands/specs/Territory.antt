@@ -14,7 +14,8 @@ use Rattle.osn_lands.specs.declared.period.Period.{Period}
 use Rattle.osn_lands.specs.Label.{local_label, same_label, days_with_label}
 
 -- the start days in ascending order, each with the regime that comes into force, the first on day
--- 1; and the years with a listed exception in ascending order, each with the day that is its Easter
+-- 1. Then the years with a listed exception in ascending order, each with the day that is its
+-- Easter
 pub record TerritoryModel : Type 0 where
   pub starts : List (ℕ × Regime)
   pub exceptions : List (ℕ × ℕ)
@@ -71,7 +72,7 @@ abbrev pub is_empty : List ℕ → Bool
 is_empty [] = true
 is_empty (d ∷ ds) = false
 
--- whether the label is skipped at the change from an old period to a new one, where the two regimes
+-- whether the label is skipped at the change from an old period to a new one, where both regimes
 -- have it on these days and it is read on those
 abbrev pub is_skipped_between : Period → Period → List ℕ → List ℕ → List ℕ → Bool
 is_skipped_between old new old_days new_days read_days =

@@ -14,7 +14,8 @@ use std::alloc::{AllocError, Global};
 const ROOM: usize = 24;
 
 /// The later of two years from its first digit that differs from the earlier one's, or in full
-/// where their lengths differ: 2 for 1731 and 1732, 700 for 1699 and 1700, 10 for 9 and 10.
+/// where their lengths differ. It is 2 for 1731 and 1732, 700 for 1699 and 1700, and 10 for 9 and
+/// 10.
 pub(crate) fn later_part(earlier: u32, later: u32) -> u32
     requires { earlier < later }
     ensures digits { decimal result ≡ dual.later_digits (decimal earlier) (decimal later) }

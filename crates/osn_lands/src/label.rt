@@ -11,7 +11,7 @@ use crate::style_year::date_and_year;
 use osn_days::{Date, Day, Year};
 
 /// A date as a territory writes it: the style's year, the month and the day of the month. The
-/// numbers may be any; the label of a day of the line has a year from 0 to 10000.
+/// numbers may be any. The label of a day of the line has a year from 0 to 10000.
 #[derive(Clone, Copy, Debug, PartialEq, Eq, Hash)]
 pub struct Label {
     pub year: i32,
@@ -48,7 +48,7 @@ pub(crate) fn date_in_year(label: Label, year: i64) -> Option<Date>
 
 /// The days that have the label under the regime: the least one, then the other one. Each is `None`
 /// exactly where there is no such day, so the second is there only where the first is. A year from
-/// Easter to Easter alone may have a date twice; no label has three days.
+/// Easter to Easter alone may have a date twice. No label has three days.
 pub fn day_of_label(regime: Regime, label: Label) -> [Option<Day>; 2]
     ensures days { result ≡ first_two (days_with_label newest_rules regime label) }
     ensures no_third { length (days_with_label newest_rules regime label) ≤ 2 }

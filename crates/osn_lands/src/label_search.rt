@@ -15,7 +15,7 @@ use crate::three_days::ThreeDays;
 use osn_days::Day;
 
 /// From this number of periods on the days of all regimes are found at once, by three dates for
-/// each calendar, so that none is tested twice where two periods meet.
+/// each calendar. So none is tested twice where two periods meet.
 const PERIODS_FOR_A_TABLE: usize = 2;
 
 /// What a search in a territory goes by. Every day that has the label under some regime of the

@@ -1,4 +1,4 @@
-//! The days of a label by calendar, for all regimes of a territory at once: a label is one of three
+//! The days of a label by calendar, for all regimes of a territory at once. A label is one of three
 //! dates in each calendar, whatever the style.
 ghost use Rattle.std.specs.Prelude.{◌≡◌, ◌+◌, ◌*◌, ◌≤◌, ◌&&◌, IfSome, Some, is_some, length};
 ghost use Rattle.std.specs.Option.{option_to_list};
@@ -95,7 +95,7 @@ fn ends_of(days: Option<ThreeDays>) -> Option<(Day, Day)>
     }
 }
 
-/// Whether there is none of them.
+/// Whether no day was found, or none was looked for.
 fn are_none(days: Option<ThreeDays>) -> bool
     ensures { result ≡ are_none_in days }
 {

@@ -7,7 +7,7 @@ ghost use Rattle.osn_lands.specs.MonthDay as spec;
 use crate::period::Period;
 use osn_days::{Calendar, Date, day_of};
 
-/// A leap year of each calendar, which in Sweden had a 30 February too: a month and day that a
+/// A leap year of each calendar, which in Sweden had a 30 February too. A month and day that a
 /// calendar has in any year it has in this one.
 const FULLEST_YEAR: i32 = 1712;
 

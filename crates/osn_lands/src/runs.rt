@@ -1,5 +1,5 @@
-//! Days that follow one another, and how those of a year or a month are found in a period: by
-//! numbers of the days that never fall, so that the days between two bounds are halved.
+//! Days that follow one another, and how those of a year or a month are found in a period. They are
+//! found by numbers of the days that never fall, so that the days between two bounds are halved.
 ghost use Rattle.std.specs.Prelude.{◌≡◌, ◌≤◌, ◌<◌, ◌+◌, ◌-◌, ◌++◌, ◌==◌, ℕ, OnOk, length};
 ghost use Rattle.std.specs.Prelude.{filter, pos, ◌≤ℤ◌, ◌<ℤ◌, ◌-ℤ◌, ◌+ℤ◌, ◌*ℤ◌};
 ghost use Rattle.std.specs.List.{range_with_len};

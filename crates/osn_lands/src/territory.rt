@@ -257,7 +257,7 @@ impl Territory {
     }
 
     /// The place in `periods()`, from 0, of the period that holds a day, and how many start days
-    /// were tested to find it: at most as many as the number of periods has binary digits.
+    /// were tested to find it. They are at most as many as the number of periods has binary digits.
     pub fn period_at(&self, day: Day) -> (usize, u32)
         ensures within { result.0 < length (plain.periods_of newest_rules self.now) }
         ensures holds { HoldsAt (plain.Holds day)
@@ -311,9 +311,9 @@ impl Territory {
         }
     }
 
-    /// The days that were Easter of a year in the territory, in order: the listed day alone where
-    /// one is listed, else each day that is the year's Easter by the rule in force on it. So a year
-    /// may have none, one or two.
+    /// The days that were Easter of a year in the territory, in order. That is the listed day alone
+    /// where one is listed, else each day that is the year's Easter by the rule in force on it. So
+    /// a year may have none, one or two.
     ///
     /// # Errors
     ///

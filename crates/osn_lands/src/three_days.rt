@@ -55,7 +55,7 @@ fn push_if_in(found: Option<Day>, period: &Period, days: &mut Vec<Day>) -> Resul
 }
 
 impl ThreeDays {
-    /// Whether there is none.
+    /// Whether no day was found.
     pub fn is_empty(&self) -> bool
         ensures { result ≡ is_empty (days_found self.now) }
     {

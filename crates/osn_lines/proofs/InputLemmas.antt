@@ -73,7 +73,7 @@ TakesFirst-from after s t a b bytes n Left h consumed = record {
       (λ more. take_front _ h.taken _ n (from_none n _ h.count) (h.cuts.whole more));
 }
 
--- of what was read so many lines have ended
+-- this many lines have ended of the bytes that were read
 ended_of : {S : Type 0} (after : S → List (List ℕ) → S → Type 0) (s t : S) (bytes : List ℕ)
     (kept : Kept) (n : ℕ) → IsTaken after s t bytes 0 n (IsKept kept) →
     length (lines (bytes ++ 10 ∷ [])) ≡ n + 1

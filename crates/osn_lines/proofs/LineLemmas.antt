@@ -1,4 +1,4 @@
--- How `lines` goes on behind bytes that are already cut.
+-- How `lines` goes on after bytes that are already cut.
 use Rattle.std.proofs.Common.{◌≡◌, ℕ, zero, suc, ◌+◌, ◌<◌, ◌≤◌, Bool, true, false, cond, List, []}
 use Rattle.std.proofs.Common.{◌∷◌, ◌++◌, length, take, drop, refl, ap, sym, ◌∙◌, append_assoc}
 use Rattle.std.proofs.Common.{append-nil, arith, subst, slice_index, ◌==◌, length-drop}
@@ -64,7 +64,7 @@ Cuts-more bytes left more done h = record {
       ∙ (h.whole (more ++ xs) ∙ ap (λ ys. done ++ lines ys) (sym (append_assoc left more xs)));
 }
 
--- further bytes are cut behind what was left
+-- further bytes are cut after what was left
 pub Cuts-then : (bytes left more rest : List ℕ) (done new : List (List ℕ)) → Cuts bytes done left →
     Cuts (left ++ more) new rest → Cuts (bytes ++ more) (done ++ new) rest
 Cuts-then bytes left more rest done new h k = record {
@@ -88,7 +88,7 @@ HasNoFeed-take (b ∷ bytes) (suc k) h = (
   HasNoFeed-take bytes k (λ i lt e. h (suc i) (omega arith) e),
 )
 
--- a line and its line feed are seen behind what was seen
+-- a line and its line feed are seen after what was seen
 pub seen_line : (piece : List ℕ) (from place : ℕ) → from + place < length piece →
     (slice_index (drop from piece) place == 10) ≡ true →
     take (from + place + 1) piece ≡ take from piece ++ (take place (drop from piece) ++ 10 ∷ [])
@@ -100,7 +100,7 @@ seen_line piece from place h e =
     ∙ ap (λ b. take place (drop from piece) ++ b ∷ [])
     (eqb-true (slice_index (drop from piece) place) 10 e)))
 
--- what stands behind the last line feed is the last line, if it is anything
+-- what stands after the last line feed is the last line, if it is anything
 pub lines-rest : (part : List ℕ) → HasNoFeed part → 0 < length part → lines part ≡ (part ++ []) ∷ []
 lines-rest [] h more = absurd (omega arith)
 lines-rest (b ∷ p) h more = lines-last b p h ∙ ap (λ l. l ∷ []) (sym (append-nil (b ∷ p)))

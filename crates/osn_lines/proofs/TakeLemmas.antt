@@ -1,4 +1,4 @@
--- How what was taken goes on behind what was taken.
+-- What one more line, or one more piece of bytes, adds to the lines that were taken.
 use Rattle.std.proofs.Common.{◌≡◌, ◌<◌, ◌≤◌, ◌==◌, ℕ, ◌+◌, true, slice_index, take, drop}
 use Rattle.std.proofs.Common.{length-drop, length, subst, arith, List, [], ◌∷◌, ◌++◌, ap, sym, ◌∙◌}
 use Rattle.std.proofs.Common.{append_assoc, append-nil, length-append, Option, Some}
@@ -36,7 +36,7 @@ IsTaken-nothing after s part kept n h =
       rest = h;
     })
 
--- a line that ends behind what was cut is cut
+-- a line that ends after what was cut is cut
 Cuts-next : (bytes left end : List ℕ) (done : List (List ℕ)) → Cuts bytes done left →
     HasNoFeed left → HasNoFeed end →
     Cuts (bytes ++ (end ++ 10 ∷ [])) (done ++ (left ++ end) ∷ []) []
@@ -45,7 +45,7 @@ Cuts-next bytes left end done h no_feed here =
     (subst (λ (l : List ℕ). Cuts l ((left ++ end) ∷ []) []) (append_assoc left end (10 ∷ []))
     (Cuts-line (left ++ end) (HasNoFeed-append left end no_feed here)))
 
--- the bytes up to a line feed at `place` behind `from`
+-- the bytes up to a line feed at `place` after `from`
 cut_bytes : (part piece end : List ℕ) (from place : ℕ) → end ≡ take place (drop from piece) →
     from + place < length piece → (slice_index (drop from piece) place == 10) ≡ true →
     (part ++ take from piece) ++ (end ++ 10 ∷ []) ≡ part ++ take (from + place + 1) piece
@@ -55,7 +55,7 @@ cut_bytes part piece end from place is_end long here =
     (ap (λ e. take from piece ++ (e ++ 10 ∷ [])) is_end
     ∙ sym (seen_line piece from place long here))
 
--- what a search for a line feed found behind `from`
+-- what a search for a line feed found after `from`
 pub record Found (piece hay end : List ℕ) (from place : ℕ) : Type 0 where
   pub is_hay : hay ≡ drop from piece
   pub is_end : end ≡ take place (drop from piece)
@@ -101,7 +101,7 @@ IsTaken-next after s t u part piece hay end kept kept' n m from place h line f e
       rest = (empty, tt);
     })
 
--- bytes behind a cut at `from`
+-- bytes after a cut at `from`
 pub rest_bytes : (part piece : List ℕ) (from : ℕ) →
     (part ++ take from piece) ++ drop from piece ≡ part ++ piece
 rest_bytes part piece from =

@@ -17,6 +17,6 @@ IsReadFault failed input = (failed ≡ true) ⊎ IfSome input (λ bytes. 4294967
 abbrev pub IsWriteFault : Bool → List ℕ → Type 0
 IsWriteFault failed text = (failed ≡ true) ⊎ (4294967295 ≤ length text)
 
--- the sink failed, or it is as sound as it was and the writes that are made did not do
+-- the sink failed, or it is as sound as it was and the writes that are made did not suffice
 abbrev pub WriteFails : Bool → Bool → List ℕ → Type 0
 WriteFails old new text = (new ≡ true) ⊎ ((new ≡ old) × (4294967295 ≤ length text))

@@ -10,7 +10,7 @@ abbrev pub HasNoFeed : List ℕ → Type 0
 HasNoFeed [] = Unit {0}
 HasNoFeed (b ∷ bs) = ((b == 10) ≡ false) × HasNoFeed bs
 
--- these bytes begin with the lines `done`, whatever comes behind them, and `left` is what has come
+-- these bytes begin with the lines `done`, whatever comes after them, and `left` is what has come
 -- of the next line
 pub record Cuts (bytes : List ℕ) (done : List (List ℕ)) (left : List ℕ) : Type 0 where
   pub whole : (more : List ℕ) → lines (bytes ++ more) ≡ done ++ lines (left ++ more)

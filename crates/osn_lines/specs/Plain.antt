@@ -1,4 +1,4 @@
--- What a `Plain` shows.
+-- What a `Plain` has inside, and whether a call of it has failed.
 use Rattle.std.specs.Prelude.{Bool}
 use Rattle.osn_lines.specs.declared.plain.Plain.{Plain}
 

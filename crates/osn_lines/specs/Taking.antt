@@ -14,7 +14,7 @@ abbrev pub Rests : {S : Type 0} → (S → List (List ℕ) → S → Type 0) →
 Rests {S} after s t =
     (begun : S) (before : List (List ℕ)) → after begun before s → after begun before t
 
--- whatever lines it had taken, it stopped behind them, at this line or between two lines
+-- whatever lines it had taken, it stopped after them, at this line or between two lines
 abbrev pub Stops : {S W : Type 0} → (S → List (List ℕ) → S → Type 0) →
     (S → List (List ℕ) → Option (List ℕ) → S → W → Type 0) → S → S → Option (List ℕ) → W → Type 0
 Stops {S} {W} after stopped s t at why =
@@ -36,8 +36,8 @@ pub record TakesFirst {S : Type 0} (after : S → List (List ℕ) → S → Type
   pub count : n ≡ length taken
   pub first : IfSome input (λ bytes. take n (lines bytes) ≡ taken)
 
--- n lines were taken, the first n of the input where that is known, and the taker stopped behind
--- them: at the next line of the input, or between two lines
+-- n lines were taken, the first n of the input where that is known. The taker stopped after them:
+-- at the next line of the input, or between two lines
 pub record StopsAfter {S W : Type 0} (after : S → List (List ℕ) → S → Type 0)
     (stopped : S → List (List ℕ) → Option (List ℕ) → S → W → Type 0) (s t : S)
     (input : Option (List ℕ)) (n : ℕ) (why : W) : Type 0 where

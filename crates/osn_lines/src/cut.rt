@@ -1,4 +1,4 @@
-//! Cuts what was read into lines, and has each taken.
+//! Cuts the bytes that were read into lines, and has each line taken.
 ghost use Rattle.std.specs.Prelude.{◌≡◌, ◌+◌, ◌^◌, ◌<◌, ◌≤◌, ℕ, List, [], ◌∷◌, ◌++◌, ⊤, Some};
 ghost use Rattle.std.specs.Prelude.{length, OnOk, IfErr};
 ghost use Rattle.osn_lines.specs.Faults.{MatchFault};

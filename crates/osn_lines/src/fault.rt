@@ -21,6 +21,6 @@ pub enum TakeFault<S> {
     NoMemory,
     /// The source failed, or gave no end within 4,294,967,295 reads.
     ReadFault,
-    /// The taker stopped: at the line behind those that it took, or between two lines.
+    /// The taker stopped: at the line after those that it took, or between two lines.
     Stopped(S),
 }

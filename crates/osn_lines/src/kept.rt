@@ -55,7 +55,7 @@ impl Kept {
         Line::Whole(&self.bytes)
     }
 
-    /// Forgets what has come.
+    /// Clears the bytes that have come.
     pub(crate) fn clear(&mut self)
         ensures { Holds self.new [] }
     {

@@ -1,6 +1,6 @@
 //! Lines of bytes: what they are read from and written to, how they are cut, and the loop that
 //! hands each line to what takes lines. What the crate promises to those above: `take_lines` hands
-//! over exactly the lines of the input, in order, in whatever pieces the bytes come, and says where
+//! over exactly the lines of the input, in order, in whatever pieces the bytes come. It says where
 //! it ended early and why. `read_all` has all bytes of an input in memory.
 #![tactic(auto)]
 

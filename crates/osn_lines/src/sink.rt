@@ -1,4 +1,4 @@
-//! Where bytes go.
+//! What bytes are written to.
 ghost use Rattle.std.specs.Prelude.{◌≡◌, ◌<◌, ◌≤◌, ℕ, List, Option, Bool, true, false, is_ok};
 ghost use Rattle.std.specs.Prelude.{length, take, IfOk, IfErr, OnOk, OnErr, if◌then◌else◌};
 ghost use Rattle.std.specs.Io.{WritesAtMost};
@@ -9,7 +9,7 @@ ghost use Rattle.osn_lines.specs.Faults.{WriteFails};
 #[derive(Clone, Copy, Debug, PartialEq, Eq)]
 pub struct WriteFailed;
 
-/// What bytes are written to, one call at a time, and what remembers that a call failed.
+/// What bytes are written to, one call at a time, and what notes that a call failed.
 pub trait Sink {
     // The bytes that have been written, where they are known.
     ghost contents: { Self → Option (List ℕ) };
@@ -48,7 +48,7 @@ pub trait Sink {
 /// # Errors
 ///
 /// `Err(n)` where the sink took the first n of them and then failed, or where 4,294,967,295 writes
-/// did not do.
+/// did not suffice.
 pub fn write_all<W: Sink>(sink: &mut W, bytes: &[u8]) -> Result<(), usize>
     ensures ok { OnOk result (Appends (W.contents sink.old) (W.contents sink.new) bytes.now) }
     ensures passed { OnOk result (W.holds_back sink.new ≡ false) }

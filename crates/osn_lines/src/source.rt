@@ -1,4 +1,4 @@
-//! Where bytes come from.
+//! What bytes are read from.
 ghost use Rattle.std.specs.Prelude.{◌≡◌, ℕ, List, Option, Bool, true, is_ok, if◌then◌else◌};
 ghost use Rattle.std.specs.Prelude.{IfOk, length};
 ghost use Rattle.std.specs.Io.{ReadsAtMost};
@@ -10,7 +10,7 @@ use std::alloc::{AllocError, Global};
 #[derive(Clone, Copy, Debug, PartialEq, Eq)]
 pub struct ReadFailed;
 
-/// What bytes are read from, one call at a time, and what remembers that a call failed.
+/// What bytes are read from, one call at a time, and what notes that a call failed.
 pub trait Source {
     // The bytes that reads will give from here on, where they are known.
     ghost remaining: { Self → Option (List ℕ) };

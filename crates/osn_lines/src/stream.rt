@@ -15,7 +15,7 @@ use crate::source::{Source, read_buffer};
 use crate::taker::LineTaker;
 use std::alloc::Global;
 
-/// Has the bytes behind the last line feed taken as a line, if there are any, behind so many lines.
+/// Has the bytes after the last line feed taken as a line, if there are any, after this many lines.
 fn take_rest<T: LineTaker>(
     taker: &mut T,
     kept: &mut Kept,
@@ -46,17 +46,16 @@ fn take_rest<T: LineTaker>(
 /// Hands every line of the source to the taker, in order, up to the end of the input. Answers their
 /// number.
 ///
-/// Each line is handed over as soon as its line feed has come, and what stands behind the last line
-/// feed at the end of the input. Before each read the taker is told. Besides what the taker uses
-/// there is one read of at most 65,536 bytes, and of a line that hasn't ended yet at most 65,536
-/// bytes.
+/// Each line is handed over as soon as its line feed has come, and what stands after the last line
+/// feed at the end of the input. Before each read the taker is told. Besides what the taker uses,
+/// memory holds one read of at most 65,536 bytes, and of a line that hasn't ended yet at most
+/// 65,536 bytes.
 ///
 /// # Errors
 ///
-/// The number of lines that were taken, and why no more: `NoMemory` where memory ran out here;
-/// `ReadFault` where the source failed, or gave no end within 4,294,967,295 reads; `Stopped` where
-/// the taker stopped. No line is handed over after that, and a line that a failed read cut short is
-/// not.
+/// The number of lines that were taken, and why no more. `NoMemory` where memory ran out here.
+/// `ReadFault` where the source failed, or gave no end within 4,294,967,295 reads. `Stopped` where
+/// the taker stopped. No line is handed over after that, not even one that a failed read cut short.
 pub fn take_lines<T: LineTaker, R: Source>(
     alloc: Global,
     taker: &mut T,

@@ -15,7 +15,7 @@ pub trait LineTaker {
     ghost after: { Self → List (List ℕ) → Self → Type 0 };
 
     // `stopped begun taken at now why`: what was `begun` took these lines, and stopped at this
-    // line, or between two lines where there is none. It is `now`, and has this reason.
+    // line, or between two lines where no line is given. It is `now`, and has this reason.
     ghost stopped: { Self → List (List ℕ) → Option (List ℕ) → Self → Self.Stop → Type 0 };
 
     /// Takes a line.

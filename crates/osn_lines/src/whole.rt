@@ -28,7 +28,7 @@ impl From<AllocError> for ReadAllFault {
 ///
 /// # Errors
 ///
-/// `NoMemory` where memory ran out; the source is as sound as it was then. `ReadFault` where the
+/// `NoMemory` where memory ran out. The source is as sound as it was then. `ReadFault` where the
 /// source failed, or gave no end within 4,294,967,295 reads.
 pub fn read_all<R: Source>(alloc: Global, source: &mut R) -> Result<Vec<u8>, ReadAllFault>
     ensures bytes { IfOk result (λ read. IfSome (R.remaining source.old)

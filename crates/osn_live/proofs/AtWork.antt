@@ -123,7 +123,7 @@ gate_at passes who seen published replies f told (inl e) =
     subst (IsOfGate passes) (sym e.2) (subst (λ r. IfErr r (IsOfPassing passes)) e.1 told)
 gate_at passes who seen published replies f told (inr e) = subst (IsOfGate passes) (sym e.0) tt
 
--- a reader that finds no place or no memory was turned away by no gate
+-- a reader that finds no place or no memory was not stopped by a gate
 pub asked_at : (passes : Bool) (f : AskFault) → IsOfPassing passes (by_ask f)
 asked_at passes Ask.NoMemory = tt
 asked_at passes Ask.NoPlace = tt

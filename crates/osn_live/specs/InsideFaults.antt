@@ -1,4 +1,4 @@
--- What one fault is told as by the call above it.
+-- The fault that a call gives for a fault of the call below it.
 use Rattle.osn_live.specs.declared.faults.AskFault.{AskFault}
 use Rattle.osn_live.specs.declared.faults.AskFault.TheVariants as Ask
 use Rattle.osn_live.specs.declared.faults.DeskFault.{DeskFault}

@@ -83,7 +83,7 @@ fn edit_all<R: Wait, G: Gate>(
     Ok(())
 }
 
-/// What one reader was told, against what was published in the end.
+/// What one reader was told, compared with what was published in the end.
 fn check_against_note(
     worked: Worked,
     note: Note,
@@ -166,8 +166,7 @@ fn at_desk<'s, E, R: Threads + Wait, G: Gate + Sync>(
 }
 
 /// Runs an editor through commands, and at the same time a reader through each list of questions,
-/// each in a thread of its own, with calls of a gate around each item. Refused commands are passed
-/// over.
+/// each in its own thread, with calls of a gate around each item. Refused commands are passed over.
 ///
 /// Each question has exactly one reply, in its place: the definition's under the first editions of
 /// the script, as many as the reply names. For one reader their number never falls.
@@ -175,8 +174,8 @@ fn at_desk<'s, E, R: Threads + Wait, G: Gate + Sync>(
 /// # Errors
 ///
 /// `BadCount` where the lists are not 1 to 64. Else `NoMemory` where none is found, `NoPlace` where
-/// a reader finds no place or no thread, `GateClosed` where the gate answered false, and
-/// `HistoryBroken` only with the numbers that show it. All threads have ended then.
+/// a reader finds no place or no thread, and `GateClosed` where the gate answered false.
+/// `HistoryBroken` comes only with the numbers that show it. All threads have ended then.
 #[tactic(auto, using(crate::proofs::AtWork::open_at, crate::proofs::AtWork::opened_at))]
 pub fn run_desk<R: Threads + Wait, G: Gate + Sync>(
     rt: &R,

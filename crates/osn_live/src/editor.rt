@@ -224,7 +224,7 @@ impl Editor {
         Ok(())
     }
 
-    /// Once the batch is in the history, nothing is left that may want memory: the queue of the
+    /// Once the batch is in the history, nothing is left that may want memory. The queue of the
     /// copies has had room for one edition since they were made, and to share a register takes
     /// none.
     fn make_edition<R: Wait>(&mut self, rt: &R) -> Result<(), AllocError>

@@ -44,10 +44,10 @@ impl Model for Reader {
     ghost invariant = { IsPlaced };
 }
 
-/// What was read at one moment: the batches that were published then, and the answer under them.
+/// A look at one moment: the batches that were published then, and the answer under them.
 type Look = (Certificate, Result<Reply, AllocError>);
 
-/// The place once it was left, and what was read there, if the reader was let in.
+/// The place once it was left, and the look, if the reader was let in.
 type ReadResult = (Place, Option<Look>);
 
 fn look(place: Place, query: &Query) -> ReadResult
@@ -82,7 +82,7 @@ impl Reader {
     ///
     /// # Errors
     ///
-    /// `NoPlace` where the editor was closed; nothing has changed then. `NoMemory` where none is
+    /// `NoPlace` where the editor was closed. Nothing has changed then. `NoMemory` where none is
     /// found, of which a refused query, the figures of a year and an empty list of territories take
     /// none.
     pub fn ask(&mut self, query: &Query) -> Result<Reply, AskFault>

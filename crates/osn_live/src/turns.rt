@@ -5,8 +5,8 @@ ghost use Rattle.osn_live.specs.InsideWork.{IsOfPassing};
 use crate::gate::Gate;
 use crate::work_fault::WorkFault;
 
-/// How far one who works through a list is with telling a gate of it: how many items it was told of
-/// before them, and how many after them.
+/// How far one who works through a list is with telling a gate of it. It counts the items of which
+/// the gate was told before them, and those of which it was told after them.
 #[derive(Drop)]
 pub struct Turns<'a, G> {
     pub gate: &'a G,

@@ -38,7 +38,7 @@ conversion_page d given =
 abbrev pub numbered_date : ℕ → ℕ → ℕ → Date
 numbered_date year month day = record { year = pos year; month = month; day = day }
 
--- the days of the line that have the written date in the calendar: a double date is that of a
+-- the days of the line that have the written date in the calendar. A double date is that of a
 -- territory, and no calendar has it
 abbrev pub days_of_written : Profile → Calendar → WrittenDate → List ℕ
 days_of_written p c w =

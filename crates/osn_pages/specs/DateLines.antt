@@ -52,7 +52,7 @@ no_day_lines p t e (LastAbsent absence) =
 no_day_lines p t e OutOfOrder = codes "the first date is after the last one\n"
 no_day_lines p t e OffTheLine = off_the_line (kind_of e)
 
--- the days, as the place itself dated them, or why there is none
+-- the days, as the place itself dated them, or why no day is meant
 abbrev pub found_lines : Profile → TerritoryModel → TerritoryModel → Extent
     → Result (List Run) NoDay → List ℕ
 found_lines p own t e (Ok runs) = runs_text p own (kind_of e) runs

@@ -50,7 +50,7 @@ weeks_of = pieces_of is_in_week
 unfoldable pub month_year : DatedDay → List ℕ
 month_year x = month_name x.label.month ++ (codes " " ++ years_text x)
 
--- a title of ASCII, centred in the 20 characters of a grid as `cal` does: half of the spaces that
+-- a title of ASCII, centred in the 20 characters of a grid as `cal` does. Half of the spaces that
 -- are left stand before it, rounded down. A longer title has none before it.
 unfoldable pub centred : List ℕ → List ℕ
 centred title = replicate ((20 - length title) / 2) 32 ++ (title ++ codes "\n")

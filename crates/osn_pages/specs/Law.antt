@@ -1,4 +1,4 @@
--- What is written of a day by a calendar is read again as that day's date; and the periods of a
+-- What is written of a day by a calendar is read again as that day's date. The periods of a
 -- territory are those that hold its days.
 use Rattle.std.specs.Prelude.{◌≡◌, ◌≤◌, ℕ, List, [], ◌∷◌, Ok, pos}
 use Rattle.std.specs.List.{All}
@@ -41,8 +41,8 @@ abbrev pub periods_in : Answer → List Period
 periods_in (answers.Periods periods) = periods
 periods_in other = []
 
--- so it is with each period of the territory: the day from which the page of the territory says
--- that it is in force, and that until which it is, are named alike by the pages of those days
+-- so it is with each period of the territory. Its page says from which day and until which one the
+-- period is in force. The pages of these two days name them alike
 unfoldable pub ArePeriodsAnswered : Profile → List LandModel → List ℕ → Type 0
 ArePeriodsAnswered p lands code =
     All (IsPeriodAnswered p lands code) (periods_in (answer p lands (Periods code)))

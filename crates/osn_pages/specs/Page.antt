@@ -30,7 +30,7 @@ day_lines p t d =
     plain_day_line (dated_on p t d)
     ++ flat_map (period_line p) (option_to_list (period_on (periods_of p t) d))
 
--- a month as the territory lived it
+-- a month as the territory dated it
 abbrev pub month_lines : Profile → TerritoryModel → ℕ → ℕ → List ℕ
 month_lines p t year month = grids (map (dated_on p t) (days_of_month p t (pos year) month))
 

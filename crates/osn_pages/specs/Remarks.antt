@@ -33,7 +33,7 @@ subject w = subject_of w (plain_day w)
 abbrev pub word_if : Bool → List ℕ → List (List ℕ)
 word_if said word = if said then word ∷ [] else []
 
--- words with `; ` between them, as a line, where there is one
+-- words with `; ` between them, as a line, where there are words
 abbrev pub words_after : List (List ℕ) → List ℕ
 words_after [] = codes "\n"
 words_after (word ∷ words) = codes "; " ++ (word ++ words_after words)

@@ -87,7 +87,7 @@ fn push_no_day(
 }
 
 /// Appends the days that are meant by the reckoning of a territory, as the place itself dated them,
-/// or why there is none.
+/// or why no day is meant.
 fn push_found(
     alloc: Global,
     out: &mut String,

@@ -34,7 +34,7 @@ pub enum Page {
     },
     /// How the territory dated a day.
     OfDay(Day),
-    /// A month as the territory lived it.
+    /// A month as the territory dated it.
     Month {
         /// The year as the territory counted it.
         year: u16,

@@ -11,8 +11,8 @@ use std::alloc::{AllocError, Global};
 use std::fmt;
 use std::fmt::Write;
 
-/// A date as its page names it: one day of which nothing more is said without its weekday, and any
-/// other date with all that is said of it.
+/// A date as its page names it. One day of which nothing more is said stands without its weekday,
+/// and any other date with all that is said of it.
 #[derive(Clone, Copy)]
 pub(crate) struct Subject(pub(crate) AnyDate);
 

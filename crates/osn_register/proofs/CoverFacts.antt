@@ -41,7 +41,7 @@ earlier d n h = grind (arith, nat_tests)
 same_day : (d n : ℕ) → (n == d) ≡ true → n ≡ d
 same_day d n h = grind (arith, nat_tests)
 
--- one start more behind another one
+-- one start more after another one
 covers-insert : (high d : ℕ) (regime : Regime) (s : Start) (rest : List Start) →
     Covers s.0 high (periods_from high (s ∷ rest)) → s.0 < d → d ≤ high →
     list_any (is_on d) rest ≡ false → Covers s.0 high (periods_from high
@@ -90,7 +90,7 @@ alter-day d regime s =
       | false ↦ λ e. refl
     ] refl
 
--- starts on one day dropped behind another one
+-- starts on one day dropped after another one
 covers-drop : (high d : ℕ) (s : Start) (rest : List Start) →
     Covers s.0 high (periods_from high (s ∷ rest)) → Covers s.0 high
     (periods_from high (s ∷ filter (is_other d) rest))

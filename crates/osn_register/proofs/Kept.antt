@@ -1,4 +1,4 @@
--- What is kept by code, seen as the plain list of territories.
+-- The territories that a register keeps by their codes, seen as the plain list.
 use Rattle.std.proofs.Common.{◌≡◌, ℕ, ◌<◌, ◌≤◌, Bool, true, false, cond, List, [], ◌∷◌, ◌++◌}
 use Rattle.std.proofs.Common.{length, map, Option, Some, None, option_map, is_some, Ok, Err, refl}
 use Rattle.std.proofs.Common.{sym, ap}

@@ -58,8 +58,8 @@ KeepsDay before now =
     × (starts_in now ≡ starts_in before)
 
 -- what an answer keeps of the answer of these rules to the same query, where they have its year or
--- its day: the Easters and the figures of a year and the territories are the same; a reading and a
--- day keep what the rules' own line has; and periods, their starts. A date as it is written is
+-- its day. The Easters and the figures of a year and the territories are the same. A reading and a
+-- day keep what the rules' own line has, and periods keep their starts. A date as it is written is
 -- refused alike, and nothing more is said of it
 abbrev pub KeepsAnswer : Profile → List LandModel → Query → Answer → Type 0
 KeepsAnswer p lands (queries.Read code year month day) now =

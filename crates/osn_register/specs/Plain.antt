@@ -214,8 +214,8 @@ abbrev pub AreSound : Profile → Limits → List LandModel → Type 0
 AreSound p limits [] = Unit {0}
 AreSound p limits (l ∷ ls) = IsSoundTerritory p limits l.territory × AreSound p limits ls
 
--- codes are distinct; the territories, their changes and their exceptions are within their limits;
--- and the periods of each territory cover the line
+-- codes are distinct. The territories, their changes and their exceptions are within their limits.
+-- The periods of each territory cover the line
 pub record IsWellFormed (p : Profile) (r : RegisterModel) : Type 0 where
   pub distinct : AreDistinct r.lands
   pub within : length r.lands ≤ r.limits.lands

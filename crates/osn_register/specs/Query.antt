@@ -1,4 +1,4 @@
--- Queries.
+-- Which queries name a territory.
 use Rattle.std.specs.Prelude.{Bool, true, false}
 use Rattle.osn_register.specs.declared.query.Query.{Query}
 use Rattle.osn_register.specs.declared.query.Query.TheVariants.{YearFigures, Lands}

@@ -44,7 +44,7 @@ pub type RunList = Listing<FoundRun>;
 /// Why a text means no day in a territory.
 #[derive(Clone, Copy, Debug, PartialEq, Eq, Drop)]
 pub enum Reason {
-    /// The text is no date, or says that there is none.
+    /// The text is no date, or says that there is no date.
     NotRead(DateFault),
     /// The date means no day of the territory.
     NoDay(NoDay),

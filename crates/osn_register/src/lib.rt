@@ -1,6 +1,6 @@
 //! The register of territories: edits with their refusals, queries with their answers. What the
-//! crate promises to those above: `check` is the first refusal that applies, `apply` the edit's
-//! effect on a plain list of territories, a refusal changes nothing, and `answer` is the
+//! crate promises to those above: `check` is the first refusal that applies, and `apply` has the
+//! edit's effect on a plain list of territories. A refusal changes nothing. `answer` is the
 //! definition's answer, a refusal exactly where the definition refuses.
 #![tactic(auto)]
 

@@ -11,8 +11,8 @@ use std::alloc::AllocError;
 /// A question to the register.
 #[derive(Debug, Drop)]
 pub enum Query {
-    /// Which days a date names in a territory: the year as its documents count it, 0 to 10000, a
-    /// month from 1 to 12 and a day from 1 to 31.
+    /// Which days a date names in a territory. The year is as its documents count it, 0 to 10000,
+    /// the month from 1 to 12 and the day from 1 to 31.
     Read {
         code: Text,
         year: i64,

@@ -1,4 +1,4 @@
--- The text of a line: what stands behind the bytes before it, and texts with no escape.
+-- The text of a line: what stands after the bytes before it, and texts with no escape.
 use Rattle.std.proofs.Common.{◌≡◌, ℕ, ℤ, pos, negsuc, zero, suc, ◌-◌, ◌^◌, ◌<◌, ◌≤◌, replicate}
 use Rattle.std.proofs.Common.{List, [], ◌∷◌, ◌++◌, length, drop, Bool, true, false, ◌==◌}
 use Rattle.std.proofs.Common.{if◌then◌else◌, IsUtf8, codes, decimal, refl, ap, sym, subst, ◌∙◌}
@@ -22,7 +22,7 @@ use Rattle.osn_days.specs.DateText.{at_least, date_digits}
 use Rattle.json.proofs.Printed.Strings.{escape_byte_plain}
 use Rattle.osn_reply.specs.ReplyText.{answered_data}
 
--- bytes that are a text go on behind the start
+-- bytes that are a text go on after the start
 pub goes_on : (start : ℕ) (old new bytes : List ℕ) (ok : Bool) →
     start ≤ length old → IsUtf8 (drop start old) → IsUtf8 bytes →
     new ≡ (if ok then old ++ bytes else old) →
@@ -103,7 +103,7 @@ pub signed_text : (n : ℤ) → signed_decimal n ≡ compact_text (signed n)
 signed_text (pos n) = refl
 signed_text (negsuc n) = refl
 
--- pieces, each a front and what it stands before: one behind the other as they are written, and
+-- pieces, each a front and what it stands before: one after the other as they are written, and
 -- as the text of an object has them, with what ends it
 abbrev pub behind : List ℕ → List (List ℕ × List ℕ) → List ℕ
 behind old [] = old

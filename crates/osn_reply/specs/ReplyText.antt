@@ -120,7 +120,7 @@ abbrev pub periods_data : List Period → Data
 periods_data periods =
     object (member (codes "periods") (list_data (map period_data periods)) no_members)
 
--- a value, or null where there is none
+-- a value, or null where no value is given
 abbrev pub option_data : {A : Type 0} → (A → Data) → Option A → Data
 option_data shown None = null
 option_data shown (Some x) = shown x

@@ -1,6 +1,6 @@
 //! The reply lines of the service, and the lines of a step's out and of a transcript. What the
 //! crate promises to those above: a line is the compact text of the definition's JSON value, with a
-//! line feed; of a reply that text is given alone as well.
+//! line feed. The compact text of a reply is given alone as well.
 #![tactic(auto)]
 
 mod line_writer;

@@ -1,4 +1,4 @@
-//! The text of a line in the making, behind what its vector holds.
+//! The text of a line that is being written, after what its vector holds.
 ghost use Rattle.std.specs.Prelude.{◌≡◌, [], ◌∷◌, ◌++◌, decimal};
 ghost use Rattle.std.specs.Prelude.{IfOk, OnOk, IsUtf8};
 ghost use Rattle.std.specs.List.{list_all};
@@ -12,7 +12,7 @@ use json::Writer;
 use std::alloc::{AllocError, Global};
 use std::marker::Model;
 
-/// A text that is written piece by piece behind the bytes of a vector, which stay what they are.
+/// A text that is written piece by piece after the bytes of a vector, which stay what they are.
 #[derive(Drop)]
 pub(crate) struct LineWriter {
     alloc: Global,
@@ -31,7 +31,7 @@ impl Model for LineWriter {
 }
 
 impl LineWriter {
-    /// No text yet, behind these bytes.
+    /// No text yet, after these bytes.
     pub(crate) fn new(alloc: Global, bytes: Vec<u8>) -> LineWriter
         ensures before { result.before ≡ bytes.items }
         ensures text { result.text ≡ [] }
@@ -44,7 +44,7 @@ impl LineWriter {
         }
     }
 
-    /// The bytes with the text behind them.
+    /// The bytes with the text after them.
     pub(crate) fn into_bytes(self) -> Vec<u8>
         ensures items { result.items ≡ self.before ++ self.text }
         ensures utf8 { IsUtf8 self.text }

@@ -15,7 +15,7 @@ abbrev pub Makes : {S : Type 0} → (List (List ℕ) → Result S (ℕ × LineFa
 Makes rule bytes s = IfSome bytes (λ input. rule (lines input) ≡ Ok s)
 
 -- why the rule makes nothing of the file of this role: its first fault, by the number of the line.
--- Or a read failed, where it refuses no line that had ended; or memory ran out, where it refuses
+-- Or a read failed, where it refuses no line that had ended. Or memory ran out, where it refuses
 -- none that had ended before the last read
 abbrev pub IsFileFault : {S : Type 0} → Role → (List (List ℕ) → Result S (ℕ × LineFault)) → Input
     → FileFault → Type 0

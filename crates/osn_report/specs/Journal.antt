@@ -1,4 +1,4 @@
--- The object that a command begins with, and why there is none.
+-- The object that a command begins with, and why it has no object to begin with.
 use Rattle.std.specs.Prelude.{◌≡◌, ℕ, List, Option, Some, None}
 use Rattle.osn_days.specs.Profile.{newest_rules}
 use Rattle.osn_register.specs.declared.limits.Limits.{Limits}

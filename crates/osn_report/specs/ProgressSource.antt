@@ -1,4 +1,4 @@
--- What a watched source shows.
+-- The source that a `ProgressSource` watches.
 use Rattle.osn_report.specs.declared.progress.ProgressSource.{ProgressSource}
 
 -- the source that is watched

@@ -17,27 +17,27 @@ use std::fmt;
 pub enum Misuse {
     /// It stands for a date, or for a part of one, and has this fault.
     Date(DateFault),
-    /// It stands for a weekday, and is none.
+    /// It stands for a weekday, and is no weekday.
     Weekday,
     /// It is a weekday, and the date names this other one.
     OtherWeekday(Weekday),
-    /// It stands for a calendar, and is none.
+    /// It stands for a calendar, and is no calendar.
     Calendar,
-    /// It stands for a day number, and is none.
+    /// It stands for a day number, and is no day number.
     DayNumber,
     /// It is a date with both years, and stands for one of a calendar.
     DoubleDate,
     /// The calendar has no such date, or has it off the line of days.
     NoSuchDate(Calendar),
-    /// It stands for a month, and is none.
+    /// It stands for a month, and is no month.
     Month,
-    /// It stands for limits, and is none.
+    /// It stands for limits, and names no limits.
     Limits,
-    /// It stands for what separates fields, and is none.
+    /// It stands for what separates fields, and is no separator.
     Separator,
-    /// It stands for the order of a date's three numbers, and is none.
+    /// It stands for the order of a date's three numbers, and is no order.
     Order,
-    /// It stands for a shell, and is none.
+    /// It stands for a shell, and is no shell.
     Shell,
 }
 

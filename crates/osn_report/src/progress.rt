@@ -1,4 +1,4 @@
-//! How far a long run is, for whoever waits at a terminal.
+//! How far a long run is, for people who wait at a terminal.
 
 use osn_letters::Progress;
 use osn_lines::{ReadFailed, Sink, Source, write_all};
@@ -6,11 +6,11 @@ use std::alloc::Global;
 
 const MEBIBYTE: u64 = 1 << 20;
 
-/// It is said again after so many mebibytes.
+/// After how many mebibytes it is said again.
 const STEP: u64 = 64;
 
-/// How much of an input was read, which a terminal is told where there is one. Nothing rests on
-/// what is told, so it is left out where it can't be.
+/// How much of an input was read, which a terminal is told where there is one. Nothing depends on
+/// what is told, so it is left out where it can't be told.
 #[derive(Drop)]
 pub struct ReadProgress<P> {
     alloc: Global,

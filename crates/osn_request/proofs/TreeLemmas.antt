@@ -54,7 +54,7 @@ member_read p old n k ts s r d some key e =
     ap (members_onto old) (members_more p n k ts s r j.0 some key j.1)
     ∙ with_first k j.0 d old j.2 _
 
--- behind the last one they are those that were put
+-- after the last one they are those that were put
 pub members_over : (p : Parse json.Json) (old : Members) (n : ℕ) (ts r : List Token)
     → length ts ≤ n → read_key ts ≡ Some (None, r)
     → members_onto old (members p n ts) ≡ Some (old, r)
@@ -63,7 +63,7 @@ members_over p old n ts r enough e = ap (members_onto old) (members_end p n ts r
 abbrev whole : Option (json.Json × List Token) → Option Data
 whole o = option_and_then of_json (option_and_then (λ p. if_last p.0 p.1) o)
 
--- a value behind which nothing is left is that of the whole text
+-- a value after which nothing is left is that of the whole text
 pub whole_read : (o : Option (json.Json × List Token)) (d : Data)
     → converted of_json o ≡ Some (d, []) → whole o ≡ Some d
 whole_read o d e = let j = converted_some of_json o d [] e in ap whole j.1 ∙ j.2

@@ -1,5 +1,5 @@
 -- The members of a line's object by their types, or the first that is missing, of another type or
--- not one of its words: this project's profile, over the value that `serde_json` reads.
+-- not one of its words. They are read of the value that `serde_json` reads. This project's profile.
 use Rattle.std.specs.Prelude.{ℕ, ℤ, Bool, true, false, List, Option, Some, None, is_some}
 use Rattle.std.specs.Prelude.{option_and_then, Result, Ok, Err}
 use Rattle.serde_json.specs.Data.{Data}
@@ -18,7 +18,7 @@ use Rattle.osn_format.specs.declared.wire_fault.WireFault.{WireFault}
 use Rattle.osn_format.specs.declared.wire_fault.WireFault.TheVariants.{BadField}
 use Rattle.osn_format.specs.Member.{member_name}
 
--- one reading behind another, where the first one meets no fault
+-- one reading after another, where the first one meets no fault
 infixl 10 ◌>>=◌
 abbrev pub ◌>>=◌ : {A B : Type 0}
     → Result A WireFault → (A → Result B WireFault) → Result B WireFault

@@ -50,7 +50,7 @@ request_by p readers d (ops.Query op) = query_of readers op d >>= λ asked. Ok (
 abbrev pub request_of : Profile → ℕ → Data → Result Request WireFault
 request_of p readers d = op_of d >>= request_by p readers d
 
--- the request of a line, where there are so many readers
+-- the request of a line, where there are this many readers
 abbrev pub request : Profile → ℕ → List ℕ → Result Request WireFault
 request p readers line = object_of line >>= request_of p readers
 

@@ -15,7 +15,7 @@ use Rattle.osn_files.specs.declared.whole_lines.WholePart.{WholePart}
 use Rattle.osn_serve_commands.specs.Keep.{kept_text, missing_head}
 use Rattle.osn_serve_commands.specs.Keep.{missing_text, if_unfinished, unfinished_line}
 
--- a last line that is ended has nothing behind it
+-- a last line that is ended has nothing after it
 none_behind : (n : ℕ) (bytes : List ℕ) → last_line n bytes ≡ Ended → bytes ≡ []
 none_behind n [] ended = refl
 none_behind n (b ∷ bs) ended = absurd (elim (is_unfinished n (b ∷ bs)) as

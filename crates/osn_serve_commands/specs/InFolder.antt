@@ -1,5 +1,5 @@
--- What the service has done over the files of a folder: the one that a journal is loaded from, the
--- one that it is saved to, and the one that it is kept in.
+-- What the service has done over the files of a folder. They are the one that a journal is loaded
+-- from, the one that it is saved to, and the one that it is kept in.
 use Rattle.std.specs.Prelude.{◌≡◌, ◌⊎◌, Bool, List, [], ℕ, Option, Some, None, IfSome, option_map}
 use Rattle.std.specs.Prelude.{Result, if◌then◌else◌}
 use Rattle.std.specs.Str.{bytes_eq}
@@ -84,7 +84,7 @@ pub record ServesAndSaves (limits : Limits) (save : Option (List ℕ)) (rules : 
 abbrev pub CanFailIf : (Bool → Type 0) → Option Input → Type 0
 CanFailIf CanFail begun = IfSome begun (λ journal. CanFail journal.unread)
 
--- how a run of the service ended: it had no object to begin with, and wrote nothing; or it answered
+-- how a run of the service ended. It had no object to begin with, and wrote nothing; or it answered
 -- the lines, and its journal was saved
 abbrev pub EndsServing : Limits → Option (List ℕ) → ServeRules → Option Input → Option (List ℕ)
     → Option Known → Option Known → Input → Output → Output → Status → Type 0

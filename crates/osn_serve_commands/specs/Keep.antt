@@ -48,7 +48,7 @@ object_of limits (b ∷ bs) = load newest_rules limits (lines (b ∷ bs))
 abbrev pub kept_object : Limits → List ℕ → Result ObjectState (ℕ × LineFault)
 kept_object limits held = object_of limits (whole_bytes held)
 
--- lines say a version: the first of them does, and where there is none it is the newest
+-- lines say a version: the first of them does, and where there are no lines it is the newest
 abbrev pub SaysVersion : Version → List ℕ → Type 0
 SaysVersion version [] = version ≡ newest_version
 SaysVersion version (b ∷ bs) = IsOfVersion version (lines (b ∷ bs))
@@ -126,15 +126,15 @@ abbrev pub IsChangeFault : CommandFault → Option KeptFileFault → Type 0
 IsChangeFault fault told =
     ((why : KeptFileFault) × (told ≡ Some why) × (fault ≡ KeptFile why)) ⊎ (fault ≡ NoMemory)
 
--- the file is as it was; or its last line was cut off, if it was not finished, and after the lines
--- that count a front of what is missing may stand
+-- the file is as it was; or its last line was cut off, if it was not finished. After the lines that
+-- count a front of what is missing may stand then
 abbrev pub IsLeft : List ℕ → Option ℕ → Option (List ℕ) → Type 0
 IsLeft held cut contents =
     ((cut ≡ None) × (contents ≡ Some held))
     ⊎ ((cut ≡ unfinished_line held)
     × (n : ℕ) × (contents ≡ Some (whole_bytes held ++ take n (missing_text held))))
 
--- the service did not begin by this fault: there was no object, and the file is as it was; or there
+-- the service did not begin by this fault. There was no object, and the file is as it was; or there
 -- was one, and the file could not be made ready
 abbrev pub DoesNotBegin : Limits → List ℕ → Bool → Option ℕ → FileState → CommandFault → Type 0
 DoesNotBegin limits held failed cut file fault =

@@ -15,8 +15,8 @@ pub record IsReadWhole (journal begun : Input) (held : List ℕ) : Type 0 where
   pub bytes : begun.bytes ≡ Some held
   pub sound : begun.unread ≡ false
 
--- the journal could not be read whole, and nothing was done; or it was, and the service was run, and
--- the file that it replaces has to hold it still
+-- the journal could not be read whole, and nothing was done. Or it was, and the service was run,
+-- and the file that it replaces has to hold it still
 abbrev pub ReplacesRead : Limits → Option (List ℕ) → ServeRules → Input → Option Known
     → Option Known → Input → Output → Output → Status → Type 0
 ReplacesRead limits save rules journal opened after i o e status =

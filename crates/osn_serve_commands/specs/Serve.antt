@@ -38,8 +38,8 @@ input_if remaining has_failed (Some old) new = Some (record {
   unread = option_map_or has_failed new false;
 })
 
--- how the service ended: all lines were answered, and then this was done; or not all were, which
--- standard error was told, and the rest holds; or the store lost a change for a reason
+-- how the service ended. All lines were answered, and then this was done; or not all were, which
+-- standard error was told, and the rest holds. Or the store lost a change for a reason
 abbrev pub EndsServed : {F : Type 0} → Result Served (Interrupted (ServiceFault F)) → Output
     → Status → Type 0 → Type 0 → (F → Type 0) → Type 0
 EndsServed result e status Done Rest Lost = MatchService result
@@ -70,7 +70,7 @@ pub record ServesLines (rules : ServeRules) (s : ObjectState) (saves : Bool) (i 
   -- this many editions were published
   pub published : editions ≡ length object.batches - length s.batches
 
--- what the service did that was to begin with this journal, if any: there was no object, and it
+-- what the service did that was to begin with this journal, if any. There was no object, and it
 -- wrote nothing; or there was one, and it answered the lines
 abbrev pub Serves : Limits → ServeRules → Option Input → Bool → Input → Output → Output
     → Option (List ℕ) → ℕ → Status → Type 0

@@ -1,5 +1,5 @@
 //! The command `serve` with a journal that is kept: the service begins with what the file holds,
-//! and each change is in it before its reply goes out.
+//! and each change is in it before its reply is written.
 ghost use Rattle.std.specs.Prelude.{◌≡◌, ◌≢◌, ◌^◌, ◌<◌, ℕ, List, Option, Ok, IfOk, IfErr, OnOk};
 ghost use Rattle.std.specs.Prelude.{None, false, string_bytes, ◌+◌, option_map, take};
 ghost use Rattle.osn_format.specs.Version.{newest_version};
@@ -30,8 +30,8 @@ use std::alloc::{AllocError, Global};
 /// The room that a head gets at first.
 const HEAD_ROOM: usize = 32;
 
-/// The object of the lines of a journal that count, and the version that they say; or an empty one
-/// and the newest where there are none.
+/// The object of the lines of a journal that count, and the version that they say. Where there are
+/// no lines, it is an empty object and the newest version.
 fn kept_object(alloc: Global, limits: Limits, lines: &[u8]) -> Result<(Object, Version), FileFault>
     ensures object { IfOk result (λ read. object_of limits lines.now ≡ Ok read.0) }
     ensures version { IfOk result (λ read. SaysVersion read.1 lines.now) }
@@ -141,8 +141,8 @@ fn missing_head(alloc: Global, part: WholePart) -> Result<Vec<u8>, AllocError>
     Ok(Vec::new(alloc))
 }
 
-/// What is missing after the lines of a kept file that count: the line feed of the last one, or
-/// the head where there is none.
+/// What is missing after the lines of a kept file that count: the line feed of the last one, or the
+/// head where no line counts.
 fn missing_text(alloc: Global, part: WholePart) -> Result<Vec<u8>, AllocError>
     ensures { IfOk result (λ text. (held : List ℕ) → IsWholePart part held
         → text.items ≡ missing_text held) }
@@ -171,8 +171,8 @@ fn append_missing<K: KeptFile>(
     Ok(())
 }
 
-/// Makes a kept file ready for the service: it holds the lines that count, each with its line feed,
-/// and a head then, and all of it is on the disk.
+/// Makes a kept file ready for the service. It then holds the lines that count, each with its line
+/// feed, and a head, and all of it is on the disk.
 fn make_ready<K: KeptFile, E: Sink>(
     alloc: Global,
     part: WholePart,
@@ -257,12 +257,13 @@ fn keep_lines<K: KeptFile, R: Source, W: Sink, E: Sink>(
 }
 
 /// The command `serve` with a journal that is kept: answers the request lines of the input, by
-/// these rules, from the object that the kept file holds, or from an empty one under these limits
-/// where no line of it counts. Each change is in the file before its reply goes out. All lines are
-/// answered, or those up to the first refused one where the rules say so, which is a fault then.
+/// these rules. The object is the one that the kept file holds, or an empty one under these limits
+/// where no line of it counts. Each change is in the file before its reply is written. All lines
+/// are answered, or those up to the first refused one where the rules say so, which is a fault
+/// then.
 ///
 /// The source gives what the file holds, which is loaded as far as lines count. A last line that
-/// was not finished is cut off, and standard error is told so; one that counts and lacks its line
+/// was not finished is cut off, and standard error is told so. One that counts and lacks its line
 /// feed gets it. A file with no line gets a head. All of it is on the disk before the first line is
 /// answered. A file with a bad line, or with a head of an older version, is left as it is.
 ///

@@ -1,7 +1,7 @@
 //! The command `serve`: answers request lines, and saves or keeps the journal. What the crate
 //! promises to those above: the lines are answered as the service does, from the object that the
-//! journal holds. The journal that is left is saved whole or not at all, and one that is kept has each
-//! change before its reply goes out.
+//! journal holds. The journal that is left is saved whole or not at all, and one that is kept has
+//! each change before its reply is written.
 #![tactic(auto)]
 
 mod in_folder;

@@ -129,7 +129,7 @@ fn serve_lines<R: Source, W: Sink, E: Sink>(
 /// the journal or from an empty one, under these limits. The journal is read whole before a line
 /// is. Where the journal is to be saved and all lines were answered, its text is answered too.
 ///
-/// All lines are answered, or those up to the first refused one where the rules say so: that is a
+/// All lines are answered, or those up to the first refused one where the rules say so. That is a
 /// fault then, and there is no journal to be saved.
 ///
 /// Where the service ends early, standard error is told in a line why, and the status says it.

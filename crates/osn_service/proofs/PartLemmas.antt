@@ -1,4 +1,4 @@
--- What stands where a write failed.
+-- Which replies are written whole, and where the object stands, where a write failed.
 use Rattle.std.proofs.Common.{◌≡◌, ◌≤◌, ◌<◌, ◌+◌, ◌⊎◌, ℕ, zero, suc, Bool, true, false, cond, List}
 use Rattle.std.proofs.Common.{[], ◌∷◌, ◌++◌, Option, length, take, fold, refl, sym, ap, subst, ◌∙◌}
 use Rattle.std.proofs.Common.{length-append, arith, ⊎_elim, inl, inr, add-one}
@@ -18,7 +18,7 @@ use Rattle.osn_service.specs.ServiceInside.{WritesSome, InPart}
 use Rattle.osn_service.proofs.WaitLemmas.{replies-append, length-ends, unchanged, Waits-all}
 use Rattle.osn_service.proofs.WaitLemmas.{Waits-at}
 
--- how many of the replies end within so many bytes
+-- how many of the replies end within this many bytes
 abbrev pub whole_in : List ℕ → ℕ → ℕ
 whole_in ends bytes = count_by (λ end. nat_le end bytes) ends
 
@@ -39,11 +39,11 @@ whole_no : (end : ℕ) (ends : List ℕ) (bytes : ℕ) → nat_le end bytes ≡ 
     whole_in (end ∷ ends) bytes ≡ whole_in ends bytes
 whole_no end ends bytes h = omega (arith, whole_cons end ends bytes false h)
 
--- what ends behind the bytes does not end within them
+-- what ends after the bytes does not end within them
 is_past : (end bytes : ℕ) → bytes < end → nat_le end bytes ≡ false
 is_past end bytes lt = ⊎_elim (λ k. absurd (omega (arith, k.1))) (λ k. k.0) (leb_tells end bytes)
 
--- no reply that begins behind the bytes ends within them
+-- no reply that begins after the bytes ends within them
 none_past : {S : Type 0} (text : S → List ℕ → List ℕ) (after : S → List ℕ → S) (from : ℕ) (s : S)
     (xs : List (List ℕ)) (bytes : ℕ) → bytes < from →
     whole_in (ends_from text after from s xs) bytes ≡ 0
@@ -88,7 +88,7 @@ Whole-none text after from s x xs bytes le lt = record {
   no_more = λ _. omega (arith, length-append (text s x) []);
 }
 
--- so many of them as are counted
+-- as many of them as are counted
 Whole-counted : {S : Type 0} (text : S → List ℕ → List ℕ) (after : S → List ℕ → S) (from : ℕ)
     (s : S) (xs : List (List ℕ)) (bytes : ℕ) → from ≤ bytes →
     Whole text after from s xs bytes (whole_in (ends_from text after from s xs) bytes)
@@ -127,7 +127,7 @@ reached_at after s (x ∷ xs) (suc j) h =
     ∙ sym (unchanged after (after s x) (take j xs)
     (ChangesNothing-take after (after s x) xs j h)))
 
--- some of the lines were answered whole, and so many not
+-- some of the lines were answered whole, and this many not
 pub record PartOf {S : Type 0} (text : S → List ℕ → List ℕ) (after : S → List ℕ → S) (begun now : S)
     (lines : List (List ℕ)) (old new : Option (List ℕ)) (unwritten : ℕ) : Type 0 where
   pub n : ℕ
@@ -192,7 +192,7 @@ PartOf-from {S} text after begun now lines a b c w unwritten h k =
       };
     }
 
--- the reply to the next line ends behind those before it
+-- the reply to the next line ends after those before it
 next_is_past : {S : Type 0} (text : S → List ℕ → List ℕ) (after : S → List ℕ → S) →
     ((s : S) (line : List ℕ) → 0 < length (text s line)) →
     (begun : S) (lines more : List (List ℕ)) (bytes n : ℕ) → n ≡ length lines →

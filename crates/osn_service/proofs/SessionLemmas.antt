@@ -1,4 +1,4 @@
--- How a session goes on.
+-- How a session goes on from one line to the next.
 use Rattle.std.proofs.Common.{◌≡◌, ◌<◌, ◌∙◌, ℕ, Bool, true, false, List, [], ◌∷◌, ◌++◌, length}
 use Rattle.std.proofs.Common.{Option, Some, Ok, Err, refl, sym, ap, subst}
 use Rattle.osn_core.specs.Sequential.{ObjectState}

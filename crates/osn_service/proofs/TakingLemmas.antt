@@ -71,7 +71,7 @@ IsNext-from all taken line n first next = record {
   more = take_next all n line next ∙ ap (λ l. l ++ line ∷ []) first;
 }
 
--- a write failed, and of the n lines that were taken so many replies are not written whole
+-- a write failed, and of the n lines that were taken this many replies are not written whole
 pub AnswersInPart-from : {rules : ServeRules} {begun now : Moment} {input : Option (List ℕ)}
     (n unwritten : ℕ) (taken : List (List ℕ)) → Failing rules begun taken now unwritten →
     n ≡ length taken → IfSome input (λ bytes. take n (lines bytes) ≡ taken) →

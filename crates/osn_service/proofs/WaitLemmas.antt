@@ -53,7 +53,7 @@ pub unchanged : {S : Type 0} (after : S → List ℕ → S) (s : S) (xs : List (
 unchanged after s [] h = refl
 unchanged after s (x ∷ xs) h = ap (λ v. fold after v xs) h.0 ∙ unchanged after s xs h.1
 
--- such a line behind lines of which only the first changes anything
+-- such a line after lines of which only the first changes anything
 ChangesFirst-append : {S : Type 0} (after : S → List ℕ → S) (s : S) (xs : List (List ℕ))
     (line : List ℕ) → ChangesFirst after s xs → after (fold after s xs) line ≡ fold after s xs →
     ChangesFirst after s (xs ++ line ∷ [])

@@ -24,8 +24,9 @@ abbrev pub MatchEnd : Result ℕ (Interrupted ServeFault) → (ℕ → Type 0) �
 MatchEnd (Ok n) All P Q R = All n
 MatchEnd (Err end) All P Q R = MatchFault end.cause (P end.lines) (Q end.lines) (R end.lines)
 
--- a fact of an end that an object by itself has too, one of the number of lines where the last of
--- them was refused and was to be the last, and one where a change was not kept
+-- a fact for each end. One is of an end that an object by itself has too. One is of the number of
+-- lines, where the last of them was refused and was to be the last. One is where a change was not
+-- kept
 abbrev pub MatchServed : Bool → (ℕ → Type 0) → (ℕ → Type 0) → ℕ → Type 0
 MatchServed false P Q n = P n
 MatchServed true P Q n = Q n
@@ -52,7 +53,7 @@ pub record HasReply (rules : ServeRules) (s : ObjectState) (lines : List (List �
   pub long : bytes ≤ length (line_text rules (after_lines rules s before) line)
 
 -- The reply to one of the lines, with the 65,535 bytes that may wait before it, has 4,294,967,295
--- bytes: a sink may take them in more writes than are made.
+-- bytes. A sink may take them in more writes than are made.
 abbrev pub HasLongReply : ServeRules → ObjectState → List (List ℕ) → Type 0
 HasLongReply rules s lines = HasReply rules s lines 4294901760
 

@@ -1,4 +1,4 @@
--- An input may be cut between its lines and answered in parts: what is written for one part after
+-- An input may be cut between its lines and answered in parts. What is written for one part after
 -- another is what is written for the whole.
 use Rattle.std.specs.Prelude.{◌≡◌, ◌⊎◌, ℕ, List, [], ◌∷◌, ◌++◌, Result, Ok, Err, ⊤}
 use Rattle.std.specs.List.{All, concat, flat_map}
@@ -41,9 +41,9 @@ HasChangedNothing (Replied reader reply) = ⊤
 abbrev pub input_outputs : ServeRules → ObjectState → List ℕ → List ℕ
 input_outputs rules s bytes = outputs rules s (lines bytes)
 
--- For the parts and the last one, one after another, is written what is written for each part from
--- the same object, in their order, and then for the last one; and the object is then what the last
--- one alone makes of it.
+-- For the parts and then the last one is written what is written for each part from the same
+-- object, in their order, and then for the last one. The object is then what the last one alone
+-- makes of it.
 pub record IsAnsweredInParts (rules : ServeRules) (s : ObjectState) (parts : List (List ℕ))
     (last : List ℕ) : Type 0 where
   pub written : input_outputs rules s (concat parts ++ last)

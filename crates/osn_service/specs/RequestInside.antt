@@ -1,4 +1,4 @@
--- What was read of a line.
+-- The object that was read of a line, or its fault.
 use Rattle.std.specs.Prelude.{◌≡◌, ℕ, List, Result, Ok, MatchResult}
 use Rattle.osn_request.specs.declared.request.line_object.LineObject.{LineObject}
 use Rattle.osn_request.specs.declared.request.RequestError.{RequestError}

@@ -19,16 +19,16 @@ use Rattle.osn_service.specs.Served.{StandsNear, after_lines}
 -- The lines of an input were answered by these rules from the object s, and the object is t then.
 pub record Serves (rules : ServeRules) (s t : ObjectState) (i : Input) (o : Output)
     (end : Result ℕ (Interrupted ServeFault)) : Type 0 where
-  -- Exactly the replies to all lines are written, and their number is answered. Ended early,
-  -- exactly those to the first lines are; or where a write failed a front of all replies, with
-  -- those to as many lines whole as are told.
+  -- Exactly the replies to all lines are written, and their number is answered. Where it ended
+  -- early, exactly those to the first lines are written. Where a write failed it is a front of all
+  -- replies, with those to as many lines whole as are told.
   pub written : IfSome i.bytes (λ bytes. MatchEnd end
       (WritesAll rules s o.old o.new (lines bytes))
       (WritesFirst rules s o.old o.new (lines bytes))
       (WritesFirst rules s o.old o.new (lines bytes))
       (WritesInPart rules s o.old o.new (lines bytes)))
-  -- The object stands after all lines. Ended early it stands after those; or where a write failed
-  -- after those or one more.
+  -- The object stands after all lines. Where it ended early, it stands after those. Where a write
+  -- failed, it stands after those or one more.
   pub object : IfSome i.bytes (λ bytes. MatchEnd end
       (λ _. StandsAfter rules s t (lines bytes))
       (StandsAt rules s t (lines bytes))
@@ -43,8 +43,9 @@ pub record Serves (rules : ServeRules) (s t : ObjectState) (i : Input) (o : Outp
   -- nowhere else, but maybe where a write failed.
   pub source : MatchEnd end (λ _. i.unread ≡ i.unread_before) (λ _. i.unread ≡ i.unread_before)
       (λ _. IsReadFault i.unread i.bytes) (λ _. ⊤)
-  -- The sink failed where a write fault says so, or may take the reply to one line, with those that
-  -- wait before it, in more writes than the 4,294,967,295 that are made, and nowhere else.
+  -- The sink failed where a write fault says so, or may take the reply to one line in more writes
+  -- than the 4,294,967,295 that are made, and nowhere else. Those that wait before it go with that
+  -- reply.
   pub sink : MatchEnd end (λ _. o.unwritten ≡ o.unwritten_before)
       (λ _. o.unwritten ≡ o.unwritten_before) (λ _. o.unwritten ≡ o.unwritten_before)
       (λ _. IsUnwritten rules s i.bytes o.unwritten)

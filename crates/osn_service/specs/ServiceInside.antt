@@ -29,7 +29,7 @@ abbrev pub ChangesFirst : {S : Type 0} → (S → List ℕ → S) → S → List
 ChangesFirst after s [] = Unit {0}
 ChangesFirst after s (line ∷ rest) = ChangesNothing after (after s line) rest
 
--- the lines were answered; the replies to the last of them wait, and of those lines only the first
+-- the lines were answered. The replies to the last of them wait, and of those lines only the first
 -- has changed anything
 pub record Waits {S : Type 0} (text : S → List ℕ → List ℕ) (after : S → List ℕ → S) (begun now : S)
     (lines : List (List ℕ)) (old new : Option (List ℕ)) (waiting : ReplyBuffer) : Type 0 where

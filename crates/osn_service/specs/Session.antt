@@ -19,7 +19,7 @@ use Rattle.osn_request.specs.Field.{◌>>=◌}
 use Rattle.osn_request.specs.Request.{request}
 use Rattle.osn_service.specs.declared.rules.ServeRules.{ServeRules}
 
--- edits are taken from so many readers' lines, and all lines are answered
+-- edits are taken from the lines of this many readers, and all lines are answered
 abbrev pub editing : ℕ → ServeRules
 editing readers = record { readers = readers; read_only = false; stop_at_refusal = false }
 

@@ -9,10 +9,10 @@ use osn_lines::{Sink, write_all};
 use osn_reply::{Outcome, push_reply};
 use std::alloc::{AllocError, Global};
 
-/// With so many bytes what waits is written.
+/// What waits is written once it has this many bytes.
 const FULL: usize = 65_536;
 
-/// Replies one behind another, and where each ends.
+/// Replies one after another, and where each ends.
 #[derive(Drop)]
 pub(crate) struct ReplyBuffer {
     pub(crate) text: Vec<u8>,
@@ -31,7 +31,7 @@ impl ReplyBuffer {
         }
     }
 
-    /// Whether so much waits that it is to be written.
+    /// Whether enough waits to be written.
     pub(crate) fn is_full(&self) -> bool
         ensures { result ≡ nat_le full (length self.now.text.items) }
     {

@@ -181,14 +181,14 @@ fn run<R: Source, W: Sink, S: Store>(
 /// Answers how many were answered.
 ///
 /// What is written is the text of each outcome of the sequential object run on the requests of the
-/// lines read, in order, and nothing else, in whatever pieces the bytes come. A line that is no
-/// request is told its fault and leaves the object. Replies wait until more is to be read, a line
-/// is to change the object, or 65,536 bytes of them wait. The reply to a change goes out only after
-/// the store has kept it.
+/// lines read, in order, and nothing else. The pieces in which the bytes come make no difference. A
+/// line that is no request is told its fault and leaves the object. Replies wait until more is to
+/// be read, a line is to change the object, or 65,536 bytes of them wait. The reply to a change is
+/// written only after the store has kept it.
 ///
 /// # Errors
 ///
-/// The number of lines whose reply was written whole, and why no more: `Serve` for what ends
+/// The number of lines whose reply was written whole, and why no more. It is `Serve` for what ends
 /// `serve_from` too, and `NotKept` where the store could not keep what the next line changed.
 pub fn serve_store<R: Source, W: Sink, S: Store>(
     alloc: Global,
@@ -225,8 +225,8 @@ pub fn serve_store<R: Source, W: Sink, S: Store>(
 ///
 /// # Errors
 ///
-/// The number of lines whose reply was written whole, and why no more: `NoMemory` where memory ran
-/// out, `ReadFault` where the source failed or gave no end within 4,294,967,295 reads, `WriteFault`
+/// The number of lines whose reply was written whole, and why no more. `NoMemory` where memory ran
+/// out. `ReadFault` where the source failed or gave no end within 4,294,967,295 reads. `WriteFault`
 /// where the sink failed or did not take a text within as many writes. The object stands after
 /// those lines, or after a failed write one line further.
 #[tactic(auto, using(crate::proofs::LawLemmas::each_input_may_be_cut))]
@@ -256,7 +256,7 @@ pub fn serve_from<R: Source, W: Sink>(
 ///
 /// # Errors
 ///
-/// As `serve_from`. The object is gone then, so what is sent again has to begin with the first
+/// As `serve_from`. The object is dropped then, so what is sent again has to begin with the first
 /// line.
 pub fn serve<R: Source, W: Sink>(
     alloc: Global,
@@ -265,7 +265,7 @@ pub fn serve<R: Source, W: Sink>(
     source: &mut R,
     sink: &mut W,
 ) -> Result<u64, Interrupted<ServeFault>>
-    // Of an object that is gone then.
+    // Of an object that is dropped then.
     ensures { (object : ObjectState) × Serves (editing readers) (opened limits) object
         (input_of R.remaining R.has_failed source.old source.new)
         (output_of W.contents W.has_failed W.holds_back sink.old sink.new) result }

@@ -123,8 +123,8 @@ fn request_in<'a>(
     }
 }
 
-/// Answers what was read of a line: adds the reply to its request, or to its first fault, which
-/// leaves the object. Answers whether it was refused.
+/// Answers a line by its object: adds the reply to its request, or to its first fault, which leaves
+/// the object. Answers whether it was refused.
 fn answer_read<W: Sink, S: Store>(
     alloc: Global,
     rules: ServeRules,
@@ -149,8 +149,8 @@ fn answer_read<W: Sink, S: Store>(
     }
 }
 
-/// Answers a line, as `answer_read`. What was read of it lives until the reply is made, so that a
-/// query borrows from it.
+/// Answers a line, as `answer_read`. Its object is kept until the reply is made, since a query
+/// borrows from it.
 fn answer<W: Sink, S: Store>(
     alloc: Global,
     scratch: &mut Scratch,
@@ -171,7 +171,7 @@ fn answer<W: Sink, S: Store>(
     answer_read(alloc, rules, store, sink, waiting, &read)
 }
 
-/// Writes what waits where it is so much that it is to be written, so that less waits then.
+/// Writes what waits where enough waits to be written, so that less waits then.
 fn make_room<W: Sink>(sink: &mut W, waiting: &mut ReplyBuffer) -> Result<(), UnwrittenReplies>
     ensures ok { OnOk result
         (Settles (W.contents sink.old) (W.contents sink.new) waiting.old waiting.new) }

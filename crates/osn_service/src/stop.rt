@@ -2,7 +2,7 @@
 use crate::store::StoreFault;
 use std::alloc::AllocError;
 
-/// A write of the replies that wait failed, and so many of them are not written whole.
+/// A write of the replies that wait failed, and this many of them are not written whole.
 #[derive(Clone, Copy)]
 pub(crate) struct UnwrittenReplies {
     pub(crate) unwritten: u64,

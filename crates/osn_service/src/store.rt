@@ -25,7 +25,7 @@ pub enum Change {
 }
 
 impl Change {
-    /// What is told of a change by which so many edits are pending, or so many editions there are.
+    /// What is told of a change, by the number of pending edits or of editions after it.
     pub(crate) fn outcome(&self, number: u32) -> Outcome
         ensures { result ≡ spec.outcome self.now number }
     {
@@ -87,7 +87,7 @@ pub trait Store {
     ///
     /// # Errors
     ///
-    /// `NoMemory` where none is found, and nothing has changed then; `NotKept` where the change was
+    /// `NoMemory` where none is found, and nothing has changed then. `NotKept` where the change was
     /// made and could not be kept.
     fn make(&mut self, change: Change) -> Result<(), StoreFault<Self::Fault>>
         requires { change_refusal (state self.old) change ≡ None }
@@ -112,7 +112,7 @@ pub trait Store {
             (state self.now).batches (as_query query.entry)).answer ≡ true) };
 }
 
-/// An object by itself is kept nowhere, so nothing of it fails to be.
+/// An object by itself is kept nowhere, so no change of it fails to be kept.
 impl Store for Object {
     ghost use Rattle.std.specs.Prelude.{⊤};
 

@@ -1,4 +1,4 @@
-//! Transcripts held against journals, and the lines of a transcript.
+//! Transcripts compared with journals, and the lines of a transcript.
 use crate::compare::same;
 use osn_core::Object;
 use osn_register::{Limits, Query};
@@ -8,7 +8,7 @@ use std::alloc::Global;
 use std::process::Abort;
 use std::test::Fail;
 
-/// A journal of one edition, behind which an edit is pending.
+/// A journal of one edition, after which an edit is pending.
 const JOURNAL: &str = r#"{"journal":1}
 {"op":"add_land","code":"RM","name":"Rome","calendar":"julian","style":"january","rule":"julian"}
 {"op":"publish"}
@@ -176,7 +176,7 @@ fn audits_end_so(rt: HostRuntime) -> Result<(), Fail> {
     Ok(())
 }
 
-/// The journal is held to its own rules first.
+/// The journal is tested by its own rules first.
 #[test]
 fn a_journal_is_refused_first(rt: HostRuntime) -> Result<(), Fail> {
     let alloc = rt.alloc();

@@ -6,7 +6,7 @@ use std::alloc::{AllocError, Global};
 use std::process::Abort;
 use std::test::Fail;
 
-/// Lines, the first of them behind a byte order mark, the last without its line feed.
+/// Lines, the first of them after a byte order mark, the last without its line feed.
 const HOSTILE: &[u8] = b"\xef\xbb\xbf[1]\n\n\n\xff\n{\"op\":\"publish\",\"x\":\"\xc3\"}\n\
 {\"op\":\"publish\",\"x\":\"\0\"}\n\0\n[1]\r\n\
 \t{\"op\":\"lands\",\r\"reader\":8,\"x\":0}";
@@ -22,7 +22,7 @@ const TOLD: &str = r#"{"fault":32,"name":"NotJson"}
 {"answer":{"lands":[]},"edition":0,"reader":8}
 "#;
 
-/// That so many lines are told this, by eight readers.
+/// That this many lines are told this, by eight readers.
 fn are_told(
     rt: &impl Abort,
     alloc: Global,
@@ -40,7 +40,7 @@ fn hostile_bytes(rt: HostRuntime) -> Result<(), Fail> {
     are_told(&rt, rt.alloc(), HOSTILE, TOLD, 9)
 }
 
-/// A query for the territories of so many bytes, with or without its line feed.
+/// A query for the territories, of this many bytes, with or without its line feed.
 fn line_of(alloc: Global, length: usize, feeds: bool) -> Result<Vec<u8>, AllocError> {
     let mut line = Vec::from_slice(alloc, br#"{"op":"lands","reader":1,"x":""#)?;
     line.resize(length.saturating_sub(2), b'a')?;

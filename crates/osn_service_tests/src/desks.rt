@@ -53,7 +53,7 @@ const SCRIPT: [&str; 3] = [ROME, r#"{"op":"publish"}"#, r#"{"op":"publish"}"#];
 
 pub type Told = Result<Vec<Vec<Reply>>, DeskFault>;
 
-/// What a desk of so many readers is told, who ask so many questions each.
+/// What a desk of this many readers is told, who ask this many questions each.
 pub fn desk<R: Threads + Wait, G: Gate + Sync>(
     rt: &R,
     alloc: Global,

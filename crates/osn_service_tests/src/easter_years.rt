@@ -71,8 +71,8 @@ const SHORT: &str = r#"
   "edition":2,"reader":1}
 "#;
 
-/// What no territory takes is refused behind what is wrong with the territory, the name and the
-/// day, and before what there is no room for: one change is taken.
+/// What no territory takes is refused after what is wrong with the territory, the name and the day,
+/// and before what there is no room for. One change is taken.
 const UNTAKEN: &str = r#"
 {"op":"add_land","code":"FR","name":"Sample FR","calendar":"julian","style":"easter",
   "rule":"julian"}

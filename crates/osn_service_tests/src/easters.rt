@@ -101,7 +101,7 @@ const LISTED: &str = r#"
   "reader":1}
 "#;
 
-/// The first and the last year, listed on any day of the line; changes of regime leave exceptions
+/// The first and the last year, listed on any day of the line. Changes of regime leave exceptions
 /// as they are.
 const EDGES: &str = r#"
 {"op":"add_land","code":"DE","name":"Sample DE","calendar":"gregorian","style":"january",

@@ -1,5 +1,5 @@
 //! A source and a sink of the tests' own. Nobody knows their bytes beforehand, they give and take
-//! few bytes a call, and a call that is chosen fails, and each call behind it.
+//! few bytes a call, and a call that is chosen fails, and each call after it.
 ghost use Rattle.std.specs.Prelude.{None};
 
 use osn_lines::{ReadFailed, Sink, Source, WriteFailed};
@@ -21,7 +21,7 @@ impl Course {
         }
     }
 
-    /// How many of so many bytes are given before a call fails.
+    /// How many of this many bytes are given before a call fails.
     pub fn given(self, length: usize) -> usize {
         self.step.saturating_mul(self.sound).min(length)
     }
@@ -38,7 +38,7 @@ impl Course {
     }
 }
 
-/// How many reads it takes to the end of so many bytes, that of the end too.
+/// How many reads it takes to the end of this many bytes, that of the end too.
 pub fn reads_of(length: usize, step: usize) -> usize {
     length.div_ceil(step.max(1)).saturating_add(1)
 }

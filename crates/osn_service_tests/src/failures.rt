@@ -49,22 +49,22 @@ fn session(alloc: Global, keeps: bool, source: &mut FailingSource, sink: &mut Fa
     }
 }
 
-/// What there is behind so many lines.
+/// What there is after this many lines.
 fn behind(lines: usize) -> (usize, usize, (usize, usize)) {
     *LINES.get(lines).unwrap_or(&LINES[3])
 }
 
-/// How many lines are whole in so many bytes of the input.
+/// How many lines are whole in this many bytes of the input.
 fn lines_in(given: usize) -> usize {
     LINES[1..].iter().filter(|line| line.0 <= given).count()
 }
 
-/// How many replies are whole in so many bytes of them.
+/// How many replies are whole in this many bytes of them.
 fn replies_in(taken: usize) -> usize {
     LINES[1..].iter().filter(|line| line.1 <= taken).count()
 }
 
-/// That reading fails behind so many reads, and the lines before that are answered whole: their
+/// That reading fails after this many reads, and the lines before that are answered whole: their
 /// replies are written, and passed on before the read.
 fn fails_in_reading(rt: &impl Abort, alloc: Global, keeps: bool, course: Course, step: usize) {
     let mut source = FailingSource::new(READ.as_bytes(), course);
@@ -122,8 +122,8 @@ fn goes_well(rt: &impl Abort, alloc: Global, keeps: bool, read_step: usize, step
     sink.calls()
 }
 
-/// That writing or passing on fails behind so many calls of the sink, after which there is none:
-/// the replies are counted that were taken whole, and the object is at most one line further.
+/// That writing or passing on fails after this many calls of the sink, and the sink is called no
+/// more. The replies are counted that were taken whole, and the object is at most one line further.
 fn fails_in_writing(rt: &impl Abort, alloc: Global, keeps: bool, read_step: usize, course: Course) {
     let mut source = FailingSource::new(READ.as_bytes(), Course::sound(read_step));
     let mut sink = FailingSink::new(alloc, course);

@@ -3,8 +3,8 @@ use crate::session::serves;
 use osn_register::Limits;
 use std::test::Fail;
 
-/// 1954 has the epact 25 with its prime, 1753 without; 1818 has the earliest Easter and 1943 the
-/// latest; 2006 has the star.
+/// 1954 has the epact 25 with its prime, 1753 without. 1818 has the earliest Easter and 1943 the
+/// latest. 2006 has the star.
 const YEARS: &str = r#"
 {"op":"figures","reader":1,"year":1}
 {"answer":{"golden":2,"gregorian":{"easter":91,"epact":"19","letters":"G"},"indiction":4,

@@ -66,7 +66,7 @@ const TRANSCRIPT: &str = concat!(
 );
 
 /// Files, each by its role, how it ends where no read fails, and how many bytes are to come before
-/// it ends so: a file that is read has to end, and one that is refused needs its first bad line.
+/// it ends so. A file that is read has to end, and one that is refused needs its first bad line.
 const FILES: [(Role, &str, End, usize); 9] = [
     (Role::Journal, JOURNAL, End::Read, usize::MAX),
     (Role::Script, JOURNAL, End::Read, usize::MAX),
@@ -99,7 +99,7 @@ const FILES: [(Role, &str, End, usize); 9] = [
     ),
 ];
 
-/// That the file ends so where so many reads go well.
+/// That the file ends so where this many reads go well.
 fn ends(rt: &impl Abort, alloc: Global, file: (Role, &str), course: Course, wanted: End) {
     let (role, text) = file;
     let mut source = FailingSource::new(text.as_bytes(), course);
@@ -139,7 +139,7 @@ fn each_read_of_a_file_fails_in_turn(rt: HostRuntime) {
     fail_at_each_read(&rt, rt.alloc(), &FILES);
 }
 
-/// That an audit whose journal fails behind so many reads says so, and reads nothing of the
+/// That an audit whose journal fails after this many reads says so, and reads nothing of the
 /// transcript.
 fn audit_fails(rt: &impl Abort, alloc: Global, course: Course) {
     let mut journal = FailingSource::new(JOURNAL.as_bytes(), course);

@@ -1,4 +1,4 @@
-//! What the gate of a desk is told: whom, of which item, ahead of it and behind it, in order; and
+//! What the gate of a desk is told: of whom, of which item, before it and after it, in order. Also
 //! a gate that is closed to each item in turn.
 use crate::compare::same;
 use crate::desks::desk;
@@ -18,8 +18,8 @@ const QUESTIONS: u32 = 3;
 
 const COMMANDS: usize = 3;
 
-/// A call of a gate as a number, which is never zero: whom, of which item, and 0 ahead of it or 1
-/// behind it.
+/// A call of a gate as a number, which is never zero: of whom, of which item, and 0 before it or 1
+/// after it.
 fn call(who: u32, index: usize, side: u64) -> u64 {
     let item = (index as u64).saturating_mul(2).saturating_add(side);
     (who as u64)
@@ -85,8 +85,8 @@ impl Gate for Noting {
     }
 }
 
-/// The calls that are due of one who has so many items: two of each, and behind the first call of
-/// the item that the gate is closed to there is none.
+/// The calls that are due of one who has this many items: two of each item. After the first call of
+/// the item that the gate is closed to there are no more.
 fn due(
     alloc: Global,
     who: u32,

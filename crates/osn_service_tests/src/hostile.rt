@@ -1,5 +1,5 @@
 //! One worked session, cut anywhere, with reads that fail inside a line, and over a writer that
-//! takes one byte a call; and lines of deep lists.
+//! takes one byte a call. Also lines of deep lists.
 use crate::compare::same;
 use crate::failing::{Course, FailingSink, FailingSource};
 use crate::session::served;
@@ -32,7 +32,7 @@ fn lines_of_deep_lists(rt: HostRuntime) -> Result<(), Fail> {
     are_deep(&rt, rt.alloc(), &DEEP)
 }
 
-/// The lines end behind 98, 115 and 183 bytes.
+/// The lines end after 98, 115 and 183 bytes.
 const READ: &str = concat!(
     r#"{"op":"add_land","code":"RM","name":"Rome","calendar":"julian","#,
     r#""style":"january","rule":"julian"}
@@ -41,7 +41,7 @@ const READ: &str = concat!(
 "#
 );
 
-/// The replies end behind 28, 59 and 259 bytes.
+/// The replies end after 28, 59 and 259 bytes.
 const WRITTEN: &str = concat!(
     r#"{"ok":"staged","pending":1}
 {"edition":1,"ok":"published"}
@@ -51,8 +51,8 @@ const WRITTEN: &str = concat!(
 "#
 );
 
-/// How many bytes of the input are read, from a number up to another one; how many bytes of the
-/// replies are written then, and whether a line that was cut is told of behind them.
+/// How many bytes of the input are read, from a number up to another one. Then how many bytes of
+/// the replies are written, and whether a reply to a line that was cut follows them.
 const CUTS: [(usize, usize, usize, bool); 7] = [
     (0, 1, 0, false),
     (1, 97, 0, true),
@@ -63,7 +63,7 @@ const CUTS: [(usize, usize, usize, bool); 7] = [
     (182, 184, 259, false),
 ];
 
-/// So many bytes of the replies, and what is told of a line that was cut.
+/// The first bytes of the replies, this many, and the reply to a line that was cut.
 fn replies(alloc: Global, count: usize, is_cut: bool) -> Result<Vec<u8>, AllocError> {
     let whole = WRITTEN.as_bytes().get(..count).unwrap_or_default();
     let mut replies = Vec::from_slice(alloc, whole)?;
@@ -98,8 +98,8 @@ fn each_cut_of_a_session(rt: HostRuntime) -> Result<(), Fail> {
     are_cut(&rt, rt.alloc(), &CUTS)
 }
 
-/// How many bytes of the input are read, and how many reads go well; how the session ends, and how
-/// many bytes of the replies are written.
+/// How many bytes of the input are read, and how many reads go well. Then how the session ends, and
+/// how many bytes of the replies are written.
 const ENDINGS: [(usize, usize, &str, usize); 3] = [
     (
         116,

@@ -1,4 +1,4 @@
-//! Journals: what is written of an object, what is loaded from lines, and what is refused.
+//! Journals: the text of an object, the object that lines load, and the lines that are refused.
 use crate::compare::same;
 use osn_core::Object;
 use osn_register::Limits;
@@ -59,9 +59,9 @@ const FRANCE: &str = r#"{"journal":2}
 /// Texts that are written as they were loaded: pending edits stay pending, and batches stay apart.
 const KEPT: [&str; 5] = ["{\"journal\":2}\n", ROME, BRITAIN, SWEDEN, FRANCE];
 
-/// Other texts, and the journal of what is loaded from each: version 1, which is written as
-/// version 2, members in any order, others passed over, the last one of a name taken, and a last
-/// line without its line feed.
+/// Other texts, and the journal of what is loaded from each. They are version 1, which is written
+/// as version 2, and members in any order. Others are passed over, and the last one of a name is
+/// taken. A last line lacks its line feed.
 const TAKEN: [(&str, &str); 6] = [
     (FIRST_ROME, ROME),
     ("{\"journal\":1}\n", "{\"journal\":2}\n"),
@@ -222,7 +222,7 @@ fn refused_journals(rt: HostRuntime) -> Result<(), Fail> {
     give(&rt, rt.alloc(), &REFUSED)
 }
 
-/// A line that is one byte too long, as the head or behind one.
+/// A line that is one byte too long, as the head or after one.
 fn long_line(alloc: Global, head: &str) -> Result<Vec<u8>, AllocError> {
     let mut bytes = Vec::new(alloc);
     bytes.extend_from_slice(head.as_bytes())?;
@@ -273,7 +273,7 @@ impl Read for Failing {
 }
 
 /// Where the source fails, and what comes of it. The head has 14 bytes with its line feed, and the
-/// edit behind it 98.
+/// edit after it 98.
 const FAILURES: [(usize, &str); 7] = [
     (0, "read fault"),
     (13, "read fault"),

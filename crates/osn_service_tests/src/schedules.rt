@@ -38,7 +38,7 @@ const AGAIN: &str = r#"
 {"out":"moved"}
 "#;
 
-/// A reader that has entered holds up the claim, and is told what it entered with.
+/// A reader that has entered delays the claim, and is told what it entered with.
 const DRAINS: &str = r#"
 {"step":"stage","op":"add_land","code":"RM","name":"Rome","calendar":"julian",
   "style":"january","rule":"julian"}
@@ -108,7 +108,7 @@ const TWICE: &str = r#"
   "edition":2,"reader":1}
 "#;
 
-/// Two readers, one in each side. Reader 3 is none of them.
+/// Two readers, one in each side. There is no reader 3.
 const TWO: &str = r#"
 {"step":"look","op":"lands","reader":1}
 {"out":"moved"}
@@ -270,7 +270,7 @@ fn lands_of(alloc: Global, register: &Register) -> Result<String, Fail> {
     Ok(reply_text(alloc, &Outcome::Replied { reader: 1, reply })?)
 }
 
-/// What the two sides show of the territories after so many steps.
+/// What the two sides show of the territories after this many steps.
 fn sides(
     rt: &impl Abort,
     alloc: Global,
@@ -319,7 +319,7 @@ fn moves(alloc: Global, reader: u32) -> Result<bool, Fail> {
     Ok(matches!(out, Out::Moved))
 }
 
-/// What a core and a replay of so many readers are refused by.
+/// What a core and a replay of this many readers are refused by.
 fn refused(alloc: Global, readers: u32) -> (Option<Refusal>, Option<Refusal>) {
     let limits = Limits::standard();
     let made = Core::new(alloc, limits, readers).err();

@@ -1,4 +1,4 @@
-//! Sessions of the service over memory, written as what is read and what is written.
+//! Sessions of the service over memory, each written as its input and its output.
 use crate::compare::same;
 use osn_lines::Plain;
 use osn_register::Limits;
@@ -8,7 +8,7 @@ use std::alloc::Global;
 use std::process::Abort;
 use std::test::Fail;
 
-/// What is written for some bytes, and the number of lines.
+/// The output for some bytes of input, and the number of lines.
 pub fn served(
     alloc: Global,
     limits: Limits,
@@ -21,7 +21,7 @@ pub fn served(
     Ok((sink.into_inner(), lines))
 }
 
-/// That what was written is these replies, line by line, and that as many lines were answered.
+/// That the output is these replies, line by line, and that as many lines were answered.
 pub fn are_replies(rt: &impl Abort, written: &[u8], lines: u64, replies: &str) -> Result<(), Fail> {
     let text = str::from_utf8(written)?;
     for (place, (got, wanted)) in text.lines().zip(replies.lines()).enumerate() {

@@ -79,7 +79,7 @@ fn an_object_that_stands_goes_on(rt: HostRuntime) -> Result<(), Fail> {
     all_go_on(&rt, rt.alloc(), &mut object, &STREAMS)
 }
 
-/// Queries before and behind an edit and a publish.
+/// Queries before and after an edit and a publish.
 const MIXED: &str = r#"
 {"op":"lands","reader":1}
 {"answer":{"lands":[]},"edition":0,"reader":1}
@@ -94,7 +94,7 @@ const MIXED: &str = r#"
 "#;
 
 /// Where writing fails, how many lines were answered whole then, and the pending edits and the
-/// editions of the object. The replies end behind 47, 75, 122, 153 and 227 bytes. What waits is
+/// editions of the object. The replies end after 47, 75, 122, 153 and 227 bytes. What waits is
 /// written before the edit, and again before the publish.
 const STOPPED: [(usize, u64, usize, usize); 9] = [
     (0, 0, 0, 0),
@@ -126,8 +126,8 @@ fn lines_before<W: Sink>(
     }
 }
 
-/// The same where writing fails behind so many bytes, and the pending edits and the editions of the
-/// object then.
+/// The same where writing fails after this many bytes, and the pending edits and the editions of
+/// the object then.
 fn stopped(
     alloc: Global,
     input: &[u8],

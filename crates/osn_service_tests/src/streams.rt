@@ -34,7 +34,7 @@ impl Notes {
     }
 }
 
-/// Gives at most so many bytes a read, and fails at a place.
+/// Gives at most this many bytes a read, and fails at a place.
 #[derive(Drop)]
 struct Pieces {
     bytes: Vec<u8>,
@@ -58,7 +58,7 @@ impl Read for Pieces {
     }
 }
 
-/// Takes at most so many bytes a write, and fails once it has so many.
+/// Takes at most this many bytes a write, and fails once it has a given number.
 #[derive(Drop)]
 pub struct Bounded {
     bytes: Vec<u8>,
@@ -173,7 +173,7 @@ fn tried(alloc: Global, input: &[u8], plan: Plan) -> Result<Outcome, AllocError>
     })
 }
 
-/// A session of Rome. Its lines end behind 98, 115 and 141 bytes.
+/// A session of Rome. Its lines end after 98, 115 and 141 bytes.
 pub const READ: &str = concat!(
     r#"{"op":"add_land","code":"RM","name":"Rome","calendar":"julian","#,
     r#""style":"january","rule":"julian"}
@@ -182,7 +182,7 @@ pub const READ: &str = concat!(
 "#
 );
 
-/// What is written for it. The replies end behind 28, 59 and 133 bytes.
+/// What is written for it. The replies end after 28, 59 and 133 bytes.
 pub const WRITTEN: &str = r#"{"ok":"staged","pending":1}
 {"edition":1,"ok":"published"}
 {"answer":{"lands":[{"code":"RM","name":"Rome"}]},"edition":1,"reader":1}
@@ -191,7 +191,7 @@ pub const WRITTEN: &str = r#"{"ok":"staged","pending":1}
 /// What is told of a line that is no JSON.
 const NOT_JSON: &str = "{\"fault\":32,\"name\":\"NotJson\"}\n";
 
-/// What is read, what is written for it, and the number of lines.
+/// The input, the output for it, and the number of lines.
 const ANSWERED: [(&str, &str, u64); 3] = [("", "", 0), ("\n", NOT_JSON, 1), (READ, WRITTEN, 3)];
 
 fn are_answered(
@@ -217,8 +217,8 @@ fn bytes_in_any_pieces(rt: HostRuntime) -> Result<(), Fail> {
     Ok(())
 }
 
-/// How many bytes of the input are read, from a number up to another one; how many bytes of the
-/// replies are written then, and whether a line that was cut is told of behind them. A line whose
+/// How many bytes of the input are read, from a number up to another one. Then how many bytes of
+/// the replies are written, and whether a reply to a line that was cut follows them. A line whose
 /// line feed alone is missing is whole.
 const STARTS: [(usize, usize, usize, bool); 7] = [
     (0, 1, 0, false),
@@ -230,13 +230,13 @@ const STARTS: [(usize, usize, usize, bool); 7] = [
     (140, 142, 133, false),
 ];
 
-/// What is written for so many bytes of the input.
+/// What is written for this many bytes of the input.
 fn written_for(alloc: Global, count: usize) -> Result<Vec<u8>, AllocError> {
     let input = READ.as_bytes().get(..count).unwrap_or_default();
     Ok(tried(alloc, input, WHOLE)?.text)
 }
 
-/// So many bytes of the replies, and what is told of a line that was cut.
+/// The first bytes of the replies, this many, and the reply to a line that was cut.
 fn replies(alloc: Global, count: usize, is_cut: bool) -> Result<Vec<u8>, AllocError> {
     let whole = WRITTEN.as_bytes().get(..count).unwrap_or_default();
     let mut replies = Vec::from_slice(alloc, whole)?;
@@ -276,7 +276,7 @@ fn replies_are_written_together_and_before_the_next_read(rt: HostRuntime) -> Res
     Ok(())
 }
 
-/// The text so many times.
+/// The text this many times.
 fn repeated(alloc: Global, text: &str, count: usize) -> Result<Vec<u8>, AllocError> {
     let mut whole = Vec::new(alloc);
     for _time in 0..count {
@@ -286,7 +286,7 @@ fn repeated(alloc: Global, text: &str, count: usize) -> Result<Vec<u8>, AllocErr
 }
 
 /// One read gives all of these lines. The reply to each has 30 bytes, so that 65,536 bytes of them
-/// wait behind the first 2,185, and then behind the next 2,185.
+/// wait after the first 2,185, and then after the next 2,185.
 #[test]
 fn many_replies_to_one_read_are_written_in_parts(rt: HostRuntime) -> Result<(), AllocError> {
     let lines = repeated(rt.alloc(), "\n", 5_000)?;
@@ -383,7 +383,7 @@ fn a_failed_flush_is_a_failed_write(rt: HostRuntime) -> Result<(), Fail> {
     Ok(())
 }
 
-/// A sink that takes so many bytes a write, and fails once it has so many.
+/// A sink that takes at most this many bytes a write, and fails once it has a given number.
 pub fn sink_that_fails(
     alloc: Global,
     step: usize,

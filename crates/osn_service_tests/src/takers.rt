@@ -17,7 +17,7 @@ enum Why {
     Read,
 }
 
-/// Takes lines up to one that says "stop", and waits for so many reads.
+/// Takes lines up to one that says "stop", and waits for a number of reads.
 #[derive(Drop)]
 struct Patient {
     taken: u64,

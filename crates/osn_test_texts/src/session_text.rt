@@ -11,8 +11,8 @@ const ENDS: [(&str, &str); 5] = [
     ("LABEL_PAST", "10001"),
 ];
 
-/// A text with its broken lines whole again, what begins with two spaces being the rest of the line
-/// before, and with the ends of the line as numbers. A line that has spaces of its own in front
+/// A text with its broken lines whole again, and with the ends of the line as numbers. What begins
+/// with two spaces is the rest of the line before. A line that has spaces of its own in front
 /// begins with `MARGIN`.
 pub fn joined(alloc: Global, text: &str) -> Result<String, AllocError> {
     let mut whole = text.replace(alloc, "\n  ", "")?;
@@ -50,8 +50,8 @@ fn take_apart(
     Ok(())
 }
 
-/// A session's requests and replies apart, a line feed behind each. Every second line of a session
-/// is a reply. Empty lines, and remarks behind a number sign, are passed over.
+/// A session's requests and replies apart, a line feed after each. Every second line of a session
+/// is a reply. Empty lines, and remarks after a number sign, are passed over.
 pub fn apart(alloc: Global, session: &str) -> Result<(String, String), AllocError> {
     let text = joined(alloc, session)?;
     let mut requests = String::new(alloc);

@@ -1,4 +1,4 @@
--- The dual text of a day is a written date, with the name of a weekday before it or without: each
+-- The dual text of a day is a written date, with the name of a weekday before it or without. Each
 -- part of it is found, and is a number, a month or a weekday.
 use Rattle.std.proofs.Common.{◌≡◌, ◌≤◌, ◌<◌, ℕ, ◌^◌, Bool, true, false, not, ◌&&◌, ◌==◌, inl, inr}
 use Rattle.std.proofs.Common.{if◌then◌else◌, List, [], ◌∷◌, ◌++◌, length, Some, None, refl}

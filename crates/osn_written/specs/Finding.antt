@@ -71,13 +71,13 @@ reason_of p t e spans.OffTheLine = OffTheLine
 
 -- ---- the days
 
--- one run, or why there is none
+-- one run, or why no day is meant
 abbrev pub of_span : Profile → TerritoryModel → Extent → Result Run NoSpan
     → Result (List Run) NoDay
 of_span p t e (Ok run) = Ok (run ∷ [])
 of_span p t e (Err no_span) = Err (reason_of p t e no_span)
 
--- runs, or a reason where there is none
+-- runs, or a reason where there are no runs
 abbrev pub unless_none : List Run → NoDay → Result (List Run) NoDay
 unless_none [] reason = Err reason
 unless_none (r ∷ rs) reason = Ok (r ∷ rs)
@@ -110,8 +110,8 @@ list_of = result_map_both (λ runs. runs.items) (λ reason. reason)
 abbrev pub new_style : Regime
 new_style = record { calendar = Calendar.Gregorian; style = Style.January; rule = Easter.Gregorian }
 
--- the territory as if it had gone by the calendar that a date names: by the old style the Julian
--- one, with its own beginnings of the year
+-- the territory as if it had gone by the calendar that a date names. By the old style that is the
+-- Julian one, with its own beginnings of the year
 abbrev pub by_reckoning : TerritoryModel → Reckoning → TerritoryModel
 by_reckoning t OldStyle = in_julian_calendar t
 by_reckoning t NewStyle = opened new_style

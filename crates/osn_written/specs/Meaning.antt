@@ -31,13 +31,13 @@ abbrev pub read_in_later_year : Profile → TerritoryModel → WrittenDate → L
 read_in_later_year p t w label =
     filter (λ d. is_of_later_year w (dated_on p t d)) (reading p t label)
 
--- of a double date, the days that the territory counted double: the year by its style is the first
+-- of a double date, the days that the territory counted double. The year by its style is the first
 -- year, and the year counted from 1 January is the later one
 abbrev pub counted_double : Profile → TerritoryModel → WrittenDate → List ℕ
 counted_double p t w = read_in_later_year p t w (label_of w)
 
 -- of a double date before 25 March, the days on which the territory's own year was the later one
--- too, as where it counted from 1 January, so that it wrote that year alone
+-- too, as where it counted from 1 January. It wrote that year alone then
 abbrev pub not_counted_double : Profile → TerritoryModel → WrittenDate → List ℕ
 not_counted_double p t w =
     if is_before_25_march w.month w.day then read_in_later_year p t w (later_label w) else []

@@ -53,12 +53,12 @@ if_plain qualified (Err fault) = Err fault
 abbrev pub plain_day : AnyDate → Result WrittenDate DateFault
 plain_day w = if_plain (has_qualifier w) (day_in w.extent w.weekday)
 
--- the date of one day that was read, or why there is none
+-- the date of one day that was read, or why no such date was read
 abbrev pub day_read : Result Written FormFault → Result WrittenDate DateFault
 day_read (Ok (say.Date w)) = plain_day w
 day_read (Ok say.NoDate) = Err faults.NoDate
 day_read (Err fault) = Err (fault_of fault)
 
--- the date of one day that a text is in one of the grammar's forms, or why it is none
+-- the date of one day that a text is in one of the grammar's forms, or why it is no such date
 unfoldable pub other_date : List ℕ → Result WrittenDate DateFault
 other_date text = day_read (written Unknown text)

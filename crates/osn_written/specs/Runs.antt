@@ -29,7 +29,7 @@ has_month_and_day (Day year month day) label = (label.month == month) && (label.
 has_month_and_day (Month year month) label = label.month == month
 has_month_and_day (Year year) label = true
 
--- the day is of the double year that begins with this one: its year counted from 1 January is the
+-- the day is of the double year that begins with this one. Its year counted from 1 January is the
 -- later one, and the year of its label is the first one. From 1 January to 24 March that may be the
 -- later one too, where the territory wrote the later year alone
 abbrev pub is_in_double_year : ℕ → DatedDay → Bool
@@ -55,7 +55,7 @@ all_meant p t date = filter (λ d. is_meant date (dated_on p t d)) (line p)
 
 -- ---- their runs
 
--- a run and days after it: a day that follows the run at once is one more of it, and any other one
+-- a run and days after it. A day that follows the run at once is one more of it, and any other one
 -- begins the next run
 abbrev pub runs_from : Run → List ℕ → List Run
 runs_from run [] = run ∷ []

@@ -36,7 +36,7 @@ abbrev pub form_said : Result Written FormFault → Result Written DateFault
 form_said (Ok said) = Ok said
 form_said (Err fault) = Err (fault_of fault)
 
--- what is said in another form. Where there is none, the fault of the usual forms
+-- what is said in another form. Where nothing is said so, the fault of the usual forms
 abbrev pub else_said : DateFault → Result Written DateFault → Result Written DateFault
 else_said fault (Err faults.Malformed) = Err fault
 else_said fault said = said

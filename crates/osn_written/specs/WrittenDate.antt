@@ -150,7 +150,7 @@ abbrev pub date_in : List ℕ → Option (List ℕ × List ℕ) → Result Writt
 date_in text None = plain_date text
 date_in text (Some parts) = date_after text parts.1 (weekday_named parts.0)
 
--- the date that a text is in the usual forms, or why it is none
+-- the date that a text is in the usual forms, or why it is no such date
 abbrev pub usual_date : List ℕ → Result WrittenDate DateFault
 usual_date text = date_in text (parts_at 32 text)
 
@@ -165,6 +165,6 @@ abbrev pub or_else : Result WrittenDate DateFault → Result WrittenDate DateFau
 or_else (Ok date) other = Ok date
 or_else (Err fault) other = else_fault fault other
 
--- the date that a text is, or why it is none
+-- the date that a text is, or why it is no date
 abbrev pub written_date : List ℕ → Result WrittenDate DateFault
 written_date text = or_else (usual_date text) (other_date text)

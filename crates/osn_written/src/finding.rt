@@ -34,9 +34,9 @@ const NEW_STYLE: Regime = Regime {
     rule: Rule::Gregorian,
 };
 
-/// The territory as if it had gone by the calendar that a date names: by the old style the Julian
-/// calendar with its own beginnings of the year, by the new style the Gregorian calendar with the
-/// year from 1 January.
+/// The territory as if it had gone by the calendar that a date names. By the old style that is the
+/// Julian calendar with the territory's own beginnings of the year. By the new style it is the
+/// Gregorian calendar with the year from 1 January.
 ///
 /// # Errors
 ///
@@ -108,7 +108,7 @@ fn reason_of(territory: &Territory, extent: Extent, no_span: NoSpan) -> Result<N
     }
 }
 
-/// One run, or why there is none.
+/// One run, or why no day is meant.
 fn of_span(
     alloc: Global,
     territory: &Territory,
@@ -128,7 +128,7 @@ fn of_span(
     }
 }
 
-/// The runs of one date, or why there is none.
+/// The runs of one date, or why it means no day.
 fn of_date(
     alloc: Global,
     territory: &Territory,
@@ -178,7 +178,7 @@ pub fn find_runs(
     }
 }
 
-/// Whether both are the same runs; where there is none, no matter why.
+/// Whether both are the same runs. Where neither means a day, the reasons may differ.
 fn are_same(own: &Result<Vec<Run>, NoDay>, named: &Result<Vec<Run>, NoDay>) -> bool
     ensures { result ≡ spec.are_same (spec.list_of own.now) (spec.list_of named.now) }
 {

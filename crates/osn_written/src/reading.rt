@@ -68,7 +68,7 @@ pub fn plain_day(date: AnyDate) -> Result<WrittenDate, DateFault>
     Ok(day)
 }
 
-/// The date of one day that was read, or why there is none.
+/// The date of one day that was read, or why no such date was read.
 fn day_read(read: Result<Written, FormFault>) -> Result<WrittenDate, DateFault>
     ensures { result ≡ other.day_read read }
 {
@@ -79,7 +79,7 @@ fn day_read(read: Result<Written, FormFault>) -> Result<WrittenDate, DateFault>
     }
 }
 
-/// The date of one day that a text is in a form of `osn_grammar`, or why it is none.
+/// The date of one day that a text is in a form of `osn_grammar`, or why it is no such date.
 #[tactic(auto, unfolding(crate::specs::OtherForms::other_date))]
 fn other_date(alloc: Global, text: &str) -> Result<Result<WrittenDate, DateFault>, AllocError>
     ensures { IfOk result (λ date. date ≡ other.other_date text.now) }
@@ -103,8 +103,8 @@ fn else_fault(
 
 impl WrittenDate {
     /// The date that a text is, in the usual forms or else in another form of one day:
-    /// `1731-02-11`, `11 February 1731/2`, `Friday 11 February 1731`, `11 Feb. 1731/32`,
-    /// `Feb 11, 1731` and more, as `docs/DATES.md` tells. Where it is none, the result within has
+    /// `1731-02-11`, `11 February 1731/2`, `Friday 11 February 1731`, `11 Feb. 1731/32`, `Feb 11,
+    /// 1731` and more, as `docs/DATES.md` tells. Where it is no such date, the result within has
     /// the fault.
     ///
     /// # Errors
@@ -116,7 +116,7 @@ impl WrittenDate {
         // a text in the usual forms is read without memory
         ensures memory { OnErr result (is_ok (spec.usual_date text.now) ≡ false) }
         // as a law: the dual text of each day of the line, under each regime, is a date with the
-        // label of the day, and a double one where the day has both years
+        // label of the day. It is a double one where the day has both years
         ensures dual { AreDualTextsWritten newest_rules }
         // as a law: so it is with the day's weekday before it, which is then the date's
         ensures named { AreNamedDaysWritten newest_rules }

@@ -52,7 +52,7 @@ fn form_said(read: Result<Written, FormFault>) -> Result<Written, DateFault>
     }
 }
 
-/// What is said in another form. Where there is none, the fault of the usual forms.
+/// What is said in another form. Where nothing is said so, the fault of the usual forms.
 fn else_said(fault: DateFault, said: Result<Written, DateFault>) -> Result<Written, DateFault>
     ensures { result ≡ spec.else_said fault said }
 {

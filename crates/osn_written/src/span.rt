@@ -146,8 +146,8 @@ fn range_meant(
 }
 
 /// The days from the first one that a date, a range or a bound may mean in a territory to the last
-/// one, or why there is none. A range lasts from the first day of its first date to the last day of
-/// its last date. A bound reaches to the first or the last day of the line.
+/// one, or why no day is meant. A range lasts from the first day of its first date to the last day
+/// of its last date. A bound reaches to the first or the last day of the line.
 ///
 /// # Errors
 ///

@@ -5,9 +5,9 @@ ghost use Rattle.osn_written.specs.WrittenDate as spec;
 
 use osn_days::{Weekday, month_named};
 
-/// A date as people write it: a year, a month and a day, whether it is a double date as
-/// `11 February 1731/2`, whose year is the first one, and the weekday before it, if there is one.
-/// Whether a calendar has the date is not tested.
+/// A date as people write it: a year, a month and a day, and whether it is a double date as `11
+/// February 1731/2`, whose year is the first one. It also has the weekday before it, if one is
+/// written. Whether a calendar has the date is not tested.
 #[derive(Clone, Copy, Debug, PartialEq, Eq)]
 pub struct WrittenDate {
     pub year: u16,

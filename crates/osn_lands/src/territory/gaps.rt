@@ -23,7 +23,7 @@ impl Territory {
         }
     }
 
-    /// The days of the changes at which the label is skipped and in whose gap it lies, in order: it
+    /// The days of the changes at which the label is skipped and in whose gap it lies, in order. It
     /// comes after the last date before the change, and before the first date from it on.
     ///
     /// # Errors

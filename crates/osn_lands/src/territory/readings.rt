@@ -95,8 +95,8 @@ impl Territory {
     }
 
     /// The days that the territory dates with the label, and the days of the changes at which it is
-    /// skipped, both in order: what `read` and `skipped` answer, by one search. And how many dates
-    /// were tested to find both: at most three a period.
+    /// skipped, both in order. They are what `read` and `skipped` answer, by one search. The number
+    /// says how many dates were tested to find both: at most three a period.
     ///
     /// # Errors
     ///

@@ -26,8 +26,8 @@ impl Territory {
         self.runs_of(Sought { year, month: None })
     }
 
-    /// The days that the territory dates in a month of a year, as runs in ascending order: at most
-    /// two a period, since a year that begins within a month has days of it at both ends.
+    /// The days that the territory dates in a month of a year, as runs in ascending order. They are
+    /// at most two a period, since a year that begins within a month has days of it at both ends.
     ///
     /// # Errors
     ///

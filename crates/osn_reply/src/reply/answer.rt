@@ -15,7 +15,7 @@ use osn_lands::Period;
 use osn_register::{Answer, Found, Land, Refusal};
 use std::alloc::AllocError;
 
-/// Begins a reply with what was read.
+/// Begins a reply with a reading.
 fn write_reading(out: &mut LineWriter, found: &[Found], skipped: &[Day]) -> Result<(), AllocError>
     ensures text { OnOk result (out.new.text ≡ out.old.text
         ++ (codes "{\"answer\":" ++ compact_text
@@ -94,7 +94,7 @@ fn write_figures(
     out.push("}")
 }
 
-/// Ends a reply behind its answer.
+/// Ends a reply after its answer.
 fn end_reply(out: &mut LineWriter, edition: u32, reader: u32) -> Result<(), AllocError>
     ensures text { OnOk result (out.new.text ≡ out.old.text
         ++ (codes ",\"edition\":" ++ (decimal edition

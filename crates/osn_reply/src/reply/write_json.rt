@@ -1,4 +1,4 @@
-//! How the values of a reply are written as JSON: the text of each behind what is written.
+//! How the values of a reply are written as JSON: the text of each after what is written.
 ghost use Rattle.std.specs.Prelude.{◌≡◌, ◌++◌, OnOk, map};
 ghost use Rattle.serde_json.specs.Data.{Data, boolean};
 ghost use Rattle.serde_json.specs.Written.{compact_text, comma_if};
@@ -14,7 +14,7 @@ pub(crate) trait WriteJson {
     // The value as JSON.
     ghost shown: { Self → Data };
 
-    /// Writes the value's text behind what is written.
+    /// Writes the value's text after what is written.
     fn write_json(&self, out: &mut LineWriter) -> Result<(), AllocError>
         ensures text { OnOk result (out.new.text
             ≡ out.old.text ++ compact_text (shown self.now)) }
@@ -37,7 +37,7 @@ impl WriteJson for bool {
     }
 }
 
-// A value, or null where there is none.
+// A value, or null where no value is given.
 impl<J: WriteJson> WriteJson for Option<J> {
     ghost shown = { option_data J.shown };
 

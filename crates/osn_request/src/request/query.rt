@@ -14,7 +14,7 @@ use osn_format::{Member, WireFault};
 use osn_register::{BorrowedQuery, Query};
 use std::alloc::Global;
 
-/// The reader of a number, where there are so many readers, who are counted from 1.
+/// The reader of a number, where there are this many readers, who are counted from 1.
 ///
 /// # Errors
 /// `UnknownReader` for a number that no reader has.
@@ -118,7 +118,7 @@ pub fn borrowed_query_of<O: JsonObject>(
     Ok((reader, query))
 }
 
-/// The number of the reader who asks, and the query of a line's object, where there are so many
+/// The number of the reader who asks, and the query of a line's object, where there are this many
 /// readers.
 ///
 /// # Errors

@@ -3,7 +3,7 @@ use Rattle.osn_lands.specs.declared.period.Period.{Period}
 use Rattle.osn_lands.proofs.period_list.find_period.Given as goal
 
 -- the period at the lower place begins by the day, the one at the upper place, if there is one,
--- after it; and each test has halved what is between them
+-- after it. Each test has halved what is between them
 abbrev pub invariant-loop-high : goal.invariant-loop-high
 invariant-loop-high l =
     (l.low < l.high)

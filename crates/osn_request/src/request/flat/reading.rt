@@ -93,8 +93,8 @@ fn members_in<'a>(reader: &mut Reader<'a>) -> Option<FlatObject<'a>>
     Some(FlatObject { members })
 }
 
-/// The object that a reader has next, where its members are few texts and whole numbers. Where
-/// there is none, the reader stands after the tokens that were tried.
+/// The object that a reader has next, where its members are few texts and whole numbers. Where no
+/// such object is next, the reader stands after the tokens that were tried.
 pub fn flat_object_in<'a>(reader: &mut Reader<'a>) -> Option<FlatObject<'a>>
     ensures some { IfSome result (λ found. (depth : ℕ) → 0 < depth →
         converted of_json (value depth reader.old)

@@ -4,13 +4,11 @@ use Rattle.osn_lands.specs.PeriodList.{start_of}
 use Rattle.osn_lands.proofs.JulianFacts.{covers_of, starts_of}
 use Rattle.osn_lands.proofs.territory.Territory.in_julian_calendar.Goals as goal
 
--- src/territory/calendar.rt:37:9
 pub invariant_of-result : goal.invariant_of-result
 invariant_of-result c = covers_of c.in_ok-julian_periods.field-0.items c.as_slice.result.now
     c.self.inside.periods.items c.in_ok-julian_periods.ensures c.as_slice.ensures.value
     c.self.invariant
 
--- src/territory/calendar.rt:34:5
 pub returns : goal.returns
 returns c =
     let starts : map start_of c.in_ok-julian_periods.field-0.items

@@ -4,8 +4,8 @@ use Rattle.osn_days.specs.Profile.{newest_rules}
 use Rattle.osn_lands.specs.LabelSearch.{days_read, most_tested}
 use Rattle.osn_lands.proofs.territory.Territory.read_by.Given as goal
 
--- the days found so far, and those of the periods that are left; and no more were tested than for
--- as many periods
+-- the days found so far, and those of the periods that are left. No more were tested than for as
+-- many periods
 abbrev pub invariant-loop-period : goal.invariant-loop-period
 invariant-loop-period l =
     (l.days.items ++ flat_map (days_read newest_rules l.search.label)

@@ -3,7 +3,7 @@ use Rattle.serde_json.specs.Find.{get_member}
 use Rattle.osn_request.specs.Flat.{flat_members, put_all}
 use Rattle.osn_request.proofs.request.flat.FlatObject.find.Given as goal
 
--- The members behind have another name.
+-- The members after this place have another name.
 abbrev pub invariant-loop-before : goal.invariant-loop-before
 invariant-loop-before l =
     (l.before ≤ length l.fn.self.members.items)
