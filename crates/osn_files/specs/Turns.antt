@@ -10,7 +10,7 @@ use Rattle.osn_files.specs.declared.fault.LineFault.{LineFault}
 use Rattle.osn_files.specs.declared.fault.LineFault.TheVariants.{Wire}
 use Rattle.osn_files.specs.Version.{version_of}
 
--- what is made of what was read of a line, unless the reading met a fault
+-- the value that is made of a reading's result, unless that is a fault
 abbrev pub on_read : {A S : Type 0} → Result A WireFault → (A → Result S LineFault)
     → Result S LineFault
 on_read (Ok x) make = make x
