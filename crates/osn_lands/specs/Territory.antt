@@ -1,5 +1,5 @@
--- Territories as lists of start days with their regimes, and what is read in them: this project's
--- profile.
+-- Territories as lists of start days with their regimes, and the days that labels mean in them:
+-- this project's profile.
 use Rattle.std.specs.Prelude.{◌≡◌, ℕ, ◌+◌, ◌-◌, ◌*◌, ◌^◌, ◌≤◌, Bool, true, false, not, ◌&&◌, ◌||◌}
 use Rattle.std.specs.Prelude.{nat_le, nat_lt, if◌then◌else◌, List, [], ◌∷◌, filter, fold}
 use Rattle.std.specs.List.{list_any}
