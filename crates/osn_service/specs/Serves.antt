@@ -34,7 +34,7 @@ pub record Serves (rules : ServeRules) (s t : ObjectState) (i : Input) (o : Outp
       (StandsAt rules s t (lines bytes))
       (StandsAt rules s t (lines bytes))
       (StandsNear rules s t (lines bytes)))
-  -- What is written is passed on, but after a failed write.
+  -- The bytes that are written are passed on, but after a failed write.
   pub passed : MatchEnd end (λ _. o.holds_back ≡ false) (λ _. o.holds_back ≡ false)
       (λ _. o.holds_back ≡ false) (λ _. ⊤)
   -- The source is read to its end. Of the line that a failed read cut short nothing is answered.
