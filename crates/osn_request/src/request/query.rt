@@ -124,8 +124,9 @@ pub fn borrowed_query_of<O: JsonObject>(
 /// The number of the reader who asks, and the query of a line's object, where there are this many
 /// readers.
 ///
-/// # Errors The first fault of the object. Memory is taken only for the texts of a query that has a
-/// code, once every member was found good.
+/// # Errors
+/// The first fault of the object. Memory is taken only for the texts of a query that has a code,
+/// once every member was found good.
 pub fn query_of<O: JsonObject>(
     alloc: Global,
     readers: u32,
