@@ -137,7 +137,7 @@ AreTrimmed-flat_map f h (x ∷ xs) =
 
 -- ---- texts of years, dates and letters
 
--- what is left of a text that ends so does, or nothing is left
+-- the rest of a text that ends so ends so too, or is empty
 ends-slash : (xs ys : List ℕ) → IsTrue (no_space_last ys)
     → IsTrue (no_space_last (47 ∷ from_difference xs ys))
 ends-slash [] ys h = ends-cons 47 ys h

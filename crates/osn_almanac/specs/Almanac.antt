@@ -121,7 +121,7 @@ easter_heading [] listed = codes "Easter never\n"
 easter_heading (found ∷ more) true = codes "Easter listed\n"
 easter_heading (found ∷ more) false = codes "Easter by rule\n"
 
--- a feast by what is answered to its day, where it is on the line
+-- a feast by the answer about its day, where the day is on the line
 abbrev pub feast_line_of : Feast → Answer → List ℕ
 feast_line_of feast (answers.OnDay found period) = day_line (feast_name feast) found.day found.dual
 feast_line_of feast other = absent_line (feast_name feast) (codes "off the line")

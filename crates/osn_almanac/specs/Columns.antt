@@ -29,6 +29,6 @@ day_line name d date =
     ++ (weekday_column d
     ++ (codes " " ++ (day_column d ++ (codes " " ++ (date ++ codes "\n"))))))
 
--- the line of a name that no day has, with what is said of it
+-- the line of a name that no day has, with a remark
 unfoldable pub absent_line : List ℕ → List ℕ → List ℕ
 absent_line name remark = name_column name ++ (codes " " ++ (remark ++ codes "\n"))

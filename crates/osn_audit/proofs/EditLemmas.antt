@@ -11,7 +11,7 @@ use Rattle.osn_core.specs.Sequential.{joined, AreLawful}
 use Rattle.osn_core.proofs.Lawful.{applied_all-append, applied-lawful, AreLawful-front}
 use Rattle.osn_core.proofs.Lawful.{AreLawful-behind}
 
--- what is left of a list from an element on
+-- the rest of a list from an element on
 pub left_from : {A : Type 0} (xs : List A) (i : ℕ) (x : A) → i < length xs → x ≡ get_or xs i x
     → drop i xs ≡ x ∷ drop (i + 1) xs
 left_from xs i x within is = drop_more xs i x within ∙ ap (λ y. y ∷ drop (i + 1) xs) (sym is)

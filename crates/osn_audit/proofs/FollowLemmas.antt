@@ -83,7 +83,7 @@ standing object last = record { object = object; last = last }
 abbrev reply : ℕ → Answer → Reply
 reply edition answer = record { edition = edition; answer = answer }
 
--- what is answered under a reader's last edition, once that is set, is the reply under it
+-- the answer under a reader's last edition, once that is set, is the reply under it
 pub reply_set : (s o : ObjectState) (ps : List Place) (i last edition : ℕ) (q : Query) (p : Place)
     (a : Answer) → o ≡ s → p.last ≡ edition → i < length ps
     → known_edition (length s.batches) last edition ≡ Ok edition

@@ -1,4 +1,4 @@
--- What is read of a transcript, as the lines that agree with an object.
+-- The result of reading a transcript, as the lines that agree with an object.
 use Rattle.std.proofs.Common.{◌≡◌, ◌<◌, ℕ, List, Option, Some, None, Result, Ok, Err, IfSome, IfErr}
 use Rattle.std.proofs.Common.{refl, ap, ◌∙◌, sym, subst, length}
 use Rattle.osn_core.specs.Sequential.{ObjectState}

@@ -100,8 +100,9 @@ fn check_entry(followers: &Followers, entry: &TranscriptLine) -> Result<(), Wire
 
 /// Compares an entry with the journal. The line that is due stands in the room of the one before.
 ///
-/// # Errors The entry's fault, or want of memory where its edition is one that its reader may be
-/// told and its reply has no float.
+/// # Errors
+/// The entry's fault, or want of memory where its edition is one that its reader may be told and
+/// its reply has no float.
 pub(crate) fn take_entry(
     alloc: Global,
     followers: &mut Followers,

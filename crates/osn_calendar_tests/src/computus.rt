@@ -151,7 +151,7 @@ fn letters_have_names(rt: HostRuntime) {
     are_named(&rt, &NAMES);
 }
 
-/// That the Easters of some years have these dates, each a year, a month and a day.
+/// Checks that the Easters of some years have these dates, each a year, a month and a day.
 fn has_easters(
     rt: &impl Abort,
     rule: Rule,

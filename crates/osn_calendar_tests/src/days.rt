@@ -17,7 +17,7 @@ fn date(ymd: Ymd) -> Date {
     }
 }
 
-/// That the days of some numbers have these dates, and are the days of them.
+/// Checks that the days of some numbers have these dates, and are the days of them.
 fn has_dates(rt: &impl Abort, calendar: Calendar, rows: &[(i64, Ymd)]) -> Result<(), Fail> {
     for (number, ymd) in rows {
         let (day, date) = (Day::new(*number).ok_or("a day")?, date(*ymd));
@@ -27,7 +27,7 @@ fn has_dates(rt: &impl Abort, calendar: Calendar, rows: &[(i64, Ymd)]) -> Result
     Ok(())
 }
 
-/// That no day has one of these dates.
+/// Checks that no day has one of these dates.
 fn has_no_day(rt: &impl Abort, calendar: Calendar, dates: &[Ymd]) {
     for ymd in dates {
         same(rt, (ymd, day_of(calendar, date(*ymd))), (ymd, None));

@@ -176,7 +176,7 @@ fn found(alloc: Global, territory: &Territory, text: &str) -> Result<String, All
     Ok(out)
 }
 
-/// That texts mean those days.
+/// Checks that texts mean those days.
 fn mean(
     rt: &impl Abort,
     alloc: Global,

@@ -75,7 +75,7 @@ const SWEDISH_GAPS: [Gap; 2] = [
 
 const FRENCH_GAPS: [Gap; 2] = [((1566, 1, 10), Some(571_980)), ((1900, 2, 29), None)];
 
-/// That dates lie in those gaps alone.
+/// Checks that dates lie in those gaps alone.
 fn have_gaps(rt: &impl Abort, territory: &Territory, rows: &[Gap]) -> Result<(), AllocError> {
     for (ymd, change) in rows {
         let is_skipped = !territory.skipped(label(*ymd))?.is_empty();

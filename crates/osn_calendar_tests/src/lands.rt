@@ -131,7 +131,7 @@ fn a_territory_is_not_opened(rt: HostRuntime) -> Result<(), Fail> {
     Ok(())
 }
 
-/// That a territory has some periods, and their regimes from edge to edge.
+/// Checks that a territory has some periods, and their regimes from edge to edge.
 fn has_periods(rt: &impl Abort, territory: &Territory, periods: &[(u32, u32, Regime)]) {
     same(rt, territory.periods().len(), periods.len());
     for (found, (first, last, regime)) in territory.periods().iter().zip(periods) {
@@ -165,7 +165,7 @@ const EASTERS: [(u32, Option<u32>, u32); 4] = [
     (1918, None, 700_259),
 ];
 
-/// That the years have that Easter alone.
+/// Checks that the years have that Easter alone.
 fn has_easters(
     rt: &impl Abort,
     territory: &Territory,
@@ -204,7 +204,7 @@ fn first_of(days: Vec<Day>) -> Option<Day> {
     days.first().copied()
 }
 
-/// That dates are read and skipped so.
+/// Checks that dates are read and skipped so.
 fn reads(rt: &impl Abort, territory: &Territory, rows: &[Read]) -> Result<(), AllocError> {
     for (ymd, day, change) in rows {
         let read = first_of(territory.read(label(*ymd))?);

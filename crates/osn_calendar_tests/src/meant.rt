@@ -132,7 +132,7 @@ fn ends_of(runs: &[Run]) -> Runs {
     }
 }
 
-/// That dates mean those days.
+/// Checks that dates mean those days.
 fn mean(
     rt: &impl Abort,
     alloc: Global,

@@ -33,7 +33,7 @@ pub fn regime_of(calendar: Calendar, style: Style) -> Regime {
     }
 }
 
-/// That days are named so, and are those of their labels.
+/// Checks that days are named so, and are those of their labels.
 pub fn are_named(rt: &impl Abort, alloc: Global, rows: &[Named]) -> Result<(), AllocError> {
     for (calendar, style, number, ymd, text) in rows {
         let (regime, day) = (regime_of(*calendar, *style), day_of(*number));

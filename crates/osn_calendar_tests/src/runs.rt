@@ -51,7 +51,7 @@ const FRENCH_MONTHS: [Month; 1] = [(1543, 4, (563_304, 563_681, 42))];
 
 const SWEDISH_MONTHS: [Month; 1] = [(1712, 2, (624_971, 625_000, 30))];
 
-/// That years have those days.
+/// Checks that years have those days.
 fn are_years(rt: &impl Abort, territory: &Territory, rows: &[Year]) -> Result<(), AllocError> {
     for (year, wanted) in rows {
         let runs = territory.days_of_year(*year)?;
@@ -60,7 +60,7 @@ fn are_years(rt: &impl Abort, territory: &Territory, rows: &[Year]) -> Result<()
     Ok(())
 }
 
-/// That months have those days.
+/// Checks that months have those days.
 fn are_months(rt: &impl Abort, territory: &Territory, rows: &[Month]) -> Result<(), AllocError> {
     for (year, month, wanted) in rows {
         let runs = territory.days_of_month(*year, *month)?;

@@ -122,7 +122,8 @@ pub fn day_of(calendar: Calendar, date: Date) -> Option<Day> {
     None
 }
 
-/// That each day of the line has the date that the walk comes to, and is the day of that date.
+/// Checks that each day of the line has the date that the walk comes to, and is the day of that
+/// date.
 fn are_walked(rt: &impl Abort, calendar: Calendar) {
     let mut date = first_date(calendar);
     for number in 1..HIGH + 1 {

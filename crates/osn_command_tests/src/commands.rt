@@ -109,13 +109,13 @@ fn served(alloc: Global, journal: Option<&str>, requests: &str) -> (Left, Option
     (left_by(status, output, errors), journal)
 }
 
-/// That the journal that is left is this one.
+/// Checks that the journal that is left is this one.
 fn is_journal(rt: &impl Abort, alloc: Global, text: &str, wanted: &str) -> Result<(), Fail> {
     same(rt, text, joined(alloc, wanted)?.as_str());
     Ok(())
 }
 
-/// That this journal is left, or none.
+/// Checks that this journal is left, or none.
 fn is_saved(
     rt: &impl Abort,
     alloc: Global,
@@ -263,7 +263,7 @@ pub fn left_over<R: Files<File = fs::File> + Threads + Wait + AllocGlobal>(
     left_in(rt, &mut Disk::new(rt), line, read)
 }
 
-/// That standard error is told something where the status is not 0, and nothing else.
+/// Checks that standard error is told something where the status is not 0, and nothing else.
 fn have_status<R: Files<File = fs::File> + Threads + Wait + AllocGlobal + Abort>(
     rt: &R,
     rows: &[(&str, u8)],
@@ -331,7 +331,7 @@ const FAULTS: [RunRow; 8] = [
     ),
 ];
 
-/// That runs leave this, one after another.
+/// Checks that runs leave this, one after another.
 pub fn are_run<R: Files<File = fs::File> + Threads + Wait + AllocGlobal + Abort>(
     rt: &R,
     rows: &[RunRow],

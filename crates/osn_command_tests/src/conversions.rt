@@ -20,7 +20,7 @@ const DATES: [(Calendar, &str, u32); 8] = [
     (Calendar::Julian, "11 February 1731/2", 0),
 ];
 
-/// That the date of a row is its day.
+/// Checks that the date of a row is its day.
 fn is_day(
     rt: &impl Abort,
     alloc: Global,
@@ -82,7 +82,7 @@ const PAGES: [Row; 4] = [
     ),
 ];
 
-/// That the day of a row has its page.
+/// Checks that the day of a row has its page.
 fn is_page(rt: &impl Abort, alloc: Global, row: &Row) -> Result<(), Fail> {
     let (number, weekday, wanted) = row;
     let day = Day::new(*number).unwrap_or(Day::FIRST);

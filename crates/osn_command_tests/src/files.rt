@@ -264,7 +264,7 @@ pub const SAVED: &str = r#"{"journal":2}
 {"op":"publish"}
 "#;
 
-/// That a file has this text, and that none is left beside it.
+/// Checks that a file has this text, and that none is left beside it.
 pub fn has_text<R: Files + AllocGlobal + Abort>(
     rt: &R,
     path: &str,
@@ -299,7 +299,7 @@ const AGREED: [RunRow; 1] = [(
     (0, "audit: 4 replies agree\n", ""),
 )];
 
-/// That what a desk tells two readers, under whatever editions, is what its script gives.
+/// Checks that what a desk tells two readers, under whatever editions, is what its script gives.
 fn is_agreed<R: Files<File = fs::File> + Threads + Wait + AllocGlobal + Abort>(
     rt: &R,
 ) -> Result<(), Fail> {

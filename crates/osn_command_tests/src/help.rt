@@ -302,7 +302,7 @@ const SHOWN: [Printed; 16] = [
     ("oldstyle completions --help", COMPLETIONS),
 ];
 
-/// That each is printed, and that it ends well.
+/// Checks that each is printed, and that it ends well.
 pub(crate) fn are_shown<R: Files<File = fs::File> + Threads + Wait + AllocGlobal + Abort>(
     rt: &R,
     rows: &[Printed],

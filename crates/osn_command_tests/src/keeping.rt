@@ -308,7 +308,7 @@ fn one_run_keeps_a_journal_and_any_reads_it(rt: HostRuntime) -> Result<(), Fail>
     Ok(())
 }
 
-/// That a file holds this text.
+/// Checks that a file holds this text.
 fn is_held<R: Files<File = fs::File> + AllocGlobal + Abort>(
     rt: &R,
     path: &str,

@@ -121,7 +121,7 @@ const ROWS: [Row; 3] = [
     (0, Err((0, FAILED)), 0, 1, 1),
 ];
 
-/// That bytes are these texts, one after another.
+/// Checks that bytes are these texts, one after another.
 fn are_texts(rt: &impl Abort, alloc: Global, bytes: &[u8], texts: &[&str]) -> Result<(), Fail> {
     let mut wanted = String::new(alloc);
     for text in texts {

@@ -238,7 +238,7 @@ fn text_at(fields: &ByteRecord, index: usize) -> Result<&str, Fail> {
     Ok(str::from_utf8(fields.get(index).unwrap_or_default())?)
 }
 
-/// That the letter of a row has these fields.
+/// Checks that the letter of a row has these fields.
 fn is_told(
     rt: &impl Abort,
     alloc: Global,
@@ -258,7 +258,7 @@ fn is_told(
     Ok(())
 }
 
-/// That the letter of each row has its fields, where a date's three numbers have that order.
+/// Checks that the letter of each row has its fields, where a date's three numbers have that order.
 fn are_told(rt: &impl Abort, alloc: Global, order: DateOrder, rows: &[Row]) -> Result<(), Fail> {
     let object = europe(alloc)?;
     for row in rows {

@@ -171,7 +171,7 @@ const NO_DAY: [Row; 16] = [
     ),
 ];
 
-/// That the letter of a row has these fields.
+/// Checks that the letter of a row has these fields.
 fn is_told(rt: &impl Abort, alloc: Global, register: &Register, row: &Row) -> Result<(), Fail> {
     let (place, date, weekday, wanted) = row;
     let weekday = weekday.map(|text| text.as_bytes());
@@ -185,7 +185,7 @@ fn is_told(rt: &impl Abort, alloc: Global, register: &Register, row: &Row) -> Re
     Ok(())
 }
 
-/// That the letter of each row has its fields.
+/// Checks that the letter of each row has its fields.
 fn are_told(rt: &impl Abort, alloc: Global, rows: &[Row]) -> Result<(), Fail> {
     let object = europe(alloc)?;
     for row in rows {

@@ -266,7 +266,7 @@ fn end(fault: &LettersFault) -> (&str, u64, &str) {
     }
 }
 
-/// That a table ends so.
+/// Checks that a table ends so.
 fn is_end(rt: &impl Abort, written: &Result<bool, LettersFault>, wanted: End) {
     match written {
         Ok(true) => same(rt, REMARKED, wanted),
@@ -275,7 +275,7 @@ fn is_end(rt: &impl Abort, written: &Result<bool, LettersFault>, wanted: End) {
     }
 }
 
-/// That the table of a row is written so.
+/// Checks that the table of a row is written so.
 fn is_written(rt: &impl Abort, alloc: Global, register: &Register, row: &Row) -> Result<(), Fail> {
     let (settings, table, wanted, end) = row;
     let mut input = Plain::new(table.as_bytes());
@@ -297,7 +297,7 @@ fn is_written(rt: &impl Abort, alloc: Global, register: &Register, row: &Row) ->
     Ok(())
 }
 
-/// That each table is written so.
+/// Checks that each table is written so.
 fn are_written(rt: &impl Abort, alloc: Global, rows: &[Row]) -> Result<(), Fail> {
     let object = europe(alloc)?;
     for row in rows {

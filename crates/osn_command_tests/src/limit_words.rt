@@ -97,7 +97,7 @@ const JOURNAL: &str = r#"{"journal":2}
 
 const FILES: [File; 1] = [("a.journal", JOURNAL)];
 
-/// That the words are told to be no limits.
+/// Checks that the words are told to be no limits.
 fn is_misuse<R: Files<File = fs::File> + Threads + Wait + AllocGlobal + Abort>(
     rt: &R,
     words: &str,

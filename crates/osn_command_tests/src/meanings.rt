@@ -39,7 +39,7 @@ const NO_DAY: [(&str, Parts, Absence); 8] = [
     ("GB", (10_000, 1, 1, false), Absence::OffTheLine),
 ];
 
-/// That the date of a row means no day, for that reason.
+/// Checks that the date of a row means no day, for that reason.
 fn is_no_day(
     rt: &impl Abort,
     alloc: Global,
@@ -98,7 +98,7 @@ const FIRST_DAYS: [(&str, Parts, Told); 4] = [
     ),
 ];
 
-/// That the first day of a row's date is this one.
+/// Checks that the first day of a row's date is this one.
 fn is_first_day(
     rt: &impl Abort,
     alloc: Global,

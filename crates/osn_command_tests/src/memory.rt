@@ -22,8 +22,7 @@ use std::thread::Threads;
 /// A path, and the text that it was left with, or nothing.
 type Change = (String, Option<String>);
 
-/// Files by what was done to them in turn, and the paths that were opened. Want of memory ends a
-/// test.
+/// Files by the changes in turn, and the paths that were opened. Want of memory ends a test.
 #[derive(Drop)]
 pub struct MemoryFolder<'a, R> {
     pub rt: &'a R,
@@ -217,7 +216,7 @@ pub fn holding<'a, R: Abort + AllocGlobal>(
     Ok(folder)
 }
 
-/// That these are the paths, in this order.
+/// Checks that these are the paths, in this order.
 fn are_paths(
     rt: &impl Abort,
     alloc: Global,
@@ -239,7 +238,7 @@ fn are_opened(
     are_paths(rt, alloc, &paths, wanted)
 }
 
-/// That these paths were changed, in this order, after this number of earlier changes.
+/// Checks that these paths were changed, in this order, after this number of earlier changes.
 fn are_changed(
     rt: &impl Abort,
     alloc: Global,
@@ -258,7 +257,7 @@ fn are_changed(
 /// A run over the files, the paths that it opens, and those that it changes.
 type Row = (RunRow, &'static str, &'static str);
 
-/// That a run leaves this, and opens and changes these paths in this order, and no others.
+/// Checks that a run leaves this, and opens and changes these paths in this order, and no others.
 fn is_run<'a, R: Threads + Wait + AllocGlobal + Abort>(
     rt: &'a R,
     row: &Row,

@@ -353,7 +353,7 @@ always: julian calendar, january style (years from 1 January), julian rule
     ),
 ];
 
-/// That a run of these words, with a bar between two, leaves this, over these files.
+/// Checks that a run of these words, with a bar between two, leaves this, over these files.
 fn is_run<R: Threads + Wait + AllocGlobal + Abort>(
     rt: &R,
     files: &[File],
@@ -366,7 +366,7 @@ fn is_run<R: Threads + Wait + AllocGlobal + Abort>(
     is_left(rt, rt.alloc(), left, wanted)
 }
 
-/// That each run leaves this, over these files.
+/// Checks that each run leaves this, over these files.
 pub(crate) fn are_run_over<R: Threads + Wait + AllocGlobal + Abort>(
     rt: &R,
     files: &[File],
@@ -386,7 +386,7 @@ pub(crate) fn are_run<R: Threads + Wait + AllocGlobal + Abort>(
     are_run_over(rt, &NAMED, rows)
 }
 
-/// That each misuse is told.
+/// Checks that each misuse is told.
 pub(crate) fn are_misused<R: Threads + Wait + AllocGlobal + Abort>(
     rt: &R,
     rows: &[Misused],

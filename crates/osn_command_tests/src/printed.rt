@@ -37,7 +37,7 @@ pub fn left_by(status: Status, output: Memory, errors: Memory) -> Left {
     }
 }
 
-/// That some bytes are this text.
+/// Checks that some bytes are this text.
 fn is_text(rt: &impl Abort, bytes: &[u8], wanted: &str) -> Result<(), Fail> {
     same(rt, str::from_utf8(bytes)?, wanted);
     Ok(())

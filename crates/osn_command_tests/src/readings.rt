@@ -289,7 +289,7 @@ Tuesday 1 April 1543/4    11 April 1544 Gregorian    1 April 1544 Julian    day 
     ),
 ];
 
-/// That the page of a row is its text.
+/// Checks that the page of a row is its text.
 fn is_page(rt: &impl Abort, alloc: Global, register: &Register, row: &Row) -> Result<(), Fail> {
     let (code, text, weekday, wanted) = row;
     let Ok(Written::Date(date)) = read_date(alloc, text, DateOrder::Unknown)? else {
@@ -309,7 +309,7 @@ fn is_page(rt: &impl Abort, alloc: Global, register: &Register, row: &Row) -> Re
     Ok(())
 }
 
-/// That each row has its page.
+/// Checks that each row has its page.
 pub(crate) fn are_pages(rt: &impl Abort, alloc: Global, rows: &[Row]) -> Result<(), Fail> {
     let object = europe(alloc)?;
     for row in rows {

@@ -152,7 +152,7 @@ fn with_pending(pending: usize) -> Published {
     }
 }
 
-/// That the page of a row is its text.
+/// Checks that the page of a row is its text.
 fn is_page(rt: &impl Abort, alloc: Global, register: &Register, row: &Row) -> Result<(), Fail> {
     let (code, pending, page, wanted) = row;
     let found = page_text(alloc, register, code, with_pending(*pending), *page)?;
@@ -160,7 +160,7 @@ fn is_page(rt: &impl Abort, alloc: Global, register: &Register, row: &Row) -> Re
     Ok(())
 }
 
-/// That each row has its page.
+/// Checks that each row has its page.
 fn are_pages(rt: &impl Abort, alloc: Global, rows: &[Row]) -> Result<(), Fail> {
     let object = europe(alloc)?;
     for row in rows {
@@ -169,7 +169,7 @@ fn are_pages(rt: &impl Abort, alloc: Global, rows: &[Row]) -> Result<(), Fail> {
     Ok(())
 }
 
-/// That the day of that number has this page.
+/// Checks that the day of that number has this page.
 fn is_day_page(
     rt: &impl Abort,
     alloc: Global,

@@ -151,7 +151,7 @@ fn parts_of(date: WrittenDate) -> Parts {
     )
 }
 
-/// That each text is read so.
+/// Checks that each text is read so.
 fn are_read(rt: &impl Abort, alloc: Global, rows: &[Row]) -> Result<(), Fail> {
     for (text, wanted) in rows {
         let found = WrittenDate::parse(alloc, text)?.map(parts_of);

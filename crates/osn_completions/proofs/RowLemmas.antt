@@ -21,7 +21,7 @@ rows_of_rules : (name : Text) (args : List Arg)
     → flat_map (row_of name) (map rule_of args) ≡ arg_rows name args
 rows_of_rules name args = flat_map-map (row_of name) rule_of args
 
--- what was written in two parts is the first one and then the second
+-- a text that is written in two parts is the first part and then the second
 in_two : (old mid new first second : Text) → mid ≡ old ++ first → new ≡ mid ++ second
     → new ≡ old ++ (first ++ second)
 in_two old mid new first second before after =

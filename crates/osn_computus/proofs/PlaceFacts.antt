@@ -89,7 +89,7 @@ pub mark_test : (y : ℤ) (m d : ℕ) → is_leap_day (date y m d) ≡ false →
 unfolding mark
 mark_test y m d other = rw other refl
 
--- the leap day lies ahead of 1 March
+-- the leap day lies before 1 March
 pub ahead : Calendar → ℕ → ℕ → ℕ
 ahead c y m = if nat_lt m 3 then leap_days c y else 0
 

@@ -17,9 +17,9 @@ use std::alloc::{AllocError, Global};
 /// The Sunday letters of a year, by the third canon of *Inter gravissimas*.
 #[derive(Clone, Copy, Debug, PartialEq, Eq, Hash)]
 pub struct Letters {
-    /// That of the Sundays of January and of February before the 29th.
+    /// The letter of the Sundays of January and of February before the 29th.
     pub january: Letter,
-    /// That of the Sundays from March on. It differs from the other in a leap year alone.
+    /// The letter of the Sundays from March on. It differs from the other in a leap year alone.
     pub march: Letter,
 }
 

@@ -30,7 +30,8 @@ use Rattle.osn_core.specs.History.{calls_of, asked, told, replies_to, reply_to}
 use Rattle.osn_core.proofs.Knows.{Knows, AllKnown, step_known}
 use Rattle.osn_core.proofs.Owed.{owed, still_owed, enters, answers, owed_staged, owed_published}
 
--- what is told and owed after a step is what was owed before, and what the object tells of its call
+-- the replies that are told and owed after a step are those owed before, and the object's reply to
+-- its call
 abbrev Settles : Profile → ℕ → Looks → CoreState → Step → Type 0
 Settles p r looks c step = (calls : List Call) →
     reply_to r (out_of p c step)

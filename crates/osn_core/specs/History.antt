@@ -53,9 +53,8 @@ abbrev pub asked : Option Query → ℕ → List Call
 asked (Some query) reader = Asks reader query ∷ []
 asked None reader = []
 
--- the call that a step with this out is, if it is one. It is one for a stage or a publish that was
--- taken or refused, and for a check that entered. That check asks for the query of the reader's
--- last look that moved
+-- the call, if any, that a step with this out is: a stage or a publish, taken or refused, or a
+-- check that entered. The check asks for the query of the reader's last look that moved
 abbrev pub call_of : Looks → Step → Out → List Call
 call_of looks (Stage edit) (Staged n) = Stages edit ∷ []
 call_of looks (Stage edit) (Refused f) = Stages edit ∷ []

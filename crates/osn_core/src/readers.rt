@@ -27,7 +27,7 @@ impl Model for Readers {
 }
 
 impl Readers {
-    /// That many readers that are idle.
+    /// This many idle readers.
     pub fn new(alloc: Global, readers: u32) -> Result<Readers, AllocError>
         ensures { IfOk result (λ r. r ≡ all_idle readers) }
     {

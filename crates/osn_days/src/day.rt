@@ -13,8 +13,9 @@ pub const HIGH: u32 = 3_652_059;
 /// The Julian day number of the day before the first.
 const JULIAN_DAY_OFFSET: u32 = 1_721_425;
 
-/// A day of the line, numbered as the fixed dates (Rata Die) of *Calendrical Calculations*, chapter
-/// 1. Day 1 is Monday 1 January of year 1 Gregorian, which is 3 January of year 1 Julian.
+/// A day of the line, numbered as the fixed dates (Rata Die) in chapter 1 of *Calendrical
+/// Calculations*. Day 1 is Monday 1 January of year 1 Gregorian, which is 3 January of year 1
+/// Julian.
 #[derive(Clone, Copy, Debug, PartialEq, Eq, PartialOrd, Ord, Hash)]
 pub struct Day {
     number: u32,

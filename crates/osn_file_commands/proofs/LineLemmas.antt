@@ -28,7 +28,7 @@ next_line f now new piece line xs i x low so_far pushed shown made is =
     ∙ ap (λ t. flat_map f (take i xs) ++ t) (shown ∙ made ∙ ap f is)
     ∙ sym (flat_map_next f xs i x low)
 
--- a text that goes on by a piece, of which that is the front of what is left
+-- a text that goes on by a piece, which is the front of the remaining text
 pub next_piece : (before now new piece line rest all left : List ℕ)
     → now ++ left ≡ before ++ all → left ≡ line ++ rest → new ≡ now ++ piece → piece ≡ line
     → new ++ rest ≡ before ++ all

@@ -1,4 +1,4 @@
--- What was read of a file by one rule, and so by another.
+-- The result of reading a file by one rule, and so by another.
 use Rattle.std.proofs.Common.{◌≡◌, ◌<◌, ◌≤◌, ℕ, Bool, List, [], Option, Some, None, Result, Ok}
 use Rattle.std.proofs.Common.{Err, IfSome, IfErr, subst, sym, ap, ◌∙◌, arith, append-nil}
 use Rattle.std.specs.Io.KnownBytes.{Consumes}
@@ -25,7 +25,7 @@ if_some (Some x) f h = f x h
 abbrev Rule : Type 0 → Type 0
 Rule A = List (List ℕ) → Result A (ℕ × LineFault)
 
--- what another rule makes, where it makes what was read so
+-- the file as another rule reads it, which makes its own value of the same lines
 pub ReadsFile-ok : {A B T U S : Type 0} {role : Role} {rule : Rule A} {rule_too : Rule B}
     {view : T → A} {view_too : U → B} {t : T} {u : U} {remaining : S → Option (List ℕ)}
     {has_failed : S → Bool} {old new : S}

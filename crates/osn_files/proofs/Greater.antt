@@ -61,7 +61,7 @@ module _ (p : Profile) {limits greater : Limits} (more : AreGreater limits great
   abbrev IsLawful : ObjectState → Type 0
   IsLawful s = AreLawful p limits [] (edits_of s)
 
-  -- what is made under limits, and under greater ones, is the same object but for its limits
+  -- the object that is made under limits, and under greater ones, is the same but for its limits
   record IsSameUnderBoth {F : Type 0} (r q : Result ObjectState F) : Type 0 where
     now : ObjectState
     is : r ≡ Ok (smaller now)
@@ -123,7 +123,7 @@ module _ (p : Profile) {limits greater : Limits} (more : AreGreater limits great
       not_refused (publish_refusal (smaller s)) (publish_refusal (larger s))
       (with_edition s) made (publish_passes s) (λ none. published_lawful s lawful) h
 
-  -- what is made of what was read
+  -- the object that is made of a reading's result
   read_under : {A : Type 0} (r : Result A WireFault) (make also : A → Result ObjectState LineFault)
       (made : ObjectState) → ((a : A) → make a ≡ Ok made → IsSameUnderBoth (make a) (also a))
       → on_read r make ≡ Ok made → IsSameUnderBoth (on_read r make) (on_read r also)
@@ -179,7 +179,7 @@ module _ (p : Profile) {limits greater : Limits} (more : AreGreater limits great
       (λ now. line_under version s now l lawful)
       (λ now good. lines_under version (n + 1) now made ls good) h
 
-  -- what is loaded after a head
+  -- the object that is loaded after a head
   after_head : (r : Result Version LineFault) (made : ObjectState) (rest : List (List ℕ))
       → go_on 1 r (λ v. in_turn (after_object p) 2 (Some v) (opened limits) rest) ≡ Ok made
       → IsSameUnderBoth (go_on 1 r (λ v. in_turn (after_object p) 2 (Some v) (opened limits) rest))

@@ -213,7 +213,7 @@ lines_end limits n s made (l ∷ ls) old is =
     (λ t old_t e. lines_end limits (n + 1) t made ls old_t e)
     is
 
--- what is loaded after a head
+-- the object that is loaded after a head
 abbrev behind : Profile → Limits → List (List ℕ) → Result Version WireFault
     → Result ObjectState (ℕ × LineFault)
 behind p limits rest r =

@@ -1,4 +1,5 @@
--- What is kept of the front of a line that is read by pieces, and what it tells of the last line.
+-- The front of a line that is kept while the line is read by pieces, and what it says of the last
+-- line.
 use Rattle.std.proofs.Common.{◌≡◌, ◌-◌, ◌≤◌, ◌<◌, ◌==◌, ◌&&◌, ℕ, zero, suc, Bool, true, false, List}
 use Rattle.std.proofs.Common.{[], ◌∷◌, ◌++◌, Result, Ok, Err, OnOk, length, take, refl, sym, ap}
 use Rattle.std.proofs.Common.{◌∙◌, arith, length-take, take_all, nat_lt}

@@ -1,4 +1,4 @@
--- What is written of an object is loaded as that object.
+-- The journal of an object is loaded as that object.
 use Rattle.std.proofs.Common.{◌≡◌, ℕ, ◌+◌, ◌<◌, ◌≤◌, nat_lt, cond, List}
 use Rattle.std.proofs.Common.{[], ◌∷◌}
 use Rattle.std.proofs.Common.{◌++◌, length, Some, None, Result, Ok, refl, sym}

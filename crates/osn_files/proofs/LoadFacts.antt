@@ -61,7 +61,7 @@ module _ {S : Type 0} (step : Version → S → Data → Result S LineFault) whe
       ap (λ r. go_on n r (λ v. in_turn step (n + 1) (Some version) v (ls ++ line ∷ []))) first.is
       ∙ line_more (n + 1) version first.now t u ls line first.rest one
 
-  -- what is made of the lines after a head
+  -- the value that the lines after a head make
   abbrev behind : ℕ → S → List (List ℕ) → Result Version WireFault → Result S (ℕ × LineFault)
   behind n s ls r =
       go_on n (on_read r Ok) (λ version. in_turn step (n + 1) (Some version) s ls)

@@ -210,7 +210,7 @@ pub Stops-object : {A : Type 0} (make : Data → Result A LineFault) (r : Result
 Stops-object make r d NoMemory read stop = tt
 Stops-object make r d (Fault f) read stop = ap (λ o. on_read o make) read ∙ stop
 
--- a line that was not taken by its text left what was made as it was
+-- a line that was not taken by its text left the value as it was
 pub passed : (P Q : Type 0) (b : Bool) → b ≡ false → MatchBool b P Q → Q
 passed P Q true is h = absurd (cc)
 passed P Q false is h = h
@@ -275,7 +275,7 @@ pub counted : {S A : Type 0} (step : Rule S A) (state : S → A) (begun now : Re
 counted step state begun now input n h =
     if_some input (λ bytes all. h.count ∙ ap length (sym all)) h.all
 
--- a list from what is read of it at a place
+-- a list from the element at a place
 split_at : (xs : List (List ℕ)) (n : ℕ) (x : List ℕ) → slice_get xs n ≡ Some x
     → xs ≡ take n xs ++ x ∷ drop (suc n) xs
 split_at [] n x h = absurd (cc)

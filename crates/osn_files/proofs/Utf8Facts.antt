@@ -1,4 +1,4 @@
--- What is written of an object is UTF-8.
+-- The journal of an object is UTF-8.
 use Rattle.std.proofs.Common.{List, [], ◌∷◌, ◌++◌, subst, append_assoc, IsUtf8}
 use Rattle.std.proofs.lemmas.Str.{IsUtf8-append, IsUtf8-nil}
 use Rattle.osn_days.specs.Profile.{newest_rules}

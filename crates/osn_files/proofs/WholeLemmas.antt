@@ -81,7 +81,7 @@ byte_counted count next before piece i b low is counts h =
     ∙ ap (λ k. before ++ take k piece) (sym (add-one i)))
     (counts (before ++ take i piece) h)
 
--- what was read to the end of the input is all of it
+-- the bytes that were read to the end of the input are all of it
 pub read_whole : (input left : Option (List ℕ)) (read : List ℕ) → Consumes input left read
     → IsAtEnd left → (P : List ℕ → Type 0) → P read → IfSome input P
 read_whole None left read consumed end P h = tt

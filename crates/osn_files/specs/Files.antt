@@ -20,12 +20,12 @@ pub record SparesRead {A : Type 0} (rule : List (List ℕ) → Result A (ℕ × 
       length (lines (earlier ++ 10 ∷ [])) ≤ refused.0))
 
 -- A file of this role is read by a rule, which says what lines make, or the first fault and the
--- number of its line, counted from 1. What is made has this view. The source stood so before, and
--- stands so now. What it still has is said only where that is known.
+-- number of its line, counted from 1. The value that they make has this view. The source stood so
+-- before, and stands so now. What it still has is said only where that is known.
 pub record ReadsFile {A T S : Type 0} (role : Role)
     (rule : List (List ℕ) → Result A (ℕ × LineFault)) (view : T → A) (result : Result T FileFault)
     (remaining : S → Option (List ℕ)) (has_failed : S → Bool) (old new : S) : Type 0 where
-  -- what is made is what the rule makes of the lines of all that is read
+  -- the value is the one that the rule makes of the lines of all bytes that were read
   pub made : IfOk result (λ made. IfSome (remaining old) (λ input.
       rule (lines input) ≡ Ok (view made)))
   -- all of the source was read, and it didn't fail

@@ -1,5 +1,5 @@
--- A journal stays good when limits are raised: what is loaded under limits is loaded under greater
--- ones, as the same object. This project's profile.
+-- A journal stays good when limits are raised: lines that limits load are loaded under greater ones
+-- too, as the same object. This project's profile.
 use Rattle.std.specs.Prelude.{◌≡◌, ◌≤◌, ℕ, List, [], ◌++◌, take, Ok}
 use Rattle.osn_days.specs.Profile.{newest_rules}
 use Rattle.osn_register.specs.declared.edit.Edit.{Edit}

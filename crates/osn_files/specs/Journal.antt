@@ -1,4 +1,4 @@
--- What is loaded from the lines of a journal. They are a head and then commands, which are run in
+-- The object that the lines of a journal load. They are a head and then commands, which are run in
 -- turn on a new object up to the first that is refused. This project's profile.
 use Rattle.std.specs.Prelude.{ℕ, List, Option, Some, None, Result, Ok, Err}
 use Rattle.serde_json.specs.Data.{Data}

@@ -1,4 +1,4 @@
--- What is kept of a line that is read by pieces.
+-- The front of a line that is kept while the line is read by pieces.
 use Rattle.std.specs.Prelude.{◌≡◌, ℕ, ◌+◌, List, take}
 use Rattle.osn_lines.specs.Lines.{longest_line}
 use Rattle.osn_files.specs.declared.last_line.LineFront.{LineFront}

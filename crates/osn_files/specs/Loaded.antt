@@ -38,7 +38,7 @@ HasEdit version (DropException code year) = ⊤
 abbrev pub HasEdits : Version → ObjectState → Type 0
 HasEdits version s = All (HasEdit version) (joined s.batches ++ s.pending)
 
--- ---- what is loaded
+-- ---- loading
 
 -- the first line is a head that says this version
 abbrev pub IsOfVersion : Version → List (List ℕ) → Type 0

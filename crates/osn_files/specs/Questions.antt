@@ -1,5 +1,5 @@
--- What is read from the lines of a question file, which has no head. For each reader from 1 to the
--- greatest that is named, it is the queries of the reader's lines, in order. This project's
+-- The questions in the lines of a question file, which has no head. For each reader from 1 to the
+-- greatest that is named, they are the queries of the reader's lines, in order. This project's
 -- profile.
 use Rattle.std.specs.Prelude.{ℕ, ◌==◌, if◌then◌else◌, max, List, [], ◌∷◌, ◌++◌, map, Option}
 use Rattle.std.specs.Prelude.{Some, None, Result, Ok, Err}

@@ -18,7 +18,7 @@ abbrev pub with_version : {A : Type 0} → Version → Result A LineFault
 with_version version (Ok a) = Ok (Some version, a)
 with_version version (Err f) = Err f
 
--- the version that is known, and what is made, by the object of one line
+-- the version that is known, and the value that is made, by the object of one line
 abbrev pub taken : {A : Type 0} → (Version → A → Data → Result A LineFault) → Option Version → A
     → Data → Result (Option Version × A) LineFault
 taken step None a d =
@@ -40,8 +40,8 @@ abbrev pub StaysKnown : Option Version → Option Version → Type 0
 StaysKnown None now = Unit {0}
 StaysKnown (Some version) now = now ≡ Some version
 
--- what was begun is now, once it took these lines: the same comes of it by whatever stands after
--- them. The version is known where it wasn't, and stays where it was
+-- the reading that was begun is this one, once it took these lines: the same comes of both by
+-- whatever stands after them. The version is known where it wasn't, and stays where it was
 abbrev pub Reads : {S A : Type 0} → (S → Version → A → Data → Result A LineFault) → (S → A)
     → Reading S → List (List ℕ) → Reading S → Type 0
 Reads step state begun lines now =
@@ -50,7 +50,8 @@ Reads step state begun lines now =
     × (begun.version ≡ None → IsKnownOf lines now.version)
     × StaysKnown begun.version now.version
 
--- what was begun took these lines and met a fault at the next, whatever stands after it
+-- the reading that was begun took these lines and found a fault at the next, whatever stands after
+-- it
 abbrev pub Faults : {S A : Type 0} → (S → Version → A → Data → Result A LineFault) → (S → A)
     → Reading S → List (List ℕ) → Option (List ℕ) → LineFault → Type 0
 Faults step state begun lines None f = ⊥
@@ -58,7 +59,7 @@ Faults step state begun lines (Some line) f =
     (more : List (List ℕ))
     → goes_on step state begun 1 (lines ++ line ∷ more) ≡ Err (length lines + 1, f)
 
--- what was begun has no fault in these lines, whatever stands after them
+-- the reading that was begun has no fault in these lines, whatever stands after them
 abbrev pub Spares : {S A : Type 0} → (S → Version → A → Data → Result A LineFault) → (S → A)
     → Reading S → List (List ℕ) → Type 0
 Spares step state begun lines =

@@ -1,5 +1,5 @@
--- What is read from the lines of a schedule, which has no head. They are the steps of one editor
--- and of a number of readers, in the order of the lines. This project's profile.
+-- The steps in the lines of a schedule, which has no head. They are the steps of one editor and of
+-- a number of readers, in the order of the lines. This project's profile.
 use Rattle.std.specs.Prelude.{ℕ, List, [], ◌∷◌, ◌++◌, codes, Option, Some, Result, Ok, Err}
 use Rattle.serde_json.specs.Data.{Data}
 use Rattle.osn_days.specs.Profile.{Profile}

@@ -1,5 +1,5 @@
--- What is read from the lines of a script: a head, and after it the commands of one editor, which
--- are not run. This project's profile.
+-- The commands in the lines of a script. A head comes first, and after it the commands of one
+-- editor, which are not run. This project's profile.
 use Rattle.std.specs.Prelude.{ℕ, List, [], ◌∷◌, ◌++◌, None, Result, Ok}
 use Rattle.serde_json.specs.Data.{Data}
 use Rattle.osn_core.specs.declared.command.Command.{Command}

@@ -10,7 +10,7 @@ use Rattle.osn_files.specs.declared.fault.LineFault.{LineFault}
 use Rattle.osn_files.specs.declared.fault.LineFault.TheVariants.{Wire}
 use Rattle.osn_files.specs.Version.{version_of}
 
--- what is made of what was read of a line, unless the reading met a fault
+-- the value that is made of a reading's result, unless that is a fault
 abbrev pub on_read : {A S : Type 0} → Result A WireFault → (A → Result S LineFault)
     → Result S LineFault
 on_read (Ok x) make = make x
@@ -22,10 +22,9 @@ abbrev pub go_on : {S T : Type 0} → ℕ → Result S LineFault → (S → Resu
 go_on n (Ok t) next = next t
 go_on n (Err f) next = Err (n, f)
 
--- What lines make of a value, each by its object and by the rules of a version. Where a line has a
--- fault, it is the first fault and the number of its line, where the first line has this number.
--- Where no version is known, the first line is a head that says it. Line 1 has a fault where there
--- is no line.
+-- What lines make of a value, each by its object and by the rules of a version, or the first fault
+-- and the number of its line. The first line has this number. Where no version is known, the first
+-- line is a head that says it. Line 1 has a fault where there is no line.
 abbrev pub in_turn : {S : Type 0} → (Version → S → Data → Result S LineFault) → ℕ
     → Option Version → S → List (List ℕ) → Result S (ℕ × LineFault)
 in_turn step n None s [] = Err (1, Wire BadHead)

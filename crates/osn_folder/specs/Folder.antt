@@ -44,7 +44,7 @@ abbrev pub Fails : Known → Known → Type 0
 Fails k n =
     (n.at ≡ k.at) × (n.opened ≡ k.opened) × (n.paths ≡ k.paths) × (n.has_failed ≡ true)
 
--- ---- what is read
+-- ---- reading
 
 -- a file of this path was found, and will give what it holds
 abbrev pub IsFileOf : Option Known → List ℕ → Option (List ℕ) → Type 0
@@ -92,7 +92,7 @@ module _ {S : Type 0} where
   abbrev pub MayFail : (S → Bool) → Bool → Type 0
   MayFail has_failed failed = failed ≡ true → (file : S) × (has_failed file ≡ true)
 
--- ---- what is kept
+-- ---- keeping
 
 -- of all paths but this one, what they hold is as it was
 abbrev pub KeepsOthers : List ℕ → Known → Known → Type 0
@@ -132,7 +132,7 @@ Leaves path contents k n =
     KeepsOthers path k n × (n.has_failed ≡ k.has_failed)
     × IfSome contents (λ bytes. n.at path ≡ Some bytes)
 
--- ---- what is saved
+-- ---- saving
 
 -- the file of this path, or the name where no file is, is locked, and no other run has it
 abbrev pub Locks : List ℕ → Known → Known → Type 0
@@ -182,7 +182,7 @@ CannotMove to moves.Changed k n = Stays k n × (k.paths.is_changed to ≡ true)
 CannotMove to moves.Failed k n = Fails k n
 
 -- what is at this place is what was there at first. No one else put another file there, and it
--- holds what was loaded from it, where that is given
+-- holds the bytes that were loaded from it, where these are given
 abbrev pub IsUnchanged : List ℕ → Option (List ℕ) → Known → Type 0
 IsUnchanged place loaded k =
     (k.paths.is_changed place ≡ false) × IfSome loaded (λ bytes. k.at place ≡ Some bytes)

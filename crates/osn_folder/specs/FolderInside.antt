@@ -8,7 +8,7 @@ use Rattle.osn_folder.specs.declared.fault.MoveFault.TheVariants as moves
 use Rattle.osn_folder.specs.declared.fault.SaveFault.{SaveFault}
 use Rattle.osn_folder.specs.declared.fault.SaveFault.TheVariants as saves
 
--- the file of this path holds what was loaded from it, where that is given
+-- the file of this path holds the bytes that were loaded from it, where these are given
 abbrev pub HoldsLoaded : List ℕ → Option (List ℕ) → Known → Known → Type 0
 HoldsLoaded place loaded k n = Stays k n × IfSome loaded (λ bytes. k.at place ≡ Some bytes)
 

@@ -121,7 +121,7 @@ fn place_fault(error: &io::Error) -> SaveFault {
     }
 }
 
-/// That a path which has no place of its own, as that of an open pipe, is no link that leads
+/// Checks that a path which has no place of its own, as that of an open pipe, is no link that leads
 /// nowhere.
 fn leads_somewhere(files: &impl Files, path: &str) -> Result<(), SaveFault> {
     let found = match fs::symlink_metadata(files, path) {

@@ -36,7 +36,7 @@ impl<R: Files> DiskFile<'_, R> {
         }
     }
 
-    /// That nobody else has cut the file or added to it.
+    /// Checks that nobody else has cut the file or added to it.
     fn check_length(&self) -> Result<(), KeptFileFault> {
         match self.file.metadata() {
             Ok(found) if found.len() == self.length => Ok(()),
@@ -45,7 +45,7 @@ impl<R: Files> DiskFile<'_, R> {
         }
     }
 
-    /// That the path still names the file.
+    /// Checks that the path still names the file.
     fn check_path(&self) -> Result<(), KeptFileFault> {
         match is_at(self.files, self.path.as_str(), &self.file) {
             Ok(true) => Ok(()),
@@ -118,7 +118,7 @@ impl<R: Files> KeptFile for DiskFile<'_, R> {
     }
 }
 
-/// That a change was made, or failed.
+/// The result of a change of the file.
 fn made(change: io::Result<()>) -> Result<(), KeptFileFault> {
     match change {
         Ok(()) => Ok(()),

@@ -6,6 +6,10 @@ use crate::fault::OpenFailed;
 use crate::folder::Folder;
 
 /// Opens a file.
+///
+/// # Errors
+///
+/// Why the file could not be opened.
 pub fn open_file<D: Folder>(folder: &mut D, path: &str) -> Result<D::File, OpenFailed>
     ensures file { IfOk result
         (λ file. IsFileOf (D.known folder.old) path.now (D.File.remaining file)) }
@@ -18,6 +22,10 @@ pub fn open_file<D: Folder>(folder: &mut D, path: &str) -> Result<D::File, OpenF
 }
 
 /// Opens two files, one after the other.
+///
+/// # Errors
+///
+/// Why one of them could not be opened. The second is not tried where the first could not be.
 pub fn open_both<D: Folder>(
     folder: &mut D,
     first: &str,
@@ -38,6 +46,10 @@ pub fn open_both<D: Folder>(
 }
 
 /// Opens a file, where there is a path.
+///
+/// # Errors
+///
+/// Why the file could not be opened.
 pub fn open_if<D: Folder>(folder: &mut D, path: Option<&str>) -> Result<Option<D::File>, OpenFailed>
     ensures file { IfOk result (λ file. IsFileIf (D.known folder.old)
         (option_map (λ path. path.now) path.entry) (option_map D.File.remaining file)) }

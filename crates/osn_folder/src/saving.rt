@@ -105,7 +105,7 @@ fn sync_saved<D: Folder>(folder: &mut D, place: &str) -> Result<(), SaveFault>
     }
 }
 
-/// That the file which is locked holds exactly the bytes that are given, if any are.
+/// Checks that the file which is locked holds exactly the bytes that are given, if any are.
 fn check_loaded<D: Folder>(
     folder: &mut D,
     lock: &D::Lock,
@@ -124,7 +124,7 @@ fn check_loaded<D: Folder>(
     }
 }
 
-/// That the file which is locked holds exactly these bytes.
+/// Checks that the file which is locked holds exactly these bytes.
 fn check_bytes<D: Folder>(
     folder: &mut D,
     lock: &D::Lock,

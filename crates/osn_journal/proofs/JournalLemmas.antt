@@ -16,7 +16,7 @@ pub edits_more : (text : List ℕ) (es : List Edit) (e : Edit)
     → (text ++ edits_text es) ++ line_text (edit_data e) ≡ text ++ edits_text (es ++ e ∷ [])
 edits_more text es e = flat_map_more (λ e. line_text (edit_data e)) text es e
 
--- a change adds its line to what is written of an object
+-- a change adds its line to the journal of an object
 pub grows_by_lines : (s : ObjectState) → GrowsByLines s
 grows_by_lines s =
     let head = line_text (head_data newest_version) in

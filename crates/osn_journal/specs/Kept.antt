@@ -91,7 +91,7 @@ pub record KeepsFirst (rules : ServeRules) (s t : ObjectState) (input : Option (
   pub stands : IfSome input (λ bytes. before ≡ after_lines rules s (take n (lines bytes)))
   pub keeps : KeepsUntil s before t old new why
 
--- What was kept where answering lines ended.
+-- The state of the kept file where answering lines ended.
 abbrev pub KeepsFile : ServeRules → ObjectState → ObjectState → Option (List ℕ) → FileState
     → FileState → Result Served (Interrupted (ServiceFault KeptFileFault)) → Type 0
 KeepsFile rules s t input old new result =

@@ -17,14 +17,14 @@ pub record GrowsByLines (s : ObjectState) : Type 0 where
 
 -- What holds of all journals.
 pub record JournalLaws : Type 0 where
-  -- what is written of an object grows by the line of each change
+  -- the journal of an object grows by the line of each change
   pub grows : (s : ObjectState) → GrowsByLines s
-  -- what is loaded as an object is loaded as the next one by the same line
+  -- a text that is loaded as an object is loaded as the next one by the same line
   pub loads : (version : Version) (limits : Limits) (s : ObjectState) (text : List ℕ)
       → IsJournalOf version limits s text → LoadsByLines version limits s text
   -- the newest version has every edit
   pub newest : (e : Edit) → HasEdit newest_version e
-  -- what is written of an object is loaded as that object
+  -- the journal of an object is loaded as that object
   pub written : (s : ObjectState) → IsSound newest_rules s
       → IsJournalOf newest_version s.limits s (journal_text s)
 

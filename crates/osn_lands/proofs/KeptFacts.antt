@@ -1,5 +1,5 @@
--- The days of the first rules keep their labels by the newest, so what is read on them is the same,
--- and so are the Easters of their years.
+-- The days of the first rules keep their labels by the newest, so the same labels are read on them,
+-- and the Easters of their years are the same.
 use Rattle.std.proofs.Common.{◌≡◌, ℕ, zero, suc, ◌<◌, ◌≤◌, ◌==◌, ◌&&◌, nat_le, Bool, false, filter}
 use Rattle.std.proofs.Common.{sym, ap, ◌∙◌, arith, ℤ, unsigned_abs}
 use Rattle.std.proofs.Math.Bool.{and-true}

@@ -122,7 +122,7 @@ last_digit_differs e l lt fits same =
     (length_more _ _ ∙ sym (length_more _ _))
     ∙ front_is_left_out (decimal (e / 10)) (48 + e % 10) (48 + l % 10) (λ q. omega arith))))
 
--- the last digit of the later year follows what is shown of the digits before it
+-- the last digit of the later year follows those shown of the digits before it
 last_digit_follows : (e l : ℕ) → e < l → l < 2 ^ 64 → (e / 10 ≡ l / 10 → ⊥) →
     later_digits (decimal e) (decimal l) ≡ later_digits (decimal (e / 10)) (decimal (l / 10))
     ++ (48 + l % 10) ∷ []

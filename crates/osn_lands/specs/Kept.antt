@@ -10,7 +10,7 @@ use Rattle.osn_lands.specs.Easters.{easters}
 abbrev pub days_of_line : Profile → List ℕ → List ℕ
 days_of_line p days = filter (λ d. nat_le d p.high) days
 
--- those of the days that the line of the rules has are what is read by these rules
+-- those of the days that the line of the rules has are the days that these rules read
 abbrev pub KeepsReading : Profile → TerritoryModel → Label → List ℕ → Type 0
 KeepsReading p t label days = days_of_line p days ≡ reading p t label
 

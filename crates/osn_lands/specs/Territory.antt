@@ -1,5 +1,5 @@
--- Territories as lists of start days with their regimes, and what is read in them: this project's
--- profile.
+-- Territories as lists of start days with their regimes, and the days that labels mean in them:
+-- this project's profile.
 use Rattle.std.specs.Prelude.{◌≡◌, ℕ, ◌+◌, ◌-◌, ◌*◌, ◌^◌, ◌≤◌, Bool, true, false, not, ◌&&◌, ◌||◌}
 use Rattle.std.specs.Prelude.{nat_le, nat_lt, if◌then◌else◌, List, [], ◌∷◌, filter, fold}
 use Rattle.std.specs.List.{list_any}
@@ -13,9 +13,8 @@ use Rattle.osn_lands.specs.declared.label.Label.{Label}
 use Rattle.osn_lands.specs.declared.period.Period.{Period}
 use Rattle.osn_lands.specs.Label.{local_label, same_label, days_with_label}
 
--- the start days in ascending order, each with the regime that comes into force, the first on day
--- 1. Then the years with a listed exception in ascending order, each with the day that is its
--- Easter
+-- the start days in ascending order, each with its regime, the first on day 1. Then the years with
+-- a listed exception in ascending order, each with its Easter day
 pub record TerritoryModel : Type 0 where
   pub starts : List (ℕ × Regime)
   pub exceptions : List (ℕ × ℕ)

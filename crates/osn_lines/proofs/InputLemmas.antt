@@ -16,14 +16,14 @@ use Rattle.osn_lines.specs.Taking.{TakesEnded, HasKeptUp}
 use Rattle.osn_lines.proofs.LineLemmas.{lines-feed}
 use Rattle.osn_lines.proofs.TakeLemmas.{Takes-then}
 
--- the input begins with what was read
+-- the input begins with the bytes that were read
 pub known : (P : List ℕ → Type 0) (a b : Option (List ℕ)) (read : List ℕ) → Consumes a b read →
     ((more : List ℕ) → P (read ++ more)) → IfSome a P
 known P None b read h f = tt
 known P (Some xs) None read h f = absurd h
 known P (Some xs) (Some ys) read h f = subst P (sym h) (f ys)
 
--- at the end the input is what was read
+-- at the end the input is the bytes that were read
 pub known_whole : (P : List ℕ → Type 0) (a b : Option (List ℕ)) (read : List ℕ) →
     Consumes a b read → IsAtEnd b → P read → IfSome a P
 known_whole P None b read h e p = tt

@@ -64,7 +64,7 @@ Cuts-more bytes left more done h = record {
       ∙ (h.whole (more ++ xs) ∙ ap (λ ys. done ++ lines ys) (sym (append_assoc left more xs)));
 }
 
--- further bytes are cut after what was left
+-- further bytes are cut after those that were left
 pub Cuts-then : (bytes left more rest : List ℕ) (done new : List (List ℕ)) → Cuts bytes done left →
     Cuts (left ++ more) new rest → Cuts (bytes ++ more) (done ++ new) rest
 Cuts-then bytes left more rest done new h k = record {

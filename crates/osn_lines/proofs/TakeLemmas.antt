@@ -155,7 +155,7 @@ IsStopped-next after stopped s t u part piece hay end kept n m q from place why 
       count = same ∙ h.count;
     }
 
--- what the rest adds to what is kept
+-- what the rest adds to the bytes that are kept
 pub IsKept-more : (kept kept' : Kept) (hay rest left : List ℕ) → hay ≡ rest →
     ((line : List ℕ) → Holds kept line → Holds kept' (line ++ hay)) →
     ((i : ℕ) → 0 ≤ i → i < length hay → (slice_index hay i == 10) ≡ true → ⊥) → IsKept kept left →

@@ -1,4 +1,4 @@
--- What is left of bytes in memory.
+-- The bytes in memory that a source has left.
 use Rattle.std.specs.Prelude.{ℕ, List}
 use Rattle.osn_lines.specs.declared.bytes.Bytes.{Bytes}
 

@@ -28,8 +28,8 @@ Holds kept line = HoldsBytes kept.is_too_long kept.bytes.items line
 abbrev pub IsKept : Kept → List ℕ → Type 0
 IsKept kept line = Holds kept line × HasNoFeed line
 
--- of these bytes the lines `taken` were taken, which made n lines into m, and of what is left Left
--- holds
+-- of these bytes the lines `taken` were taken, which made n lines into m, and Left holds of the
+-- bytes that are left
 pub record IsTaken {S : Type 0} (after : S → List (List ℕ) → S → Type 0) (s t : S) (bytes : List ℕ)
     (n m : ℕ) (Left : List ℕ → Type 0) : Type 0 where
   pub taken : List (List ℕ)

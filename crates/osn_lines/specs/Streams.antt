@@ -1,7 +1,7 @@
 -- What is known of a stream that is read, and of one that is written, before and after.
 use Rattle.std.specs.Prelude.{ℕ, Bool, List, Option}
 
--- what a source was to give and what is left of it, and whether a read of it had failed and has now
+-- a source: the bytes it was to give, those left, and whether a read of it had failed and has now
 pub record Input : Type 0 where
   pub bytes : Option (List ℕ)
   pub rest : Option (List ℕ)

@@ -102,7 +102,7 @@ module _ {G : Type 0} where
   started_count o [] (l ∷ ls) a = absurd a
   started_count o (h ∷ hs) [] a = absurd a
 
--- ---- what is told of a reader that has worked
+-- ---- the replies or the fault of a reader that has worked
 pub work_at : (lists published : ℕ) (f : WorkFault) → IsFaultAt lists published (by_work f)
 work_at lists published Work.NoMemory = tt
 work_at lists published Work.NoPlace = tt

@@ -23,8 +23,8 @@ IsFaultAt lists published Desk.BadCount = ⊥
 IsFaultAt lists published Desk.NoPlace = Unit {0}
 IsFaultAt lists published Desk.GateClosed = Unit {0}
 
--- what is told of a reader that has worked: its own fault, or its last edition is above those that
--- were published
+-- the fault that is told of a reader that has worked: its own fault, or its last edition is above
+-- those that were published
 abbrev pub IsFaultOf : ℕ → ℕ → ℕ → Result (Vec Reply Global) WorkFault → DeskFault → Type 0
 IsFaultOf who seen published replies fault =
     ((own : WorkFault) × (replies ≡ Err own) × (fault ≡ by_work own))

@@ -22,7 +22,7 @@ reader_in r = record {
 abbrev pub IsPlaced : Inside → Type 0
 IsPlaced r = view r.place.place ≡ Some (origin_of (edition_of r.limits r.certificate))
 
--- what was read at one moment is the answer under the batches that were published then
+-- a look at one moment gives the answer under the batches that were published then
 abbrev pub IsAnswerAt : Origin → Query → Option (CertificateState × Result Reply AllocError) →
     Type 0
 IsAnswerAt o query None = Unit {0}

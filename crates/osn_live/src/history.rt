@@ -77,7 +77,7 @@ impl Model for History {
     ghost invariant = { λ h. h.head ≡ head_of h.head.book };
 }
 
-/// That the history of a book began with these batches.
+/// The knowledge that the history of a book began with these batches.
 #[derive(Drop)]
 pub struct Certificate {
     count: u32,

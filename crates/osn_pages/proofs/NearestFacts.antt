@@ -7,7 +7,7 @@ use Rattle.osn_lands.specs.Territory.{TerritoryModel}
 use Rattle.osn_written.specs.declared.written_date.WrittenDate.{WrittenDate}
 use Rattle.osn_pages.specs.Nearest as spec
 
--- what is left of the years from one on
+-- the years that are left from one on
 abbrev left : (ℕ → List ℕ) → ℕ → ℕ → List ℕ
 left f y most = spec.first_with_days (map f (range_with_len y (most + 1 - y)))
 

@@ -49,7 +49,7 @@ covers_line_of p limits code (l ∷ ls) sound =
 on_line : (p : Profile) (d : ℕ) → 1 ≤ d → d ≤ p.high → is_off_line p (pos d) ≡ false
 on_line p d low high = grind (arith, ints, nat_tests)
 
--- what is answered to a day, where the code is refused so
+-- the answer about a day, where the code is refused so
 abbrev answer_on : Profile → Option Refusal → Option TerritoryModel → ℕ → Answer
 answer_on p refused t d =
     unless (or_else refused (first_refusal ((is_off_line p (pos d), DayOffLine) ∷ [])))

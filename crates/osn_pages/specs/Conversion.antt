@@ -28,7 +28,7 @@ unfoldable pub numbers_text : ℕ → List ℕ
 numbers_text d =
     codes "    day " ++ (decimal d ++ (codes "    JDN " ++ decimal (julian_day d)))
 
--- the page of a day: its weekday, its dates, its numbers, and what is said of the weekday that was
+-- the page of a day: its weekday, its dates, its numbers, and the remark on the weekday that was
 -- given, if any
 unfoldable pub conversion_page : ℕ → Option Weekday → List ℕ
 conversion_page d given =

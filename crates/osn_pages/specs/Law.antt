@@ -1,5 +1,5 @@
--- What is written of a day by a calendar is read again as that day's date. The periods of a
--- territory are those that hold its days.
+-- The words of a day by a calendar are read again as that day's date. The periods of a territory
+-- are those that hold its days.
 use Rattle.std.specs.Prelude.{◌≡◌, ◌≤◌, ℕ, List, [], ◌∷◌, Ok, pos}
 use Rattle.std.specs.List.{All}
 use Rattle.osn_days.specs.declared.calendar.Calendar.{Calendar}

@@ -26,7 +26,7 @@ abbrev pub said_of_weekday : Option Weekday → List ℕ
 said_of_weekday None = codes " ok"
 said_of_weekday (Some given) = codes " not " ++ weekday_name given
 
--- what is said of a day, where the date names a weekday or one is given beside it
+-- the remark on a day, where the date names a weekday or one is given beside it
 unfoldable pub verdict : Option Weekday → Option Weekday → ℕ → List ℕ
 verdict written given d =
     if is_some written || is_some given then
@@ -35,8 +35,8 @@ verdict written given d =
 
 -- ---- the lines
 
--- a day by its weekday and as the territory dated it, by two calendars and by its numbers, and what
--- is said of its weekday
+-- a day by its weekday and as the territory dated it, by two calendars and by its numbers, and the
+-- remark on its weekday
 unfoldable pub day_line : List ℕ → DatedDay → List ℕ
 day_line remark x =
     named_day x

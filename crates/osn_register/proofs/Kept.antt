@@ -111,7 +111,7 @@ IsWellFormed-push p r l w none room few = record {
   territories = AreSound-push p r.limits r.lands l w.territories few;
 }
 
--- what is kept after one new key, seen as the plain list
+-- the entries after one new key, seen as the plain list
 module _ {K V : Type 0} (text : K → List ℕ) (name : V → List ℕ) (territory : V → TerritoryModel)
   where
     pub kept_new : (old new : List (K × V)) (k : K) (v : V) (l : LandModel) →

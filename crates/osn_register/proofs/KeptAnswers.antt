@@ -283,7 +283,7 @@ refused_unless : (refused : Option Refusal) (now before : Answer)
 refused_unless None now before same = same
 refused_unless (Some f) now before same = refl
 
--- what is answered to a query keeps what the first rules answer
+-- the answer to a query keeps the first rules' answer
 pub kept_answer : (lands : List LandModel) (q : Query)
     → KeepsAnswer first_rules lands q (answer newest_rules lands q)
 kept_answer lands (queries.Read code year month day) =

@@ -40,7 +40,7 @@ some_is h = cc
 not_none : {X Y : Type 0} {x : X} → Some x ≡ None → Y
 not_none h = absurd (false≢true (sym (ap is_some h)))
 
--- what is written under a key, seen as the plain list
+-- the entry that is written under a key, seen as the plain list
 module _ {K V : Type 0} (text : K → List ℕ) (name : V → List ℕ) (territory : V → TerritoryModel)
   where
     pub map-set_value : (code : List ℕ) (f : TerritoryModel → TerritoryModel) (es : List (K × V))

@@ -195,7 +195,7 @@ no_date fault = record {
   is_on_weekday = None;
 }
 
--- what is answered about what a text says
+-- the answer about what a text says
 abbrev pub said_answer : Profile → TerritoryModel → Result Said DateFault → Option Weekday
     → WrittenAnswer
 said_answer p t (Ok (say.Date w)) given = date_answer p t w given
@@ -241,7 +241,7 @@ abbrev pub written_in_answer : Profile → List LandModel → List ℕ → List 
 written_in_answer p lands code text given =
     unless (code_refusal lands code) (written_answer p (territory_of code lands) text given)
 
--- what is answered to a query
+-- the answer to a query
 abbrev pub answer : Profile → List LandModel → Query → Answer
 answer p lands (queries.Read code year month day) = read_answer p lands code year month day
 answer p lands (queries.DayIn code day) = day_in_answer p lands code day

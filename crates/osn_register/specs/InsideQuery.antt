@@ -6,7 +6,7 @@ use Rattle.osn_register.specs.declared.unanswered.Unanswered.{Unanswered}
 use Rattle.osn_register.specs.declared.unanswered.Unanswered.TheVariants.{Refused, NoMemory}
 use Rattle.osn_register.specs.Answer.{refusal_in, takes_memory}
 
--- what is said, which is no refusal, where nothing refuses
+-- the given answer, which is no refusal, where nothing refuses
 abbrev pub IsAnswer : Option Refusal → Answer → Answer → Type 0
 IsAnswer refused said a = (refused ≡ None) × (a ≡ said) × (refusal_in a ≡ None)
 

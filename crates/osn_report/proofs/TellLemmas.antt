@@ -1,4 +1,4 @@
--- What was told of a fault is what its contract says.
+-- The message about a fault is what its contract says.
 use Rattle.std.proofs.Common.{◌≡◌, ℕ, List, ◌++◌, codes, refl, sym, subst, ◌∙◌, inl, inr}
 use Rattle.osn_lines.specs.Streams.{Output}
 use Rattle.osn_register.specs.Refusal.{refusal_number, refusal_name}
@@ -19,7 +19,7 @@ refusal_told e fault line status is same (inl h) =
     inl (h.0 ∙ sym is, subst (WritesLine e) same h.1)
 refusal_told e fault line status is same (inr k) = inr (is, k)
 
--- what was told of one fault was told of the same one
+-- the message about one fault is that about the same one
 pub same_told : (e : Output) (fault other : CommandFault) (status : Status)
     → fault ≡ other → Tells e other status → Tells e fault status
 same_told e fault other status is h = subst (λ f. Tells e f status) (sym is) h

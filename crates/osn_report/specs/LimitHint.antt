@@ -1,4 +1,4 @@
--- The option that allows more, of what is refused at a limit. This project's profile.
+-- The option that allows more of whatever is refused at a limit. This project's profile.
 use Rattle.std.specs.Prelude.{ℕ, List, [], codes}
 use Rattle.osn_register.specs.declared.refusal.Refusal.{Refusal}
 use Rattle.osn_register.specs.declared.refusal.Refusal.TheVariants.{TooManyLands, TooManyChanges}

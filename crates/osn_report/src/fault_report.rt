@@ -123,6 +123,10 @@ fn refused_at(alloc: Global, line: u64) -> Result<String, AllocError>
 }
 
 /// The line on what is refused by this number and name.
+///
+/// # Errors
+///
+/// Want of memory, and nothing else.
 pub fn refused(alloc: Global, number: u8, name: &'static str) -> Result<String, AllocError>
     ensures { IfOk result (λ text. string_bytes text
         ≡ codes "oldstyle: " ++ refusal_end number name.now) }

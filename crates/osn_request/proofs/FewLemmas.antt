@@ -1,4 +1,4 @@
--- What was read is few members, member by member, or an object of them.
+-- The value that was read is few members, member by member, or an object of them.
 use Rattle.std.proofs.Common.{◌≡◌, ◌<◌, ◌≤◌, ◌-◌, ℕ, zero, suc, true, false, List, [], ◌∷◌}
 use Rattle.std.proofs.Common.{Option, Some, None, Bor, refl, sym, ap, ◌∙◌}
 use Rattle.std.proofs.Common.{arith, ⊎_elim, true≢false}

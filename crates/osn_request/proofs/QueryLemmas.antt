@@ -11,7 +11,7 @@ use Rattle.osn_request.specs.declared.request.op.QueryOp.TheVariants as ops
 use Rattle.osn_request.specs.Field.{◌>>=◌, whole_at}
 use Rattle.osn_request.specs.QueryRequest.{query_of, year_figures_of, reader_in, has_code}
 
--- what is asked, if anything, names no territory
+-- the query, if there is one, names no territory
 abbrev NamesNone : Result (ℕ × Query) WireFault → Type 0
 NamesNone (Ok asked) = names_land asked.1 ≡ false
 NamesNone (Err f) = Unit {0}

@@ -65,7 +65,8 @@ abbrev pub is_flat : List ℕ → Bool
 is_flat text =
     is_few_value (option_and_then (λ p. json.if_last p.0 p.1) (json.value max_depth (tokens text)))
 
--- what was read of tokens is a text or a whole number, few members or an object of few members
+-- the value that was read of tokens is a text or a whole number, few members or an object of few
+-- members
 abbrev pub scalar_read : Option (json.Json × List Token) → Bool
 scalar_read None = false
 scalar_read (Some p) = is_scalar p.0

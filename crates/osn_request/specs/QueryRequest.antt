@@ -84,6 +84,6 @@ query_of readers op d = do
   number ← reader_in readers reader
   Ok (number, query)
 
--- what is read stands for the query that is said, or is the fault
+-- the query that was read stands for the given one, or the fault is the given one
 abbrev pub Reads : Result BorrowedQuery WireFault → Result Query WireFault → Type 0
 Reads result said = MatchResult result (λ q. said ≡ Ok (as_query q)) (λ f. said ≡ Err f)

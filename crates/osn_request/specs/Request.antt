@@ -58,12 +58,12 @@ request p readers line = object_of line >>= request_of p readers
 abbrev pub IsReadable : List ℕ → Type 0
 IsReadable line = (length line ≤ longest_line) × IsUtf8 line × (0 < length line)
 
--- a fault is the one that is said; want of memory says nothing
+-- a fault is the given one; want of memory says nothing
 abbrev pub Fails : {A : Type 0} → RequestError → Result A WireFault → Type 0
 Fails errors.NoMemory said = Unit {0}
 Fails (errors.Fault f) said = said ≡ Err f
 
--- what was read is what is said, unless memory ran out
+-- the result is the given one, unless memory ran out
 abbrev pub Gives : {A : Type 0} → Result A RequestError → Result A WireFault → Type 0
 Gives (Ok x) said = said ≡ Ok x
 Gives (Err e) said = Fails e said

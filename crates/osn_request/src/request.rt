@@ -115,8 +115,9 @@ fn tree_of(alloc: Global, text: &str) -> Result<Value, RequestError>
 /// The object that a text is. The scratch serves one text after another, and grows to the length of
 /// the longest one. The object may borrow from it.
 ///
-/// # Errors `NotJson` and `NotObject`, or want of memory. An empty text takes no memory, and
-/// neither does a flat object where the scratch has room for its text.
+/// # Errors
+/// `NotJson` and `NotObject`, or want of memory. An empty text takes no memory, and neither does a
+/// flat object where the scratch has room for its text.
 pub fn object_in<'a>(
     alloc: Global,
     scratch: &'a mut Scratch,
@@ -172,7 +173,9 @@ pub fn text_of<'a>(line: Line<'a>) -> Result<&'a str, WireFault>
 /// The object of a line. The scratch serves one line after another, and grows to the length of the
 /// longest one. The object may borrow from it.
 ///
-/// # Errors Memory is taken only for the object of a line that is a text and not too long.
+/// # Errors
+/// The first fault of the line, or want of memory. Only a line that is a text, not empty and not
+/// too long takes memory.
 pub fn object_of<'a>(
     alloc: Global,
     scratch: &'a mut Scratch,
@@ -194,9 +197,10 @@ pub fn object_of<'a>(
 /// The request of a line, where there are this many readers, or its first fault. The scratch serves
 /// one line after another, as for `object_of`.
 ///
-/// # Errors The first fault of the line, or want of memory. Only a line that is a text, not empty
-/// and not too long takes memory. A flat object for which the scratch has room takes memory only
-/// for the texts of the request, once nothing was found at fault.
+/// # Errors
+/// The first fault of the line, or want of memory. Only a line that is a text, not empty and not
+/// too long takes memory. A flat object for which the scratch has room takes memory only for the
+/// texts of the request, once nothing was found at fault.
 pub fn request_of_line(
     alloc: Global,
     scratch: &mut Scratch,
@@ -217,8 +221,9 @@ pub fn request_of_line(
 
 /// The request of a line of these bytes, as `request_of_line`, with a scratch of its own.
 ///
-/// # Errors The first fault of the line, or want of memory. Only a line that is a text, not empty
-/// and not too long takes memory.
+/// # Errors
+/// The first fault of the line, or want of memory. Only a line that is a text, not empty and not
+/// too long takes memory.
 pub fn read_request(alloc: Global, readers: u32, line: &[u8]) -> Result<Request, RequestError>
     ensures request { spec.Gives result (spec.request newest_rules readers line.now) }
     ensures memory { IfErr result (λ e. e ≡ NoMemory → spec.IsReadable line.now) }

@@ -121,7 +121,7 @@ not_measured limits read held failed P file_faults.ReadFault is (inr h) =
     inr (subst (λ l. 4294967295 ≤ length l) is h)
 not_measured limits read held failed P (file_faults.BadLine role line why) is h = absurd h
 
--- the bytes of the lines that count, of what was read
+-- the bytes of the lines that count, of the bytes that were read
 pub whole_read : (part : WholePart) (read held : List ℕ) → read ≡ held
     → IsWholePart part read → take part.bytes read ≡ whole_bytes held
 whole_read part read held is whole =

@@ -92,7 +92,7 @@ appended_to : (xs ys : List ℕ) (old new : Option (List ℕ)) → old ≡ Some 
     → Appends old new ys → new ≡ Some (xs ++ ys)
 appended_to xs ys old new known h = appended xs ys new (subst (λ o. Appends o new ys) known h)
 
--- what is missing was appended
+-- the missing text was appended
 pub completed : (held text : List ℕ) (old new : Option (List ℕ))
     → text ≡ missing_text held → old ≡ Some (whole_bytes held)
     → Appends old new text → new ≡ Some (kept_text held)

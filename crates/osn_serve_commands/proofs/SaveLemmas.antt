@@ -1,5 +1,5 @@
 -- The service over the files of a folder did what its contract says, by what the service of streams
--- did and what was saved.
+-- did and the journal that was saved.
 use Rattle.std.proofs.Common.{◌≡◌, ◌⊎◌, ℕ, Bool, true, false, List, [], ◌∷◌, Option, Some, None}
 use Rattle.std.proofs.Common.{Result, Ok, Err, IfSome, is_some, option_map, ap, refl, sym, subst}
 use Rattle.std.proofs.Common.{inl, inr, ◌∙◌, if◌then◌else◌, bytes_eq}
@@ -76,7 +76,7 @@ none_left f (Some x) h = absurd (cc)
 module _ {E D J P : Type 0} (contents : E → Option (List ℕ)) (has_failed holds_back : E → Bool)
     (known : D → Option Known) (bytes : J → List ℕ) (now : P → List ℕ)
     (loaded : Option (List ℕ)) (old mid new : E) (opened after : D) (was is : Status) where
-  -- what was told before anything was saved, and in all
+  -- the messages before anything was saved, and all messages
   abbrev before : Output
   before = output_of contents has_failed holds_back old mid
 
@@ -248,7 +248,7 @@ known_is : (bytes : Option (List ℕ)) → IfSome bytes (λ held. bytes ≡ Some
 known_is None = tt
 known_is (Some held) = refl
 
--- what was read whole is what the file holds
+-- the bytes that were read whole are those that the file holds
 read_whole : (known : Option Known) (path held : List ℕ) (bytes begun : Option (List ℕ))
     → IsFileOf known path bytes → IfSome bytes (λ given. held ≡ given) → begun ≡ Some held
     → IsFileOf known path begun

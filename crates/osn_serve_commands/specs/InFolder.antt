@@ -34,7 +34,7 @@ use Rattle.osn_serve_commands.specs.Keep.{EndsKept}
 use Rattle.osn_serve_commands.specs.Saving.{LocksIf, CannotLockIf, TellsUnsaved}
 use Rattle.osn_serve_commands.specs.Serve.{EndsServed}
 
--- what the lines of the service may do, and when it ends, by what is asked for
+-- what the lines of the service may do, and when it ends, by the options
 abbrev pub rules_of : ServiceModel → ServeRules
 rules_of asked = record {
   readers = asked.readers;
@@ -49,8 +49,8 @@ abbrev pub replaced_path : Option (List ℕ) → Option (List ℕ) → Option (L
 replaced_path (Some journal) (Some save) = if bytes_eq journal save then Some journal else None
 replaced_path journal save = None
 
--- what the file has to hold still that the journal is saved to: what was loaded, where that was
--- loaded from the same path and is known
+-- the bytes that the file has to hold still that the journal is saved to: those that were loaded,
+-- where they were loaded from the same path and are known
 abbrev pub IsToStand : Option (List ℕ) → Option Input → Option (List ℕ) → Type 0
 IsToStand None begun loaded = loaded ≡ None
 IsToStand (Some path) begun loaded =

@@ -64,17 +64,19 @@ abbrev pub missing_head : List ℕ → List ℕ
 missing_head [] = line_text (head_data newest_version)
 missing_head (b ∷ bs) = []
 
--- what is missing after these lines, the last of which stands so: its line feed, or the head
+-- the text that is missing after these lines, the last of which stands so: its line feed, or the
+-- head
 abbrev pub missing_end : LastLine → List ℕ → List ℕ
 missing_end Ended bytes = missing_head bytes
 missing_end LacksFeed bytes = 10 ∷ []
 missing_end Unfinished bytes = missing_head bytes
 
--- what is missing after the lines of a file that count
+-- the text that is missing after the lines of a file that count
 abbrev pub missing_text : List ℕ → List ℕ
 missing_text held = missing_end (last_line_of held) (whole_bytes held)
 
--- what the file holds once the service begins: its lines that count, and what is missing there
+-- what the file holds once the service begins: its lines that count, and the text that is missing
+-- there
 abbrev pub kept_text : List ℕ → List ℕ
 kept_text held = whole_bytes held ++ missing_text held
 
@@ -127,7 +129,7 @@ IsChangeFault fault told =
     ((why : KeptFileFault) × (told ≡ Some why) × (fault ≡ KeptFile why)) ⊎ (fault ≡ NoMemory)
 
 -- the file is as it was; or its last line was cut off, if it was not finished. After the lines that
--- count a front of what is missing may stand then
+-- count a front of the missing text may stand then
 abbrev pub IsLeft : List ℕ → Option ℕ → Option (List ℕ) → Type 0
 IsLeft held cut contents =
     ((cut ≡ None) × (contents ≡ Some held))

@@ -24,13 +24,13 @@ IsCut part cut old new =
     (held : List ℕ) → old ≡ Some held → IsWholePart part held
     → (cut ≡ unfinished_line held) × (new ≡ Some (whole_bytes held))
 
--- what is missing was appended, and all is on the disk
+-- the missing text was appended, and all is on the disk
 abbrev pub IsCompleted : WholePart → Option (List ℕ) → Option (List ℕ) → Option (List ℕ) → Type 0
 IsCompleted part old new synced =
     (held : List ℕ) → old ≡ Some (whole_bytes held) → IsWholePart part held
     → (new ≡ Some (kept_text held)) × (synced ≡ Some (kept_text held))
 
--- a front of what is missing was appended
+-- a front of the missing text was appended
 abbrev pub IsCompletedInPart : WholePart → Option (List ℕ) → Option (List ℕ) → Type 0
 IsCompletedInPart part old new =
     (held : List ℕ) → old ≡ Some (whole_bytes held) → IsWholePart part held

@@ -22,7 +22,7 @@ use Rattle.osn_report.specs.declared.fault.CommandFault.TheVariants.{File, Servi
 use Rattle.osn_report.specs.declared.fault.CommandFault.TheVariants.{NoMemory}
 use Rattle.osn_report.specs.declared.status.Status.{Status}
 
--- what is left of a source that may be there
+-- the bytes that are left of a source that may be there
 abbrev pub rest_if : {S : Type 0} → (S → Option (List ℕ)) → Option S → Option (List ℕ)
 rest_if remaining None = None
 rest_if remaining (Some source) = remaining source

@@ -1,4 +1,5 @@
--- What a service has done, by what was taken and what was written after that.
+-- What a service has done, by the lines that were taken and the replies that were written after
+-- that.
 use Rattle.std.proofs.Common.{◌≡◌, ◌<◌, ◌-◌, ◌∙◌, ℕ, Bool, false, List, [], ◌∷◌, ◌++◌, Option}
 use Rattle.std.proofs.Common.{Ok, Err, IfSome, length, take, drop, refl, sym, ap, subst}
 use Rattle.std.proofs.Common.{append_assoc, length-append, length-take, arith, ⊎_elim, inl, inr}

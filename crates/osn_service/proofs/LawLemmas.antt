@@ -100,7 +100,7 @@ query_leaves s (Ok Publish) h = absurd h
 query_leaves s (Ok (Ask reader query)) h = refl
 query_leaves s (Err fault) h = refl
 
--- what is told of a change that is refused or not
+-- the outcome of a change that is refused or not
 refused_leaves : (refusal : Option Refusal) (done : Outcome) (s t : ObjectState) →
     (HasChangedNothing done → ⊥) → HasChangedNothing (unless_refused refusal done) →
     state_unless refusal t s ≡ s

@@ -77,7 +77,7 @@ Waits-nothing text after s a w none no_ends = record {
   changes = tt;
 }
 
--- what was written and what waits are the replies to all lines
+-- the bytes that were written and those that wait are the replies to all lines
 pub Waits-all : {S : Type 0} (text : S → List ℕ → List ℕ) (after : S → List ℕ → S) (begun now : S)
     (lines : List (List ℕ)) (a b : Option (List ℕ)) (w : ReplyBuffer)
     (h : Waits text after begun now lines a b w) →

@@ -1,4 +1,4 @@
--- What a change of an object makes of it, by which refusal it is not made, and what is told of it.
+-- What a change of an object makes of it, by which refusal it is not made, and its outcome.
 use Rattle.std.specs.Prelude.{ℕ, ◌+◌, length, Option}
 use Rattle.osn_days.specs.Profile.{newest_rules}
 use Rattle.osn_register.specs.declared.refusal.Refusal.{Refusal}
@@ -25,12 +25,12 @@ abbrev pub number_after : ObjectState → Change → ℕ
 number_after s (Stage edit) = length s.pending + 1
 number_after s Publish = length s.batches + 1
 
--- what is told of a change that was made, by that number
+-- the outcome of a change that was made, by that number
 abbrev pub outcome : Change → ℕ → Outcome
 outcome (Stage edit) n = Staged n
 outcome Publish n = Published n
 
--- what is told of a change, and what it leaves
+-- the outcome of a change, and what it leaves
 abbrev pub change_outcome : ObjectState → Change → Outcome
 change_outcome s change =
     unless_refused (change_refusal s change) (outcome change (number_after s change))

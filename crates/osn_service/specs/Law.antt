@@ -1,5 +1,5 @@
--- An input may be cut between its lines and answered in parts. What is written for one part after
--- another is what is written for the whole.
+-- An input may be cut between its lines and answered in parts. The output for one part after
+-- another is the output for the whole.
 use Rattle.std.specs.Prelude.{◌≡◌, ◌⊎◌, ℕ, List, [], ◌∷◌, ◌++◌, Result, Ok, Err, ⊤}
 use Rattle.std.specs.List.{All, concat, flat_map}
 use Rattle.osn_core.specs.Sequential.{ObjectState}
@@ -37,13 +37,13 @@ HasChangedNothing (Refused refusal) = ⊤
 HasChangedNothing (Fault fault) = ⊤
 HasChangedNothing (Replied reader reply) = ⊤
 
--- what is written for the bytes of an input
+-- the output for the bytes of an input
 abbrev pub input_outputs : ServeRules → ObjectState → List ℕ → List ℕ
 input_outputs rules s bytes = outputs rules s (lines bytes)
 
--- For the parts and then the last one is written what is written for each part from the same
--- object, in their order, and then for the last one. The object is then what the last one alone
--- makes of it.
+-- The output for the parts and then the last one is that for each part from the same object, in
+-- their order, and then that for the last one. The object is then what the last one alone makes of
+-- it.
 pub record IsAnsweredInParts (rules : ServeRules) (s : ObjectState) (parts : List (List ℕ))
     (last : List ℕ) : Type 0 where
   pub written : input_outputs rules s (concat parts ++ last)

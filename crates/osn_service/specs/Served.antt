@@ -1,5 +1,5 @@
--- What is written for lines: the text of each outcome of the sequential object run on their
--- requests, in order.
+-- The output for lines: the text of each outcome of the sequential object run on their requests, in
+-- order.
 use Rattle.std.specs.Prelude.{◌≡◌, ◌≤◌, ◌<◌, ◌+◌, ◌⊎◌, ℕ, List, Option, length, take, fold}
 use Rattle.std.specs.Io.KnownBytes.{Appends}
 use Rattle.osn_core.specs.Sequential.{ObjectState}

@@ -34,7 +34,7 @@ pub record Serves (rules : ServeRules) (s t : ObjectState) (i : Input) (o : Outp
       (StandsAt rules s t (lines bytes))
       (StandsAt rules s t (lines bytes))
       (StandsNear rules s t (lines bytes)))
-  -- What is written is passed on, but after a failed write.
+  -- The bytes that are written are passed on, but after a failed write.
   pub passed : MatchEnd end (λ _. o.holds_back ≡ false) (λ _. o.holds_back ≡ false)
       (λ _. o.holds_back ≡ false) (λ _. ⊤)
   -- The source is read to its end. Of the line that a failed read cut short nothing is answered.
@@ -43,9 +43,8 @@ pub record Serves (rules : ServeRules) (s t : ObjectState) (i : Input) (o : Outp
   -- nowhere else, but maybe where a write failed.
   pub source : MatchEnd end (λ _. i.unread ≡ i.unread_before) (λ _. i.unread ≡ i.unread_before)
       (λ _. IsReadFault i.unread i.bytes) (λ _. ⊤)
-  -- The sink failed where a write fault says so, or may take the reply to one line in more writes
-  -- than the 4,294,967,295 that are made, and nowhere else. Those that wait before it go with that
-  -- reply.
+  -- The sink failed where a write fault says so and nowhere else. Or it may take a reply, with
+  -- those that wait before it, in more writes than the 4,294,967,295 that are made.
   pub sink : MatchEnd end (λ _. o.unwritten ≡ o.unwritten_before)
       (λ _. o.unwritten ≡ o.unwritten_before) (λ _. o.unwritten ≡ o.unwritten_before)
       (λ _. IsUnwritten rules s i.bytes o.unwritten)

@@ -20,8 +20,8 @@ use Rattle.osn_service.specs.Session.{line_after, line_outcome}
 use Rattle.osn_service.specs.Stop.{MatchStop}
 use Rattle.osn_service.specs.Store.{KeepsSince}
 
--- what a session has at a moment: its object, what is written, whether a write has failed, and the
--- replies that wait
+-- what a session has at a moment: its object, the bytes that are written, whether a write has
+-- failed, and the replies that wait
 pub record Moment : Type 0 where
   pub object : ObjectState
   pub written : Option (List ℕ)
@@ -66,7 +66,7 @@ pub record TakenBack (after : ObjectState) (s t : Moment) (holds_back : Bool) : 
   pub sound : t.failed ≡ s.failed
   pub passed : holds_back ≡ false
 
--- what was kept since any moment is so no longer, for this reason
+-- the changes that were kept since any moment are so no longer, for this reason
 abbrev pub KeepsNoMore : {S F : Type 0} → (S → S → Type 0) → (S → ObjectState → S → F → Type 0)
     → S → ObjectState → S → F → Type 0
 KeepsNoMore {S} kept not_kept old before new why =

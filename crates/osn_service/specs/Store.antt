@@ -13,7 +13,7 @@ MatchStoreFault (NotKept why) P Q = Q why
 abbrev pub KeepsSince : {S : Type 0} → (S → S → Type 0) → S → S → Type 0
 KeepsSince {S} Holds old new = (begun : S) → Holds begun old → Holds begun new
 
--- the store is this object now, and what was kept since any moment still is
+-- the store is this object now, and the changes that were kept since any moment still are
 pub record Makes {S : Type 0} (state : S → ObjectState) (kept : S → S → Type 0) (old new : S)
     (object : ObjectState) : Type 0 where
   pub is : state new ≡ object

@@ -30,7 +30,7 @@ use Rattle.osn_service.specs.Session.{line_after}
 use Rattle.osn_service.specs.SessionInside.{Moment, Serving, KeepsNoMore}
 use Rattle.osn_service.specs.Store.{KeepsSince}
 
--- what was taken where it ended early, after n lines
+-- the result of taking lines that ended early, after n lines
 abbrev pub taken_until : {F : Type 0} → ℕ → TakeFault (Stop F)
     → Result LinesTaken (Interrupted (ServiceFault F))
 taken_until n take.NoMemory = Ok (record { lines = n; end = ByFault NoMemory })

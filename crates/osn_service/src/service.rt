@@ -50,7 +50,7 @@ pub(crate) struct LinesTaken {
     pub(crate) end: End,
 }
 
-/// What was taken where it ended early, after this many lines.
+/// The result of taking lines that ended early, after this many lines.
 fn taken_until<F>(
     lines: u64,
     cause: TakeFault<Stop<F>>,

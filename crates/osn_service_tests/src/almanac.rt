@@ -7,7 +7,7 @@ use std::alloc::Global;
 use std::process::Abort;
 use std::test::Fail;
 
-/// That the register of some edits has these almanacs, each by its code and year.
+/// Checks that the register of some edits has these almanacs, each by its code and year.
 fn has_almanacs(
     rt: &impl Abort,
     alloc: Global,
@@ -24,7 +24,7 @@ fn has_almanacs(
     Ok(())
 }
 
-/// That it refuses them so, by number.
+/// Checks that it refuses them so, by number.
 fn refuses(
     rt: &impl Abort,
     alloc: Global,

@@ -22,7 +22,7 @@ const TOLD: &str = r#"{"fault":32,"name":"NotJson"}
 {"answer":{"lands":[]},"edition":0,"reader":8}
 "#;
 
-/// That this many lines are told this, by eight readers.
+/// Checks that this many lines are told this, by eight readers.
 fn are_told(
     rt: &impl Abort,
     alloc: Global,

@@ -5,8 +5,8 @@ ghost use Rattle.std.specs.Prelude.{◌≡◌, true};
 use std::fmt::Debug;
 use std::process::Abort;
 
-/// That a value that was found is the one that is wanted. Where the two alone don't say which row
-/// of a table they are of, the row stands beside them.
+/// Checks that a value that was found is the one that is wanted. Where the two alone don't say
+/// which row of a table they are of, the row stands beside them.
 pub fn same<T: PartialEq + Debug + Drop>(rt: &impl Abort, found: T, wanted: T)
     ensures { T.eq found wanted ≡ true }
 {

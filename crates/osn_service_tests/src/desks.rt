@@ -66,7 +66,7 @@ pub fn desk<R: Threads + Wait, G: Gate + Sync>(
     Ok(run_desk(rt, alloc, Limits::standard(), gate, &commands, &lists))
 }
 
-/// That a reply is the one of its edition.
+/// Checks that a reply is the one of its edition.
 fn is_possible(rt: &impl Abort, alloc: Global, reply: Reply) -> Result<(), Fail> {
     let wanted = if reply.edition == 0 { NONE } else { ONE };
     let line = reply_text(alloc, &Outcome::Replied { reader: 1, reply })?;
@@ -74,7 +74,8 @@ fn is_possible(rt: &impl Abort, alloc: Global, reply: Reply) -> Result<(), Fail>
     Ok(())
 }
 
-/// That one reader's replies are the two possible ones, and no edition is below the one before it.
+/// Checks that one reader's replies are the two possible ones, and no edition is below the one
+/// before it.
 fn are_possible(rt: &impl Abort, alloc: Global, replies: Vec<Reply>) -> Result<(), Fail> {
     let mut last = 0;
     for reply in replies {

@@ -64,8 +64,8 @@ fn replies_in(taken: usize) -> usize {
     LINES[1..].iter().filter(|line| line.1 <= taken).count()
 }
 
-/// That reading fails after this many reads, and the lines before that are answered whole: their
-/// replies are written, and passed on before the read.
+/// Checks that reading fails after this many reads, and the lines before that are answered whole:
+/// their replies are written, and passed on before the read.
 fn fails_in_reading(rt: &impl Abort, alloc: Global, keeps: bool, course: Course, step: usize) {
     let mut source = FailingSource::new(READ.as_bytes(), course);
     let mut sink = FailingSink::new(alloc, Course::sound(step));
@@ -101,7 +101,8 @@ fn each_read_fails_in_turn(rt: HostRuntime) {
     fail_at_each_read(&rt, rt.alloc(), false);
 }
 
-/// That a session goes well, and everything is passed on. Answers how often the sink was called.
+/// Checks that a session goes well, and everything is passed on. Answers how often the sink was
+/// called.
 fn goes_well(rt: &impl Abort, alloc: Global, keeps: bool, read_step: usize, step: usize) -> usize {
     let mut source = FailingSource::new(READ.as_bytes(), Course::sound(read_step));
     let mut sink = FailingSink::new(alloc, Course::sound(step));
@@ -122,8 +123,9 @@ fn goes_well(rt: &impl Abort, alloc: Global, keeps: bool, read_step: usize, step
     sink.calls()
 }
 
-/// That writing or passing on fails after this many calls of the sink, and the sink is called no
-/// more. The replies are counted that were taken whole, and the object is at most one line further.
+/// Checks that writing or passing on fails after this many calls of the sink, and the sink is
+/// called no more. The replies are counted that were taken whole, and the object is at most one
+/// line further.
 fn fails_in_writing(rt: &impl Abort, alloc: Global, keeps: bool, read_step: usize, course: Course) {
     let mut source = FailingSource::new(READ.as_bytes(), Course::sound(read_step));
     let mut sink = FailingSink::new(alloc, course);

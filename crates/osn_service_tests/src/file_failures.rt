@@ -99,7 +99,7 @@ const FILES: [(Role, &str, End, usize); 9] = [
     ),
 ];
 
-/// That the file ends so where this many reads go well.
+/// Checks that the file ends so where this many reads go well.
 fn ends(rt: &impl Abort, alloc: Global, file: (Role, &str), course: Course, wanted: End) {
     let (role, text) = file;
     let mut source = FailingSource::new(text.as_bytes(), course);
@@ -112,7 +112,7 @@ fn ends(rt: &impl Abort, alloc: Global, file: (Role, &str), course: Course, want
     );
 }
 
-/// That a read that fails is told, wherever it comes before the file ends by itself.
+/// Checks that a read that fails is told, wherever it comes before the file ends by itself.
 fn fail_at_each_read(rt: &impl Abort, alloc: Global, rows: &[(Role, &str, End, usize)]) {
     for (role, text, end, needed) in rows {
         for step in STEPS {
@@ -139,7 +139,7 @@ fn each_read_of_a_file_fails_in_turn(rt: HostRuntime) {
     fail_at_each_read(&rt, rt.alloc(), &FILES);
 }
 
-/// That an audit whose journal fails after this many reads says so, and reads nothing of the
+/// Checks that an audit whose journal fails after this many reads says so, and reads nothing of the
 /// transcript.
 fn audit_fails(rt: &impl Abort, alloc: Global, course: Course) {
     let mut journal = FailingSource::new(JOURNAL.as_bytes(), course);

@@ -113,8 +113,8 @@ fn items_of(who: u32) -> usize {
     }
 }
 
-/// That a gate that is closed to one item, or to none, is told of all items before that, and that
-/// the others still work through all of theirs.
+/// Checks that a gate that is closed to one item, or to none, is told of all items before that, and
+/// that the others still work through all of theirs.
 fn is_told<R: Threads + Wait + Abort>(
     rt: &R,
     alloc: Global,

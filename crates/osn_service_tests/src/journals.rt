@@ -356,7 +356,7 @@ fn answered(
     Ok(sink.into_inner())
 }
 
-/// That an object answers a session so.
+/// Checks that an object answers a session so.
 fn answers(rt: &impl Abort, alloc: Global, object: &mut Object, session: &str) -> Result<(), Fail> {
     let (requests, replies) = apart(alloc, session)?;
     let written = answered(alloc, object, requests.as_str())?;
@@ -364,7 +364,7 @@ fn answers(rt: &impl Abort, alloc: Global, object: &mut Object, session: &str) -
     Ok(())
 }
 
-/// That the object of a journal answers a session so.
+/// Checks that the object of a journal answers a session so.
 fn is_answered(rt: &impl Abort, alloc: Global, journal: &str, session: &str) -> Result<(), Fail> {
     let mut object = loaded_from(alloc, journal)?;
     answers(rt, alloc, &mut object, session)

@@ -96,14 +96,14 @@ fn lands_of(alloc: Global, object: &Object, borrows: bool) -> Result<String, Fai
     Ok(told(alloc, reply?)?)
 }
 
-/// That the first reader is told of the territories so.
+/// Checks that the first reader is told of the territories so.
 fn tells_lands(rt: &impl Abort, alloc: Global, object: &Object, borrows: bool) -> Result<(), Fail> {
     let told = lands_of(alloc, object, borrows)?;
     same(rt, told.as_str().trim_end(), joined(alloc, LANDS)?.as_str());
     Ok(())
 }
 
-/// That two editions stand, of two edits and of one, and one edit is pending.
+/// Checks that two editions stand, of two edits and of one, and one edit is pending.
 fn has_two_editions(rt: &impl Abort, alloc: Global, object: &Object) -> Result<(), Fail> {
     let [first, second] = object.batches() else {
         return Err(Fail::new("not two editions"));
@@ -115,8 +115,8 @@ fn has_two_editions(rt: &impl Abort, alloc: Global, object: &Object) -> Result<(
     tells_lands(rt, alloc, object, true)
 }
 
-/// That an object answers some lines so, by the calls that can refuse, or by the tests and the
-/// calls that refuse nothing.
+/// Checks that an object answers some lines so, by the calls that can refuse, or by the tests and
+/// the calls that refuse nothing.
 fn takes(
     rt: &impl Abort,
     alloc: Global,
@@ -135,7 +135,7 @@ fn takes(
     Ok(())
 }
 
-/// That a new object takes some lines so, and has two editions then.
+/// Checks that a new object takes some lines so, and has two editions then.
 fn makes_two_editions(
     rt: &impl Abort,
     alloc: Global,

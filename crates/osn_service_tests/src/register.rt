@@ -91,7 +91,7 @@ fn answered(alloc: Global, register: &Register, line: &str, borrows: bool) -> Re
     Ok(told(alloc, Reply { edition: 0, answer })?)
 }
 
-/// That a register answers the query of a line so.
+/// Checks that a register answers the query of a line so.
 fn answers_line(
     rt: &impl Abort,
     alloc: Global,
@@ -105,8 +105,8 @@ fn answers_line(
     Ok(())
 }
 
-/// That a register answers the queries of a session so, each line with the line of its answer, by
-/// `answer`, or by `answer_borrowed`.
+/// Checks that a register answers the queries of a session so, each line with the line of its
+/// answer, by `answer`, or by `answer_borrowed`.
 fn answers_by(
     rt: &impl Abort,
     alloc: Global,
@@ -189,7 +189,7 @@ fn changed_copy(alloc: Global, register: &Register, line: &str) -> Result<Regist
     Ok(copied)
 }
 
-/// That a copy of a register with Rome is changed, and the register is not.
+/// Checks that a copy of a register with Rome is changed, and the register is not.
 fn has_copy_apart(rt: &impl Abort, alloc: Global, register: &Register) -> Result<(), Fail> {
     let copied = changed_copy(alloc, register, ROME)?;
     answers(rt, alloc, &copied, WITH_ROME)?;
@@ -309,7 +309,7 @@ fn answer_to(
     }
 }
 
-/// That a register answers some edits so, by `apply`, or by `admit`.
+/// Checks that a register answers some edits so, by `apply`, or by `admit`.
 fn takes(
     rt: &impl Abort,
     alloc: Global,

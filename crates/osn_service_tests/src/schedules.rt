@@ -220,7 +220,7 @@ fn replayed(alloc: Global, readers: u32, steps: &[Step]) -> Result<String, Fail>
     Ok(text)
 }
 
-/// That a schedule gives what stands between its lines, one at a time and at once.
+/// Checks that a schedule gives what stands between its lines, one at a time and at once.
 fn holds(rt: &impl Abort, alloc: Global, readers: u32, schedule: &str) -> Result<(), Fail> {
     let (lines, outs) = apart(alloc, schedule)?;
     let steps = steps_of(alloc, lines.as_str())?;

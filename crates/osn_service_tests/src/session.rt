@@ -21,7 +21,7 @@ pub fn served(
     Ok((sink.into_inner(), lines))
 }
 
-/// That the output is these replies, line by line, and that as many lines were answered.
+/// Checks that the output is these replies, line by line, and that as many lines were answered.
 pub fn are_replies(rt: &impl Abort, written: &[u8], lines: u64, replies: &str) -> Result<(), Fail> {
     let text = str::from_utf8(written)?;
     for (place, (got, wanted)) in text.lines().zip(replies.lines()).enumerate() {
@@ -32,7 +32,7 @@ pub fn are_replies(rt: &impl Abort, written: &[u8], lines: u64, replies: &str) -
     Ok(())
 }
 
-/// That a session of the service goes so, from an empty object.
+/// Checks that a session of the service goes so, from an empty object.
 pub fn serves(
     rt: &impl Abort,
     alloc: Global,

@@ -53,7 +53,7 @@ fn served_from(
     Ok((sink.into_inner(), lines))
 }
 
-/// That a stream goes so, from an object that stands.
+/// Checks that a stream goes so, from an object that stands.
 fn goes_on(rt: &impl Abort, alloc: Global, object: &mut Object, stream: &str) -> Result<(), Fail> {
     let (requests, replies) = apart(alloc, stream)?;
     let (written, lines) = served_from(alloc, object, requests.as_bytes())?;
@@ -139,7 +139,7 @@ fn stopped(
     Ok((lines, object.pending().len(), object.batches().len()))
 }
 
-/// That the object stands so after writes that fail.
+/// Checks that the object stands so after writes that fail.
 fn stops(
     rt: &impl Abort,
     alloc: Global,

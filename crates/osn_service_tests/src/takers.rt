@@ -83,7 +83,7 @@ fn ended(alloc: Global, taker: &mut Patient, input: &[u8]) -> (End, u64) {
     }
 }
 
-/// That the loop ends so, and that its taker took as many lines as it says.
+/// Checks that the loop ends so, and that its taker took as many lines as it says.
 fn take_up_to(rt: &impl Abort, alloc: Global, rows: &[(&[u8], u32, End, u64)]) {
     for (input, reads, wanted, count) in rows {
         let mut taker = Patient {

@@ -14,6 +14,10 @@ const ENDS: [(&str, &str); 5] = [
 /// A text with its broken lines whole again, and with the ends of the line as numbers. What begins
 /// with two spaces is the rest of the line before. A line that has spaces of its own in front
 /// begins with `MARGIN`.
+///
+/// # Errors
+///
+/// Want of memory, and nothing else.
 pub fn joined(alloc: Global, text: &str) -> Result<String, AllocError> {
     let mut whole = text.replace(alloc, "\n  ", "")?;
     whole = whole.replace(alloc, "MARGIN", "")?;
@@ -51,7 +55,11 @@ fn take_apart(
 }
 
 /// A session's requests and replies apart, a line feed after each. Every second line of a session
-/// is a reply. Empty lines, and remarks after a number sign, are passed over.
+/// is a reply. Empty lines, and lines that begin with a number sign, are passed over.
+///
+/// # Errors
+///
+/// Want of memory, and nothing else.
 pub fn apart(alloc: Global, session: &str) -> Result<(String, String), AllocError> {
     let text = joined(alloc, session)?;
     let mut requests = String::new(alloc);

@@ -1,4 +1,4 @@
--- What is written of a day is read as that day's date, and means that day.
+-- The dual text of a day is read as that day's date, and means that day.
 use Rattle.std.specs.Prelude.{◌≡◌, ◌+◌, ℕ, ℤ, pos, true, int_lt, List, ◌++◌, codes, Ok}
 use Rattle.std.specs.Prelude.{Option, Some, None}
 use Rattle.std.specs.List.{Contains}

@@ -92,7 +92,9 @@ fn drop_exception_of<O: JsonObject>(alloc: Global, object: &O) -> Result<Edit, R
 /// The edit of a line's object by the rules of a version, or the fault of its first member in order
 /// that is no such member.
 ///
-/// # Errors Memory is taken only for the texts of the edit, once every member was found good.
+/// # Errors
+/// The fault of that member. Memory is taken only for the texts of the edit, once every member was
+/// found good.
 pub fn edit_of<O: JsonObject>(
     alloc: Global,
     version: Version,

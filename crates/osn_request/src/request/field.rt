@@ -12,6 +12,9 @@ use osn_lands::{Regime, Style};
 use osn_written::weekday_named;
 
 /// A member that is a text.
+///
+/// # Errors
+/// `BadField` where the member is missing or no text.
 pub fn text_at<O: JsonObject>(object: &O, member: Member) -> Result<&str, WireFault>
     ensures { MatchResult result
         (λ s. spec.text_at member (O.value object.now) ≡ Ok s.now)
@@ -24,6 +27,9 @@ pub fn text_at<O: JsonObject>(object: &O, member: Member) -> Result<&str, WireFa
 }
 
 /// A member that is a whole number.
+///
+/// # Errors
+/// `BadField` where the member is missing or no whole number.
 pub fn whole_at<O: JsonObject>(object: &O, member: Member) -> Result<i64, WireFault>
     ensures { result ≡ spec.whole_at member (O.value object.now) }
 {

@@ -48,8 +48,9 @@ impl<'a> LineRequest<'a> {
 
 /// The request of a line's object by the newest rules, where there are this many readers.
 ///
-/// # Errors The first fault of the object. Memory is taken only for the texts of an edit, once
-/// every member was found good.
+/// # Errors
+/// The first fault of the object. Memory is taken only for the texts of an edit, once every member
+/// was found good.
 pub fn line_request_of<O: JsonObject>(
     alloc: Global,
     readers: u32,

@@ -100,6 +100,9 @@ fn query_by<O: JsonObject>(op: QueryOp, object: &O) -> Result<BorrowedQuery<'_>,
 
 /// The number of the reader who asks, and the query of a line's object, whose texts stay where they
 /// are in the object.
+///
+/// # Errors
+/// The first fault of the object, and `UnknownReader` where it has no other.
 #[tactic(auto, unfolding(crate::specs::QueryRequest::query_of))]
 pub fn borrowed_query_of<O: JsonObject>(
     readers: u32,
@@ -122,7 +125,8 @@ pub fn borrowed_query_of<O: JsonObject>(
 /// readers.
 ///
 /// # Errors
-/// Memory is taken for the texts of a query that has a code, once every member was found good.
+/// The first fault of the object. Memory is taken only for the texts of a query that has a code,
+/// once every member was found good.
 pub fn query_of<O: JsonObject>(
     alloc: Global,
     readers: u32,

@@ -4,7 +4,7 @@ use Rattle.std.specs.Slice.Iter.{iter_rest}
 use Rattle.osn_file_commands.specs.Transcript as spec
 use Rattle.osn_file_commands.proofs.transcript.push_reader.Given as goal
 
--- the lines so far, and those of what is left
+-- the lines so far, and those of the questions that are left
 abbrev pub invariant-loop-question : goal.invariant-loop-question
 invariant-loop-question l =
     string_bytes l.text ++ spec.reader_lines l.reader

@@ -3,7 +3,7 @@ use Rattle.std.specs.Io.KnownBytes.{Consumes}
 use Rattle.osn_files.specs.WholePartInside.{IsMeasureOf}
 use Rattle.osn_files.proofs.whole_lines.whole_part.Given as goal
 
--- what was read is measured
+-- the bytes that were read are measured
 abbrev pub invariant-loop-call : goal.invariant-loop-call
 invariant-loop-call g l =
     record {

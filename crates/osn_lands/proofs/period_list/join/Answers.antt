@@ -18,7 +18,7 @@ same_place : (ps qs : List Period) (i j : ℕ) (p : Period) → i + 1 ≡ j → 
 same_place ps qs i j p next within removed read =
     read ∙ ap (λ l. get_or l i p) removed ∙ get_or-remove_below ps j p i (omega arith) within
 
--- what is left and joined, by the two that stood there
+-- the periods that are left and the joined one, by the two that stood there
 left : (ps qs : List Period) (i j : ℕ) (p q joined : Period) → i + 1 ≡ j → j < length ps →
     p ≡ get_or ps i p → q ≡ get_or ps j q → qs ≡ remove ps j → set qs i joined ≡ take i ps ++ joined
     ∷ drop (j + 1) ps

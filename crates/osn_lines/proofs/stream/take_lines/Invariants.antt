@@ -3,7 +3,8 @@ use Rattle.std.specs.Io.KnownBytes.{Consumes}
 use Rattle.osn_lines.specs.Inside.{IsKept, IsTaken}
 use Rattle.osn_lines.proofs.stream.take_lines.Given as goal
 
--- of what was read each line that has ended is taken, and the beginning of the next is kept
+-- of the bytes that were read each line that has ended is taken, and the beginning of the next is
+-- kept
 abbrev pub invariant-loop-call : goal.invariant-loop-call
 invariant-loop-call g l =
     record {

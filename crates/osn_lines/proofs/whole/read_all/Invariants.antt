@@ -2,7 +2,7 @@ use Rattle.std.proofs.Common.{◌≡◌, ◌≤◌, length}
 use Rattle.std.specs.Io.KnownBytes.{Consumes}
 use Rattle.osn_lines.proofs.whole.read_all.Given as goal
 
--- what was read is in memory, at least a byte of each read
+-- the bytes that were read are in memory, at least one of each read
 abbrev pub invariant-loop-call : goal.invariant-loop-call
 invariant-loop-call g l =
     record {

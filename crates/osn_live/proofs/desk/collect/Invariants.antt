@@ -9,7 +9,7 @@ use Rattle.osn_live.specs.Desk.{AreAll}
 use Rattle.osn_live.specs.InsideDesk.{AreStarted, AreAt}
 use Rattle.osn_live.proofs.desk.collect.Given as goal
 
--- what is told, and after it what is told to the lists that are left
+-- the replies so far, and after them the replies to the lists that are left
 abbrev pub invariant-loop-list : goal.invariant-loop-list
 invariant-loop-list g l = record {
   few : l.who + length (iter_rest (zip_first l.list-iterator)) ≤ 64;

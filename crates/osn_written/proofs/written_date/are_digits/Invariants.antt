@@ -2,6 +2,6 @@ use Rattle.std.proofs.Common.{◌≡◌, drop}
 use Rattle.std.specs.Str.{all_ascii_digits}
 use Rattle.osn_written.proofs.written_date.are_digits.Given as goal
 
--- what is left decides
+-- the bytes that are left decide
 abbrev pub invariant-loop-byte : goal.invariant-loop-byte
 invariant-loop-byte l = all_ascii_digits l.part ≡ all_ascii_digits (drop l.byte-index l.part)

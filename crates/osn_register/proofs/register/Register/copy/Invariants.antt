@@ -2,7 +2,7 @@ use Rattle.std.proofs.Common.{◌≡◌, ◌++◌, map, string_bytes}
 use Rattle.osn_register.specs.Inside.{land_in}
 use Rattle.osn_register.proofs.register.Register.copy.Given as goal
 
--- what is copied and what is left are all territories
+-- the territories that are copied and those that are left are all
 abbrev pub invariant-loop-code : goal.invariant-loop-code
 invariant-loop-code l =
     (l.copied.limits ≡ l.self.limits)

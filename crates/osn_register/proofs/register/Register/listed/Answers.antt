@@ -9,7 +9,7 @@ use Rattle.osn_register.specs.Plain.{LandModel}
 use Rattle.osn_register.proofs.Kept.{on_err}
 use Rattle.osn_register.proofs.register.Register.listed.Goals as goal
 
--- what is listed, with one more after it, and what is left are all
+-- the territories that are listed, with one more after them, and those that are left are all
 listed_more : (so_far : List Land) (land : Land) (rest all : List Land) (code name : List ℕ) →
     so_far ++ record { code = code; name = name } ∷ rest ≡ all →
     land.code ≡ code → land.name ≡ name → (so_far ++ land ∷ []) ++ rest ≡ all

@@ -3,7 +3,7 @@ use Rattle.osn_register.specs.Answer as spec
 use Rattle.osn_register.specs.Inside.{land_in}
 use Rattle.osn_register.proofs.register.Register.listed.Given as goal
 
--- what is listed and what is left are all territories
+-- the territories that are listed and those that are left are all
 abbrev pub invariant-loop-code : goal.invariant-loop-code
 invariant-loop-code l =
     l.listed.items ++ map spec.listed (map (land_in string_bytes (λ v. v.name) (λ v. v.territory))

@@ -5,7 +5,7 @@ use Rattle.serde_json.specs.Read.{converted, of_members}
 use Rattle.osn_request.specs.Flat.{few_read, most_members, put_all}
 use Rattle.osn_request.proofs.request.flat.reading.members_in.Given as goal
 
--- Of the members that are left, what is read of all is read once those so far are put.
+-- The members that are left, put after those so far, are the members that are read of all.
 abbrev pub invariant-loop-name : goal.invariant-loop-name
 invariant-loop-name l =
     (n : ℕ) × (length l.reader ≤ n) × ((depth : ℕ) →
