@@ -1,3 +1,4 @@
+pub mod BomFacts
 pub mod ClearFacts
 pub mod ColumnFacts
 pub mod FoundFacts
@@ -12,6 +13,7 @@ pub mod MarkFacts
 pub mod PartFacts
 pub mod PassFacts
 pub mod PlaceFacts
+pub mod PlaceFaultFacts
 pub mod QuietFacts
 pub mod RowFacts
 pub mod SeamFacts
