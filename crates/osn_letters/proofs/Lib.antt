@@ -6,6 +6,7 @@ pub mod GoesFacts
 pub mod FieldFacts
 pub mod JoinFacts
 pub mod KeepFacts
+pub mod LastFacts
 pub mod LaterFacts
 pub mod LawFacts
 pub mod LetterFacts
