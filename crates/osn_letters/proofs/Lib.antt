@@ -1,3 +1,4 @@
+pub mod BomFacts
 pub mod ClearFacts
 pub mod ColumnFacts
 pub mod FoundFacts
@@ -5,12 +6,15 @@ pub mod GoesFacts
 pub mod FieldFacts
 pub mod JoinFacts
 pub mod KeepFacts
+pub mod LastFacts
 pub mod LaterFacts
 pub mod LawFacts
 pub mod LetterFacts
 pub mod MarkFacts
 pub mod PartFacts
 pub mod PassFacts
+pub mod PlaceFacts
+pub mod PlaceFaultFacts
 pub mod QuietFacts
 pub mod RowFacts
 pub mod SeamFacts
