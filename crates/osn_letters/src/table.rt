@@ -9,8 +9,9 @@ ghost use Rattle.osn_letters.specs.TableInside as inside;
 ghost use Rattle.osn_letters.specs.WriterInside.{IsBetweenRows, waiting};
 
 use crate::added_column::ADDED_COLUMNS;
-use crate::columns::{Columns, field_at, find_columns};
+use crate::columns::{Columns, DateColumns, field_at, find_columns};
 use crate::csv_text::{RowWriter, push_fields, push_names};
+use crate::date_parts::parts_text;
 use crate::fault::LettersFault;
 use crate::letter::letter_fields;
 use crate::separator::Separator;
@@ -107,6 +108,42 @@ impl Table<'_> {
         Ok(())
     }
 
+    /// The twelve fields of a record, with the text of its date.
+    fn fields_on(
+        &self,
+        columns: Columns,
+        row: &ByteRecord,
+        date: &[u8],
+    ) -> Result<ByteRecord, AllocError>
+        ensures { IfOk result (λ fields. fields_of fields ≡ spec.fields_on
+            (inside.source_of self.now) columns (fields_of row.now) date.now) }
+    {
+        letter_fields(
+            self.alloc,
+            self.register,
+            self.edition,
+            self.settings.order,
+            self.settings.places,
+            field_at(row, columns.place),
+            date,
+            weekday_at(row, columns.weekday),
+        )
+    }
+
+    /// The twelve fields of a record.
+    fn row_fields(&self, columns: Columns, row: &ByteRecord) -> Result<ByteRecord, AllocError>
+        ensures { IfOk result (λ fields. fields_of fields ≡ spec.fields_behind
+            (inside.source_of self.now) columns (fields_of row.now)) }
+    {
+        match columns.date {
+            DateColumns::Whole(index) => self.fields_on(columns, row, field_at(row, index)),
+            DateColumns::Apart { year, month, day } => {
+                let date = parts_text(self.alloc, row, year, month, day)?;
+                self.fields_on(columns, row, &date)
+            }
+        }
+    }
+
     /// Appends to the text that waits the row of a record, and tells whether it has a remark.
     fn push_row(&mut self, columns: Columns, row: &mut ByteRecord) -> Result<bool, AllocError>
         requires partial { partial_of row.old ≡ [] }
@@ -121,15 +158,7 @@ impl Table<'_> {
         ensures remarked { IfOk result (λ remarked. remarked ≡ has_remark
             (spec.fields_behind (inside.source_of self.old) columns (fields_of row.old))) }
     {
-        let fields = letter_fields(
-            self.alloc,
-            self.register,
-            self.edition,
-            self.settings.order,
-            field_at(row, columns.place),
-            field_at(row, columns.date),
-            weekday_at(row, columns.weekday),
-        )?;
+        let fields = self.row_fields(columns, row)?;
         let is_remarked = has_remark(&fields);
         push_fields(row, &fields)?;
         self.out.write_row(row)?;
