@@ -10,6 +10,7 @@ use Rattle.osn_lines.specs.Streams.{Input, Output}
 use Rattle.osn_page_commands.specs.Letters.{EndsTable, EndsWhole, IsReason, TableAsked, status_by}
 use Rattle.osn_page_commands.specs.Letters.{table_of}
 use Rattle.osn_page_commands.specs.Page.{published}
+use Rattle.osn_page_commands.specs.declared.letters.EndRules.{EndRules}
 use Rattle.osn_report.specs.Told.{TellsNothing}
 use Rattle.osn_report.specs.declared.status.Status.{Status}
 
@@ -22,20 +23,21 @@ basis_by lands edition asked = record {
   names = asked.names;
   separator = asked.separator;
   order = asked.order;
+  places = asked.places;
 }
 
 abbrev table_by : List LandModel → ℕ → TableAsked → List ℕ → Written
 table_by lands edition asked = letters_written (basis_by lands edition asked)
 
 -- all was written
-pub whole_table : (s : ObjectState) (asked : TableAsked) (is_strict has_remarks : Bool)
+pub whole_table : (s : ObjectState) (asked : TableAsked) (rules : EndRules) (has_remarks : Bool)
     (lands : List LandModel) (edition : ℕ) (i : Input) (o e : Output) (status : Status)
     → published s ≡ lands → length s.batches ≡ edition
-    → status ≡ status_by is_strict has_remarks → TellsNothing e
+    → status ≡ status_by rules.strict has_remarks → TellsNothing e
     → IfSome i.bytes (λ text. IsWhole o.old o.new (table_by lands edition asked text))
     → IfSome i.bytes (λ text. letters_remarked (basis_by lands edition asked) text ≡ has_remarks)
-    → EndsWhole s asked is_strict i o e status
-whole_table s asked is_strict has_remarks lands edition i o e status is counted by quiet whole
+    → EndsWhole s asked rules i o e status
+whole_table s asked rules has_remarks lands edition i o e status is counted by quiet whole
     remarked = rw (is, counted) (has_remarks, by, quiet, whole, remarked)
 
 -- what was written by that end, and why
