@@ -11,6 +11,7 @@ pub mod LetterFacts
 pub mod MarkFacts
 pub mod PartFacts
 pub mod PassFacts
+pub mod PlaceFacts
 pub mod QuietFacts
 pub mod RowFacts
 pub mod SeamFacts

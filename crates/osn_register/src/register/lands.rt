@@ -44,10 +44,11 @@ impl Register {
         ensures { option_map (λ t. t.now) result
             ≡ by_name.territory_named name.now self.now.lands }
     {
-        let entry = self
-            .lands
-            .values()
-            .find(|entry| entry.name.as_str() == name)?;
-        Some(&entry.territory)
+        for (_code, entry) in &self.lands {
+            if entry.name.as_str() == name {
+                return Some(&entry.territory);
+            }
+        }
+        None
     }
 }

@@ -2,7 +2,7 @@ use Rattle.std.proofs.Common.{◌++◌, ◌∙◌, ap}
 use Rattle.csv.specs.Records.{fields_of}
 use Rattle.osn_letters.specs.Separators.{writer_by}
 use Rattle.osn_letters.specs.Table.{letter_text}
-use Rattle.osn_letters.proofs.TableFacts.{written_as, same_fields}
+use Rattle.osn_letters.proofs.TableFacts.{written_as}
 use Rattle.osn_letters.proofs.table.Table.push_row.Goals as goal
 
 pub returns-clause-text : goal.returns-clause-text
@@ -10,7 +10,5 @@ unfolding letter_text
 returns-clause-text c =
     written_as (writer_by c.args.self.now.out.separator) _ _ _ _
     (c.in_ok-push_fields.ensures.fields
-    ∙ ap (λ fs. fields_of c.args.row.now ++ fs) (c.in_ok-fields.ensures
-    ∙ same_fields _ _ _ _ _ _ _ _ _ _ c.field_at.ensures c.field_at-2.ensures
-    c.weekday_at.ensures))
+    ∙ ap (λ fs. fields_of c.args.row.now ++ fs) c.in_ok-fields.ensures)
     c.in_ok-write_row.ensures.text
