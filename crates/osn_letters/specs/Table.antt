@@ -16,7 +16,7 @@ use Rattle.osn_letters.specs.declared.fault.LettersFault.TheVariants.{NoHeader, 
 use Rattle.osn_letters.specs.AddedColumns.{added_names}
 use Rattle.osn_letters.specs.Columns.{NameTexts, names_of, columns_of}
 use Rattle.osn_letters.specs.Faults.{is_of_table}
-use Rattle.osn_letters.specs.Fields.{letter_fields}
+use Rattle.osn_letters.specs.Fields.{FieldsAndRemarks, letter_fields}
 use Rattle.osn_letters.specs.Records.{PlacedRecord, records_of}
 use Rattle.osn_letters.specs.Separators.{writer_by}
 
@@ -69,13 +69,17 @@ behind text written = record { text = text ++ written.text; fault = written.faul
 abbrev pub header_text : Separator → List (List ℕ) → List ℕ
 header_text separator header = row_text (writer_by separator) (header ++ added_names)
 
--- the twelve fields of a record
-abbrev pub fields_behind : TableBasis → Columns → List (List ℕ) → List (List ℕ)
-fields_behind s columns record_fields =
+-- what is said of a record: the twelve fields, and the remarks
+abbrev pub said_of : TableBasis → Columns → List (List ℕ) → FieldsAndRemarks
+said_of s columns record_fields =
     letter_fields s.rules s.lands s.edition s.order
     (get_or record_fields columns.place [])
     (get_or record_fields columns.date [])
     (option_map (λ n. get_or record_fields n []) columns.weekday)
+
+-- the twelve fields of a record
+abbrev pub fields_behind : TableBasis → Columns → List (List ℕ) → List (List ℕ)
+fields_behind s columns record_fields = (said_of s columns record_fields).fields
 
 -- the row that is written of a record
 unfoldable pub letter_text : TableBasis → Separator → Columns → List (List ℕ) → List ℕ
