@@ -16,7 +16,8 @@ use Rattle.osn_letters.specs.PlaceEntries.{PlaceEntry}
 use Rattle.osn_letters.specs.Faults.{EndsStream, is_read_fault, is_write_fault}
 use Rattle.osn_letters.specs.Table.{TableBasis, Written, letters_written, IsWhole}
 use Rattle.osn_letters.specs.Table.{EndsEarly, EndsRead, IsLong}
-use Rattle.osn_letters.specs.Remarked.{letters_remarked}
+use Rattle.osn_letters.specs.RowRemarks.{IsTallyOf}
+use Rattle.osn_letters.specs.Tally.{TallyModel, has_remarks, tally_text}
 use Rattle.osn_letters.specs.declared.added_column.AddedColumn.{AddedColumn}
 use Rattle.osn_letters.specs.declared.fault.Column.{Column}
 use Rattle.osn_letters.specs.declared.fault.Column.TheVariants as column
@@ -158,12 +159,21 @@ abbrev pub status_by : Bool → Bool → Status
 status_by is_strict has_remarks =
     if is_strict && has_remarks then statuses.Refused else statuses.Done
 
--- all was written, and the status says whether a row has a remark, where that is asked for
-abbrev pub EndsWhole : ObjectState → TableAsked → EndRules → Input → Output → Output → Status → Type 0
+-- the table was written whole, and has this tally: the status says whether a row has a remark, where
+-- that is asked for; and where it is asked for, standard error was told the tally, and else nothing
+abbrev pub TellsEnd : EndRules → TallyModel → Output → Status → Type 0
+TellsEnd rules tally e status = if rules.summary
+    then TellsIfMade e (status_by rules.strict (has_remarks tally))
+    (tally_text (codes "oldstyle: letters: ") tally) status
+    else (status ≡ status_by rules.strict (has_remarks tally)) × TellsNothing e
+
+-- all was written, and the end told
+abbrev pub EndsWhole : ObjectState → TableAsked → EndRules → Input → Output → Output → Status
+    → Type 0
 EndsWhole s asked rules i o e status =
-    (has_remarks : Bool) × (status ≡ status_by rules.strict has_remarks) × TellsNothing e
+    (tally : TallyModel) × TellsEnd rules tally e status
     × IfSome i.bytes (λ text. IsWhole o.old o.new (table_of s asked text))
-    × IfSome i.bytes (λ text. letters_remarked (basis_of s asked) text ≡ has_remarks)
+    × IfSome i.bytes (λ text. IsTallyOf (basis_of s asked) text tally)
 
 -- what was written and told, by what an object has published: the table whole; or a part of it, and
 -- why it ended there

@@ -6,10 +6,10 @@ ghost use Rattle.osn_page_commands.specs.Letters as spec;
 use crate::table_faults::tell_table;
 use osn_core::Object;
 use osn_files::load_journal;
-use osn_letters::{Progress, TableSettings, write_letters};
+use osn_letters::{Progress, TableSettings, Tally, write_letters};
 use osn_lines::{Sink, Source};
 use osn_register::Limits;
-use osn_report::{CommandFault, Status, report};
+use osn_report::{CommandFault, Status, report, tell_line};
 use std::alloc::Global;
 
 /// What a table that was written whole ends with.
@@ -32,6 +32,19 @@ fn status_by(is_strict: bool, has_remarks: bool) -> Status
     }
 }
 
+/// Ends a table that was written whole, by its tally, which is told where that is asked for.
+fn end_whole<E: Sink>(alloc: Global, errors: &mut E, rules: EndRules, tally: &Tally) -> Status
+    ensures { spec.TellsEnd rules tally.now
+        (output_of E.contents E.has_failed E.holds_back errors.old errors.new) result }
+{
+    let status = status_by(rules.strict, tally.has_remarks());
+    if rules.summary {
+        tell_line(errors, status, tally.text(alloc, "oldstyle: letters: "))
+    } else {
+        status
+    }
+}
+
 /// Writes the table, by what an object has published.
 fn write_table<R: Source, W: Sink, E: Sink, P: Progress>(
     alloc: Global,
@@ -51,7 +64,7 @@ fn write_table<R: Source, W: Sink, E: Sink, P: Progress>(
     let edition = object.batches().len();
     let register = object.register();
     match write_letters(alloc, register, edition, settings, input, output, progress) {
-        Ok(has_remarks) => status_by(rules.strict, has_remarks),
+        Ok(tally) => end_whole(alloc, errors, rules, &tally),
         Err(fault) => tell_table(alloc, errors, settings.names, &fault),
     }
 }
@@ -64,7 +77,8 @@ fn write_table<R: Source, W: Sink, E: Sink, P: Progress>(
 /// read is told on the way.
 ///
 /// Where it ends early, standard error is told in a line why, and the status says it. Where it is
-/// written whole and a remark is a refusal, `Refused` says that a row has one.
+/// written whole and a remark is a refusal, `Refused` says that a row has one; and where it is asked
+/// for, standard error is told how many rows have each remark.
 pub fn letters_command<J: Source, R: Source, W: Sink, E: Sink, P: Progress>(
     alloc: Global,
     limits: Limits,
