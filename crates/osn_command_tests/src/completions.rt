@@ -57,10 +57,15 @@ _oldstyle_row letters
 _oldstyle_row letters argument FILE
 _oldstyle_row letters --place TEXT
 _oldstyle_row letters --date TEXT
+_oldstyle_row letters --year TEXT
+_oldstyle_row letters --month TEXT
+_oldstyle_row letters --day TEXT
 _oldstyle_row letters --weekday TEXT
+_oldstyle_row letters --places FILE
 _oldstyle_row letters --separator comma semicolon tab
 _oldstyle_row letters --order dmy mdy
 _oldstyle_row letters --strict
+_oldstyle_row letters --summary
 _oldstyle_row letters --limits TEXT
 _oldstyle_row serve
 _oldstyle_row serve --journal FILE

@@ -102,7 +102,7 @@ name\n",
     (
         "oldstyle|read|a.journal|RM|11/2/1731",
         "oldstyle: 11/2/1731: 11/2/1731 may be 11 February or 2 November: write the month by its \
-name\n",
+name, or say --order dmy or mdy\n",
     ),
     (
         "oldstyle|read|a.journal|RM|11/2/1731|--order|ymd",

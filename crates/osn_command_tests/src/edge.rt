@@ -69,6 +69,22 @@ fn what_cannot_be_saved(rt: HostRuntime) -> Result<(), Fail> {
     Ok(())
 }
 
+/// A folder is opened as a file is, and then cannot be read.
+const NO_TABLE: [RunRow; 1] = [(
+    "oldstyle letters a.journal --places folder",
+    "place,date\n",
+    (3, "", "oldstyle: folder: read fault\n"),
+)];
+
+#[test]
+fn a_folder_is_no_table_of_places(rt: HostRuntime) -> Result<(), Fail> {
+    let folder = entered(&rt, "places", &HELD)?;
+    fs::create_dir(&rt, "folder")?;
+    are_run(&rt, &NO_TABLE)?;
+    fs::remove_dir_all(&rt, folder.as_path())?;
+    Ok(())
+}
+
 const SAVED: [RunRow; 2] = [
     ("oldstyle serve --save link.journal", "", (0, "", "")),
     (

@@ -31,7 +31,7 @@ pub fn entered(rt: &HostRuntime, test: &str, files: &[File]) -> Result<PathBuf, 
     Ok(folder)
 }
 
-const PUBLISHED: &str = r#"{"journal":1}
+pub const PUBLISHED: &str = r#"{"journal":1}
 {"op":"add_land","code":"RM","name":"Rome","calendar":"julian","style":"january","rule":"julian"}
 {"op":"publish"}
 "#;

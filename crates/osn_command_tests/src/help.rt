@@ -153,19 +153,28 @@ Arguments:
   <JOURNAL>  The file of the journal
 
 Options:
-      --place <NAME>      The name of the column of territories' codes [default: place]
+      --place <NAME>      The name of the column of places, which are codes or names \
+[default: place]
       --date <NAME>       The name of the column of dates [default: date]
+      --year <NAME>       In place of --date, the name of the column of years alone
+      --month <NAME>      Beside --year, the name of the column of months
+      --day <NAME>        Beside --month, the name of the column of days
       --weekday <NAME>    The name of the column of weekdays [default: weekday, which the table may \
 lack]
+      --places <FILE>     A table in CSV that says by its columns place and code which code a place \
+has
       --separator <NAME>  What stands between two fields: comma, semicolon or tab [default: by the \
 header]
       --order <ORDER>     How a date of three numbers, as 11/2/1731, is read: dmy or mdy
       --strict...         Ends with status 1 where a row has a remark
+      --summary...        Tells standard error at the end how many rows have each remark
       --limits <LIMITS>   The most that the register holds, as lands=5000,changes=200
   -h, --help              Print help
 
-Example:
+Examples:
   ./oldstyle letters examples/samples.journal < examples/letters.csv
+  ./oldstyle letters examples/samples.journal --places examples/places.csv --summary \\
+    < examples/transcribed.csv
 
 The table is CSV with a header. It is written to standard output as it came, and twelve
 columns follow its own: days, gregorian, julian, dual, weekday_found, jdn, earliest, latest, kind,

@@ -29,6 +29,8 @@ mod kept;
 #[cfg(test)]
 mod letter_dates;
 #[cfg(test)]
+mod letter_options;
+#[cfg(test)]
 mod letter_remarks;
 #[cfg(test)]
 mod letters;

@@ -1,16 +1,15 @@
 -- A run of the program did what its contract says of that.
-use Rattle.std.proofs.Common.{◌≡◌, ◌≢◌, Bool, List, ℕ, Ok, sym, subst, inl, inr}
+use Rattle.std.proofs.Common.{◌≡◌, ◌≢◌, Bool, List, ℕ, sym, subst, inl, inr}
 use Rattle.clap.specs.Words.{HasKind, fault_of, kind_of}
 use Rattle.clap.specs.declared.error.Error.{Error}
 use Rattle.clap.specs.declared.error.kind.ErrorKind.{ErrorKind}
 use Rattle.clap.specs.declared.error.kind.ErrorKind.TheVariants.{OutOfMemory}
 use Rattle.osn_register.specs.declared.limits.Limits.{Limits}
 use Rattle.osn_invocation.specs.Grammar.{command_line}
-use Rattle.osn_invocation.specs.Invocation.{LettersModel, command_model, reading_letters}
+use Rattle.osn_invocation.specs.Invocation.{command_model}
 use Rattle.osn_invocation.specs.declared.invocation.CommandWords.{CommandWords}
 use Rattle.osn_lines.specs.Streams.{Input, Output}
-use Rattle.osn_page_commands.specs.Letters.{PrintsLetters, TableAsked, settings_asked}
-use Rattle.osn_report.specs.Folders.{Folders, ReadsOne}
+use Rattle.osn_report.specs.Folders.{Folders}
 use Rattle.osn_report.specs.Printing.{PrintsIfMade}
 use Rattle.osn_report.specs.declared.status.Status.{Status}
 use Rattle.osn_commands.specs.Run.{IsHelp, Runs, RunsArgs, ShowsOrEnds}
@@ -22,14 +21,6 @@ pub ran : (limits : Limits) (given found : CommandWords) (CanFail : Bool → Typ
     → Runs limits (command_model given) CanFail d i o e status
 ran limits given found CanFail d i o e status is h =
     subst (λ w. Runs limits (command_model w) CanFail d i o e status) (sym is) h
-
--- a table was written by what these words ask for
-pub letters_ran : (limits : Limits) (journal : List ℕ) (words : LettersModel) (table : TableAsked)
-    (CanFail : Bool → Type 0) (d : Folders) (i : Input) (o e : Output) (status : Status)
-    → settings_asked words.place words.date words.weekday words.separator words.order ≡ Ok table
-    → ReadsOne journal CanFail d (λ file. PrintsLetters limits file table words.strict i o e status)
-    → Runs limits (reading_letters journal words) CanFail d i o e status
-letters_ran limits journal words table CanFail d i o e status asked h = rw asked h
 
 -- help is no want of memory
 help_is_no_fault : (kind : ErrorKind) → IsHelp kind → kind ≢ OutOfMemory

@@ -18,7 +18,7 @@ use Rattle.osn_file_commands.specs.Audit.{PrintsAudit}
 use Rattle.osn_file_commands.specs.Replay.{PrintsReplay}
 use Rattle.osn_file_commands.specs.Transcript.{PrintsTranscript}
 use Rattle.osn_page_commands.specs.Conversion.{PrintsConversion}
-use Rattle.osn_page_commands.specs.Letters.{PrintsLetters, settings_asked}
+use Rattle.osn_page_commands.specs.LettersFiles.{RunsLetters}
 use Rattle.osn_page_commands.specs.Page.{PrintsPage}
 use Rattle.osn_report.specs.Folders.{Folders, ReadsOne, ReadsTwo}
 use Rattle.osn_report.specs.Printing.{Prints}
@@ -26,14 +26,16 @@ use Rattle.osn_report.specs.Told.{EndsBy, Tells, TellsIfMade, TellsLine, TellsMi
 use Rattle.osn_report.specs.declared.fault.CommandFault.TheVariants.{NotOpened, NoMemory}
 use Rattle.osn_report.specs.declared.status.Status.{Status}
 use Rattle.osn_report.specs.declared.status.Status.TheVariants as statuses
+use Rattle.osn_report.specs.Unopened.{unopened_line}
 use Rattle.osn_serve_commands.specs.InFolder.{RunsServing, opened_by}
 use Rattle.osn_commands.specs.Completions.{PrintsCompletions}
 use Rattle.osn_commands.specs.Limits.{limits_asked}
-use Rattle.osn_commands.specs.Unopened.{named_file, unopened_line}
+use Rattle.osn_commands.specs.Unopened.{named_file}
 
 -- ---- each command
 
--- the paths of the files that are read, in the order of the arguments
+-- the paths of the files that are opened before anything else, in the order of the arguments. What
+-- becomes of a table of places, which is opened after its journal, the command says
 abbrev pub files_of : CommandModel → List Text
 files_of (serving journal save kept service) = opened_by journal kept
 files_of (replaying readers schedule) = schedule ∷ []
@@ -64,11 +66,7 @@ Runs limits (converting calendar date) CanFail d i o e status =
 Runs limits (completing shell) CanFail d i o e status =
     (d.after ≡ d.before) × PrintsCompletions shell o e status
 Runs limits (reading_letters journal asked) CanFail d i o e status =
-    MatchResult
-    (settings_asked asked.place asked.date asked.weekday asked.separator asked.order)
-    (λ table. ReadsOne journal CanFail d
-    (λ file. PrintsLetters limits file table asked.strict i o e status))
-    (λ wrong. (d.after ≡ d.before) × (o.new ≡ o.old) × TellsMisuse e wrong.0 wrong.1 status)
+    RunsLetters limits journal asked CanFail d i o e status
 
 -- ---- a run
 

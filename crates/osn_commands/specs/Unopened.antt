@@ -1,8 +1,5 @@
--- What is told of a file that could not be opened. This project's profile.
-use Rattle.std.specs.Prelude.{ℕ, List, ◌++◌, Option, Some, None, codes}
-use Rattle.osn_folder.specs.declared.fault.OpenFailed.{OpenFailed}
-use Rattle.osn_folder.specs.declared.fault.OpenFailed.TheVariants.{NotFound, PermissionDenied}
-use Rattle.osn_folder.specs.declared.fault.OpenFailed.TheVariants.{Other}
+-- Which file is named where one could not be opened. This project's profile.
+use Rattle.std.specs.Prelude.{ℕ, List, Option, Some, None}
 use Rattle.osn_invocation.specs.Invocation.{CommandModel}
 use Rattle.osn_invocation.specs.Invocation.{serving, replaying, working, printing, almanac_words}
 use Rattle.osn_invocation.specs.Invocation.{auditing, converting, completing, reading_letters}
@@ -19,13 +16,3 @@ named_file (working script questions) = None
 named_file (auditing journal transcript) = None
 named_file (converting calendar date) = None
 named_file (completing shell) = None
-
-abbrev pub cause_text : OpenFailed → List ℕ
-cause_text NotFound = codes "no such file"
-cause_text PermissionDenied = codes "permission denied"
-cause_text Other = codes "read fault"
-
--- the line on the file of a path
-abbrev pub unopened_line : List ℕ → OpenFailed → List ℕ
-unopened_line path cause =
-    codes "oldstyle: " ++ (path ++ (codes ": " ++ (cause_text cause ++ codes "\n")))

@@ -9,12 +9,12 @@ ghost use Rattle.osn_commands.specs.Run.{Runs, RunsArgs, RunsAsked, files_of};
 use crate::completing::completions_command;
 use crate::limits::asked_limits;
 use crate::shown::show;
-use crate::unopened::{named_file, tell_unopened};
+use crate::unopened::{named_file, tell_unopened_file};
 use osn_file_commands::{audit_in_folder, desk_in_folder, replay_in_folder};
 use osn_folder::{Folder, OpenFailed};
 use osn_invocation::{CommandWords, Invocation, parse_args};
 use osn_lines::{Sink, Source};
-use osn_page_commands::{asked_settings, convert_command, letters_in_folder, page_in_folder};
+use osn_page_commands::{convert_command, letters_in_folder, page_in_folder};
 use osn_register::Limits;
 use osn_report::{Status, tell_misuse};
 use osn_serve_commands::serve_in_folder;
@@ -91,7 +91,7 @@ where
     let command = invocation.command;
     match execute(rt, limits, folder, command, input, output, errors, terminal) {
         Ok(status) => status,
-        Err(cause) => tell_unopened(alloc, errors, named_file(command), cause),
+        Err(cause) => tell_unopened_file(alloc, errors, named_file(command), cause),
     }
 }
 
@@ -139,27 +139,9 @@ where
         } => audit_in_folder(
             alloc, limits, folder, journal, transcript, output, errors, terminal,
         ),
-        CommandWords::Letters { journal, options } => match asked_settings(
-            options.place,
-            options.date,
-            options.weekday,
-            options.separator,
-            options.order,
-        ) {
-            Ok(settings) => letters_in_folder(
-                alloc,
-                limits,
-                folder,
-                journal,
-                settings,
-                options.strict,
-                input,
-                output,
-                errors,
-                terminal,
-            ),
-            Err(wrong) => Ok(tell_misuse(alloc, errors, wrong.misuse, wrong.typed)),
-        },
+        CommandWords::Letters { journal, options } => letters_in_folder(
+            alloc, limits, folder, journal, options, input, output, errors, terminal,
+        ),
         CommandWords::Convert { calendar, date } => {
             Ok(convert_command(alloc, calendar, date, output, errors))
         }

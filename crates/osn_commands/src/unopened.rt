@@ -1,5 +1,5 @@
 //! How standard error is told of a file that could not be opened.
-ghost use Rattle.std.specs.Prelude.{◌≡◌, IfOk, option_map, string_bytes};
+ghost use Rattle.std.specs.Prelude.{◌≡◌, option_map};
 ghost use Rattle.osn_invocation.specs.Invocation.{command_model};
 ghost use Rattle.osn_commands.specs.Run.{TellsUnopened};
 ghost use Rattle.osn_lines.specs.Streams.{output_of};
@@ -8,8 +8,8 @@ ghost use Rattle.osn_commands.specs.Unopened as spec;
 use osn_folder::OpenFailed;
 use osn_invocation::{CommandWords, PageWords};
 use osn_lines::Sink;
-use osn_report::{CommandFault, Status, report, tell_line};
-use std::alloc::{AllocError, Global};
+use osn_report::{CommandFault, Status, report, tell_unopened};
+use std::alloc::Global;
 
 /// The path that a command names where its file could not be opened, if it does.
 pub(crate) fn named_file<'a>(command: CommandWords<'a>) -> Option<&'a str>
@@ -31,27 +31,8 @@ pub(crate) fn named_file<'a>(command: CommandWords<'a>) -> Option<&'a str>
     }
 }
 
-/// Why a file could not be opened.
-fn cause_text(cause: OpenFailed) -> &'static str
-    ensures { result.now ≡ spec.cause_text cause }
-{
-    match cause {
-        OpenFailed::NotFound => "no such file",
-        OpenFailed::PermissionDenied => "permission denied",
-        OpenFailed::Other => "read fault",
-    }
-}
-
-/// The line on a file of this path.
-fn unopened_line(alloc: Global, path: &str, cause: OpenFailed) -> Result<String, AllocError>
-    ensures { IfOk result (λ line. string_bytes line ≡ spec.unopened_line path.now cause) }
-{
-    let cause = cause_text(cause);
-    format!(in alloc; "oldstyle: {path}: {cause}\n")
-}
-
 /// Tells standard error of a file that could not be opened, by its path where that is to be named.
-pub(crate) fn tell_unopened<E: Sink>(
+pub(crate) fn tell_unopened_file<E: Sink>(
     alloc: Global,
     errors: &mut E,
     named: Option<&str>,
@@ -61,7 +42,7 @@ pub(crate) fn tell_unopened<E: Sink>(
         (output_of E.contents E.has_failed E.holds_back errors.old errors.new) result }
 {
     match named {
-        Some(path) => tell_line(errors, Status::ReadFault, unopened_line(alloc, path, cause)),
+        Some(path) => tell_unopened(alloc, errors, path, cause),
         None => report(alloc, errors, CommandFault::NotOpened),
     }
 }

@@ -30,7 +30,14 @@ fn values_named(id: &str) -> &'static str
     ensures { result.now ≡ spec.values_named id.now }
 {
     match id {
-        "journal" | "save" | "keep" | "schedule" | "script" | "questions" | "transcript" => " FILE",
+        "journal"
+        | "save"
+        | "keep"
+        | "schedule"
+        | "script"
+        | "questions"
+        | "transcript"
+        | "places" => " FILE",
         "order" => " dmy mdy",
         "separator" => " comma semicolon tab",
         "calendar" => " gregorian julian swedish day",

@@ -97,14 +97,21 @@ territory_grammar = with_rule
     (with_rule (new_app (codes "territory")) (required_arg (codes "journal")))
     (optional_arg (codes "code"))
 
--- `letters JOURNAL [--place NAME] [--date NAME] [--weekday NAME] [--separator NAME]
--- [--order ORDER] [--strict]`
+-- a command with the options that name the columns of a table after what it has: `[--place NAME]
+-- [--date NAME] [--year NAME] [--month NAME] [--day NAME] [--weekday NAME]`
+abbrev pub with_columns : App → App
+with_columns grammar = with_rule (with_rule (with_rule (with_rule (with_rule
+    (with_rule grammar (value_option (codes "place"))) (value_option (codes "date")))
+    (value_option (codes "year"))) (value_option (codes "month"))) (value_option (codes "day")))
+    (value_option (codes "weekday"))
+
+-- `letters JOURNAL [columns] [--places FILE] [--separator NAME] [--order ORDER] [--strict]
+-- [--summary]`
 abbrev pub letters_grammar : App
-letters_grammar = with_rule (with_rule (with_rule (with_rule (with_rule (with_rule
-    (with_rule (new_app (codes "letters")) (required_arg (codes "journal")))
-    (value_option (codes "place"))) (value_option (codes "date")))
-    (value_option (codes "weekday"))) (value_option (codes "separator")))
-    (value_option (codes "order"))) (flag_option (codes "strict"))
+letters_grammar = with_rule (with_rule (with_rule (with_rule (with_rule (with_columns
+    (with_rule (new_app (codes "letters")) (required_arg (codes "journal"))))
+    (value_option (codes "places"))) (value_option (codes "separator")))
+    (value_option (codes "order"))) (flag_option (codes "strict"))) (flag_option (codes "summary"))
 
 -- `audit JOURNAL TRANSCRIPT`
 abbrev pub audit_grammar : App

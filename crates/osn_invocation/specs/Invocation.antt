@@ -13,7 +13,8 @@ use Rattle.osn_invocation.specs.declared.invocation.CommandWords.TheVariants.{Se
 use Rattle.osn_invocation.specs.declared.invocation.CommandWords.TheVariants.{Page, Audit, Convert}
 use Rattle.osn_invocation.specs.declared.invocation.CommandWords.TheVariants.{Letters, Completions}
 use Rattle.osn_invocation.specs.declared.invocation.Invocation.{Invocation}
-use Rattle.osn_invocation.specs.declared.invocation.LettersOptions.{LettersOptions}
+use Rattle.osn_invocation.specs.declared.letters.DateOptions.{DateOptions}
+use Rattle.osn_invocation.specs.declared.letters.LettersOptions.{LettersOptions}
 use Rattle.osn_invocation.specs.declared.invocation.PageWords.{PageWords}
 use Rattle.osn_invocation.specs.declared.invocation.ServeOptions.{ServeOptions}
 use Rattle.osn_invocation.specs.declared.invocation.PageWords.TheVariants as pages
@@ -36,16 +37,27 @@ pub record ServiceModel : Type 0 where
   pub read_only : Bool
   pub stop_at_refusal : Bool
 
--- what the letters of a table are asked for: the names of the columns of places and dates, and, if
--- they are named, that of the weekdays, what separates the fields, and the order of a date's three
--- numbers; whether a remark is a refusal
+-- the names of the columns that say the date, where they are named: that of whole dates, and those
+-- of years, months and days
+pub record DateModel : Type 0 where
+  pub date : Option Text
+  pub year : Option Text
+  pub month : Option Text
+  pub day : Option Text
+
+-- what the letters of a table are asked for: the names of the columns of places and of the date,
+-- and, if they are named, that of the weekdays, the file of the table of places, what separates the
+-- fields, and the order of a date's three numbers; whether a remark is a refusal, and whether it is
+-- told at the end how many rows have each
 pub record LettersModel : Type 0 where
   pub place : Text
-  pub date : Text
+  pub date : DateModel
   pub weekday : Option Text
+  pub places : Option Text
   pub separator : Option Text
   pub order : Option Text
   pub strict : Bool
+  pub summary : Bool
 
 -- what a command is asked for: the service by a journal, where to save it, where to keep it, and
 -- the rest; a replay by readers and a schedule; a desk by a script and questions; a page by a
@@ -121,14 +133,25 @@ completions_command given = completing (text_of (codes "shell") given)
 abbrev pub column_of : Text → List Row → Text
 column_of name given = unwrap_or (first_of name given) name
 
+-- the names of the columns that say the date
+abbrev pub date_options : List Row → DateModel
+date_options given = record {
+  date = first_of (codes "date") given;
+  year = first_of (codes "year") given;
+  month = first_of (codes "month") given;
+  day = first_of (codes "day") given;
+}
+
 abbrev pub letters_command : List Row → CommandModel
 letters_command given = reading_letters (text_of (codes "journal") given) (record {
   place = column_of (codes "place") given;
-  date = column_of (codes "date") given;
+  date = date_options given;
   weekday = first_of (codes "weekday") given;
+  places = first_of (codes "places") given;
   separator = first_of (codes "separator") given;
   order = first_of (codes "order") given;
   strict = is_given (codes "strict") given;
+  summary = is_given (codes "summary") given;
 })
 
 -- a command that prints a page of a journal
@@ -207,14 +230,24 @@ service_model given = record {
   stop_at_refusal = given.stop_at_refusal;
 }
 
+abbrev pub date_model : DateOptions → DateModel
+date_model given = record {
+  date = option_map (λ name. name.now) given.date;
+  year = option_map (λ name. name.now) given.year;
+  month = option_map (λ name. name.now) given.month;
+  day = option_map (λ name. name.now) given.day;
+}
+
 abbrev pub letters_model : LettersOptions → LettersModel
 letters_model given = record {
   place = given.place.now;
-  date = given.date.now;
+  date = date_model given.date;
   weekday = option_map (λ name. name.now) given.weekday;
+  places = option_map (λ path. path.now) given.places;
   separator = option_map (λ word. word.now) given.separator;
   order = option_map (λ word. word.now) given.order;
   strict = given.strict;
+  summary = given.summary;
 }
 
 abbrev pub command_model : CommandWords → CommandModel

@@ -5,12 +5,13 @@ ghost use Rattle.clap.specs.Words.{App};
 ghost use Rattle.osn_invocation.specs.Grammar.{IsArg, IsCommand, almanac_grammar, audit_grammar};
 ghost use Rattle.osn_invocation.specs.Grammar.{command_line, completions_grammar};
 ghost use Rattle.osn_invocation.specs.Grammar.{convert_grammar, day_grammar};
-ghost use Rattle.osn_invocation.specs.Grammar.{desk_grammar, letters_grammar, limited};
+ghost use Rattle.osn_invocation.specs.Grammar.{desk_grammar, limited};
 ghost use Rattle.osn_invocation.specs.Grammar.{flag_option, month_grammar};
 ghost use Rattle.osn_invocation.specs.Grammar.{optional_arg, read_grammar, readers_option};
 ghost use Rattle.osn_invocation.specs.Grammar.{replay_grammar, required_arg, serve_grammar};
 ghost use Rattle.osn_invocation.specs.Grammar.{territory_grammar, value_option, year_arg};
 
+use crate::letters_grammar::letters_grammar;
 use clap::{Arg, ArgAction, Command, value_parser};
 use std::alloc::{AllocError, Global};
 
@@ -36,21 +37,21 @@ fn readers_arg<'a>(alloc: Global) -> Arg<'a>
 }
 
 /// An argument that has to stand.
-fn required_arg<'a>(alloc: Global, id: &'a str, shown: &'a str) -> Arg<'a>
+pub(crate) fn required_arg<'a>(alloc: Global, id: &'a str, shown: &'a str) -> Arg<'a>
     ensures { IsArg (required_arg id.now) result }
 {
     Arg::new(alloc, id).value_name(shown).required(true)
 }
 
 /// An option with a value, which help shows by this name.
-fn option_arg<'a>(alloc: Global, id: &'a str, shown: &'a str) -> Arg<'a>
+pub(crate) fn option_arg<'a>(alloc: Global, id: &'a str, shown: &'a str) -> Arg<'a>
     ensures { IsArg (value_option id.now) result }
 {
     Arg::new(alloc, id).long(id).value_name(shown)
 }
 
 /// An option without a value.
-fn flag_arg<'a>(alloc: Global, id: &'a str) -> Arg<'a>
+pub(crate) fn flag_arg<'a>(alloc: Global, id: &'a str) -> Arg<'a>
     ensures { IsArg (flag_option id.now) result }
 {
     Arg::new(alloc, id).long(id).action(ArgAction::Count)
@@ -102,7 +103,8 @@ Requests and replies are JSON lines. With --save, the journal is saved only if a
 answered. With --keep, each change is in the journal before its reply is written. With
 --stop-at-refusal, a batch of edits is published whole or not at all.";
 
-const ORDER_HELP: &str = "How a date of three numbers, as 11/2/1731, is read: dmy or mdy";
+pub(crate) const ORDER_HELP: &str =
+    "How a date of three numbers, as 11/2/1731, is read: dmy or mdy";
 
 /// The command `read`, its arguments and its options.
 fn read_grammar<'a>(alloc: Global) -> Result<Command<'a>, AllocError>
@@ -205,37 +207,6 @@ fn territory_grammar<'a>(alloc: Global) -> Result<Command<'a>, AllocError>
 const TERRITORY_EXAMPLE: &str = "Examples:
   ./oldstyle territory examples/samples.journal
   ./oldstyle territory examples/samples.journal GB";
-
-/// The command `letters`, its argument and its options.
-fn letters_grammar<'a>(alloc: Global) -> Result<Command<'a>, AllocError>
-    ensures { IfOk result (IsCommand letters_grammar) }
-{
-    Command::new(alloc, "letters")
-        .about("Says of each letter of a table on standard input which day its date means")
-        .after_help(LETTERS_EXAMPLE)
-        .arg(required_arg(alloc, "journal", "JOURNAL").help("The file of the journal"))?
-        .arg(option_arg(alloc, "place", "NAME").help(
-            "The name of the column of territories' codes [default: place]",
-        ))?
-        .arg(option_arg(alloc, "date", "NAME").help(
-            "The name of the column of dates [default: date]",
-        ))?
-        .arg(option_arg(alloc, "weekday", "NAME").help(
-            "The name of the column of weekdays [default: weekday, which the table may lack]",
-        ))?
-        .arg(option_arg(alloc, "separator", "NAME").help(
-            "What stands between two fields: comma, semicolon or tab [default: by the header]",
-        ))?
-        .arg(option_arg(alloc, "order", "ORDER").help(ORDER_HELP))?
-        .arg(flag_arg(alloc, "strict").help("Ends with status 1 where a row has a remark"))
-}
-
-const LETTERS_EXAMPLE: &str = "Example:
-  ./oldstyle letters examples/samples.journal < examples/letters.csv
-
-The table is CSV with a header. It is written to standard output as it came, and twelve
-columns follow its own: days, gregorian, julian, dual, weekday_found, jdn, earliest, latest, kind,
-edtf, edition and remark.";
 
 /// The command `replay`, its option and its argument.
 fn replay_grammar<'a>(alloc: Global) -> Result<Command<'a>, AllocError>

@@ -8,13 +8,14 @@ ghost use Rattle.osn_invocation.specs.Grammar.{HasMatches, command_line};
 ghost use Rattle.osn_invocation.specs.Invocation.{almanac_page, audit_command, command_by};
 ghost use Rattle.osn_invocation.specs.Invocation.{command_model, completions_command};
 ghost use Rattle.osn_invocation.specs.Invocation.{convert_command, day_page, desk_command};
-ghost use Rattle.osn_invocation.specs.Invocation.{invocation_by, invocation_in, letters_command};
+ghost use Rattle.osn_invocation.specs.Invocation.{invocation_by, invocation_in};
 ghost use Rattle.osn_invocation.specs.Invocation.{model_of, month_page, page_command, page_words};
 ghost use Rattle.osn_invocation.specs.Invocation.{read_page, replay_command, serve_command};
 ghost use Rattle.osn_invocation.specs.Invocation.{territory_page, with_limits};
 
 use crate::given::{is_given, number_of, text_of, value_of};
 use crate::grammar::command_line;
+use crate::letters::{LettersOptions, letters_of};
 use clap::{ArgMatches, Error};
 use std::alloc::Global;
 use std::convert::AsStr;
@@ -37,23 +38,6 @@ pub struct ServeOptions<'a> {
     pub read_only: bool,
     /// Whether the first line that is refused is the last to be answered.
     pub stop_at_refusal: bool,
-}
-
-/// What the letters of a table are asked for.
-#[derive(Clone, Copy, Debug, PartialEq, Eq)]
-pub struct LettersOptions<'a> {
-    /// The name of the column of codes.
-    pub place: &'a str,
-    /// The name of the column of dates.
-    pub date: &'a str,
-    /// The name of the column of weekdays, if it is named.
-    pub weekday: Option<&'a str>,
-    /// The word of what separates the fields, if it is named.
-    pub separator: Option<&'a str>,
-    /// The word of the order in which a date's three numbers are read, if it is named.
-    pub order: Option<&'a str>,
-    /// Whether a remark is a refusal.
-    pub strict: bool,
 }
 
 /// A page of what a journal published, by the words of the command line.
@@ -293,23 +277,6 @@ fn completions_of<'a>(given: &ArgMatches<'a>) -> CommandWords<'a>
 {
     CommandWords::Completions {
         shell: text_of(given, "shell"),
-    }
-}
-
-/// What the arguments of `letters` ask for.
-fn letters_of<'a>(given: &ArgMatches<'a>) -> CommandWords<'a>
-    ensures { command_model result ≡ letters_command (rows_of (found_of given.now)) }
-{
-    CommandWords::Letters {
-        journal: text_of(given, "journal"),
-        options: LettersOptions {
-            place: value_of(given, "place").unwrap_or("place"),
-            date: value_of(given, "date").unwrap_or("date"),
-            weekday: value_of(given, "weekday"),
-            separator: value_of(given, "separator"),
-            order: value_of(given, "order"),
-            strict: is_given(given, "strict"),
-        },
     }
 }
 

@@ -7,8 +7,9 @@
 mod given;
 mod grammar;
 mod invocation;
+mod letters;
+mod letters_grammar;
 
 pub use grammar::command_line;
-pub use invocation::{
-    CommandWords, Invocation, LettersOptions, PageWords, ServeOptions, parse_args,
-};
+pub use invocation::{CommandWords, Invocation, PageWords, ServeOptions, parse_args};
+pub use letters::{DateOptions, LettersOptions};

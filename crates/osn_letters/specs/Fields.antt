@@ -4,6 +4,7 @@ use Rattle.std.specs.Prelude.{ℕ, Bool, true, false, List, [], ◌∷◌, ◌++
 use Rattle.std.specs.Prelude.{Option, Some, None, is_none, Result, Ok, Err}
 use Rattle.std.specs.Fmt.{decimal}
 use Rattle.std.specs.List.{join_by}
+use Rattle.csv.specs.Records.{fields_of}
 use Rattle.osn_days.specs.declared.calendar.Calendar.TheVariants as calendar
 use Rattle.osn_days.specs.declared.weekday.Weekday.{Weekday}
 use Rattle.osn_days.specs.Profile.{Profile}
@@ -34,12 +35,14 @@ use Rattle.osn_written.specs.Said.{one_day}
 use Rattle.osn_letters.specs.declared.added_fields.Summary.{Summary}
 use Rattle.osn_letters.specs.declared.day_field.DayField.{DayField}
 use Rattle.osn_letters.specs.declared.day_field.DayField.TheVariants as field
+use Rattle.osn_letters.specs.declared.letter.LetterFields.{LetterFields}
 use Rattle.osn_letters.specs.declared.remark.Remark.{Remark}
 use Rattle.osn_letters.specs.declared.remark.Remark.TheVariants as told
 use Rattle.osn_letters.specs.declared.span.Span.{Span}
 use Rattle.osn_letters.specs.Edtf.{edtf_of_days, edtf_of_span, sign}
 use Rattle.osn_letters.specs.PlaceEntries.{PlaceEntry}
 use Rattle.osn_letters.specs.Remarks.{remark_text, remarks_beside, remarks_on_days}
+use Rattle.osn_letters.specs.Remarks.{those_that_apply}
 use Rattle.osn_letters.specs.RowFields.{is_malformed_weekday, said_in, territory_in, weekday_in}
 use Rattle.osn_letters.specs.Span.{no_span, span_of_days, span_of_runs}
 
@@ -90,6 +93,21 @@ added_fields s days edtf remarks =
     map (days_text days) day_fields
     ++ (summary_fields s ++ (edtf ∷ decimal s.edition ∷ remarks ∷ []))
 
+-- the fields that are put after a letter's row, and its remarks
+pub record FieldsAndRemarks : Type 0 where
+  pub fields : List (List ℕ)
+  pub remarks : List Remark
+
+abbrev pub fields_and_remarks : LetterFields → FieldsAndRemarks
+fields_and_remarks made = record { fields = fields_of made.fields; remarks = made.remarks.items }
+
+-- of these days, with this text of them, and with remarks, whose words the last field joins
+abbrev pub fields_with : Summary → List DatedDay → List ℕ → List Remark → FieldsAndRemarks
+fields_with s days edtf remarks = record {
+  fields = added_fields s days edtf (remark_text remarks);
+  remarks = remarks;
+}
+
 -- what is said of a date as a whole
 abbrev pub summary : ℕ → Option Kind → Span → Summary
 summary edition kind span = record { span = span; kind = kind; edition = edition }
@@ -98,33 +116,33 @@ abbrev pub summary_of : ℕ → AnyDate → Span → Summary
 summary_of edition w span = summary edition (Some (kind_of w.extent)) span
 
 -- where there is no day
-abbrev pub fields_of_none : ℕ → Option Kind → List (Bool × Remark) → List (List ℕ)
+abbrev pub fields_of_none : ℕ → Option Kind → List (Bool × Remark) → FieldsAndRemarks
 fields_of_none edition kind remarks =
-    added_fields (summary edition kind no_span) [] [] (remark_text remarks)
+    fields_with (summary edition kind no_span) [] [] (those_that_apply remarks)
 
 -- of a date that means no day
-abbrev pub fields_of_absence : ℕ → AnyDate → NoDay → List (Bool × Remark) → List (List ℕ)
+abbrev pub fields_of_absence : ℕ → AnyDate → NoDay → List (Bool × Remark) → FieldsAndRemarks
 fields_of_absence edition w reason beside =
     fields_of_none edition (Some (kind_of w.extent)) ((true, told.NoDay reason) ∷ beside)
 
 -- of days
-abbrev pub fields_of_days : ℕ → AnyDate → List DatedDay → List (Bool × Remark) → List (List ℕ)
+abbrev pub fields_of_days : ℕ → AnyDate → List DatedDay → List (Bool × Remark) → FieldsAndRemarks
 fields_of_days edition w days remarks =
-    added_fields (summary_of edition w (span_of_days days)) days (edtf_of_days (sign w) days)
-    (remark_text remarks)
+    fields_with (summary_of edition w (span_of_days days)) days (edtf_of_days (sign w) days)
+    (those_that_apply remarks)
 
 -- of runs
-abbrev pub fields_of_runs : ℕ → AnyDate → List Run → List (Bool × Remark) → List (List ℕ)
+abbrev pub fields_of_runs : ℕ → AnyDate → List Run → List (Bool × Remark) → FieldsAndRemarks
 fields_of_runs edition w runs remarks =
     let span = span_of_runs w.extent runs in
-    added_fields (summary_of edition w span) [] (edtf_of_span (sign w) span runs)
-    (remark_text remarks)
+    fields_with (summary_of edition w span) [] (edtf_of_span (sign w) span runs)
+    (those_that_apply remarks)
 
 -- ---- the date, in its territory
 
 -- of the days that a date means which is one day
 abbrev pub fields_of_meaning : ℕ → AnyDate → WrittenDate → Option Weekday → NoDay
-    → List (Bool × Remark) → List DatedDay → List (List ℕ)
+    → List (Bool × Remark) → List DatedDay → FieldsAndRemarks
 fields_of_meaning edition w day given reason beside [] = fields_of_absence edition w reason beside
 fields_of_meaning edition w day given reason beside (first ∷ rest) =
     fields_of_days edition w (first ∷ rest)
@@ -132,45 +150,45 @@ fields_of_meaning edition w day given reason beside (first ∷ rest) =
 
 -- of a date that is one day
 abbrev pub fields_of_one_day : Profile → ℕ → TerritoryModel → AnyDate → WrittenDate
-    → Option Weekday → List (Bool × Remark) → List (List ℕ)
+    → Option Weekday → List (Bool × Remark) → FieldsAndRemarks
 fields_of_one_day p edition t w day given beside =
     fields_of_meaning edition w day given (Absent (absence p t day)) beside
     (meaning p t day given)
 
 -- of a date that is not one day
 abbrev pub fields_of_found : ℕ → AnyDate → List (Bool × Remark) → Result (List Run) NoDay
-    → List (List ℕ)
+    → FieldsAndRemarks
 fields_of_found edition w beside (Ok runs) = fields_of_runs edition w runs beside
 fields_of_found edition w beside (Err reason) = fields_of_absence edition w reason beside
 
 abbrev pub fields_of_many_days : Profile → ℕ → TerritoryModel → AnyDate → List (Bool × Remark)
-    → List (List ℕ)
+    → FieldsAndRemarks
 fields_of_many_days p edition t w beside =
     fields_of_found edition w beside (found p t w.extent)
 
 -- of either
 abbrev pub fields_of_either : Profile → ℕ → TerritoryModel → AnyDate → Option Weekday
-    → List (Bool × Remark) → Option WrittenDate → List (List ℕ)
+    → List (Bool × Remark) → Option WrittenDate → FieldsAndRemarks
 fields_of_either p edition t w given beside (Some day) =
     fields_of_one_day p edition t w day given beside
 fields_of_either p edition t w given beside None = fields_of_many_days p edition t w beside
 
 -- by the reckoning of a territory, with the field of the weekday
 abbrev pub fields_by : Profile → ℕ → TerritoryModel → Bool → AnyDate → Option (List ℕ)
-    → List (List ℕ)
+    → FieldsAndRemarks
 fields_by p edition t is_other w named =
     fields_of_either p edition t w (weekday_in named)
     (remarks_beside w (weekday_in named) is_other (is_malformed_weekday named)) (one_day w)
 
 -- in its territory, by the calendar that it names
-abbrev pub fields_in : Profile → ℕ → TerritoryModel → AnyDate → Option (List ℕ) → List (List ℕ)
+abbrev pub fields_in : Profile → ℕ → TerritoryModel → AnyDate → Option (List ℕ) → FieldsAndRemarks
 fields_in p edition t w named =
     fields_by p edition (reckoned t w.reckoning) (is_by_other_calendar p t w) w named
 
 -- ---- the whole
 
 -- of a date whose place is not known
-abbrev pub fields_without_place : ℕ → AnyDate → Option (List ℕ) → List (List ℕ)
+abbrev pub fields_without_place : ℕ → AnyDate → Option (List ℕ) → FieldsAndRemarks
 fields_without_place edition w named =
     fields_of_none edition (Some (kind_of w.extent))
     ((true, told.UnknownPlace)
@@ -178,12 +196,12 @@ fields_without_place edition w named =
 
 -- of a date in its place, if that is known
 abbrev pub fields_of_date : Profile → ℕ → Option TerritoryModel → AnyDate → Option (List ℕ)
-    → List (List ℕ)
+    → FieldsAndRemarks
 fields_of_date p edition (Some t) w named = fields_in p edition t w named
 fields_of_date p edition None w named = fields_without_place edition w named
 
 -- where no date is read
-abbrev pub fields_without_date : ℕ → DateFault → Bool → Option (List ℕ) → List (List ℕ)
+abbrev pub fields_without_date : ℕ → DateFault → Bool → Option (List ℕ) → FieldsAndRemarks
 fields_without_date edition fault lacks_place named =
     fields_of_none edition None
     ((true, told.NotRead fault)
@@ -193,7 +211,7 @@ fields_without_date edition fault lacks_place named =
 
 -- of what the field of the date says
 abbrev pub fields_said : Profile → ℕ → Option TerritoryModel → Option (List ℕ)
-    → Result Written DateFault → List (List ℕ)
+    → Result Written DateFault → FieldsAndRemarks
 fields_said p edition t named (Ok (written.Date w)) = fields_of_date p edition t w named
 fields_said p edition t named (Ok written.NoDate) =
     fields_without_date edition NoDate (is_none t) named
@@ -202,6 +220,6 @@ fields_said p edition t named (Err fault) = fields_without_date edition fault (i
 -- the twelve fields for a place, a date and perhaps a weekday, by the territories of an edition and
 -- a table of places
 abbrev pub letter_fields : Profile → List LandModel → ℕ → DateOrder → List PlaceEntry → List ℕ
-    → List ℕ → Option (List ℕ) → List (List ℕ)
+    → List ℕ → Option (List ℕ) → FieldsAndRemarks
 letter_fields p lands edition order places place date named =
     fields_said p edition (territory_in lands places place) named (said_in order date)

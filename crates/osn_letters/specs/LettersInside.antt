@@ -11,7 +11,8 @@ use Rattle.osn_letters.specs.RecordsInside.{reading_of}
 use Rattle.osn_letters.specs.Start.{unmarked}
 use Rattle.osn_letters.specs.Table.{Written, behind, ended_by, EndsEarly, IsLong}
 use Rattle.osn_letters.specs.Faults.{is_of_table, is_of_stream, EndsStream, is_write_fault}
-use Rattle.osn_letters.specs.TableInside.{remarked_of, written_of}
+use Rattle.osn_letters.specs.TableInside.{tally_of, written_of}
+use Rattle.osn_letters.specs.Tally.{TallyModel}
 use Rattle.osn_letters.specs.WriterInside.{IsBetweenRows, waiting}
 
 -- no part of a field stands in the record at hand, and what waits ends between two rows
@@ -103,22 +104,22 @@ SinkEnds before now old bytes fault =
     EndsStream (is_write_fault fault) before now
     ((more : List ℕ) → IsLong (text_from old (bytes ++ more)))
 
--- ---- remarks
+-- ---- the tally
 
--- a row of what came and of further bytes after the beginning, up to the end of the text, has a
--- remark
-abbrev pub remarked_behind : Letters → List ℕ → Bool
-remarked_behind s bytes = remarked_of s.table (records_from (reading_of s.parser) bytes)
+-- the tally of the rows so far and of those of further bytes after the beginning, up to the end of
+-- the text
+abbrev pub tally_behind : Letters → List ℕ → TallyModel
+tally_behind s bytes = tally_of s.table (records_from (reading_of s.parser) bytes)
 
 -- the same of bytes that may go on with a byte order mark
-abbrev pub remarked_from : Letters → List ℕ → Bool
-remarked_from s bytes = remarked_behind s (unmarked s.start bytes)
+abbrev pub tally_from : Letters → List ℕ → TallyModel
+tally_from s bytes = tally_behind s (unmarked s.start bytes)
 
--- the bytes were taken, and whether a row of them has a remark is not forgotten
-abbrev pub KeepsBehind : Letters → Letters → List ℕ → Type 0
-KeepsBehind old new bytes = (more : List ℕ) → remarked_behind old (bytes ++ more)
-    ≡ remarked_behind new more
+-- the bytes were taken, and their rows are counted
+abbrev pub CountsBehind : Letters → Letters → List ℕ → Type 0
+CountsBehind old new bytes = (more : List ℕ) → tally_behind old (bytes ++ more)
+    ≡ tally_behind new more
 
-abbrev pub KeepsBytes : Letters → Letters → List ℕ → Type 0
-KeepsBytes old new bytes = (more : List ℕ) → remarked_from old (bytes ++ more)
-    ≡ remarked_from new more
+abbrev pub CountsBytes : Letters → Letters → List ℕ → Type 0
+CountsBytes old new bytes = (more : List ℕ) → tally_from old (bytes ++ more)
+    ≡ tally_from new more

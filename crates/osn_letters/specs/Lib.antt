@@ -17,10 +17,12 @@ pub mod PlacesInside
 pub mod Law
 pub mod RecordsInside
 pub mod Table
-pub mod Remarked
+pub mod Tally
+pub mod RowRemarks
 pub mod Parts
 pub mod TableLaws
 pub mod WriterInside
+pub mod TallyInside
 pub mod TableInside
 pub mod Start
 pub mod LettersInside

@@ -30,9 +30,9 @@ remark_words told.MalformedWeekday = codes "malformed weekday"
 abbrev pub those_that_apply : List (Bool × Remark) → List Remark
 those_that_apply remarks = map (λ r. r.1) (filter (λ r. r.0) remarks)
 
--- the field of these
-abbrev pub remark_text : List (Bool × Remark) → List ℕ
-remark_text remarks = join_by remark_words (codes "; ") (those_that_apply remarks)
+-- the field of remarks
+abbrev pub remark_text : List Remark → List ℕ
+remark_text remarks = join_by remark_words (codes "; ") remarks
 
 -- a weekday is given, by the date itself or beside it
 abbrev pub is_weekday_given : Option Weekday → Option Weekday → Bool

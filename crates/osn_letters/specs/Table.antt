@@ -17,7 +17,7 @@ use Rattle.osn_letters.specs.AddedColumns.{added_names}
 use Rattle.osn_letters.specs.Columns.{NameTexts, names_of, columns_of}
 use Rattle.osn_letters.specs.DateParts.{date_in}
 use Rattle.osn_letters.specs.Faults.{is_of_table}
-use Rattle.osn_letters.specs.Fields.{letter_fields}
+use Rattle.osn_letters.specs.Fields.{FieldsAndRemarks, letter_fields}
 use Rattle.osn_letters.specs.PlaceEntries.{PlaceEntry}
 use Rattle.osn_letters.specs.Records.{PlacedRecord, records_of}
 use Rattle.osn_letters.specs.Separators.{writer_by}
@@ -73,16 +73,20 @@ behind text written = record { text = text ++ written.text; fault = written.faul
 abbrev pub header_text : Separator → List (List ℕ) → List ℕ
 header_text separator header = row_text (writer_by separator) (header ++ added_names)
 
--- the twelve fields of a record, with the text of its date
-abbrev pub fields_on : TableBasis → Columns → List (List ℕ) → List ℕ → List (List ℕ)
-fields_on s columns record_fields date =
+-- what is said of a record, with the text of its date: the twelve fields, and the remarks
+abbrev pub said_on : TableBasis → Columns → List (List ℕ) → List ℕ → FieldsAndRemarks
+said_on s columns record_fields date =
     letter_fields s.rules s.lands s.edition s.order s.places
     (get_or record_fields columns.place []) date
     (option_map (λ n. get_or record_fields n []) columns.weekday)
 
+abbrev pub said_of : TableBasis → Columns → List (List ℕ) → FieldsAndRemarks
+said_of s columns record_fields =
+    said_on s columns record_fields (date_in columns.date record_fields)
+
+-- the twelve fields of a record
 abbrev pub fields_behind : TableBasis → Columns → List (List ℕ) → List (List ℕ)
-fields_behind s columns record_fields =
-    fields_on s columns record_fields (date_in columns.date record_fields)
+fields_behind s columns record_fields = (said_of s columns record_fields).fields
 
 -- the row that is written of a record
 unfoldable pub letter_text : TableBasis → Separator → Columns → List (List ℕ) → List ℕ

@@ -1,5 +1,5 @@
 -- What a table writes of the records that it takes.
-use Rattle.std.specs.Prelude.{◌≡◌, ◌≢◌, ℕ, Bool, false, List, [], ◌∷◌, ◌++◌, Option, Some, None}
+use Rattle.std.specs.Prelude.{◌≡◌, ◌≢◌, ℕ, false, List, [], ◌∷◌, ◌++◌, Option, Some, None}
 use Rattle.std.specs.Prelude.{Ok}
 use Rattle.osn_days.specs.Profile.{newest_rules}
 use Rattle.osn_letters.specs.declared.separator.Separator.{Separator}
@@ -11,7 +11,9 @@ use Rattle.osn_letters.specs.Faults.{is_of_stream}
 use Rattle.osn_letters.specs.Records.{PlacedRecord}
 use Rattle.osn_letters.specs.Table.{TableBasis, basis, Heading, Written, written_from, behind}
 use Rattle.osn_letters.specs.Table.{ended_by}
-use Rattle.osn_letters.specs.Remarked.{rows_remarked, table_remarked}
+use Rattle.osn_letters.specs.RowRemarks.{rows_remarks, table_remarks}
+use Rattle.osn_letters.specs.Tally.{TallyModel}
+use Rattle.osn_letters.specs.TallyInside.{with_rows}
 use Rattle.osn_letters.specs.WriterInside.{waiting}
 
 -- by what it is made
@@ -63,20 +65,19 @@ RefusesRow old new line record_fields fault = (separator : Separator) →
 
 -- ---- remarks
 
--- a row of the records so far and of further ones has a remark
-abbrev pub remarked_after : TableBasis → Option Rows → List PlacedRecord → Bool
-remarked_after s None records = table_remarked s records
-remarked_after s (Some rows) records = rows_remarked s rows.columns rows.is_remarked records
+-- the tally of the rows so far and of those of further records
+abbrev pub tally_after : TableBasis → Option Rows → TallyModel → List PlacedRecord → TallyModel
+tally_after s None tally records = with_rows tally (table_remarks s records)
+tally_after s (Some rows) tally records = with_rows tally (rows_remarks s rows.columns records)
 
-abbrev pub remarked_of : Table → List PlacedRecord → Bool
-remarked_of t records = remarked_after (source_of t) t.rows records
+abbrev pub tally_of : Table → List PlacedRecord → TallyModel
+tally_of t records = tally_after (source_of t) t.rows t.tally records
 
--- a record was taken, and whether it has a remark is not forgotten
-abbrev pub KeepsRecord : Table → Table → PlacedRecord → Type 0
-KeepsRecord old new r = (more : List PlacedRecord) → remarked_of old (r ∷ more)
-    ≡ remarked_of new more
+-- a record was taken, and it is counted
+abbrev pub CountsRecord : Table → Table → PlacedRecord → Type 0
+CountsRecord old new r = (more : List PlacedRecord) → tally_of old (r ∷ more) ≡ tally_of new more
 
 -- the same of a record after the header, whatever separated its fields
-abbrev pub KeepsRow : Table → Table → ℕ → List (List ℕ) → Type 0
-KeepsRow old new line record_fields = (separator : Separator) → KeepsRecord old new
+abbrev pub CountsRow : Table → Table → ℕ → List (List ℕ) → Type 0
+CountsRow old new line record_fields = (separator : Separator) → CountsRecord old new
     (record { line = line; separator = separator; fields = Ok record_fields })

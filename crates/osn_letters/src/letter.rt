@@ -1,13 +1,12 @@
 //! The fields that are put after a letter's row.
 ghost use Rattle.std.specs.Prelude.{◌≡◌, [], ◌∷◌, ◌++◌, option_map, unwrap_or, IfOk};
-ghost use Rattle.csv.specs.Records.{fields_of};
 ghost use Rattle.osn_days.specs.Profile.{newest_rules};
 ghost use Rattle.osn_letters.specs.Fields as spec;
 
 use crate::added_fields::{Summary, added_fields};
 use crate::edtf::{edtf_of_days, edtf_of_span, sign};
 use crate::places::Places;
-use crate::remark::{Remark, Told, remark_text, remarks_beside, remarks_on_days};
+use crate::remark::{Remark, Told, remark_text, remarks_beside, remarks_on_days, those_that_apply};
 use crate::row_field::{is_malformed_weekday, said_in, territory_in, weekday_in};
 use crate::span::{NO_SPAN, span_of_days, span_of_runs};
 use csv::ByteRecord;
@@ -21,6 +20,31 @@ use osn_written::{
 };
 use std::alloc::{AllocError, Global};
 
+/// The fields that are put after a letter's row, and its remarks.
+#[derive(Debug, Drop)]
+pub struct LetterFields {
+    /// The twelve fields.
+    pub fields: ByteRecord,
+    /// The remarks, whose words the last field joins.
+    pub remarks: Vec<Remark>,
+}
+
+/// The fields of these days, with this text of them, and the remarks.
+fn fields_with(
+    alloc: Global,
+    summary: Summary,
+    days: &[DatedDay],
+    edtf: &str,
+    remarks: Vec<Remark>,
+) -> Result<LetterFields, AllocError>
+    ensures { IfOk result (λ made. spec.fields_and_remarks made
+        ≡ spec.fields_with summary days.now edtf.now remarks.items) }
+{
+    let text = remark_text(alloc, &remarks)?;
+    let fields = added_fields(alloc, summary, days, edtf, &text)?;
+    Ok(LetterFields { fields, remarks })
+}
+
 /// The fields where there is no day.
 fn fields_of_none(
     alloc: Global,
@@ -28,8 +52,8 @@ fn fields_of_none(
     kind: Option<Kind>,
     reasons: &[Told],
     beside: &[Told],
-) -> Result<ByteRecord, AllocError>
-    ensures { IfOk result (λ fields. fields_of fields
+) -> Result<LetterFields, AllocError>
+    ensures { IfOk result (λ made. spec.fields_and_remarks made
         ≡ spec.fields_of_none edition kind (reasons.now ++ beside.now)) }
 {
     let summary = Summary {
@@ -37,8 +61,8 @@ fn fields_of_none(
         kind,
         edition,
     };
-    let remarks = remark_text(alloc, reasons, beside)?;
-    added_fields(alloc, summary, &[], "", &remarks)
+    let remarks = those_that_apply(alloc, reasons, beside)?;
+    fields_with(alloc, summary, &[], "", remarks)
 }
 
 /// The fields of days.
@@ -49,8 +73,8 @@ fn fields_of_days(
     days: &[DatedDay],
     on_days: &[Told],
     beside: &[Told],
-) -> Result<ByteRecord, AllocError>
-    ensures { IfOk result (λ fields. fields_of fields
+) -> Result<LetterFields, AllocError>
+    ensures { IfOk result (λ made. spec.fields_and_remarks made
         ≡ spec.fields_of_days edition date days.now (on_days.now ++ beside.now)) }
 {
     let summary = Summary {
@@ -59,8 +83,8 @@ fn fields_of_days(
         edition,
     };
     let edtf = edtf_of_days(alloc, sign(date), days)?;
-    let remarks = remark_text(alloc, on_days, beside)?;
-    added_fields(alloc, summary, days, &edtf, &remarks)
+    let remarks = those_that_apply(alloc, on_days, beside)?;
+    fields_with(alloc, summary, days, &edtf, remarks)
 }
 
 /// The fields of runs.
@@ -70,8 +94,8 @@ fn fields_of_runs(
     date: AnyDate,
     runs: &[Run],
     beside: &[Told],
-) -> Result<ByteRecord, AllocError>
-    ensures { IfOk result (λ fields. fields_of fields
+) -> Result<LetterFields, AllocError>
+    ensures { IfOk result (λ made. spec.fields_and_remarks made
         ≡ spec.fields_of_runs edition date runs.now beside.now) }
 {
     let summary = Summary {
@@ -80,8 +104,8 @@ fn fields_of_runs(
         edition,
     };
     let edtf = edtf_of_span(alloc, sign(date), summary.span, runs)?;
-    let remarks = remark_text(alloc, &[], beside)?;
-    added_fields(alloc, summary, &[], &edtf, &remarks)
+    let remarks = those_that_apply(alloc, &[], beside)?;
+    fields_with(alloc, summary, &[], &edtf, remarks)
 }
 
 /// The fields of a date that means no day.
@@ -91,8 +115,8 @@ fn fields_of_absence(
     date: AnyDate,
     reason: NoDay,
     beside: &[Told],
-) -> Result<ByteRecord, AllocError>
-    ensures { IfOk result (λ fields. fields_of fields
+) -> Result<LetterFields, AllocError>
+    ensures { IfOk result (λ made. spec.fields_and_remarks made
         ≡ spec.fields_of_absence edition date reason beside.now) }
 {
     let kind = Some(kind_of(date.extent));
@@ -114,8 +138,8 @@ fn fields_of_one_day(
     day: WrittenDate,
     given: Option<Weekday>,
     beside: &[Told],
-) -> Result<ByteRecord, AllocError>
-    ensures { IfOk result (λ fields. fields_of fields ≡ spec.fields_of_one_day newest_rules
+) -> Result<LetterFields, AllocError>
+    ensures { IfOk result (λ made. spec.fields_and_remarks made ≡ spec.fields_of_one_day newest_rules
         edition territory.now date day given beside.now) }
 {
     let days = days_meant(alloc, territory, day, given)?;
@@ -134,8 +158,8 @@ fn fields_of_many_days(
     territory: &Territory,
     date: AnyDate,
     beside: &[Told],
-) -> Result<ByteRecord, AllocError>
-    ensures { IfOk result (λ fields. fields_of fields ≡ spec.fields_of_many_days newest_rules
+) -> Result<LetterFields, AllocError>
+    ensures { IfOk result (λ made. spec.fields_and_remarks made ≡ spec.fields_of_many_days newest_rules
         edition territory.now date beside.now) }
 {
     match find_runs(alloc, territory, date.extent)? {
@@ -152,8 +176,8 @@ fn fields_by(
     is_by_other_calendar: bool,
     date: AnyDate,
     named: Option<&[u8]>,
-) -> Result<ByteRecord, AllocError>
-    ensures { IfOk result (λ fields. fields_of fields ≡ spec.fields_by newest_rules edition
+) -> Result<LetterFields, AllocError>
+    ensures { IfOk result (λ made. spec.fields_and_remarks made ≡ spec.fields_by newest_rules edition
         territory.now is_by_other_calendar date (option_map (λ w. w.now) named.entry)) }
 {
     let given = weekday_in(named);
@@ -172,8 +196,8 @@ fn fields_in(
     territory: &Territory,
     date: AnyDate,
     named: Option<&[u8]>,
-) -> Result<ByteRecord, AllocError>
-    ensures { IfOk result (λ fields. fields_of fields ≡ spec.fields_in newest_rules edition
+) -> Result<LetterFields, AllocError>
+    ensures { IfOk result (λ made. spec.fields_and_remarks made ≡ spec.fields_in newest_rules edition
         territory.now date (option_map (λ w. w.now) named.entry)) }
 {
     let Some(reckoning) = date.reckoning else {
@@ -190,8 +214,8 @@ fn fields_without_place(
     edition: usize,
     date: AnyDate,
     named: Option<&[u8]>,
-) -> Result<ByteRecord, AllocError>
-    ensures { IfOk result (λ fields. fields_of fields ≡ spec.fields_without_place edition date
+) -> Result<LetterFields, AllocError>
+    ensures { IfOk result (λ made. spec.fields_and_remarks made ≡ spec.fields_without_place edition date
         (option_map (λ w. w.now) named.entry)) }
 {
     let given = weekday_in(named);
@@ -214,8 +238,8 @@ fn fields_of_date(
     territory: Option<&Territory>,
     date: AnyDate,
     named: Option<&[u8]>,
-) -> Result<ByteRecord, AllocError>
-    ensures { IfOk result (λ fields. fields_of fields ≡ spec.fields_of_date newest_rules edition
+) -> Result<LetterFields, AllocError>
+    ensures { IfOk result (λ made. spec.fields_and_remarks made ≡ spec.fields_of_date newest_rules edition
         (option_map (λ t. t.now) territory.entry) date
         (option_map (λ w. w.now) named.entry)) }
 {
@@ -232,8 +256,8 @@ fn fields_without_date(
     fault: DateFault,
     lacks_place: bool,
     named: Option<&[u8]>,
-) -> Result<ByteRecord, AllocError>
-    ensures { IfOk result (λ fields. fields_of fields ≡ spec.fields_without_date edition fault
+) -> Result<LetterFields, AllocError>
+    ensures { IfOk result (λ made. spec.fields_and_remarks made ≡ spec.fields_without_date edition fault
         lacks_place (option_map (λ w. w.now) named.entry)) }
 {
     let reasons = [
@@ -265,8 +289,8 @@ pub fn letter_fields(
     place: &[u8],
     date: &[u8],
     weekday: Option<&[u8]>,
-) -> Result<ByteRecord, AllocError>
-    ensures { IfOk result (λ fields. fields_of fields ≡ spec.letter_fields newest_rules
+) -> Result<LetterFields, AllocError>
+    ensures { IfOk result (λ made. spec.fields_and_remarks made ≡ spec.letter_fields newest_rules
         register.now.lands edition order
         (unwrap_or (option_map (λ places. places.now) places.entry) []) place.now date.now
         (option_map (λ w. w.now) weekday.entry)) }

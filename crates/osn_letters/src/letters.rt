@@ -5,10 +5,11 @@ ghost use Rattle.osn_letters.specs.LettersInside as inside;
 ghost use Rattle.osn_days.specs.Profile.{newest_rules};
 ghost use Rattle.osn_letters.specs.declared.start.Start.TheVariants.{Past};
 ghost use Rattle.osn_letters.specs.Records.{next_line};
-ghost use Rattle.osn_letters.specs.Remarked.{letters_remarked};
+ghost use Rattle.osn_letters.specs.RowRemarks.{letters_remarks};
 ghost use Rattle.osn_letters.specs.Start.{held};
 ghost use Rattle.osn_letters.specs.Table.{whole, basis, letters_written};
-ghost use Rattle.osn_letters.specs.TableInside.{remarked_of, written_of};
+ghost use Rattle.osn_letters.specs.TableInside.{tally_of, written_of};
+ghost use Rattle.osn_letters.specs.TallyInside.{no_rows, with_rows};
 ghost use Rattle.osn_letters.specs.WriterInside.{waiting};
 
 use crate::csv_text::RowWriter;
@@ -18,6 +19,7 @@ use crate::separator::Separator;
 use crate::settings::TableSettings;
 use crate::start::{MARK, Start};
 use crate::table::Table;
+use crate::tally::Tally;
 use osn_register::Register;
 use std::alloc::Global;
 
@@ -42,9 +44,9 @@ impl<'a> Letters<'a> {
         ensures empty { waiting result.table.out ≡ [] }
         ensures text { (text : List ℕ) → inside.text_from result text
             ≡ letters_written (basis newest_rules register.now.lands edition settings.entry) text }
-        ensures remarked { (text : List ℕ) → inside.remarked_from result text
-            ≡ letters_remarked (basis newest_rules register.now.lands edition settings.entry)
-            text }
+        ensures tally { (text : List ℕ) → inside.tally_from result text
+            ≡ with_rows no_rows (letters_remarks
+            (basis newest_rules register.now.lands edition settings.entry) text) }
     {
         Letters {
             start: Start::Nothing,
@@ -55,6 +57,7 @@ impl<'a> Letters<'a> {
                 edition,
                 settings,
                 rows: None,
+                tally: Tally::new(alloc),
                 out: RowWriter::new(Separator::Comma, Vec::new(alloc)),
             },
         }
@@ -72,7 +75,7 @@ impl Letters<'_> {
             ≡ next_line self.old.parser.returned self.old.parser.line byte) }
         ensures start { self.new.start ≡ self.old.start }
         ensures takes { OnOk result (inside.TakesBehind self.old self.new (byte ∷ [])) }
-        ensures keeps { OnOk result (inside.KeepsBehind self.old self.new (byte ∷ [])) }
+        ensures counts { OnOk result (inside.CountsBehind self.old self.new (byte ∷ [])) }
         ensures stops { IfErr result (inside.StopsBehind self.old self.new (byte ∷ [])) }
     {
         let Some(line) = self.parser.take(byte)? else {
@@ -92,7 +95,7 @@ impl Letters<'_> {
         ensures line { OnOk result (self.new.parser.line ≡ self.old.parser.line) }
         ensures start { self.new.start ≡ Past }
         ensures takes { OnOk result (inside.TakesBehind self.old self.new (held self.old.start)) }
-        ensures keeps { OnOk result (inside.KeepsBehind self.old self.new (held self.old.start)) }
+        ensures counts { OnOk result (inside.CountsBehind self.old self.new (held self.old.start)) }
         ensures stops { IfErr result (inside.StopsBehind self.old self.new
             (held self.old.start)) }
     {
@@ -115,7 +118,7 @@ impl Letters<'_> {
         ensures ready { OnOk result (inside.IsReady self.new) }
         ensures line { OnOk result (self.new.parser.line ≤ self.old.parser.line + 1) }
         ensures takes { OnOk result (inside.TakesBytes self.old self.new (byte ∷ [])) }
-        ensures keeps { OnOk result (inside.KeepsBytes self.old self.new (byte ∷ [])) }
+        ensures counts { OnOk result (inside.CountsBytes self.old self.new (byte ∷ [])) }
         ensures stops { IfErr result (inside.StopsAt self.old self.new (byte ∷ [])) }
     {
         if let Some(start) = self.start.next(byte) {
@@ -134,7 +137,7 @@ impl Letters<'_> {
         ensures line { OnOk result
             (self.new.parser.line ≤ self.old.parser.line + length piece.now) }
         ensures takes { OnOk result (inside.TakesBytes self.old self.new piece.now) }
-        ensures keeps { OnOk result (inside.KeepsBytes self.old self.new piece.now) }
+        ensures counts { OnOk result (inside.CountsBytes self.old self.new piece.now) }
         ensures stops { IfErr result (inside.StopsAt self.old self.new piece.now) }
     {
         for byte in piece {
@@ -149,8 +152,8 @@ impl Letters<'_> {
         ensures takes { OnOk result (inside.Wrote (waiting self.old.table.out)
             (waiting self.new.table.out)
             (inside.text_behind self.old []) (written_of self.new.table [])) }
-        ensures keeps { OnOk result
-            (inside.remarked_behind self.old [] ≡ remarked_of self.new.table []) }
+        ensures counts { OnOk result
+            (inside.tally_behind self.old [] ≡ tally_of self.new.table []) }
         ensures stops { IfErr result (inside.Stops (waiting self.old.table.out)
             (waiting self.new.table.out) (inside.text_behind self.old [])) }
     {
@@ -168,8 +171,8 @@ impl Letters<'_> {
         ensures takes { OnOk result (inside.Wrote (waiting self.old.table.out)
             (waiting self.new.table.out)
             (inside.text_from self.old []) whole) }
-        ensures keeps { OnOk result
-            (inside.remarked_from self.old [] ≡ remarked_of self.new.table []) }
+        ensures counts { OnOk result
+            (inside.tally_from self.old [] ≡ tally_of self.new.table []) }
         ensures stops { IfErr result (inside.Stops (waiting self.old.table.out)
             (waiting self.new.table.out) (inside.text_from self.old [])) }
     {

@@ -1,7 +1,8 @@
 //! Letters: a table in CSV, each row of which is told which days its date means in its place. What
 //! the crate promises to those above: `write_letters` writes the table of the definition and
-//! nothing else, in whatever pieces the bytes come, and says where it ended early and why; the
-//! fields after a row are those of `letter_fields`, by which days its date means in the territory.
+//! nothing else, in whatever pieces the bytes come, and says where it ended early and why, and how
+//! many rows have each remark; the fields after a row are those of `letter_fields`, by which days its
+//! date means in the territory.
 #![tactic(auto)]
 
 mod added_column;
@@ -30,15 +31,18 @@ mod span;
 mod start;
 mod stream;
 mod table;
+mod tally;
 
 pub use added_column::AddedColumn;
 pub use columns::{ColumnNames, Columns, DateColumns, DateNames, WeekdayName, find_columns};
 pub use fault::{Column, LettersFault};
-pub use letter::letter_fields;
+pub use letter::{LetterFields, letter_fields};
 pub use place_reader::read_places;
 pub use places::Places;
 pub use places_fault::{PlacesColumn, PlacesFault};
 pub use progress::Progress;
+pub use remark::Remark;
 pub use separator::Separator;
 pub use settings::TableSettings;
 pub use stream::write_letters;
+pub use tally::Tally;

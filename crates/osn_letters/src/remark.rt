@@ -15,7 +15,7 @@ use std::fmt;
 
 /// What may be said of a letter.
 #[derive(Clone, Copy, Debug, PartialEq, Eq)]
-pub(crate) enum Remark {
+pub enum Remark {
     /// Its date is not read.
     NotRead(DateFault),
     /// Its place is no code, or that of no territory.
@@ -42,7 +42,7 @@ pub(crate) enum Remark {
 
 impl Remark {
     /// The remark in words.
-    fn words(self) -> &'static str
+    pub(crate) fn words(self) -> &'static str
         ensures { result.now ≡ spec.remark_words self }
     {
         match self {
@@ -73,20 +73,27 @@ impl fmt::Display for Remark {
 pub(crate) type Told = (bool, Remark);
 
 /// The remarks that apply: those on the days, and then those beside them, in their order.
-pub(crate) fn remark_text(
+pub(crate) fn those_that_apply(
     alloc: Global,
     on_days: &[Told],
     beside: &[Told],
-) -> Result<String, AllocError>
-    ensures { IfOk result (λ s.
-        string_bytes s ≡ spec.remark_text (on_days.now ++ beside.now)) }
+) -> Result<Vec<Remark>, AllocError>
+    ensures { IfOk result (λ remarks.
+        remarks.items ≡ spec.those_that_apply (on_days.now ++ beside.now)) }
 {
     on_days
         .iter()
         .chain(beside.iter())
         .filter(|remark| remark.0)
         .map(|remark| remark.1)
-        .join(alloc, "; ")
+        .collect(alloc)
+}
+
+/// The field of these remarks.
+pub(crate) fn remark_text(alloc: Global, remarks: &[Remark]) -> Result<String, AllocError>
+    ensures { IfOk result (λ s. string_bytes s ≡ spec.remark_text remarks.now) }
+{
+    remarks.iter().join(alloc, "; ")
 }
 
 /// Whether a weekday is given, by the date itself or beside it.

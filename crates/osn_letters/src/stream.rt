@@ -5,7 +5,7 @@ ghost use Rattle.std.specs.Io.KnownBytes.{IsAtEnd};
 ghost use Rattle.osn_days.specs.Profile.{newest_rules};
 ghost use Rattle.osn_letters.specs.Faults.{EndsStream, is_of_stream, is_read_fault, is_write_fault};
 ghost use Rattle.osn_letters.specs.LettersInside as inside;
-ghost use Rattle.osn_letters.specs.Remarked.{letters_remarked};
+ghost use Rattle.osn_letters.specs.RowRemarks.{IsTallyOf};
 ghost use Rattle.osn_letters.specs.TableLaws.{AreTableLaws};
 ghost use Rattle.osn_letters.specs.Table as spec;
 ghost use Rattle.osn_letters.specs.WriterInside.{waiting};
@@ -15,6 +15,7 @@ use crate::fault::LettersFault;
 use crate::letters::Letters;
 use crate::progress::Progress;
 use crate::settings::TableSettings;
+use crate::tally::Tally;
 use osn_lines::{Sink, Source, read_buffer, write_all};
 use osn_register::Register;
 use std::alloc::Global;
@@ -75,7 +76,7 @@ fn take_and_write<W: Sink>(
     ensures empty { OnOk result (waiting letters.new.table.out ≡ []) }
     ensures passes { OnOk result (inside.PassesBytes (W.contents sink.old) (W.contents sink.new)
         letters.old letters.new piece.now) }
-    ensures keeps { OnOk result (inside.KeepsBytes letters.old letters.new piece.now) }
+    ensures counts { OnOk result (inside.CountsBytes letters.old letters.new piece.now) }
     ensures early { IfErr result (inside.EndsBytes (W.contents sink.old) (W.contents sink.new)
         letters.old piece.now) }
     ensures sound { OnOk result (W.has_failed sink.new ≡ W.has_failed sink.old) }
@@ -87,14 +88,14 @@ fn take_and_write<W: Sink>(
     write_out(letters.table.alloc, sink, &mut letters.table.out, taken)
 }
 
-/// Ends the text, writes what comes of that, and tells whether a row has a remark.
-fn finish_and_write<W: Sink>(letters: &mut Letters<'_>, sink: &mut W) -> Result<bool, LettersFault>
+/// Ends the text, writes what comes of that, and takes the tally of the rows out.
+fn finish_and_write<W: Sink>(letters: &mut Letters<'_>, sink: &mut W) -> Result<Tally, LettersFault>
     requires ready { inside.IsReady letters.old }
     requires line { letters.old.parser.line + 1 < 2 ^ 64 }
     requires empty { waiting letters.old.table.out ≡ [] }
     ensures whole { OnOk result (spec.IsWhole (W.contents sink.old) (W.contents sink.new)
         (inside.text_from letters.old [])) }
-    ensures remarked { IfOk result (λ remarked. inside.remarked_from letters.old [] ≡ remarked) }
+    ensures tally { IfOk result (λ tally. inside.tally_from letters.old [] ≡ tally) }
     ensures passed { OnOk result (W.holds_back sink.new ≡ false) }
     ensures early { IfErr result (spec.EndsEarly (W.contents sink.old) (W.contents sink.new)
         (inside.text_from letters.old [])) }
@@ -105,7 +106,7 @@ fn finish_and_write<W: Sink>(letters: &mut Letters<'_>, sink: &mut W) -> Result<
 {
     let finished = letters.finish();
     match write_out(letters.table.alloc, sink, &mut letters.table.out, finished) {
-        Ok(()) => Ok(letters.table.is_remarked()),
+        Ok(()) => Ok(letters.table.take_tally()),
         Err(fault) => Err(fault),
     }
 }
@@ -121,7 +122,7 @@ fn finish_and_write<W: Sink>(letters: &mut Letters<'_>, sink: &mut W) -> Result<
 /// at most 65,536 bytes, what is written of them, and of a record that hasn't ended yet at most
 /// 65,536 bytes. `progress` is told of each read that gave bytes.
 ///
-/// Where all was written, it is told whether a row has a remark.
+/// Where all was written, the tally of its rows is given back.
 ///
 /// A table may be cut between its records and written in parts, each after the same header: the
 /// rows of each part, one after another, are those of the whole.
@@ -145,7 +146,7 @@ pub fn write_letters<R: Source, W: Sink, P: Progress>(
     source: &mut R,
     sink: &mut W,
     progress: &mut P,
-) -> Result<bool, LettersFault>
+) -> Result<Tally, LettersFault>
     ensures whole { OnOk result (IfSome (R.remaining source.old) (λ text.
         spec.IsWhole (W.contents sink.old) (W.contents sink.new)
         (spec.letters_written
@@ -154,9 +155,8 @@ pub fn write_letters<R: Source, W: Sink, P: Progress>(
         spec.EndsEarly (W.contents sink.old) (W.contents sink.new)
         (spec.letters_written
         (spec.basis newest_rules register.now.lands edition settings.entry) text) fault)) }
-    ensures remarked { IfOk result (λ remarked. IfSome (R.remaining source.old) (λ text.
-        letters_remarked
-        (spec.basis newest_rules register.now.lands edition settings.entry) text ≡ remarked)) }
+    ensures tally { IfOk result (λ tally. IfSome (R.remaining source.old) (λ text. IsTallyOf
+        (spec.basis newest_rules register.now.lands edition settings.entry) text tally)) }
     // All was read, and nothing is held back.
     ensures end { OnOk result
         (IsAtEnd (R.remaining source.new) × (W.holds_back sink.new ≡ false)) }

@@ -1,11 +1,12 @@
 //! The table that is written, record by record.
-ghost use Rattle.std.specs.Prelude.{◌≡◌, ◌∷◌, ◌++◌, [], true, get_or, IfErr, IfOk, OnOk, Some, Ok};
-ghost use Rattle.std.specs.Prelude.{None, option_map};
+ghost use Rattle.std.specs.Prelude.{◌≡◌, ◌∷◌, ◌++◌, [], true, get_or, IfErr, OnOk, Some, Ok};
+ghost use Rattle.std.specs.Prelude.{IfOk, None, option_map};
 ghost use Rattle.csv.specs.Records.{fields_of, partial_of};
 ghost use Rattle.osn_letters.specs.Faults.{is_of_table};
-ghost use Rattle.osn_letters.specs.Remarked.{has_remark};
+ghost use Rattle.osn_letters.specs.Fields.{fields_and_remarks};
 ghost use Rattle.osn_letters.specs.Table as spec;
 ghost use Rattle.osn_letters.specs.TableInside as inside;
+ghost use Rattle.osn_letters.specs.TallyInside.{with_row};
 ghost use Rattle.osn_letters.specs.WriterInside.{IsBetweenRows, waiting};
 
 use crate::added_column::ADDED_COLUMNS;
@@ -13,12 +14,14 @@ use crate::columns::{Columns, DateColumns, field_at, find_columns};
 use crate::csv_text::{RowWriter, push_fields, push_names};
 use crate::date_parts::parts_text;
 use crate::fault::LettersFault;
-use crate::letter::letter_fields;
+use crate::letter::{LetterFields, letter_fields};
 use crate::separator::Separator;
 use crate::settings::TableSettings;
+use crate::tally::Tally;
 use csv::ByteRecord;
 use osn_register::Register;
 use std::alloc::{AllocError, Global};
+use std::mem;
 
 /// What the header says of the records after it.
 #[derive(Clone, Copy, Debug, PartialEq, Eq)]
@@ -27,8 +30,6 @@ pub(crate) struct Rows {
     pub(crate) columns: Columns,
     /// How many fields each has.
     pub(crate) width: usize,
-    /// Whether one of those that were taken has a remark.
-    pub(crate) is_remarked: bool,
 }
 
 /// A table as it is made, with the text that waits to be written.
@@ -39,14 +40,8 @@ pub(crate) struct Table<'a> {
     pub(crate) edition: usize,
     pub(crate) settings: TableSettings<'a>,
     pub(crate) rows: Option<Rows>,
+    pub(crate) tally: Tally,
     pub(crate) out: RowWriter,
-}
-
-/// Whether the last of the twelve fields, that of the remarks, is not empty.
-fn has_remark(added: &ByteRecord) -> bool
-    ensures { result ≡ has_remark (fields_of added.now) }
-{
-    !field_at(added, ADDED_COLUMNS.len() - 1).is_empty()
 }
 
 /// The weekday of a record, where there is such a column.
@@ -72,6 +67,7 @@ impl Table<'_> {
         ensures between { OnOk result (IsBetweenRows self.new.out) }
         ensures source { inside.source_of self.new ≡ inside.source_of self.old }
         ensures rows { self.new.rows ≡ self.old.rows }
+        ensures tally { self.new.tally ≡ self.old.tally }
     {
         self.out.set_separator(self.alloc, separator)?;
         push_names(header, &ADDED_COLUMNS)?;
@@ -93,29 +89,25 @@ impl Table<'_> {
             ∷ [])) }
         ensures refuses { IfErr result (inside.RefusesRecord self.old self.new
             (record { line = line; separator = separator; fields = Ok (fields_of header.old) })) }
-        ensures keeps { OnOk result (inside.KeepsRecord self.old self.new
+        ensures counts { OnOk result (inside.CountsRecord self.old self.new
             (record { line = line; separator = separator; fields = Ok (fields_of header.old) })) }
         ensures between { OnOk result (IsBetweenRows self.new.out) }
     {
         let columns = find_columns(self.alloc, header, self.settings.names, line)?;
         let width = header.len();
         self.push_header(header, separator)?;
-        self.rows = Some(Rows {
-            columns,
-            width,
-            is_remarked: false,
-        });
+        self.rows = Some(Rows { columns, width });
         Ok(())
     }
 
-    /// The twelve fields of a record, with the text of its date.
-    fn fields_on(
+    /// The twelve fields of a record, with the text of its date, and its remarks.
+    fn said_on(
         &self,
         columns: Columns,
         row: &ByteRecord,
         date: &[u8],
-    ) -> Result<ByteRecord, AllocError>
-        ensures { IfOk result (λ fields. fields_of fields ≡ spec.fields_on
+    ) -> Result<LetterFields, AllocError>
+        ensures { IfOk result (λ made. fields_and_remarks made ≡ spec.said_on
             (inside.source_of self.now) columns (fields_of row.now) date.now) }
     {
         letter_fields(
@@ -130,22 +122,22 @@ impl Table<'_> {
         )
     }
 
-    /// The twelve fields of a record.
-    fn row_fields(&self, columns: Columns, row: &ByteRecord) -> Result<ByteRecord, AllocError>
-        ensures { IfOk result (λ fields. fields_of fields ≡ spec.fields_behind
+    /// The twelve fields of a record, and its remarks.
+    fn said_of(&self, columns: Columns, row: &ByteRecord) -> Result<LetterFields, AllocError>
+        ensures { IfOk result (λ made. fields_and_remarks made ≡ spec.said_of
             (inside.source_of self.now) columns (fields_of row.now)) }
     {
         match columns.date {
-            DateColumns::Whole(index) => self.fields_on(columns, row, field_at(row, index)),
+            DateColumns::Whole(index) => self.said_on(columns, row, field_at(row, index)),
             DateColumns::Apart { year, month, day } => {
                 let date = parts_text(self.alloc, row, year, month, day)?;
-                self.fields_on(columns, row, &date)
+                self.said_on(columns, row, &date)
             }
         }
     }
 
-    /// Appends to the text that waits the row of a record, and tells whether it has a remark.
-    fn push_row(&mut self, columns: Columns, row: &mut ByteRecord) -> Result<bool, AllocError>
+    /// Appends to the text that waits the row of a record, and counts it.
+    fn push_row(&mut self, columns: Columns, row: &mut ByteRecord) -> Result<(), AllocError>
         requires partial { partial_of row.old ≡ [] }
         requires between { IsBetweenRows self.old.out }
         ensures text { OnOk result (waiting self.new.out ≡ waiting self.old.out
@@ -155,14 +147,13 @@ impl Table<'_> {
         ensures between { OnOk result (IsBetweenRows self.new.out) }
         ensures source { inside.source_of self.new ≡ inside.source_of self.old }
         ensures rows { self.new.rows ≡ self.old.rows }
-        ensures remarked { IfOk result (λ remarked. remarked ≡ has_remark
-            (spec.fields_behind (inside.source_of self.old) columns (fields_of row.old))) }
+        ensures tally { OnOk result (self.new.tally ≡ with_row self.old.tally
+            (spec.said_of (inside.source_of self.old) columns (fields_of row.old)).remarks) }
     {
-        let fields = self.row_fields(columns, row)?;
-        let is_remarked = has_remark(&fields);
-        push_fields(row, &fields)?;
-        self.out.write_row(row)?;
-        Ok(is_remarked)
+        let made = self.said_of(columns, row)?;
+        push_fields(row, &made.fields)?;
+        self.tally.count(&made.remarks)?;
+        self.out.write_row(row)
     }
 
     /// Takes a record after the header.
@@ -173,17 +164,13 @@ impl Table<'_> {
         ensures takes { OnOk result (inside.TakesRow self.old self.new line (fields_of row.old)) }
         ensures refuses { IfErr result
             (inside.RefusesRow self.old self.new line (fields_of row.old)) }
-        ensures keeps { OnOk result (inside.KeepsRow self.old self.new line (fields_of row.old)) }
+        ensures counts { OnOk result (inside.CountsRow self.old self.new line (fields_of row.old)) }
         ensures between { OnOk result (IsBetweenRows self.new.out) }
     {
         if row.len() != rows.width {
             return Err(LettersFault::BadRecord { line });
         }
-        let is_remarked = self.push_row(rows.columns, row)?;
-        self.rows = Some(Rows {
-            is_remarked: rows.is_remarked || is_remarked,
-            ..rows
-        });
+        self.push_row(rows.columns, row)?;
         Ok(())
     }
 
@@ -204,7 +191,7 @@ impl Table<'_> {
             (record { line = line; separator = separator; fields = Ok (fields_of row.old) } ∷ [])) }
         ensures refuses { IfErr result (inside.RefusesRecord self.old self.new
             (record { line = line; separator = separator; fields = Ok (fields_of row.old) })) }
-        ensures keeps { OnOk result (inside.KeepsRecord self.old self.new
+        ensures counts { OnOk result (inside.CountsRecord self.old self.new
             (record { line = line; separator = separator; fields = Ok (fields_of row.old) })) }
         ensures between { OnOk result (IsBetweenRows self.new.out) }
     {
@@ -231,13 +218,10 @@ impl Table<'_> {
         }
     }
 
-    /// Whether a row of the records has a remark.
-    pub(crate) fn is_remarked(&self) -> bool
-        ensures { result ≡ inside.remarked_of self.now [] }
+    /// Takes the tally of the rows out.
+    pub(crate) fn take_tally(&mut self) -> Tally
+        ensures { result ≡ inside.tally_of self.old [] }
     {
-        match self.rows {
-            None => false,
-            Some(rows) => rows.is_remarked,
-        }
+        mem::replace(&mut self.tally, Tally::new(self.alloc))
     }
 }

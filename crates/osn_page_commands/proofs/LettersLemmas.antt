@@ -1,16 +1,17 @@
 -- A table of letters that ended early ended as the command's contract says.
-use Rattle.std.proofs.Common.{◌≡◌, ◌≤◌, ℕ, Bool, true, List, IfSome, length}
+use Rattle.std.proofs.Common.{◌≡◌, ℕ, List, IfSome, length}
 use Rattle.osn_days.specs.Profile.{newest_rules}
 use Rattle.osn_register.specs.Plain.{LandModel}
 use Rattle.osn_core.specs.Sequential.{ObjectState}
 use Rattle.osn_letters.specs.Table.{TableBasis, Written, letters_written, EndsEarly, IsWhole}
 use Rattle.osn_letters.specs.declared.fault.LettersFault.{LettersFault}
-use Rattle.osn_letters.specs.Remarked.{letters_remarked}
+use Rattle.osn_letters.specs.RowRemarks.{IsTallyOf}
+use Rattle.osn_letters.specs.Tally.{TallyModel}
 use Rattle.osn_lines.specs.Streams.{Input, Output}
-use Rattle.osn_page_commands.specs.Letters.{EndsTable, EndsWhole, IsReason, TableAsked, status_by}
+use Rattle.osn_page_commands.specs.Letters.{EndsTable, EndsWhole, IsReason, TableAsked, TellsEnd}
 use Rattle.osn_page_commands.specs.Letters.{table_of}
 use Rattle.osn_page_commands.specs.Page.{published}
-use Rattle.osn_report.specs.Told.{TellsNothing}
+use Rattle.osn_page_commands.specs.declared.letters.EndRules.{EndRules}
 use Rattle.osn_report.specs.declared.status.Status.{Status}
 
 -- by what a table is made, of these territories and this edition
@@ -22,21 +23,21 @@ basis_by lands edition asked = record {
   names = asked.names;
   separator = asked.separator;
   order = asked.order;
+  places = asked.places;
 }
 
 abbrev table_by : List LandModel → ℕ → TableAsked → List ℕ → Written
 table_by lands edition asked = letters_written (basis_by lands edition asked)
 
 -- all was written
-pub whole_table : (s : ObjectState) (asked : TableAsked) (is_strict has_remarks : Bool)
+pub whole_table : (s : ObjectState) (asked : TableAsked) (rules : EndRules) (tally : TallyModel)
     (lands : List LandModel) (edition : ℕ) (i : Input) (o e : Output) (status : Status)
-    → published s ≡ lands → length s.batches ≡ edition
-    → status ≡ status_by is_strict has_remarks → TellsNothing e
+    → published s ≡ lands → length s.batches ≡ edition → TellsEnd rules tally e status
     → IfSome i.bytes (λ text. IsWhole o.old o.new (table_by lands edition asked text))
-    → IfSome i.bytes (λ text. letters_remarked (basis_by lands edition asked) text ≡ has_remarks)
-    → EndsWhole s asked is_strict i o e status
-whole_table s asked is_strict has_remarks lands edition i o e status is counted by quiet whole
-    remarked = rw (is, counted) (has_remarks, by, quiet, whole, remarked)
+    → IfSome i.bytes (λ text. IsTallyOf (basis_by lands edition asked) text tally)
+    → EndsWhole s asked rules i o e status
+whole_table s asked rules tally lands edition i o e status is counted told whole counts =
+    rw (is, counted) (tally, told, whole, counts)
 
 -- what was written by that end, and why
 pub ended_table : (s : ObjectState) (asked : TableAsked) (lands : List LandModel) (edition : ℕ)

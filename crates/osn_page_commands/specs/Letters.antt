@@ -1,9 +1,8 @@
 -- What a command has written of a table of letters where it ends.
 use Rattle.std.specs.Prelude.{◌≡◌, ◌⊎◌, ◌≤◌, ◌++◌, ◌&&◌, ℕ, Bool, true, if◌then◌else◌}
 use Rattle.std.specs.Prelude.{List, [], length, codes}
-use Rattle.std.specs.Prelude.{Option, Some, None, IfSome, Result, Ok, Err, is_some, unwrap_or}
+use Rattle.std.specs.Prelude.{Option, IfSome, option_map, unwrap_or}
 use Rattle.std.specs.Fmt.{decimal}
-use Rattle.std.specs.Str.{bytes_eq}
 use Rattle.osn_days.specs.Profile.{newest_rules}
 use Rattle.osn_grammar.specs.declared.written.DateOrder.{DateOrder}
 use Rattle.osn_register.specs.declared.limits.Limits.{Limits}
@@ -12,59 +11,36 @@ use Rattle.osn_lines.specs.Streams.{Input, Output}
 use Rattle.osn_files.specs.declared.fault.FileFault.{FileFault}
 use Rattle.osn_files.specs.declared.fault.FileFault.TheVariants as file_faults
 use Rattle.osn_letters.specs.AddedColumns.{added_name}
-use Rattle.osn_letters.specs.Columns.{NameTexts, names_of}
+use Rattle.osn_letters.specs.Columns.{DateTexts, OneText, PartTexts, NameTexts, names_of}
+use Rattle.osn_letters.specs.PlaceEntries.{PlaceEntry}
 use Rattle.osn_letters.specs.Faults.{EndsStream, is_read_fault, is_write_fault}
 use Rattle.osn_letters.specs.Table.{TableBasis, Written, letters_written, IsWhole}
 use Rattle.osn_letters.specs.Table.{EndsEarly, EndsRead, IsLong}
-use Rattle.osn_letters.specs.Remarked.{letters_remarked}
+use Rattle.osn_letters.specs.RowRemarks.{IsTallyOf}
+use Rattle.osn_letters.specs.Tally.{TallyModel, has_remarks, tally_text}
 use Rattle.osn_letters.specs.declared.added_column.AddedColumn.{AddedColumn}
 use Rattle.osn_letters.specs.declared.fault.Column.{Column}
 use Rattle.osn_letters.specs.declared.fault.Column.TheVariants as column
 use Rattle.osn_letters.specs.declared.fault.LettersFault.{LettersFault}
 use Rattle.osn_letters.specs.declared.fault.LettersFault.TheVariants as ends
 use Rattle.osn_letters.specs.declared.separator.Separator.{Separator}
-use Rattle.osn_letters.specs.declared.separator.Separator.TheVariants.{Comma, Semicolon, Tab}
 use Rattle.osn_letters.specs.declared.settings.TableSettings.{TableSettings}
-use Rattle.osn_page_commands.specs.Order.{order_asked}
+use Rattle.osn_page_commands.specs.declared.letters.EndRules.{EndRules}
 use Rattle.osn_page_commands.specs.Page.{published}
 use Rattle.osn_report.specs.Journal.{MakesObject, MakesNoObject}
 use Rattle.osn_report.specs.Printing.{PrintsNone}
 use Rattle.osn_report.specs.Told.{EndsBy, Tells, TellsIfMade, TellsNothing}
 use Rattle.osn_report.specs.declared.fault.CommandFault.TheVariants.{File, WriteFault, NoMemory}
-use Rattle.osn_report.specs.declared.misuse.Misuse.{Misuse}
-use Rattle.osn_report.specs.declared.misuse.Misuse.TheVariants as misuses
 use Rattle.osn_report.specs.declared.status.Status.{Status}
 use Rattle.osn_report.specs.declared.status.Status.TheVariants as statuses
 
--- ---- what the words ask for
-
--- what separates the fields, by its word, if there is one
-abbrev pub separator_asked : Option (List ℕ) → Result (Option Separator) Misuse
-separator_asked None = Ok None
-separator_asked (Some word) =
-    if bytes_eq word (codes "comma") then Ok (Some Comma)
-    else (if bytes_eq word (codes "semicolon") then Ok (Some Semicolon)
-    else (if bytes_eq word (codes "tab") then Ok (Some Tab)
-    else Err misuses.Separator))
-
--- the name of the column of weekdays, which has to be there where it is named
-abbrev pub weekday_column : Option (List ℕ) → List ℕ
-weekday_column name = unwrap_or name (codes "weekday")
-
-abbrev pub names_asked : List ℕ → List ℕ → Option (List ℕ) → NameTexts
-names_asked place date weekday = record {
-  place = place;
-  date = date;
-  weekday = weekday_column weekday;
-  needs_weekday = is_some weekday;
-}
-
 -- how a table is read: by the names of its columns, what separates its fields, if that is named,
--- and the order of a date's three numbers
+-- the order of a date's three numbers, and the entries of the table of places
 pub record TableAsked : Type 0 where
   pub names : NameTexts
   pub separator : Option Separator
   pub order : DateOrder
+  pub places : List PlaceEntry
 
 -- what settings say of that
 abbrev pub asked_of : TableSettings → TableAsked
@@ -72,27 +48,8 @@ asked_of settings = record {
   names = names_of settings.names;
   separator = settings.separator;
   order = settings.order;
+  places = unwrap_or (option_map (λ places. places.now) settings.places) [];
 }
-
--- what a word asks for, or what is wrong with it, and the word as it was typed
-abbrev pub or_typed : {T : Type 0} → Option (List ℕ) → Result T Misuse
-    → Result T (Misuse × List ℕ)
-or_typed word (Ok asked) = Ok asked
-or_typed word (Err misuse) = Err (misuse, unwrap_or word [])
-
--- what the words ask for, or the first that is wrong: the separator's or the order's
-abbrev pub table_asked : NameTexts → Result (Option Separator) (Misuse × List ℕ)
-    → Result DateOrder (Misuse × List ℕ) → Result TableAsked (Misuse × List ℕ)
-table_asked names (Err wrong) order = Err wrong
-table_asked names (Ok separator) (Err wrong) = Err wrong
-table_asked names (Ok separator) (Ok order) =
-    Ok (record { names = names; separator = separator; order = order })
-
-abbrev pub settings_asked : List ℕ → List ℕ → Option (List ℕ) → Option (List ℕ)
-    → Option (List ℕ) → Result TableAsked (Misuse × List ℕ)
-settings_asked place date weekday separator order =
-    table_asked (names_asked place date weekday)
-    (or_typed separator (separator_asked separator)) (or_typed order (order_asked order))
 
 -- ---- what is told of a table that ends early
 
@@ -101,15 +58,26 @@ abbrev pub record_line : ℕ → List ℕ → List ℕ
 record_line line text =
     codes "oldstyle: letters line " ++ (decimal line ++ (codes ": " ++ (text ++ codes "\n")))
 
+-- the name by which a column of the date was looked for, if one was
+abbrev pub date_name_of : DateTexts → Column → List ℕ
+date_name_of (OneText name) column.Date = name
+date_name_of (PartTexts year month day) column.Year = year
+date_name_of (PartTexts year month day) column.Month = unwrap_or month []
+date_name_of (PartTexts year month day) column.Day = unwrap_or day []
+date_name_of dates other = []
+
 -- the name by which a column was looked for, and the option that names it
 abbrev pub name_of : NameTexts → Column → List ℕ
 name_of names column.Place = names.place
-name_of names column.Date = names.date
 name_of names column.Weekday = names.weekday
+name_of names other = date_name_of names.date other
 
 abbrev pub option_of : Column → List ℕ
 option_of column.Place = codes "--place"
 option_of column.Date = codes "--date"
+option_of column.Year = codes "--year"
+option_of column.Month = codes "--month"
+option_of column.Day = codes "--day"
 option_of column.Weekday = codes "--weekday"
 
 -- the line on a header that lacks a column and has these
@@ -163,6 +131,7 @@ basis_of s asked = record {
   names = asked.names;
   separator = asked.separator;
   order = asked.order;
+  places = asked.places;
 }
 
 -- the table that is written of a text
@@ -190,26 +159,35 @@ abbrev pub status_by : Bool → Bool → Status
 status_by is_strict has_remarks =
     if is_strict && has_remarks then statuses.Refused else statuses.Done
 
--- all was written, and the status says whether a row has a remark, where that is asked for
-abbrev pub EndsWhole : ObjectState → TableAsked → Bool → Input → Output → Output → Status → Type 0
-EndsWhole s asked is_strict i o e status =
-    (has_remarks : Bool) × (status ≡ status_by is_strict has_remarks) × TellsNothing e
+-- the table was written whole, and has this tally: the status says whether a row has a remark, where
+-- that is asked for; and where it is asked for, standard error was told the tally, and else nothing
+abbrev pub TellsEnd : EndRules → TallyModel → Output → Status → Type 0
+TellsEnd rules tally e status = if rules.summary
+    then TellsIfMade e (status_by rules.strict (has_remarks tally))
+    (tally_text (codes "oldstyle: letters: ") tally) status
+    else (status ≡ status_by rules.strict (has_remarks tally)) × TellsNothing e
+
+-- all was written, and the end told
+abbrev pub EndsWhole : ObjectState → TableAsked → EndRules → Input → Output → Output → Status
+    → Type 0
+EndsWhole s asked rules i o e status =
+    (tally : TallyModel) × TellsEnd rules tally e status
     × IfSome i.bytes (λ text. IsWhole o.old o.new (table_of s asked text))
-    × IfSome i.bytes (λ text. letters_remarked (basis_of s asked) text ≡ has_remarks)
+    × IfSome i.bytes (λ text. IsTallyOf (basis_of s asked) text tally)
 
 -- what was written and told, by what an object has published: the table whole; or a part of it, and
 -- why it ended there
-abbrev pub WritesTable : ObjectState → TableAsked → Bool → Input → Output → Output → Status → Type 0
-WritesTable s asked is_strict i o e status =
-    EndsWhole s asked is_strict i o e status
+abbrev pub WritesTable : ObjectState → TableAsked → EndRules → Input → Output → Output → Status → Type 0
+WritesTable s asked rules i o e status =
+    EndsWhole s asked rules i o e status
     ⊎ ((ended : LettersFault) × TellsTable asked.names e ended status
     × EndsTable (table_of s asked) i o ended × IsReason (table_of s asked) i o ended)
 
 -- how the command ends: the journal is refused, and nothing was written; or it makes an object, and
 -- that was done
-abbrev pub PrintsLetters : Limits → Input → TableAsked → Bool → Input → Output → Output → Status
+abbrev pub PrintsLetters : Limits → Input → TableAsked → EndRules → Input → Output → Output → Status
     → Type 0
-PrintsLetters limits journal asked is_strict i o e status =
+PrintsLetters limits journal asked rules i o e status =
     ((fault : FileFault) × MakesNoObject limits journal fault × PrintsNone (File fault) o e status)
     ⊎ ((s : ObjectState) × MakesObject limits journal.bytes s
-    × WritesTable s asked is_strict i o e status)
+    × WritesTable s asked rules i o e status)

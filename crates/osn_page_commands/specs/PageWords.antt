@@ -47,10 +47,12 @@ date_or_misuse (Err fault) = Err (misuses.Date fault)
 abbrev pub date_asked : List ℕ → Result WrittenDate Misuse
 date_asked text = date_or_misuse (written_date text)
 
--- a date with all that is written of it, which has to be there
+-- a date with all that is written of it, which has to be there. One that may begin with its day or
+-- its month may be given an order
 abbrev pub date_said : Result Written DateFault → Result AnyDate Misuse
 date_said (Ok (say.Date date)) = Ok date
 date_said (Ok say.NoDate) = Err (misuses.Date faults.NoDate)
+date_said (Err faults.DayOrMonth) = Err misuses.OpenOrder
 date_said (Err fault) = Err (misuses.Date fault)
 
 abbrev pub any_date_asked : DateOrder → List ℕ → Result AnyDate Misuse

@@ -6,11 +6,16 @@
 mod conversion;
 mod in_folder;
 mod letters;
+mod letters_files;
 mod order;
 mod page;
 mod page_words;
+mod places;
+mod table_faults;
+mod table_words;
 
 pub use conversion::convert_command;
-pub use in_folder::{letters_in_folder, page_in_folder};
-pub use letters::{WrongWord, asked_settings, letters_command};
+pub use in_folder::page_in_folder;
+pub use letters::{EndRules, letters_command};
+pub use letters_files::letters_in_folder;
 pub use page::page_command;

@@ -46,6 +46,7 @@ fn date_said(read: Result<Written, DateFault>) -> Result<AnyDate, Misuse>
     match read {
         Ok(Written::Date(date)) => Ok(date),
         Ok(Written::NoDate) => Err(Misuse::Date(DateFault::NoDate)),
+        Err(DateFault::DayOrMonth) => Err(Misuse::OpenOrder),
         Err(fault) => Err(Misuse::Date(fault)),
     }
 }

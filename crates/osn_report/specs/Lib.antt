@@ -8,3 +8,4 @@ pub mod Files
 pub mod Journal
 pub mod Folders
 pub mod ProgressSource
+pub mod Unopened

@@ -10,6 +10,8 @@ use Rattle.osn_report.specs.declared.misuse.Misuse.TheVariants.{Date, Weekday, O
 use Rattle.osn_report.specs.declared.misuse.Misuse.TheVariants.{Calendar, DayNumber, DoubleDate}
 use Rattle.osn_report.specs.declared.misuse.Misuse.TheVariants.{NoSuchDate, Month, Limits}
 use Rattle.osn_report.specs.declared.misuse.Misuse.TheVariants.{Separator, Order, Shell}
+use Rattle.osn_report.specs.declared.misuse.Misuse.TheVariants.{OpenOrder, DateAndParts}
+use Rattle.osn_report.specs.declared.misuse.Misuse.TheVariants.{PartWithoutYear, DayWithoutMonth}
 
 -- what a date asks for
 abbrev pub date_text : DateFault → List ℕ
@@ -52,6 +54,12 @@ misuse_text Limits = codes
     "limits are some of lands=N,changes=N,exceptions=N,edits=N,editions=N, with a comma between"
 misuse_text Separator = codes "a separator is comma, semicolon or tab"
 misuse_text Order = codes "an order is dmy, for 11/2/1731 as 11 February, or mdy, for 2/11/1731"
+misuse_text OpenOrder = codes "11/2/1731 may be 11 February or 2 November: "
+    ++ codes "write the month by its name, or say --order dmy or mdy"
+misuse_text DateAndParts = codes
+    "it goes with none of --year, --month and --day: leave it out, or leave them out"
+misuse_text PartWithoutYear = codes "it goes with --year: name the column of years too"
+misuse_text DayWithoutMonth = codes "it goes with --month: name the column of months too"
 misuse_text Shell = codes "a shell is bash, zsh or fish"
 
 -- the line on standard error, which begins with the word as it was typed

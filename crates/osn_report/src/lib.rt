@@ -10,6 +10,7 @@ mod misuse;
 mod printing;
 mod progress;
 mod status;
+mod unopened;
 
 pub use fault::CommandFault;
 pub use fault_report::{refused, report, tell_line, tell_no_memory, write_line};
@@ -17,3 +18,4 @@ pub use misuse::{Misuse, tell_misuse};
 pub use printing::print;
 pub use progress::{ProgressSource, ReadProgress};
 pub use status::Status;
+pub use unopened::tell_unopened;

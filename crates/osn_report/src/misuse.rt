@@ -37,6 +37,14 @@ pub enum Misuse {
     Separator,
     /// It stands for the order of a date's three numbers, and is no order.
     Order,
+    /// It is a date that may begin with its day or its month, and an order may be named beside it.
+    OpenOrder,
+    /// It names a column of dates, beside one of their years, months or days.
+    DateAndParts,
+    /// It names a column of months or days, beside none of years.
+    PartWithoutYear,
+    /// It names a column of days, beside none of months.
+    DayWithoutMonth,
     /// It stands for a shell, and is no shell.
     Shell,
 }
@@ -110,6 +118,19 @@ with a comma between",
             Misuse::Order => f.write_str(
                 "an order is dmy, for 11/2/1731 as 11 February, or mdy, for 2/11/1731",
             ),
+            Misuse::OpenOrder => f.write_str(
+                "11/2/1731 may be 11 February or 2 November: write the month by its name, or say \
+--order dmy or mdy",
+            ),
+            Misuse::DateAndParts => f.write_str(
+                "it goes with none of --year, --month and --day: leave it out, or leave them out",
+            ),
+            Misuse::PartWithoutYear => {
+                f.write_str("it goes with --year: name the column of years too")
+            }
+            Misuse::DayWithoutMonth => {
+                f.write_str("it goes with --month: name the column of months too")
+            }
             Misuse::Shell => f.write_str("a shell is bash, zsh or fish"),
         }
     }

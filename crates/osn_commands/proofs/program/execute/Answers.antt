@@ -1,8 +1,6 @@
 use Rattle.std.proofs.Common.{refl}
 use Rattle.std.proofs.lemmas.Result.{IfOk-weaker}
-use Rattle.osn_invocation.specs.Invocation.{letters_model}
-use Rattle.osn_lines.specs.Streams.{output_of}
-use Rattle.osn_commands.proofs.RunLemmas.{letters_ran, ran}
+use Rattle.osn_commands.proofs.RunLemmas.{ran}
 use Rattle.osn_commands.proofs.program.execute.Goals as goal
 
 pub returns-in-Serve-clause-ok : goal.returns-in-Serve-clause-ok
@@ -45,15 +43,8 @@ returns-in-Completions-clause-ok g c =
     ran c.args.limits c.args.command _ _ _ _ _ _ c.completions_command.result c.in-Completions.is
     (refl, c.completions_command.ensures)
 
-pub returns-in-Ok-clause-ok : goal.returns-in-Ok-clause-ok
-returns-in-Ok-clause-ok g c =
-    let new = c.letters_in_folder.new in
-    let wrote = output_of g.W.Sink.contents g.W.Sink.has_failed g.W.Sink.holds_back
-    c.args.output.now new.output in
-    let told = output_of g.E.Sink.contents g.E.Sink.has_failed g.E.Sink.holds_back
-    c.args.errors.now new.errors in
+pub returns-in-Letters-clause-ok : goal.returns-in-Letters-clause-ok
+returns-in-Letters-clause-ok g c =
     IfOk-weaker c.letters_in_folder.result _ _
-    (λ status h. ran c.args.limits c.args.command _ _ _ _ wrote told status c.in-Letters.is
-    (letters_ran c.args.limits c.in-Letters.journal.now (letters_model c.in-Letters.options)
-    _ _ _ _ wrote told status c.in-Ok.ensures.ok h))
+    (λ status h. ran c.args.limits c.args.command _ _ _ _ _ _ status c.in-Letters.is h)
     c.letters_in_folder.ensures.ok

@@ -7,16 +7,15 @@ use Rattle.osn_page_commands.proofs.letters.write_table.Goals as goal
 pub returns-in-Ok : goal.returns-in-Ok
 returns-in-Ok g c =
     let new = c.write_letters.new in
-    inl (whole_table c.args.object.now (asked_of c.args.settings) c.args.is_strict
-    c.in-Ok.has_remarks _ _
+    inl (whole_table c.args.object.now (asked_of c.args.settings) c.args.rules _ _ _
     (input_of g.R.Source.remaining g.R.Source.has_failed c.args.input.now new.source)
     (output_of g.W.Sink.contents g.W.Sink.has_failed g.W.Sink.holds_back c.args.output.now
     new.sink)
     (output_of g.E.Sink.contents g.E.Sink.has_failed g.E.Sink.holds_back c.args.errors.now
-    c.args.errors.now)
-    c.status_by.result (sym c.register-register.ensures.lands)
-    (sym (ap length c.batches-edition.ensures.value)) c.status_by.ensures (refl, refl)
-    c.in-Ok.ensures.whole c.in-Ok.ensures.remarked)
+    c.end_whole.new.errors)
+    c.end_whole.result (sym c.register-register.ensures.lands)
+    (sym (ap length c.batches-edition.ensures.value)) c.end_whole.ensures
+    c.in-Ok.ensures.whole c.in-Ok.ensures.tally)
 
 pub returns-in-Err : goal.returns-in-Err
 returns-in-Err g c =

@@ -1,6 +1,6 @@
 use Rattle.std.proofs.Common.{◌≡◌, codes, string_bytes, subst, IfOk}
 use Rattle.osn_page_commands.specs.Letters.{column_line}
-use Rattle.osn_page_commands.proofs.letters.has_line.Goals as goal
+use Rattle.osn_page_commands.proofs.table_faults.has_line.Goals as goal
 
 pub returns : goal.returns
 returns c =

@@ -2,7 +2,7 @@ use Rattle.std.proofs.Common.{◌∙◌, ap}
 use Rattle.std.proofs.lemmas.Result.{IfOk-weaker}
 use Rattle.osn_letters.specs.Columns.{names_of}
 use Rattle.osn_page_commands.specs.Letters.{has_line, lacks_line}
-use Rattle.osn_page_commands.proofs.letters.tell_table.Goals as goal
+use Rattle.osn_page_commands.proofs.table_faults.tell_table.Goals as goal
 
 pub returns-in-LacksColumn : goal.returns-in-LacksColumn
 returns-in-LacksColumn g c =

@@ -1,0 +1,76 @@
+//! What the command `letters` is asked for, by its arguments.
+
+ghost use Rattle.std.specs.Prelude.{◌≡◌};
+ghost use Rattle.clap.specs.Words.{found_of, rows_of};
+ghost use Rattle.osn_invocation.specs.Invocation.{command_model, date_model, date_options};
+ghost use Rattle.osn_invocation.specs.Invocation.{letters_command};
+
+use crate::given::{is_given, text_of, value_of};
+use crate::invocation::CommandWords;
+use clap::ArgMatches;
+
+/// The names of the columns that say the date, where they are named. Which of them go together is
+/// for the command to say.
+#[derive(Clone, Copy, Debug, PartialEq, Eq)]
+pub struct DateOptions<'a> {
+    /// The name of the column of whole dates.
+    pub date: Option<&'a str>,
+    /// The name of the column of years.
+    pub year: Option<&'a str>,
+    /// The name of the column of months.
+    pub month: Option<&'a str>,
+    /// The name of the column of days.
+    pub day: Option<&'a str>,
+}
+
+/// What the letters of a table are asked for.
+#[derive(Clone, Copy, Debug, PartialEq, Eq)]
+pub struct LettersOptions<'a> {
+    /// The name of the column of places.
+    pub place: &'a str,
+    /// The names of the columns that say the date.
+    pub date: DateOptions<'a>,
+    /// The name of the column of weekdays, if it is named.
+    pub weekday: Option<&'a str>,
+    /// The file of the table of places, if there is one.
+    pub places: Option<&'a str>,
+    /// The word of what separates the fields, if it is named.
+    pub separator: Option<&'a str>,
+    /// The word of the order in which a date's three numbers are read, if it is named.
+    pub order: Option<&'a str>,
+    /// Whether a remark is a refusal.
+    pub strict: bool,
+    /// Whether it is told at the end how many rows have each remark.
+    pub summary: bool,
+}
+
+/// The names of the columns that say the date.
+fn date_options_of<'a>(given: &ArgMatches<'a>) -> DateOptions<'a>
+    ensures { date_model result ≡ date_options (rows_of (found_of given.now)) }
+{
+    DateOptions {
+        date: value_of(given, "date"),
+        year: value_of(given, "year"),
+        month: value_of(given, "month"),
+        day: value_of(given, "day"),
+    }
+}
+
+/// What the arguments of `letters` ask for.
+pub(crate) fn letters_of<'a>(given: &ArgMatches<'a>) -> CommandWords<'a>
+    ensures { command_model result ≡ letters_command (rows_of (found_of given.now)) }
+{
+    CommandWords::Letters {
+        journal: text_of(given, "journal"),
+        options: LettersOptions {
+            place: value_of(given, "place").unwrap_or("place"),
+            date: date_options_of(given),
+            weekday: value_of(given, "weekday"),
+            places: value_of(given, "places"),
+            separator: value_of(given, "separator"),
+            order: value_of(given, "order"),
+            strict: is_given(given, "strict"),
+            summary: is_given(given, "summary"),
+        },
+    }
+}

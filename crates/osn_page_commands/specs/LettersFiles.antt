@@ -1,0 +1,75 @@
+-- What the command of letters has done over the files of a folder: the journal, and the table of
+-- places.
+use Rattle.std.specs.Prelude.{◌≡◌, ◌⊎◌, Bool, ℕ, List, [], ◌∷◌, Option, Some, None, IfSome, Ok}
+use Rattle.std.specs.Prelude.{MatchResult}
+use Rattle.osn_folder.specs.Folder.{CannotOpen, Changes, Known, Opens}
+use Rattle.osn_folder.specs.declared.fault.OpenFailed.{OpenFailed}
+use Rattle.osn_invocation.specs.Invocation.{LettersModel}
+use Rattle.osn_letters.specs.PlaceEntries.{PlaceEntry}
+use Rattle.osn_letters.specs.Places.{places_in}
+use Rattle.osn_letters.specs.declared.places_fault.PlacesFault.{PlacesFault}
+use Rattle.osn_lines.specs.Streams.{Input, Output}
+use Rattle.osn_register.specs.declared.limits.Limits.{Limits}
+use Rattle.osn_page_commands.specs.Letters.{PrintsLetters, TableAsked}
+use Rattle.osn_page_commands.specs.Places.{IsPlacesFault, TellsPlaces}
+use Rattle.osn_page_commands.specs.TableWords.{settings_asked}
+use Rattle.osn_page_commands.specs.declared.letters.EndRules.{EndRules}
+use Rattle.osn_report.specs.Folders.{Folders, IsReadOf, ReadsOne}
+use Rattle.osn_report.specs.Told.{TellsIfMade, TellsMisuse}
+use Rattle.osn_report.specs.Unopened.{unopened_line}
+use Rattle.osn_report.specs.declared.status.Status.{Status}
+use Rattle.osn_report.specs.declared.status.Status.TheVariants as statuses
+
+-- what a table that was written whole ends with, by what is asked for
+abbrev pub rules_of : LettersModel → EndRules
+rules_of asked = record { strict = asked.strict; summary = asked.summary }
+
+-- the table of places of a path could not be opened, which standard error was told, and nothing was
+-- written
+abbrev pub MissesPlaces : List ℕ → Folders → Output → Output → Status → Type 0
+MissesPlaces path d o e status =
+    CannotOpen (path ∷ []) d.before d.after × (o.new ≡ o.old)
+    × (cause : OpenFailed) × TellsIfMade e statuses.ReadFault (unopened_line path cause) status
+
+-- it has a fault, which standard error was told, and nothing was written
+abbrev pub RefusesPlaces : List ℕ → Input → Output → Output → Status → Type 0
+RefusesPlaces path table o e status =
+    (fault : PlacesFault) × IsPlacesFault table fault × (o.new ≡ o.old)
+    × TellsPlaces path e fault status
+
+-- it has these entries, and letters were read by them
+abbrev pub ReadsByEntries : Limits → Input → Input → TableAsked → EndRules → Input → Output → Output
+    → Status → Type 0
+ReadsByEntries limits table journal asked rules i o e status =
+    (entries : List PlaceEntry) × IfSome table.bytes (λ text. places_in text ≡ Ok entries)
+    × PrintsLetters limits journal (record asked { places = entries }) rules i o e status
+
+-- how the command ends that was given a table of places, once the journal was opened
+abbrev pub PrintsByPlaces : Limits → List ℕ → Input → TableAsked → EndRules → (Bool → Type 0)
+    → Folders → Input → Output → Output → Status → Type 0
+PrintsByPlaces limits path journal asked rules CanFail d i o e status =
+    MissesPlaces path d o e status
+    ⊎ (Changes (Opens (path ∷ [])) d.before d.after
+    × (table : Input) × IsReadOf d path CanFail table
+    × (RefusesPlaces path table o e status
+    ⊎ ReadsByEntries limits table journal asked rules i o e status))
+
+-- how the command ends, once the journal was opened, with a table of places or without
+abbrev pub PrintsTable : Limits → List ℕ → Option (List ℕ) → TableAsked → EndRules
+    → (Bool → Type 0) → Folders → Input → Output → Output → Status → Type 0
+PrintsTable limits journal None asked rules CanFail d i o e status = ReadsOne journal CanFail d
+    (λ file. PrintsLetters limits file asked rules i o e status)
+PrintsTable limits journal (Some path) asked rules CanFail d i o e status =
+    (opened : Option Known) × Changes (Opens (journal ∷ [])) d.before opened
+    × (file : Input) × IsReadOf d journal CanFail file
+    × PrintsByPlaces limits path file asked rules CanFail
+    (record { before = opened; after = d.after }) i o e status
+
+-- what the command has done: what the options ask for; or one of them is wrong, which standard
+-- error was told, and no file was opened and nothing written
+abbrev pub RunsLetters : Limits → List ℕ → LettersModel → (Bool → Type 0) → Folders → Input → Output
+    → Output → Status → Type 0
+RunsLetters limits journal options CanFail d i o e status = MatchResult (settings_asked options)
+    (λ asked.
+    PrintsTable limits journal options.places asked (rules_of options) CanFail d i o e status)
+    (λ wrong. (d.after ≡ d.before) × (o.new ≡ o.old) × TellsMisuse e wrong.0 wrong.1 status)

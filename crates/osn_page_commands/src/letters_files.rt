@@ -1,0 +1,165 @@
+//! The command `letters` over the files of a folder: the journal is opened by its path first, and
+//! then the table of places.
+ghost use Rattle.std.specs.Prelude.{◌≡◌, ◌∷◌, [], IfOk, OnErr, option_map};
+ghost use Rattle.osn_folder.specs.Folder.{CannotOpen, MayFail};
+ghost use Rattle.osn_invocation.specs.Invocation.{letters_model};
+ghost use Rattle.osn_lines.specs.Streams.{input_of, output_of};
+ghost use Rattle.osn_page_commands.specs.Letters.{asked_of};
+ghost use Rattle.osn_page_commands.specs.LettersFiles as spec;
+ghost use Rattle.osn_report.specs.Folders.{folders_of};
+
+use crate::letters::{EndRules, letters_command};
+use crate::places::tell_places;
+use crate::table_words::asked_settings;
+use osn_folder::{Folder, OpenFailed, open_file};
+use osn_invocation::LettersOptions;
+use osn_letters::{Progress, TableSettings, read_places};
+use osn_lines::{Sink, Source};
+use osn_register::Limits;
+use osn_report::{ReadProgress, Status, tell_misuse, tell_unopened};
+use std::alloc::Global;
+
+/// What a table that was written whole ends with, by the options.
+fn rules_of(options: LettersOptions<'_>) -> EndRules
+    ensures { result ≡ spec.rules_of (letters_model options.entry) }
+{
+    EndRules {
+        strict: options.strict,
+        summary: options.summary,
+    }
+}
+
+/// Reads the table of places of a path, and does what `letters_command` does by it, where it has no
+/// fault. Where it could not be opened or has one, standard error is told why, and nothing is
+/// written.
+fn letters_by_places<D: Folder, R: Source, W: Sink, E: Sink, P: Progress>(
+    alloc: Global,
+    limits: Limits,
+    folder: &mut D,
+    journal: &mut D::File,
+    path: &str,
+    settings: TableSettings<'_>,
+    rules: EndRules,
+    input: &mut R,
+    output: &mut W,
+    errors: &mut E,
+    progress: &mut P,
+) -> Status
+    ensures { spec.PrintsByPlaces limits path.now
+        (input_of D.File.remaining D.File.has_failed journal.old journal.new)
+        (asked_of settings.entry) rules (MayFail D.File.has_failed)
+        (folders_of D.known folder.old folder.new)
+        (input_of R.remaining R.has_failed input.old input.new)
+        (output_of W.contents W.has_failed W.holds_back output.old output.new)
+        (output_of E.contents E.has_failed E.holds_back errors.old errors.new) result }
+{
+    let mut table = match open_file(folder, path) {
+        Ok(table) => table,
+        Err(cause) => return tell_unopened(alloc, errors, path, cause),
+    };
+    match read_places(alloc, &mut table) {
+        Ok(places) => {
+            let settings = TableSettings {
+                places: Some(&places),
+                ..settings
+            };
+            letters_command(
+                alloc, limits, journal, settings, rules, input, output, errors, progress,
+            )
+        }
+        Err(fault) => tell_places(alloc, errors, path, &fault),
+    }
+}
+
+/// Opens the journal, and the table of places, if there is one, and does what `letters_command` does.
+fn letters_by<D: Folder, R: Source, W: Sink, E: Sink, T: Sink + Drop>(
+    alloc: Global,
+    limits: Limits,
+    folder: &mut D,
+    journal: &str,
+    options: LettersOptions<'_>,
+    settings: TableSettings<'_>,
+    input: &mut R,
+    output: &mut W,
+    errors: &mut E,
+    terminal: Option<T>,
+) -> Result<Status, OpenFailed>
+    ensures ok { IfOk result (spec.PrintsTable limits journal.now
+        (option_map (λ path. path.now) options.entry.places) (asked_of settings.entry)
+        (spec.rules_of (letters_model options.entry)) (MayFail D.File.has_failed)
+        (folders_of D.known folder.old folder.new)
+        (input_of R.remaining R.has_failed input.old input.new)
+        (output_of W.contents W.has_failed W.holds_back output.old output.new)
+        (output_of E.contents E.has_failed E.holds_back errors.old errors.new)) }
+    ensures err { OnErr result (CannotOpen (journal.now ∷ [])
+        (D.known folder.old) (D.known folder.new)
+        × (output.new ≡ output.old) × (errors.new ≡ errors.old)) }
+{
+    let rules = rules_of(options);
+    let mut file = open_file(folder, journal)?;
+    let mut progress = ReadProgress::new(alloc, "letters", terminal);
+    Ok(match options.places {
+        None => letters_command(
+            alloc,
+            limits,
+            &mut file,
+            settings,
+            rules,
+            input,
+            output,
+            errors,
+            &mut progress,
+        ),
+        Some(path) => letters_by_places(
+            alloc,
+            limits,
+            folder,
+            &mut file,
+            path,
+            settings,
+            rules,
+            input,
+            output,
+            errors,
+            &mut progress,
+        ),
+    })
+}
+
+/// Opens the journal of a path, then the table of places, if there is one, and does what
+/// `letters_command` does, as the options ask. A terminal, where there is one, is told how much of
+/// the table was read.
+///
+/// Where an option is wrong, or the table of places cannot be opened or has a fault, standard error
+/// is told in a line why, and nothing is written. Where an option is wrong, no file is opened.
+///
+/// # Errors
+///
+/// Why the journal could not be opened. Nothing was read or written then.
+pub fn letters_in_folder<D: Folder, R: Source, W: Sink, E: Sink, T: Sink + Drop>(
+    alloc: Global,
+    limits: Limits,
+    folder: &mut D,
+    journal: &str,
+    options: LettersOptions<'_>,
+    input: &mut R,
+    output: &mut W,
+    errors: &mut E,
+    terminal: Option<T>,
+) -> Result<Status, OpenFailed>
+    ensures ok { IfOk result (spec.RunsLetters limits journal.now (letters_model options.entry)
+        (MayFail D.File.has_failed) (folders_of D.known folder.old folder.new)
+        (input_of R.remaining R.has_failed input.old input.new)
+        (output_of W.contents W.has_failed W.holds_back output.old output.new)
+        (output_of E.contents E.has_failed E.holds_back errors.old errors.new)) }
+    ensures err { OnErr result (CannotOpen (journal.now ∷ [])
+        (D.known folder.old) (D.known folder.new)
+        × (output.new ≡ output.old) × (errors.new ≡ errors.old)) }
+{
+    match asked_settings(options) {
+        Ok(settings) => letters_by(
+            alloc, limits, folder, journal, options, settings, input, output, errors, terminal,
+        ),
+        Err(wrong) => Ok(tell_misuse(alloc, errors, wrong.misuse, wrong.typed)),
+    }
+}

@@ -1,0 +1,107 @@
+//! How standard error is told why a table of places was not read.
+ghost use Rattle.std.specs.Prelude.{◌≡◌, IfOk, string_bytes};
+ghost use Rattle.osn_lines.specs.Streams.{output_of};
+ghost use Rattle.osn_page_commands.specs.Places as spec;
+ghost use Rattle.osn_report.specs.Told.{TellsIfMade};
+ghost use Rattle.osn_report.specs.declared.status.Status.{Status};
+
+use osn_folder::OpenFailed;
+use osn_letters::{PlacesColumn, PlacesFault};
+use osn_lines::Sink;
+use osn_report::{Status, tell_line, tell_no_memory, tell_unopened};
+use std::alloc::{AllocError, Global};
+
+const NO_HEADER: &str = "no header: the first line names the columns place and code";
+
+const BAD_RECORD: &str = "another number of fields than the header: give each row as many";
+
+const TOO_LONG: &str = "a record of more than 65536 bytes: look for a quote that is not closed";
+
+const OPEN_QUOTE: &str = "a quote that opens in this record is never closed: close it";
+
+const AFTER_QUOTE: &str = "text follows a closing quote: write each quote of a field twice";
+
+const NOT_UTF8: &str = "a place or a code is not UTF-8: save the table as UTF-8";
+
+/// What is told of a line of the table of this path.
+fn places_line(alloc: Global, path: &str, line: u64, text: &str) -> Result<String, AllocError>
+    ensures { IfOk result (λ told. string_bytes told ≡ spec.places_line path.now line text.now) }
+{
+    format!(in alloc; "oldstyle: {path} line {line}: {text}\n")
+}
+
+/// The line on a header that lacks a column and has these.
+fn lacks_line(
+    alloc: Global,
+    path: &str,
+    column: PlacesColumn,
+    line: u64,
+    found: &str,
+) -> Result<String, AllocError>
+    ensures { IfOk result (λ told. string_bytes told
+        ≡ spec.lacks_line path.now column line found.now) }
+{
+    let name = column.name();
+    format!(in alloc;
+        "oldstyle: {path} line {line}: no column {name}: the columns are {found}: name one {name}\n"
+    )
+}
+
+/// The line on a place that has two codes.
+fn codes_line(alloc: Global, path: &str, line: u64, place: &str) -> Result<String, AllocError>
+    ensures { IfOk result (λ told. string_bytes told ≡ spec.codes_line path.now line place.now) }
+{
+    format!(in alloc;
+        "oldstyle: {path} line {line}: the place {place} has another code already: take one of the \
+two rows out\n"
+    )
+}
+
+/// Tells standard error what is wrong with the record on a line.
+fn tell_record<E: Sink>(alloc: Global, errors: &mut E, path: &str, line: u64, text: &str) -> Status
+    ensures { TellsIfMade
+        (output_of E.contents E.has_failed E.holds_back errors.old errors.new) Status.Refused
+        (spec.places_line path.now line text.now) result }
+{
+    tell_line(
+        errors,
+        Status::Refused,
+        places_line(alloc, path, line, text),
+    )
+}
+
+/// Tells standard error of the table of this path why it was not read. Answers the status.
+pub(crate) fn tell_places<E: Sink>(
+    alloc: Global,
+    errors: &mut E,
+    path: &str,
+    fault: &PlacesFault,
+) -> Status
+    ensures { spec.TellsPlaces path.now
+        (output_of E.contents E.has_failed E.holds_back errors.old errors.new) fault.now result }
+{
+    match fault {
+        PlacesFault::NoHeader => tell_record(alloc, errors, path, 1, NO_HEADER),
+        PlacesFault::LacksColumn {
+            column,
+            line,
+            found,
+        } => {
+            let told = lacks_line(alloc, path, *column, *line, found.as_str());
+            tell_line(errors, Status::Refused, told)
+        }
+        PlacesFault::TwoCodes { line, place } => {
+            let told = codes_line(alloc, path, *line, place.as_str());
+            tell_line(errors, Status::Refused, told)
+        }
+        PlacesFault::BadRecord { line } => tell_record(alloc, errors, path, *line, BAD_RECORD),
+        PlacesFault::TooLong { line } => tell_record(alloc, errors, path, *line, TOO_LONG),
+        PlacesFault::OpenQuote { line } => tell_record(alloc, errors, path, *line, OPEN_QUOTE),
+        PlacesFault::TextAfterQuote { line } => {
+            tell_record(alloc, errors, path, *line, AFTER_QUOTE)
+        }
+        PlacesFault::NotUtf8 { line } => tell_record(alloc, errors, path, *line, NOT_UTF8),
+        PlacesFault::ReadFault => tell_unopened(alloc, errors, path, OpenFailed::Other),
+        PlacesFault::NoMemory => tell_no_memory(errors),
+    }
+}

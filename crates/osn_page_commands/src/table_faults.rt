@@ -1,0 +1,161 @@
+//! How standard error is told why a table of letters ended early.
+ghost use Rattle.std.specs.Prelude.{◌≡◌, IfOk, string_bytes};
+ghost use Rattle.osn_letters.specs.Columns.{dates_of, names_of};
+ghost use Rattle.osn_lines.specs.Streams.{output_of};
+ghost use Rattle.osn_page_commands.specs.Letters as spec;
+ghost use Rattle.osn_report.specs.Told.{TellsIfMade};
+ghost use Rattle.osn_report.specs.declared.status.Status.{Status};
+
+use osn_files::FileFault;
+use osn_letters::{AddedColumn, Column, ColumnNames, DateNames, LettersFault, WeekdayName};
+use osn_lines::Sink;
+use osn_report::{CommandFault, Status, report, tell_line, tell_no_memory};
+use std::alloc::{AllocError, Global};
+
+const NO_HEADER: &str = "no header: the first line has the names of the columns";
+
+const BAD_RECORD: &str = "another number of fields than the header";
+
+const TOO_LONG: &str = "a record of more than 65536 bytes";
+
+const OPEN_QUOTE: &str = "a quote that opens in this record is never closed";
+
+const AFTER_QUOTE: &str = "text follows a closing quote";
+
+/// The name by which a column of the date was looked for, and no text where none was.
+fn date_name_of<'a>(names: DateNames<'a>, column: Column) -> &'a str
+    ensures { result.now ≡ spec.date_name_of (dates_of names.entry) column }
+{
+    match (names, column) {
+        (DateNames::Whole(name), Column::Date) => name,
+        (DateNames::Apart { year, .. }, Column::Year) => year,
+        (
+            DateNames::Apart {
+                month: Some(month),
+                ..
+            },
+            Column::Month,
+        ) => month,
+        (DateNames::Apart { day: Some(day), .. }, Column::Day) => day,
+        _ => "",
+    }
+}
+
+/// The name by which a column was looked for.
+fn name_of<'a>(names: ColumnNames<'a>, column: Column) -> &'a str
+    ensures { result.now ≡ spec.name_of (names_of names.entry) column }
+{
+    match column {
+        Column::Place => names.place,
+        Column::Date | Column::Year | Column::Month | Column::Day => {
+            date_name_of(names.date, column)
+        }
+        Column::Weekday => match names.weekday {
+            WeekdayName::Required(name) | WeekdayName::Optional(name) => name,
+        },
+    }
+}
+
+/// The option that names a column.
+fn option_of(column: Column) -> &'static str
+    ensures { result.now ≡ spec.option_of column }
+{
+    match column {
+        Column::Place => "--place",
+        Column::Date => "--date",
+        Column::Year => "--year",
+        Column::Month => "--month",
+        Column::Day => "--day",
+        Column::Weekday => "--weekday",
+    }
+}
+
+/// What a record is told by which a table ends early.
+fn record_line(alloc: Global, line: u64, text: &str) -> Result<String, AllocError>
+    ensures { IfOk result (λ told. string_bytes told ≡ spec.record_line line text.now) }
+{
+    format!(in alloc; "oldstyle: letters line {line}: {text}\n")
+}
+
+/// The line on a header that lacks a column.
+fn lacks_line(
+    alloc: Global,
+    names: ColumnNames<'_>,
+    column: Column,
+    line: u64,
+    found: &str,
+) -> Result<String, AllocError>
+    ensures { IfOk result (λ told. string_bytes told
+        ≡ spec.lacks_line (names_of names.entry) column line found.now) }
+{
+    let name = name_of(names, column);
+    let option = option_of(column);
+    format!(in alloc;
+        "oldstyle: letters line {line}: no column {name}: the columns are {found}: name yours by \
+{option}\n"
+    )
+}
+
+/// What is told of a column of a header.
+fn column_line(alloc: Global, line: u64, name: &str, text: &str) -> Result<String, AllocError>
+    ensures { IfOk result (λ told. string_bytes told ≡ spec.column_line line name.now text.now) }
+{
+    format!(in alloc; "oldstyle: letters line {line}: the column {name} {text}\n")
+}
+
+/// The line on a header that has a column already.
+fn has_line(alloc: Global, line: u64, column: AddedColumn) -> Result<String, AllocError>
+    ensures { IfOk result (λ told. string_bytes told ≡ spec.has_line line column) }
+{
+    let name = column.name();
+    column_line(
+        alloc,
+        line,
+        name,
+        "is there already: take it out or rename it",
+    )
+}
+
+/// Tells standard error what is wrong with the record on a line.
+fn tell_record<E: Sink>(alloc: Global, errors: &mut E, line: u64, text: &str) -> Status
+    ensures { TellsIfMade
+        (output_of E.contents E.has_failed E.holds_back errors.old errors.new) Status.Refused
+        (spec.record_line line text.now) result }
+{
+    tell_line(errors, Status::Refused, record_line(alloc, line, text))
+}
+
+/// Tells standard error why a table ended early.
+pub(crate) fn tell_table<E: Sink>(
+    alloc: Global,
+    errors: &mut E,
+    names: ColumnNames<'_>,
+    fault: &LettersFault,
+) -> Status
+    ensures { spec.TellsTable (names_of names.entry)
+        (output_of E.contents E.has_failed E.holds_back errors.old errors.new) fault.now result }
+{
+    match fault {
+        LettersFault::NoHeader => tell_record(alloc, errors, 1, NO_HEADER),
+        LettersFault::LacksColumn {
+            column,
+            line,
+            found,
+        } => {
+            let told = lacks_line(alloc, names, *column, *line, found.as_str());
+            tell_line(errors, Status::Refused, told)
+        }
+        LettersFault::HasColumn { line, column } => {
+            tell_line(errors, Status::Refused, has_line(alloc, *line, *column))
+        }
+        LettersFault::BadRecord { line } => tell_record(alloc, errors, *line, BAD_RECORD),
+        LettersFault::TooLong { line } => tell_record(alloc, errors, *line, TOO_LONG),
+        LettersFault::OpenQuote { line } => tell_record(alloc, errors, *line, OPEN_QUOTE),
+        LettersFault::TextAfterQuote { line } => tell_record(alloc, errors, *line, AFTER_QUOTE),
+        LettersFault::ReadFault => {
+            report(alloc, errors, CommandFault::File(FileFault::ReadFault))
+        }
+        LettersFault::WriteFault => report(alloc, errors, CommandFault::WriteFault),
+        LettersFault::NoMemory => tell_no_memory(errors),
+    }
+}

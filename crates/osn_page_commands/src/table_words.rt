@@ -1,0 +1,113 @@
+//! How a table of letters is read, by the words of the command line.
+ghost use Rattle.std.specs.Prelude.{◌≡◌, [], Ok, Err, IfErr, IfOk, is_some, option_map, unwrap_or};
+ghost use Rattle.osn_invocation.specs.Invocation.{date_model, letters_model};
+ghost use Rattle.osn_letters.specs.Columns.{dates_of, is_required, weekday_name};
+ghost use Rattle.osn_page_commands.specs.Letters.{asked_of};
+ghost use Rattle.osn_page_commands.specs.TableWords as spec;
+
+use crate::order::asked_order;
+use osn_invocation::{DateOptions, LettersOptions};
+use osn_letters::{ColumnNames, DateNames, Separator, TableSettings, WeekdayName};
+use osn_report::Misuse;
+
+/// What separates the fields of a table, by its word, if there is one.
+fn asked_separator(word: Option<&str>) -> Result<Option<Separator>, Misuse>
+    ensures { result ≡ spec.separator_asked (option_map (λ word. word.now) word.entry) }
+{
+    match word {
+        None => Ok(None),
+        Some("comma") => Ok(Some(Separator::Comma)),
+        Some("semicolon") => Ok(Some(Separator::Semicolon)),
+        Some("tab") => Ok(Some(Separator::Tab)),
+        Some(_) => Err(Misuse::Separator),
+    }
+}
+
+/// The name of the column of weekdays: one that is named has to be there.
+fn weekday_column<'a>(name: Option<&'a str>) -> WeekdayName<'a>
+    ensures text { weekday_name result
+        ≡ spec.weekday_column (option_map (λ name. name.now) name.entry) }
+    ensures required { is_required result ≡ is_some name.entry }
+{
+    match name {
+        Some(name) => WeekdayName::Required(name),
+        None => WeekdayName::Optional("weekday"),
+    }
+}
+
+/// A word of a command line that is wrong, and why.
+#[derive(Clone, Copy, Debug, PartialEq, Eq)]
+pub(crate) struct WrongWord<'a> {
+    pub(crate) misuse: Misuse,
+    /// The word as it was typed.
+    pub(crate) typed: &'a str,
+}
+
+/// A word that is wrong, as it was typed.
+fn wrong_word<'a>(misuse: Misuse, word: Option<&'a str>) -> WrongWord<'a>
+    ensures misuse { result.misuse ≡ misuse }
+    ensures typed { result.typed.now
+        ≡ unwrap_or (option_map (λ word. word.now) word.entry) [] }
+{
+    let typed = match word {
+        Some(word) => word,
+        None => "",
+    };
+    WrongWord { misuse, typed }
+}
+
+/// The names of the columns of the date. Where none is named, one has the whole date.
+///
+/// # Errors
+///
+/// The option that goes with none of the others, or lacks one.
+fn asked_dates<'a>(options: DateOptions<'a>) -> Result<DateNames<'a>, WrongWord<'a>>
+    ensures ok { IfOk result
+        (λ names. spec.dates_asked (date_model options.entry) ≡ Ok (dates_of names)) }
+    ensures err { IfErr result (λ wrong. spec.dates_asked (date_model options.entry)
+        ≡ Err (wrong.misuse, wrong.typed.now)) }
+{
+    let (misuse, typed) = match (options.date, options.year, options.month, options.day) {
+        (None, None, None, None) => return Ok(DateNames::Whole("date")),
+        (Some(date), None, None, None) => return Ok(DateNames::Whole(date)),
+        (Some(_), _, _, _) => (Misuse::DateAndParts, "--date"),
+        (None, None, Some(_), _) => (Misuse::PartWithoutYear, "--month"),
+        (None, None, None, Some(_)) => (Misuse::PartWithoutYear, "--day"),
+        (None, Some(_), None, Some(_)) => (Misuse::DayWithoutMonth, "--day"),
+        (None, Some(year), month, day) => return Ok(DateNames::Apart { year, month, day }),
+    };
+    Err(WrongWord { misuse, typed })
+}
+
+/// How a table is read, by the names of its columns, the word of what separates its fields, and
+/// that of the order of a date's three numbers. It has no table of places yet.
+///
+/// # Errors
+///
+/// The first of these words that is wrong.
+pub(crate) fn asked_settings<'a>(
+    options: LettersOptions<'a>,
+) -> Result<TableSettings<'a>, WrongWord<'a>>
+    ensures ok { IfOk result (λ settings.
+        spec.settings_asked (letters_model options.entry) ≡ Ok (asked_of settings)) }
+    ensures err { IfErr result (λ wrong. spec.settings_asked (letters_model options.entry)
+        ≡ Err (wrong.misuse, wrong.typed.now)) }
+{
+    let separator = asked_separator(options.separator);
+    let order = asked_order(options.order);
+    match (asked_dates(options.date), separator, order) {
+        (Err(wrong), _, _) => Err(wrong),
+        (Ok(_), Err(misuse), _) => Err(wrong_word(misuse, options.separator)),
+        (Ok(_), Ok(_), Err(misuse)) => Err(wrong_word(misuse, options.order)),
+        (Ok(date), Ok(separator), Ok(order)) => Ok(TableSettings {
+            names: ColumnNames {
+                place: options.place,
+                date,
+                weekday: weekday_column(options.weekday),
+            },
+            separator,
+            order,
+            places: None,
+        }),
+    }
+}

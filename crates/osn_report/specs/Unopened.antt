@@ -1,0 +1,15 @@
+-- What is told of a file that could not be opened. This project's profile.
+use Rattle.std.specs.Prelude.{ℕ, List, ◌++◌, codes}
+use Rattle.osn_folder.specs.declared.fault.OpenFailed.{OpenFailed}
+use Rattle.osn_folder.specs.declared.fault.OpenFailed.TheVariants.{NotFound, PermissionDenied}
+use Rattle.osn_folder.specs.declared.fault.OpenFailed.TheVariants.{Other}
+
+abbrev pub cause_text : OpenFailed → List ℕ
+cause_text NotFound = codes "no such file"
+cause_text PermissionDenied = codes "permission denied"
+cause_text Other = codes "read fault"
+
+-- the line on the file of a path
+abbrev pub unopened_line : List ℕ → OpenFailed → List ℕ
+unopened_line path cause =
+    codes "oldstyle: " ++ (path ++ (codes ": " ++ (cause_text cause ++ codes "\n")))

@@ -1,0 +1,43 @@
+//! How standard error is told of a file that could not be opened or read, by its path.
+ghost use Rattle.std.specs.Prelude.{◌≡◌, IfOk, string_bytes};
+ghost use Rattle.osn_lines.specs.Streams.{output_of};
+ghost use Rattle.osn_report.specs.Told.{TellsIfMade};
+ghost use Rattle.osn_report.specs.Unopened as spec;
+
+use crate::fault_report::tell_line;
+use crate::status::Status;
+use osn_folder::OpenFailed;
+use osn_lines::Sink;
+use std::alloc::{AllocError, Global};
+
+/// Why a file could not be opened.
+fn cause_text(cause: OpenFailed) -> &'static str
+    ensures { result.now ≡ spec.cause_text cause }
+{
+    match cause {
+        OpenFailed::NotFound => "no such file",
+        OpenFailed::PermissionDenied => "permission denied",
+        OpenFailed::Other => "read fault",
+    }
+}
+
+/// The line on a file of this path.
+fn unopened_line(alloc: Global, path: &str, cause: OpenFailed) -> Result<String, AllocError>
+    ensures { IfOk result (λ line. string_bytes line ≡ spec.unopened_line path.now cause) }
+{
+    let cause = cause_text(cause);
+    format!(in alloc; "oldstyle: {path}: {cause}\n")
+}
+
+/// Tells standard error of the file of this path why it could not be opened. Answers the status.
+pub fn tell_unopened<E: Sink>(
+    alloc: Global,
+    errors: &mut E,
+    path: &str,
+    cause: OpenFailed,
+) -> Status
+    ensures { TellsIfMade (output_of E.contents E.has_failed E.holds_back errors.old errors.new)
+        Status.ReadFault (spec.unopened_line path.now cause) result }
+{
+    tell_line(errors, Status::ReadFault, unopened_line(alloc, path, cause))
+}
