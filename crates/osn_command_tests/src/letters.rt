@@ -6,7 +6,7 @@ use csv::ByteRecord;
 use osn_grammar::DateOrder;
 use osn_letters::{
     AddedColumn, Column, ColumnNames, Columns, DateColumns, DateNames, LettersFault, Progress,
-    Separator, TableSettings, WeekdayName, find_columns, write_letters,
+    Separator, TableSettings, Tally, WeekdayName, find_columns, write_letters,
 };
 use osn_lines::Plain;
 use osn_register::Register;
@@ -313,10 +313,10 @@ fn end(fault: &LettersFault) -> (&str, u64, &str) {
 }
 
 /// Checks that a table ends so.
-fn is_end(rt: &impl Abort, written: &Result<bool, LettersFault>, wanted: End) {
+fn is_end(rt: &impl Abort, written: &Result<Tally, LettersFault>, wanted: End) {
     match written {
-        Ok(true) => same(rt, REMARKED, wanted),
-        Ok(false) => same(rt, WHOLE, wanted),
+        Ok(tally) if tally.has_remarks() => same(rt, REMARKED, wanted),
+        Ok(_) => same(rt, WHOLE, wanted),
         Err(fault) => same(rt, end(fault), wanted),
     }
 }

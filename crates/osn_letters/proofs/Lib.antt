@@ -5,8 +5,10 @@ pub mod FoundFacts
 pub mod GoesFacts
 pub mod FieldFacts
 pub mod JoinFacts
-pub mod KeepFacts
 pub mod LastFacts
+pub mod CountFacts
+pub mod TallyFacts
+pub mod RemarkFacts
 pub mod LaterFacts
 pub mod LawFacts
 pub mod LetterFacts

@@ -98,6 +98,7 @@ pub record FieldsAndRemarks : Type 0 where
   pub fields : List (List ℕ)
   pub remarks : List Remark
 
+-- the same of what a call makes
 abbrev pub fields_and_remarks : LetterFields → FieldsAndRemarks
 fields_and_remarks made = record { fields = fields_of made.fields; remarks = made.remarks.items }
 

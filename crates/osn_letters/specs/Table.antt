@@ -1,5 +1,5 @@
--- The table that is written: the header and each record that came, with twelve fields after it. This
--- project's profile.
+-- The table that is written: the header and each record that came, with twelve fields after it.
+-- This project's profile.
 use Rattle.std.specs.Prelude.{◌≡◌, ◌≤◌, ℕ, true, ◌==◌, List, [], ◌∷◌, ◌++◌, length, get_or}
 use Rattle.std.specs.Prelude.{if◌then◌else◌}
 use Rattle.std.specs.Prelude.{Option, Some, None, option_map, unwrap_or, Result, Ok, Err}

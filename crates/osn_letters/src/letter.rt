@@ -139,7 +139,8 @@ fn fields_of_one_day(
     given: Option<Weekday>,
     beside: &[Told],
 ) -> Result<LetterFields, AllocError>
-    ensures { IfOk result (λ made. spec.fields_and_remarks made ≡ spec.fields_of_one_day newest_rules
+    ensures { IfOk result (λ made. spec.fields_and_remarks made
+        ≡ spec.fields_of_one_day newest_rules
         edition territory.now date day given beside.now) }
 {
     let days = days_meant(alloc, territory, day, given)?;
@@ -159,7 +160,8 @@ fn fields_of_many_days(
     date: AnyDate,
     beside: &[Told],
 ) -> Result<LetterFields, AllocError>
-    ensures { IfOk result (λ made. spec.fields_and_remarks made ≡ spec.fields_of_many_days newest_rules
+    ensures { IfOk result (λ made. spec.fields_and_remarks made
+        ≡ spec.fields_of_many_days newest_rules
         edition territory.now date beside.now) }
 {
     match find_runs(alloc, territory, date.extent)? {
@@ -177,7 +179,8 @@ fn fields_by(
     date: AnyDate,
     named: Option<&[u8]>,
 ) -> Result<LetterFields, AllocError>
-    ensures { IfOk result (λ made. spec.fields_and_remarks made ≡ spec.fields_by newest_rules edition
+    ensures { IfOk result (λ made. spec.fields_and_remarks made
+        ≡ spec.fields_by newest_rules edition
         territory.now is_by_other_calendar date (option_map (λ w. w.now) named.entry)) }
 {
     let given = weekday_in(named);
@@ -197,7 +200,8 @@ fn fields_in(
     date: AnyDate,
     named: Option<&[u8]>,
 ) -> Result<LetterFields, AllocError>
-    ensures { IfOk result (λ made. spec.fields_and_remarks made ≡ spec.fields_in newest_rules edition
+    ensures { IfOk result (λ made. spec.fields_and_remarks made
+        ≡ spec.fields_in newest_rules edition
         territory.now date (option_map (λ w. w.now) named.entry)) }
 {
     let Some(reckoning) = date.reckoning else {
@@ -215,7 +219,8 @@ fn fields_without_place(
     date: AnyDate,
     named: Option<&[u8]>,
 ) -> Result<LetterFields, AllocError>
-    ensures { IfOk result (λ made. spec.fields_and_remarks made ≡ spec.fields_without_place edition date
+    ensures { IfOk result (λ made. spec.fields_and_remarks made
+        ≡ spec.fields_without_place edition date
         (option_map (λ w. w.now) named.entry)) }
 {
     let given = weekday_in(named);
@@ -239,7 +244,8 @@ fn fields_of_date(
     date: AnyDate,
     named: Option<&[u8]>,
 ) -> Result<LetterFields, AllocError>
-    ensures { IfOk result (λ made. spec.fields_and_remarks made ≡ spec.fields_of_date newest_rules edition
+    ensures { IfOk result (λ made. spec.fields_and_remarks made
+        ≡ spec.fields_of_date newest_rules edition
         (option_map (λ t. t.now) territory.entry) date
         (option_map (λ w. w.now) named.entry)) }
 {
@@ -257,7 +263,8 @@ fn fields_without_date(
     lacks_place: bool,
     named: Option<&[u8]>,
 ) -> Result<LetterFields, AllocError>
-    ensures { IfOk result (λ made. spec.fields_and_remarks made ≡ spec.fields_without_date edition fault
+    ensures { IfOk result (λ made. spec.fields_and_remarks made
+        ≡ spec.fields_without_date edition fault
         lacks_place (option_map (λ w. w.now) named.entry)) }
 {
     let reasons = [

@@ -3,7 +3,7 @@ use Rattle.std.proofs.lemmas.Result.{IfOk-weaker}
 use Rattle.osn_days.specs.Profile.{newest_rules}
 use Rattle.osn_letters.specs.TableInside.{source_of}
 use Rattle.osn_letters.proofs.TableFacts.{same_fields}
-use Rattle.osn_letters.proofs.table.Table.fields_on.Goals as goal
+use Rattle.osn_letters.proofs.table.Table.said_on.Goals as goal
 
 pub returns : goal.returns
 returns c =
