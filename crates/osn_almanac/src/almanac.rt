@@ -13,7 +13,7 @@ use crate::months::push_months;
 use osn_register::{Refusal, Register};
 use std::alloc::{AllocError, Global};
 
-/// The room that the text gets at first: that of a year with one Easter takes some 1300 bytes.
+/// The room that the text gets at first: that of a year with one Easter takes some 1,000 bytes.
 const ROOM: usize = 2048;
 
 /// The almanac, part by part.

@@ -1,5 +1,5 @@
--- The object that the lines of a journal load. They are a head and then commands, which are run in
--- turn on a new object up to the first that is refused. This project's profile.
+-- The object that is loaded from the lines of a journal. They are a head and then commands, which
+-- are run in turn on a new object up to the first that is refused. This project's profile.
 use Rattle.std.specs.Prelude.{ℕ, List, Option, Some, None, Result, Ok, Err}
 use Rattle.serde_json.specs.Data.{Data}
 use Rattle.osn_days.specs.Profile.{Profile}

@@ -24,7 +24,7 @@ pub enum Role {
 /// Why a line of a file is refused.
 #[derive(Clone, Copy, Debug, PartialEq, Eq, Hash)]
 pub enum LineFault {
-    /// No line of this file may be so.
+    /// The line doesn't have the form of this file's lines.
     Wire(WireFault),
     /// What the line asks for is refused.
     Register(Refusal),

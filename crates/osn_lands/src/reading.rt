@@ -36,8 +36,8 @@ pub(crate) fn read_period(
 }
 
 /// Whether a label is skipped at the change from one period to the next, of whose regimes the days
-/// with the label are given. It is where the old regime has it too late or never, and the new one
-/// too early or never. One of them has to have it, and neither in its own period.
+/// with the label are given. It is skipped where the old regime has it too late or never, and the
+/// new one too early or never. One of them has to have it, and neither in its own period.
 pub(crate) fn is_skipped_between(
     old: &Period,
     new: &Period,

@@ -43,8 +43,8 @@ pub record Serves (rules : ServeRules) (s t : ObjectState) (i : Input) (o : Outp
   -- nowhere else, but maybe where a write failed.
   pub source : MatchEnd end (λ _. i.unread ≡ i.unread_before) (λ _. i.unread ≡ i.unread_before)
       (λ _. IsReadFault i.unread i.bytes) (λ _. ⊤)
-  -- The sink failed where a write fault says so and nowhere else. Or it may take a reply, with
-  -- those that wait before it, in more writes than the 4,294,967,295 that are made.
+  -- Where a write fault says so the sink failed, or it may take a reply, with those that wait
+  -- before it, in more writes than the 4,294,967,295 that are made. Elsewhere it did not fail.
   pub sink : MatchEnd end (λ _. o.unwritten ≡ o.unwritten_before)
       (λ _. o.unwritten ≡ o.unwritten_before) (λ _. o.unwritten ≡ o.unwritten_before)
       (λ _. IsUnwritten rules s i.bytes o.unwritten)

@@ -59,9 +59,9 @@ const FRANCE: &str = r#"{"journal":2}
 /// Texts that are written as they were loaded: pending edits stay pending, and batches stay apart.
 const KEPT: [&str; 5] = ["{\"journal\":2}\n", ROME, BRITAIN, SWEDEN, FRANCE];
 
-/// Other texts, and the journal of what is loaded from each. They are version 1, which is written
-/// as version 2, and members in any order. Others are passed over, and the last one of a name is
-/// taken. A last line lacks its line feed.
+/// Other texts, and the journal of what is loaded from each. They have version 1, which is written
+/// as version 2, and members in any order. Other members are passed over, and the last one of a
+/// name is taken. A last line lacks its line feed.
 const TAKEN: [(&str, &str); 6] = [
     (FIRST_ROME, ROME),
     ("{\"journal\":1}\n", "{\"journal\":2}\n"),

@@ -103,9 +103,9 @@ fn else_fault(
 
 impl WrittenDate {
     /// The date that a text is, in the usual forms or else in another form of one day:
-    /// `1731-02-11`, `11 February 1731/2`, `Friday 11 February 1731`, `11 Feb. 1731/32`, `Feb 11,
-    /// 1731` and more, as `docs/DATES.md` tells. Where it is no such date, the result within has
-    /// the fault.
+    /// `1731-02-11`, `11 February 1731/2`, `Friday 11 February 1731`, `11 Feb. 1731/32`,
+    /// `Feb 11, 1731` and more, as `docs/DATES.md` says. Where it is no such date, the result
+    /// within has the fault.
     ///
     /// # Errors
     ///

@@ -5,8 +5,8 @@ ghost use Rattle.osn_written.specs.WrittenDate as spec;
 
 use osn_days::{Weekday, month_named};
 
-/// A date as people write it: a year, a month and a day, and whether it is a double date as `11
-/// February 1731/2`, whose year is the first one. It also has the weekday before it, if one is
+/// A date as people write it: a year, a month and a day, and whether it is a double date as
+/// `11 February 1731/2`, whose year is the first one. It has the weekday before it too, if one is
 /// written. Whether a calendar has the date is not tested.
 #[derive(Clone, Copy, Debug, PartialEq, Eq)]
 pub struct WrittenDate {
