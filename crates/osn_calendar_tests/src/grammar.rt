@@ -133,7 +133,7 @@ const DAYS: [(&str, &str); 40] = [
     ("Xbris 5 1640", "1640 12 5"),
     ("5 7bris 1640", "1640 9 5"),
     ("5 9ber 1640", "1640 11 5"),
-    ("13-13-1640", "Month"),
+    ("13-13-1640", "DayOrMonth"),
     ("29.8ber 1640", "1640 10 29"),
     ("29. 8bris 1640", "1640 10 29"),
     ("Feb. 11. 1731", "1731 2 11"),
@@ -200,7 +200,7 @@ fn months_and_years(rt: HostRuntime) -> Result<(), Fail> {
     are_read(&rt, rt.alloc(), DateOrder::Unknown, &MONTHS_AND_YEARS)
 }
 
-const RANGES: [(&str, &str); 40] = [
+const RANGES: [(&str, &str); 42] = [
     ("3-10 May 1640", "1640 5 3 to 1640 5 10"),
     ("3–10 May 1640", "1640 5 3 to 1640 5 10"),
     ("3 to 10 May 1640", "1640 5 3 to 1640 5 10"),
@@ -241,6 +241,8 @@ const RANGES: [(&str, &str); 40] = [
     ("until 1640", "not after 1640"),
     ("antes de 1640", "before 1640"),
     ("1640, 1641, 1642", "Malformed"),
+    ("1698-07-25 - 1699", "1698 7 25 to 1699"),
+    ("1698-07/1699", "1698 7 to 1699"),
 ];
 
 #[test]
@@ -286,7 +288,7 @@ fn nothing(rt: HostRuntime) -> Result<(), Fail> {
     are_read(&rt, rt.alloc(), DateOrder::Unknown, &NOTHING)
 }
 
-const FAULTS: [(&str, &str); 33] = [
+const FAULTS: [(&str, &str); 35] = [
     ("11/2/1731", "DayOrMonth"),
     ("2/11/1731", "DayOrMonth"),
     ("11-2-1731", "DayOrMonth"),
@@ -320,6 +322,8 @@ const FAULTS: [(&str, &str); 33] = [
     ("31/12/16", "ShortYear"),
     ("1731/2 11", "Malformed"),
     ("mid-May 1640", "Malformed"),
+    ("25-12-1640", "DayOrMonth"),
+    ("13/13/1640", "Month"),
 ];
 
 #[test]

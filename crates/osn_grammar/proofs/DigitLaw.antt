@@ -87,8 +87,8 @@ range_read : (o : DateOrder) (y m d z n e : ℕ) → IsDay y m d → IsDay z n e
     → extent_of o (parts_of y m d ++ Slash ∷ parts_of z n e)
     ≡ Ok (extent.FromTo (day y m d) (day z n e))
 range_read o y m d z n e h g =
-    rw (h.year_high, h.month_low, h.month_high, h.day_low, h.day_high)
-    (rw (g.year_high, g.month_low, g.month_high, g.day_low, g.day_high) refl)
+    rw (g.year_high, g.month_low, g.month_high, g.day_low, g.day_high)
+    (rw (h.year_high, h.month_low, h.month_high, h.day_low, h.day_high) refl)
 
 not_after_read : (o : DateOrder) (y m d : ℕ) → IsDay y m d
     → extent_of o (Open ∷ Slash ∷ parts_of y m d) ≡ Ok (extent.NotAfter (day y m d))

@@ -69,8 +69,8 @@ not_before o first = do
 
 abbrev pub range_in_digits : List Part → List Part → Result Extent DateFault
 range_in_digits first last = do
-  start ← date_in_digits first
   end ← date_in_digits last
+  start ← date_in_digits first
   Ok (extent.FromTo start end)
 
 abbrev pub slashed_range : DateOrder → List Part → List Part → Result Extent DateFault

@@ -178,9 +178,9 @@ pub record AreOtherLanguagesKnown : Type 0 where
       (codes "undatiert udateret odaterat ohne sans senza sin sem zonder uden utan sine")
       (times 12 part.Undated)
   pub fillers : Reads
-      (codes "dated ad domini stilo stylo am im vom von van från fra ce en el "
+      (codes "dated ad domini stilo stylo am im vom von van från fra ce du en el "
       ++ codes "il li dì adì addì a ao aos d datum dato fecha data")
-      (times 28 part.Filler)
+      (times 29 part.Filler)
 
 -- as a law: all these words are known
 unfoldable pub AreWordsKnown : Type 0

@@ -98,30 +98,36 @@ day_in_digits years month day =
     if is_long month || is_long day then Err faults.Malformed
     else day_of years month.value day.value
 
+-- three numbers that end with the year are open between day and month, unless their order is known
+abbrev pub by_order : DateOrder → Numeral → Numeral → Numeral → Result SimpleDate DateFault
+by_order order.Unknown a b year = Err faults.DayOrMonth
+by_order order.DayMonth a b year = day_of (one year) b.value a.value
+by_order order.MonthDay a b year = day_of (one year) a.value b.value
+
+-- with dashes, they end with the year where that is long and the first one is not
+abbrev pub with_dashes : DateOrder → Numeral → Numeral → Numeral → Result SimpleDate DateFault
+with_dashes order a b c =
+    if is_long c && not (is_long a) then by_order order a b c else day_in_digits (one a) b c
+
 -- each of two numbers may be the month, and it is not the same day either way
 abbrev pub is_either_month : ℕ → ℕ → Bool
 is_either_month a b = is_between 1 12 a && (is_between 1 12 b && not (a == b))
 
--- three numbers that end with the year are open between day and month, unless their order is known
--- or only one of them may be the month
-abbrev pub by_order : DateOrder → Numeral → Numeral → Numeral → Result SimpleDate DateFault
-by_order order.Unknown a b year =
-    if is_either_month a.value b.value then Err faults.DayOrMonth
-    else (if nat_lt 12 b.value then day_of (one year) a.value b.value
-    else day_of (one year) b.value a.value)
-by_order order.DayMonth a b year = day_of (one year) b.value a.value
-by_order order.MonthDay a b year = day_of (one year) a.value b.value
+-- the order of two numbers is known where only one of them may be the month: 25/12/1640
+abbrev pub order_of : DateOrder → ℕ → ℕ → DateOrder
+order_of order.Unknown a b =
+    if is_either_month a b then order.Unknown
+    else (if nat_lt 12 b then order.MonthDay else order.DayMonth)
+order_of order a b = order
 
--- three numbers end with the year where that is long and the first one is not, and else begin with
--- it: 11-2-1731, 1731-2-11
+-- with slashes or blanks they are the same, and such an order is found
 abbrev pub three_numbers : DateOrder → Numeral → Numeral → Numeral → Result SimpleDate DateFault
-three_numbers order a b c =
-    if is_long c && not (is_long a) then by_order order a b c else day_in_digits (one a) b c
+three_numbers order a b c = with_dashes (order_of order a.value b.value) a b c
 
 -- `11/2 1731` ends with its year, `1731/2 11` is none
 abbrev pub year_last : DateOrder → Numeral → Numeral → Numeral → Result SimpleDate DateFault
 year_last order a b year =
-    if is_long year && not (is_long a) then by_order order a b year else Err faults.Malformed
+    if is_long year && not (is_long a) then three_numbers order a b year else Err faults.Malformed
 
 -- of two numbers with a month between them the first one is the year if it is long
 abbrev pub around_month : Numeral → ℕ → Numeral → Result SimpleDate DateFault
@@ -153,11 +159,11 @@ double_year_or_days a b month c =
 -- a day in numbers: 1731-02-11, 1731/2-02-11, 11.2.1731, 11.2.1731/2, 11/2/1731, 11/2 1731, 11 2 1731.
 -- With full stops the day is before the month
 abbrev pub day_in_numbers : DateOrder → List Part → Result SimpleDate DateFault
-day_in_numbers o (Number a ∷ Dash ∷ Number b ∷ Dash ∷ Number c ∷ []) = three_numbers o a b c
+day_in_numbers o (Number a ∷ Dash ∷ Number b ∷ Dash ∷ Number c ∷ []) = with_dashes o a b c
 day_in_numbers o (Number a ∷ Slash ∷ Number b ∷ Slash ∷ Number c ∷ []) = three_numbers o a b c
 day_in_numbers o (Number a ∷ Number b ∷ Number c ∷ []) = three_numbers o a b c
 day_in_numbers o (Number a ∷ Dot ∷ Number b ∷ Dot ∷ Number c ∷ []) =
-    three_numbers order.DayMonth a b c
+    with_dashes order.DayMonth a b c
 day_in_numbers o (Number a ∷ Slash ∷ Number b ∷ Number y ∷ []) = year_last o a b y
 day_in_numbers o (Number y ∷ Slash ∷ Number l ∷ Dash ∷ Number m ∷ Dash ∷ Number d ∷ []) =
     day_in_digits (two y l) m d
@@ -197,10 +203,11 @@ month_or_year (Number y ∷ []) = whole_year (one y)
 month_or_year (Number y ∷ Slash ∷ Number l ∷ []) = whole_year (two y l)
 month_or_year _ = Err faults.Malformed
 
--- a day or a month in digits with its year first: 1731-02-11, 1731-02
+-- a day, a month or a year in digits with its year first: 1731-02-11, 1731-02, 1731
 abbrev pub date_in_digits : List Part → Result SimpleDate DateFault
-date_in_digits (Number y ∷ Dash ∷ Number m ∷ Dash ∷ Number d ∷ []) = day_of (one y) m.value d.value
+date_in_digits (Number y ∷ Dash ∷ Number m ∷ Dash ∷ Number d ∷ []) = day_in_digits (one y) m d
 date_in_digits (Number y ∷ Dash ∷ Number m ∷ []) = year_and_month y m
+date_in_digits (Number y ∷ []) = whole_year (one y)
 date_in_digits _ = Err faults.Malformed
 
 -- a reading, or where it has no form another one

@@ -125,9 +125,8 @@ fn not_before(order: DateOrder, first: &[Part]) -> Result<Extent, DateFault>
 fn range_in_digits(first: &[Part], last: &[Part]) -> Result<Extent, DateFault>
     ensures { result ≡ spec.range_in_digits first.now last.now }
 {
-    let first = date_in_digits(first)?;
     let last = date_in_digits(last)?;
-    Ok(Extent::FromTo(first, last))
+    Ok(Extent::FromTo(date_in_digits(first)?, last))
 }
 
 /// The range of two dates with a `/` between them. Either end may be open.

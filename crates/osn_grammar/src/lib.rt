@@ -4,6 +4,7 @@
 
 mod extent;
 mod names;
+mod order;
 mod part;
 mod reading;
 mod scan;

@@ -7,7 +7,7 @@ use crate::written::Reckoning;
 use osn_days::Weekday;
 
 /// Each name with the part of a date that it is: in small letters, with accents and without.
-pub const NAMES: [(&str, Part); 476] = [
+pub const NAMES: [(&str, Part); 477] = [
     ("january", Part::Month(1)),
     ("jan", Part::Month(1)),
     ("ianuarius", Part::Month(1)),
@@ -391,6 +391,7 @@ pub const NAMES: [(&str, Part); 476] = [
     ("från", Part::Filler),
     ("fra", Part::Filler),
     ("ce", Part::Filler),
+    ("du", Part::Filler),
     ("en", Part::Filler),
     ("el", Part::Filler),
     ("il", Part::Filler),

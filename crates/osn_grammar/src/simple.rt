@@ -1,8 +1,8 @@
 //! Simple dates: a day, a month or a year, by the forms in which they are written.
 ghost use Rattle.std.specs.Prelude.{◌≡◌, ◌+◌, ◌%◌, ◌^◌, ◌==◌, ◌<◌, ◌≤◌};
 ghost use Rattle.osn_grammar.specs.Simple as spec;
-ghost use Rattle.osn_grammar.specs.declared.written.DateOrder.TheVariants.{Unknown};
 
+use crate::order::{is_month, order_of};
 use crate::part::Numeral;
 use crate::part::Part::{self, Blank, Dash, Dot, Month, Number, Slash};
 use crate::written::{DateFault, DateOrder, SimpleDate, Year};
@@ -149,33 +149,6 @@ fn day_in_digits(years: YearNumbers, month: Numeral, day: Numeral) -> Result<Sim
     }
 }
 
-/// Whether a number is that of a month.
-fn is_month(number: u32) -> bool
-    ensures { result ≡ spec.is_between 1 12 number }
-{
-    number >= 1 && number <= 12
-}
-
-/// Whether each of two numbers may be the month, and it is not the same day either way.
-fn is_either_month(first: u32, second: u32) -> bool
-    ensures { result ≡ spec.is_either_month first second }
-{
-    is_month(first) && is_month(second) && first != second
-}
-
-/// The date of three numbers that ends with its year, where their order is not known.
-fn in_unknown_order(first: Numeral, second: Numeral, year: Numeral) -> Result<SimpleDate, DateFault>
-    ensures { result ≡ spec.by_order Unknown first second year }
-{
-    if is_either_month(first.value, second.value) {
-        Err(DateFault::DayOrMonth)
-    } else if second.value > 12 {
-        day_of(one(year), first.value, second.value)
-    } else {
-        day_of(one(year), second.value, first.value)
-    }
-}
-
 /// The date of three numbers that ends with its year.
 fn by_order(
     order: DateOrder,
@@ -186,13 +159,29 @@ fn by_order(
     ensures { result ≡ spec.by_order order first second year }
 {
     match order {
-        DateOrder::Unknown => in_unknown_order(first, second, year),
+        DateOrder::Unknown => Err(DateFault::DayOrMonth),
         DateOrder::DayMonth => day_of(one(year), second.value, first.value),
         DateOrder::MonthDay => day_of(one(year), first.value, second.value),
     }
 }
 
-/// The date of three numbers, which ends with its year or begins with it.
+/// The date of three numbers with dashes between them, which begins with its year or ends with it.
+fn with_dashes(
+    order: DateOrder,
+    first: Numeral,
+    second: Numeral,
+    third: Numeral,
+) -> Result<SimpleDate, DateFault>
+    ensures { result ≡ spec.with_dashes order first second third }
+{
+    if is_long(third) && !is_long(first) {
+        by_order(order, first, second, third)
+    } else {
+        day_in_digits(one(first), second, third)
+    }
+}
+
+/// The date of three numbers with slashes or blanks between them.
 fn three_numbers(
     order: DateOrder,
     first: Numeral,
@@ -201,11 +190,12 @@ fn three_numbers(
 ) -> Result<SimpleDate, DateFault>
     ensures { result ≡ spec.three_numbers order first second third }
 {
-    if is_long(third) && !is_long(first) {
-        by_order(order, first, second, third)
-    } else {
-        day_in_digits(one(first), second, third)
-    }
+    with_dashes(
+        order_of(order, first.value, second.value),
+        first,
+        second,
+        third,
+    )
 }
 
 /// The date of two numbers with a `/` between them and a year after them.
@@ -218,7 +208,7 @@ fn year_last(
     ensures { result ≡ spec.year_last order first second year }
 {
     if is_long(year) && !is_long(first) {
-        by_order(order, first, second, year)
+        three_numbers(order, first, second, year)
     } else {
         Err(DateFault::Malformed)
     }
@@ -290,11 +280,12 @@ fn day_in_numbers(order: DateOrder, parts: &[Part]) -> Result<SimpleDate, DateFa
     ensures { result ≡ spec.day_in_numbers order parts.now }
 {
     match parts {
-        [Number(a), Dash, Number(b), Dash, Number(c)]
-        | [Number(a), Slash, Number(b), Slash, Number(c)]
-        | [Number(a), Number(b), Number(c)] => three_numbers(order, *a, *b, *c),
+        [Number(a), Dash, Number(b), Dash, Number(c)] => with_dashes(order, *a, *b, *c),
+        [Number(a), Slash, Number(b), Slash, Number(c)] | [Number(a), Number(b), Number(c)] => {
+            three_numbers(order, *a, *b, *c)
+        }
         [Number(a), Dot, Number(b), Dot, Number(c)] => {
-            three_numbers(DateOrder::DayMonth, *a, *b, *c)
+            with_dashes(DateOrder::DayMonth, *a, *b, *c)
         }
         [Number(a), Slash, Number(b), Number(y)] => year_last(order, *a, *b, *y),
         [
@@ -366,13 +357,14 @@ fn month_or_year(parts: &[Part]) -> Result<SimpleDate, DateFault>
     }
 }
 
-/// A date in digits with its year first: a day or a month.
+/// A date in digits with its year first: a day, a month or a year.
 pub fn date_in_digits(parts: &[Part]) -> Result<SimpleDate, DateFault>
     ensures { result ≡ spec.date_in_digits parts.now }
 {
     match parts {
-        [Number(y), Dash, Number(m), Dash, Number(d)] => day_of(one(*y), m.value, d.value),
+        [Number(y), Dash, Number(m), Dash, Number(d)] => day_in_digits(one(*y), *m, *d),
         [Number(y), Dash, Number(m)] => year_and_month(*y, *m),
+        [Number(y)] => whole_year(one(*y)),
         _ => Err(DateFault::Malformed),
     }
 }
