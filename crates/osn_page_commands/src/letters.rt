@@ -11,10 +11,10 @@ use crate::order::asked_order;
 use osn_core::Object;
 use osn_files::{FileFault, load_journal};
 use osn_letters::{
-    AddedColumn, Column, ColumnNames, LettersFault, Progress, Separator, TableSettings,
+    AddedColumn, Column, ColumnNames, LettersFault, Separator, TableSettings,
     WeekdayName, write_letters,
 };
-use osn_lines::{Sink, Source};
+use osn_lines::{Progress, Sink, Source};
 use osn_register::Limits;
 use osn_report::{CommandFault, Misuse, Status, report, tell_line, tell_no_memory};
 use std::alloc::{AllocError, Global};
