@@ -5,10 +5,10 @@ use crate::journals::europe;
 use csv::ByteRecord;
 use osn_grammar::DateOrder;
 use osn_letters::{
-    AddedColumn, Column, ColumnNames, Columns, DateColumns, DateNames, LettersFault, Progress,
-    Separator, TableSettings, Tally, WeekdayName, find_columns, write_letters,
+    AddedColumn, Column, ColumnNames, Columns, DateColumns, DateNames, LettersFault, Separator,
+    TableSettings, Tally, WeekdayName, find_columns, write_letters,
 };
-use osn_lines::Plain;
+use osn_lines::{Plain, Progress};
 use osn_register::Register;
 use osn_test_texts::joined;
 use std::alloc::Global;

@@ -1,3 +1,4 @@
 pub mod Audit
+pub mod DeskFault
 pub mod Replay
 pub mod Transcript

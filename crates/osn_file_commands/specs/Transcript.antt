@@ -1,5 +1,5 @@
 -- What the command of a desk prints, and why it prints nothing.
-use Rattle.std.specs.Prelude.{◌⊎◌, ℕ, ◌+◌, List, [], ◌∷◌, ◌++◌, length, map, Vec}
+use Rattle.std.specs.Prelude.{◌≡◌, ◌⊎◌, ℕ, ◌+◌, List, [], ◌∷◌, ◌++◌, length, map, Vec}
 use Rattle.std.specs.declared.alloc.Global.{Global}
 use Rattle.osn_days.specs.Profile.{newest_rules}
 use Rattle.osn_register.specs.declared.limits.Limits.{Limits}
@@ -16,9 +16,10 @@ use Rattle.osn_files.specs.Script.{script}
 use Rattle.osn_files.specs.declared.fault.FileFault.{FileFault}
 use Rattle.osn_files.specs.declared.fault.Role.TheVariants.{Script, Questions}
 use Rattle.osn_reply.specs.Transcript.{transcript_line}
+use Rattle.osn_file_commands.specs.DeskFault.{TellsDesk}
 use Rattle.osn_report.specs.Files.{Makes, IsFileFault}
 use Rattle.osn_report.specs.Printing.{PrintsIfMade, PrintsNone}
-use Rattle.osn_report.specs.declared.fault.CommandFault.TheVariants.{File, Desk}
+use Rattle.osn_report.specs.declared.fault.CommandFault.TheVariants.{File}
 use Rattle.osn_report.specs.declared.status.Status.{Status}
 
 -- the lines of one reader, a question each with its reply
@@ -56,7 +57,7 @@ PrintsDesk limits commands lists o e status =
     × PrintsIfMade (transcript_from 1 lists all) o e status)
     ⊎ ((fault : DeskFault)
     × IsDeskFault (length lists) (length (editions_of newest_rules limits commands)) fault
-    × PrintsNone (Desk fault) o e status)
+    × (o.new ≡ o.old) × TellsDesk e fault status)
 
 -- how the command ends, by what it printed and told: the files make no desk; or they make one, and
 -- that was done

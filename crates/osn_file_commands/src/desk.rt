@@ -4,6 +4,7 @@ ghost use Rattle.osn_lines.specs.Streams.{input_of, output_of};
 ghost use Rattle.osn_file_commands.specs.Transcript.{MakeDesk, MakeNoDesk, PrintsDesk};
 ghost use Rattle.osn_file_commands.specs.Transcript.{PrintsTranscript};
 
+use crate::desk_fault::report_desk;
 use crate::transcript::transcript;
 use osn_core::Command;
 use osn_files::{FileFault, read_questions, read_script};
@@ -49,7 +50,7 @@ fn print_desk<R: Threads + Wait + AllocGlobal, W: Sink, E: Sink>(
     let alloc = rt.alloc();
     match run_desk(rt, alloc, limits, &OpenGate, commands, lists) {
         Ok(told) => print(transcript(alloc, lists, &told), output, errors),
-        Err(fault) => report(alloc, errors, CommandFault::Desk(fault)),
+        Err(fault) => report_desk(alloc, errors, fault),
     }
 }
 

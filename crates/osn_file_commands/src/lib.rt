@@ -5,6 +5,7 @@
 
 mod audit;
 mod desk;
+mod desk_fault;
 mod in_folder;
 mod replay;
 mod transcript;

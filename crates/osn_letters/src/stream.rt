@@ -13,10 +13,9 @@ ghost use Rattle.osn_letters.specs.WriterInside.{waiting};
 use crate::csv_text::RowWriter;
 use crate::fault::LettersFault;
 use crate::letters::Letters;
-use crate::progress::Progress;
 use crate::settings::TableSettings;
 use crate::tally::Tally;
-use osn_lines::{Sink, Source, read_buffer, write_all};
+use osn_lines::{Progress, Sink, Source, read_buffer, write_all};
 use osn_register::Register;
 use std::alloc::Global;
 

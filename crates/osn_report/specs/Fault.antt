@@ -20,9 +20,6 @@ use Rattle.osn_format.specs.Version.{version_number}
 use Rattle.osn_format.specs.declared.version.Version.{Version}
 use Rattle.osn_lines.specs.declared.whole.ReadAllFault.{ReadAllFault}
 use Rattle.osn_lines.specs.declared.whole.ReadAllFault.TheVariants as read_faults
-use Rattle.osn_live.specs.Faults.{desk_fault_number, desk_fault_name}
-use Rattle.osn_live.specs.declared.faults.DeskFault.{DeskFault}
-use Rattle.osn_live.specs.declared.faults.DeskFault.TheVariants as desk_faults
 use Rattle.osn_service.specs.declared.fault.ServeFault.{ServeFault}
 use Rattle.osn_service.specs.declared.fault.ServeFault.TheVariants as serve_faults
 use Rattle.osn_report.specs.LimitHint.{limit_hint}
@@ -53,16 +50,11 @@ abbrev pub refusal_status : Refusal → Status
 refusal_status refusals.NoMemory = NoMemory
 refusal_status refusal = Refused
 
-abbrev pub desk_status : DeskFault → Status
-desk_status desk_faults.NoMemory = NoMemory
-desk_status fault = Refused
-
 -- the status with which a command ends by a fault
 abbrev pub fault_status : CommandFault → Status
 fault_status (faults.File why) = file_status why
 fault_status (faults.Service why) = service_status why
 fault_status (faults.Refused refusal) = refusal_status refusal
-fault_status (faults.Desk why) = desk_status why
 fault_status faults.KeptWithOther = Misused
 fault_status (faults.Keep why) = ReadFault
 fault_status (faults.KeptFile why) = WriteFault
@@ -130,11 +122,6 @@ abbrev pub refusal_line : Refusal → List ℕ
 refusal_line refusals.NoMemory = memory_line
 refusal_line refusal = numbered_line refusal
 
-abbrev pub desk_line : DeskFault → List ℕ
-desk_line desk_faults.NoMemory = memory_line
-desk_line fault =
-    codes "oldstyle: " ++ refusal_end (desk_fault_number fault) (desk_fault_name fault)
-
 abbrev pub keep_line : KeepFault → List ℕ
 keep_line Held = codes "oldstyle: another run of the program keeps that journal\n"
 keep_line NotOpened = read_line
@@ -149,7 +136,6 @@ abbrev pub fault_line : CommandFault → List ℕ
 fault_line (faults.File why) = file_line why
 fault_line (faults.Service why) = service_line why
 fault_line (faults.Refused refusal) = refusal_line refusal
-fault_line (faults.Desk why) = desk_line why
 fault_line faults.KeptWithOther = codes "oldstyle: --keep goes with neither --journal nor --save\n"
 fault_line (faults.Keep why) = keep_line why
 fault_line (faults.KeptFile why) = kept_file_line why

@@ -7,7 +7,6 @@ use osn_files::FileFault;
 use osn_folder::{KeepFault, KeptFileFault};
 use osn_format::Version;
 use osn_lines::ReadAllFault;
-use osn_live::DeskFault;
 use osn_register::Refusal;
 use osn_service::ServeFault;
 use std::alloc::AllocError;
@@ -21,8 +20,6 @@ pub enum CommandFault {
     Service(ServeFault),
     /// What the words ask for is refused.
     Refused(Refusal),
-    /// A desk answered nothing.
-    Desk(DeskFault),
     /// A journal is to be kept, and another one to begin with or to be saved.
     KeptWithOther,
     /// A file could not be locked, to be kept or to save a journal to it.

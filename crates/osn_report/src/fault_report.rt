@@ -12,7 +12,6 @@ use osn_files::{FileFault, LineFault, Role};
 use osn_folder::{KeepFault, KeptFileFault};
 use osn_format::Version;
 use osn_lines::{Sink, write_all};
-use osn_live::DeskFault;
 use osn_register::Refusal;
 use osn_service::ServeFault;
 use std::alloc::{AllocError, Global};
@@ -171,19 +170,6 @@ fn report_refusal<E: Sink>(alloc: Global, errors: &mut E, refusal: Refusal) -> S
     }
 }
 
-fn report_desk<E: Sink>(alloc: Global, errors: &mut E, fault: DeskFault) -> Status
-    ensures { Tells (output_of E.contents E.has_failed E.holds_back errors.old errors.new)
-        (CommandFault.Desk fault) result }
-{
-    match fault {
-        DeskFault::NoMemory => tell_no_memory(errors),
-        _ => {
-            let line = refused(alloc, fault.number(), fault.name());
-            tell_line(errors, Status::Refused, line)
-        }
-    }
-}
-
 fn report_keep<E: Sink>(errors: &mut E, fault: KeepFault) -> Status
     ensures { EndsBy (output_of E.contents E.has_failed E.holds_back errors.old errors.new)
         (CommandFault.Keep fault) result }
@@ -213,7 +199,6 @@ pub fn report<E: Sink>(alloc: Global, errors: &mut E, fault: CommandFault) -> St
         CommandFault::File(fault) => report_file(alloc, errors, fault),
         CommandFault::Service(fault) => report_service(errors, fault),
         CommandFault::Refused(refusal) => report_refusal(alloc, errors, refusal),
-        CommandFault::Desk(fault) => report_desk(alloc, errors, fault),
         CommandFault::KeptWithOther => tell(errors, Status::Misused, KEPT_WITH_OTHER),
         CommandFault::Keep(fault) => report_keep(errors, fault),
         CommandFault::KeptFile(fault) => report_kept_file(errors, fault),

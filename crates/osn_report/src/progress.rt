@@ -1,7 +1,6 @@
 //! How far a long run is, for people who wait at a terminal.
 
-use osn_letters::Progress;
-use osn_lines::{ReadFailed, Sink, Source, write_all};
+use osn_lines::{Progress, ReadFailed, Sink, Source, write_all};
 use std::alloc::Global;
 
 const MEBIBYTE: u64 = 1 << 20;

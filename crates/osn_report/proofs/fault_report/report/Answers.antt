@@ -25,12 +25,6 @@ returns-in-Refused g c =
     same_told told c.args.fault (faults.Refused c.in-Refused.refusal) _ c.in-Refused.is
     c.report_refusal.ensures
 
-pub returns-in-Desk : goal.returns-in-Desk
-returns-in-Desk g c =
-    let told = output_of g.E.Sink.contents g.E.Sink.has_failed g.E.Sink.holds_back
-    c.args.errors.now c.report_desk.new.errors in
-    same_told told c.args.fault (faults.Desk c.in-Desk.fault) _ c.in-Desk.is c.report_desk.ensures
-
 pub returns-in-KeptWithOther : goal.returns-in-KeptWithOther
 returns-in-KeptWithOther g c =
     let told = output_of g.E.Sink.contents g.E.Sink.has_failed g.E.Sink.holds_back
