@@ -1,13 +1,12 @@
 -- The field of an index, and the names of a header.
-use Rattle.std.proofs.Common.{◌≡◌, ◌<◌, ◌≤◌, ◌∙◌, ℕ, zero, suc, ◌+◌, true, false, List, [], ◌∷◌}
-use Rattle.std.proofs.Common.{length, drop, get_or, Option, Some, None, option_map, refl, sym, ap}
-use Rattle.std.proofs.Common.{arith, add-one, drop-cons, drop_of_length-le, ◌++◌, append-nil}
-use Rattle.std.proofs.Common.{append_assoc, take, codes, Bool, if◌then◌else◌}
+use Rattle.std.proofs.Common.{◌≡◌, ◌<◌, ◌≤◌, ◌∙◌, ℕ, zero, suc, ◌+◌, List, [], ◌∷◌}
+use Rattle.std.proofs.Common.{length, get_or, Some, None, refl, sym, ap}
+use Rattle.std.proofs.Common.{arith, add-one, ◌++◌, append-nil}
+use Rattle.std.proofs.Common.{append_assoc, take, codes}
 use Rattle.std.proofs.Math.Seq.{take-suc}
 use Rattle.std.proofs.lemmas.Grind.{flat_map-append}
 use Rattle.std.proofs.lemmas.List.{length-take, take_all}
-use Rattle.std.specs.List.{find, flat_map}
-use Rattle.std.specs.Str.{bytes_eq}
+use Rattle.std.specs.List.{flat_map}
 use Rattle.csv.specs.Records.{field_at}
 use Rattle.osn_letters.specs.Columns.{after_comma, names_text}
 

@@ -1,6 +1,6 @@
 -- Texts that an iterator joins, in the words of the definitions.
 use Rattle.std.proofs.Common.{◌≡◌, ◌∙◌, ℕ, Bool, true, false, if◌then◌else◌, List, [], ◌∷◌, ◌++◌}
-use Rattle.std.proofs.Common.{map, filter, Bor, refl, ap}
+use Rattle.std.proofs.Common.{map, filter, Bor, refl, sym, ap}
 use Rattle.std.proofs.lemmas.List.{map-append}
 use Rattle.std.specs.List.{flat_map, join_by}
 use Rattle.itertools.specs.Consumer.{joined}
@@ -22,6 +22,12 @@ pub join_by_map : {X Y : Type 0} (word : Y → List ℕ) (f : X → Y) (separato
 join_by_map word f separator [] = refl
 join_by_map word f separator (x ∷ xs) =
     ap (λ rest. word (f x) ++ rest) (further_map word f separator xs)
+
+pub joined_now : {X : Type 0} (word : X → List ℕ) (separator : List ℕ) (refs : List (Bor X))
+    → joined (λ r. word r.now) separator refs ≡ joined word separator (map (λ r. r.now) refs)
+joined_now word separator [] = refl
+joined_now word separator (r ∷ refs) =
+    ap (λ rest. word r.now ++ rest) (sym (further_map word (λ x. x.now) separator refs))
 
 -- ---- what an iterator over references gives
 

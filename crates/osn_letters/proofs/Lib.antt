@@ -1,10 +1,14 @@
+pub mod BomFacts
 pub mod ClearFacts
 pub mod ColumnFacts
 pub mod FoundFacts
 pub mod GoesFacts
 pub mod FieldFacts
 pub mod JoinFacts
-pub mod KeepFacts
+pub mod CountFacts
+pub mod TallyFacts
+pub mod RemarkFacts
+pub mod LastFacts
 pub mod LaterFacts
 pub mod LawFacts
 pub mod LetterFacts
@@ -12,6 +16,7 @@ pub mod MarkFacts
 pub mod PartFacts
 pub mod PassFacts
 pub mod PlaceFacts
+pub mod PlaceFaultFacts
 pub mod QuietFacts
 pub mod RowFacts
 pub mod SeamFacts

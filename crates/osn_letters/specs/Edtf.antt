@@ -1,5 +1,5 @@
--- Days as ISO 8601-2 writes them, its Extended Date/Time Format: at its level 1, and where there are
--- several days or runs as a set of its level 2. This project's profile.
+-- Days as ISO 8601-2 writes them, its Extended Date/Time Format: at its level 1, and where there
+-- are several days or runs as a set of its level 2. This project's profile.
 use Rattle.std.specs.Prelude.{ℕ, ◌==◌, if◌then◌else◌, List, [], ◌∷◌, ◌++◌, Option, Some, None, codes}
 use Rattle.std.specs.List.{join_by}
 use Rattle.osn_days.specs.declared.calendar.Calendar.TheVariants.{Gregorian}

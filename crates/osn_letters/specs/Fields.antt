@@ -98,8 +98,9 @@ pub record FieldsAndRemarks : Type 0 where
   pub fields : List (List ℕ)
   pub remarks : List Remark
 
-abbrev pub fields_and_remarks : LetterFields → FieldsAndRemarks
-fields_and_remarks made = record { fields = fields_of made.fields; remarks = made.remarks.items }
+-- the same of what a call makes
+abbrev pub said : LetterFields → FieldsAndRemarks
+said made = record { fields = fields_of made.fields; remarks = made.remarks.items }
 
 -- of these days, with this text of them, and with remarks, whose words the last field joins
 abbrev pub fields_with : Summary → List DatedDay → List ℕ → List Remark → FieldsAndRemarks

@@ -1,6 +1,5 @@
 -- What a reader of places gives of further records and of further bytes.
-use Rattle.std.specs.Prelude.{◌≡◌, ◌≢◌, ℕ, List, [], ◌∷◌, Option, Some, None, Result, Ok, Err}
-use Rattle.csv.specs.Records.{fields_of}
+use Rattle.std.specs.Prelude.{◌≡◌, ◌≢◌, ℕ, List, ◌∷◌, Option, Some, None, Result, Err}
 use Rattle.osn_letters.specs.declared.place_columns.PlaceColumns.{PlaceColumns}
 use Rattle.osn_letters.specs.declared.place_reader.PlaceReader.{PlaceReader}
 use Rattle.osn_letters.specs.declared.places_fault.PlacesFault.{PlacesFault}

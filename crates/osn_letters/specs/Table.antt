@@ -1,5 +1,5 @@
--- The table that is written: the header and each record that came, with twelve fields after it. This
--- project's profile.
+-- The table that is written: the header and each record that came, with twelve fields after it.
+-- This project's profile.
 use Rattle.std.specs.Prelude.{◌≡◌, ◌≤◌, ℕ, true, ◌==◌, List, [], ◌∷◌, ◌++◌, length, get_or}
 use Rattle.std.specs.Prelude.{if◌then◌else◌}
 use Rattle.std.specs.Prelude.{Option, Some, None, option_map, unwrap_or, Result, Ok, Err}
@@ -23,8 +23,8 @@ use Rattle.osn_letters.specs.Records.{PlacedRecord, records_of}
 use Rattle.osn_letters.specs.Separators.{writer_by}
 
 -- by what a table is made: the rules, the territories, the number of their edition, the names of
--- the columns that are read, what separates the fields, if it was named, how a date is read that may
--- begin with its day or its month, and the entries of the table of places
+-- the columns that are read, what separates the fields, if it was named, how a date is read that
+-- may begin with its day or its month, and the entries of the table of places
 pub record TableBasis : Type 0 where
   pub rules : Profile
   pub lands : List LandModel

@@ -11,9 +11,9 @@ use Rattle.osn_letters.specs.Faults.{is_of_stream}
 use Rattle.osn_letters.specs.Records.{PlacedRecord}
 use Rattle.osn_letters.specs.Table.{TableBasis, basis, Heading, Written, written_from, behind}
 use Rattle.osn_letters.specs.Table.{ended_by}
-use Rattle.osn_letters.specs.RowRemarks.{rows_remarks, table_remarks}
+use Rattle.osn_letters.specs.RowRemarks.{letters_remarks, rows_remarks, table_remarks}
 use Rattle.osn_letters.specs.Tally.{TallyModel}
-use Rattle.osn_letters.specs.TallyInside.{with_rows}
+use Rattle.osn_letters.specs.TallyInside.{no_rows, with_rows}
 use Rattle.osn_letters.specs.WriterInside.{waiting}
 
 -- by what it is made
@@ -81,3 +81,7 @@ CountsRecord old new r = (more : List PlacedRecord) → tally_of old (r ∷ more
 abbrev pub CountsRow : Table → Table → ℕ → List (List ℕ) → Type 0
 CountsRow old new line record_fields = (separator : Separator) → CountsRecord old new
     (record { line = line; separator = separator; fields = Ok record_fields })
+
+-- the tally of a whole text
+abbrev pub letters_tally : TableBasis → List ℕ → TallyModel
+letters_tally s text = with_rows no_rows (letters_remarks s text)

@@ -4,6 +4,7 @@ ghost use Rattle.std.specs.Char.{is_ascii_digit};
 ghost use Rattle.std.specs.List.{list_all};
 ghost use Rattle.csv.specs.Records.{fields_of};
 ghost use Rattle.osn_letters.specs.DateParts as spec;
+ghost use Rattle.osn_letters.specs.declared.columns.DateColumns.TheVariants.{Apart};
 
 use crate::columns::field_at;
 use crate::row_field::trimmed;
@@ -92,7 +93,7 @@ pub(crate) fn parts_text(
     day: Option<usize>,
 ) -> Result<Vec<u8>, AllocError>
     ensures { IfOk result (λ text. text.items
-        ≡ spec.date_in (spec.Apart year month day) (fields_of row.now)) }
+        ≡ spec.date_in (Apart year month day) (fields_of row.now)) }
 {
     date_of_parts(
         alloc,

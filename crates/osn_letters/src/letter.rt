@@ -37,7 +37,7 @@ fn fields_with(
     edtf: &str,
     remarks: Vec<Remark>,
 ) -> Result<LetterFields, AllocError>
-    ensures { IfOk result (λ made. spec.fields_and_remarks made
+    ensures { IfOk result (λ made. spec.said made
         ≡ spec.fields_with summary days.now edtf.now remarks.items) }
 {
     let text = remark_text(alloc, &remarks)?;
@@ -53,7 +53,7 @@ fn fields_of_none(
     reasons: &[Told],
     beside: &[Told],
 ) -> Result<LetterFields, AllocError>
-    ensures { IfOk result (λ made. spec.fields_and_remarks made
+    ensures { IfOk result (λ made. spec.said made
         ≡ spec.fields_of_none edition kind (reasons.now ++ beside.now)) }
 {
     let summary = Summary {
@@ -74,7 +74,7 @@ fn fields_of_days(
     on_days: &[Told],
     beside: &[Told],
 ) -> Result<LetterFields, AllocError>
-    ensures { IfOk result (λ made. spec.fields_and_remarks made
+    ensures { IfOk result (λ made. spec.said made
         ≡ spec.fields_of_days edition date days.now (on_days.now ++ beside.now)) }
 {
     let summary = Summary {
@@ -95,7 +95,7 @@ fn fields_of_runs(
     runs: &[Run],
     beside: &[Told],
 ) -> Result<LetterFields, AllocError>
-    ensures { IfOk result (λ made. spec.fields_and_remarks made
+    ensures { IfOk result (λ made. spec.said made
         ≡ spec.fields_of_runs edition date runs.now beside.now) }
 {
     let summary = Summary {
@@ -116,7 +116,7 @@ fn fields_of_absence(
     reason: NoDay,
     beside: &[Told],
 ) -> Result<LetterFields, AllocError>
-    ensures { IfOk result (λ made. spec.fields_and_remarks made
+    ensures { IfOk result (λ made. spec.said made
         ≡ spec.fields_of_absence edition date reason beside.now) }
 {
     let kind = Some(kind_of(date.extent));
@@ -139,7 +139,7 @@ fn fields_of_one_day(
     given: Option<Weekday>,
     beside: &[Told],
 ) -> Result<LetterFields, AllocError>
-    ensures { IfOk result (λ made. spec.fields_and_remarks made ≡ spec.fields_of_one_day newest_rules
+    ensures { IfOk result (λ made. spec.said made ≡ spec.fields_of_one_day newest_rules
         edition territory.now date day given beside.now) }
 {
     let days = days_meant(alloc, territory, day, given)?;
@@ -159,7 +159,7 @@ fn fields_of_many_days(
     date: AnyDate,
     beside: &[Told],
 ) -> Result<LetterFields, AllocError>
-    ensures { IfOk result (λ made. spec.fields_and_remarks made ≡ spec.fields_of_many_days newest_rules
+    ensures { IfOk result (λ made. spec.said made ≡ spec.fields_of_many_days newest_rules
         edition territory.now date beside.now) }
 {
     match find_runs(alloc, territory, date.extent)? {
@@ -177,7 +177,7 @@ fn fields_by(
     date: AnyDate,
     named: Option<&[u8]>,
 ) -> Result<LetterFields, AllocError>
-    ensures { IfOk result (λ made. spec.fields_and_remarks made ≡ spec.fields_by newest_rules edition
+    ensures { IfOk result (λ made. spec.said made ≡ spec.fields_by newest_rules edition
         territory.now is_by_other_calendar date (option_map (λ w. w.now) named.entry)) }
 {
     let given = weekday_in(named);
@@ -197,7 +197,7 @@ fn fields_in(
     date: AnyDate,
     named: Option<&[u8]>,
 ) -> Result<LetterFields, AllocError>
-    ensures { IfOk result (λ made. spec.fields_and_remarks made ≡ spec.fields_in newest_rules edition
+    ensures { IfOk result (λ made. spec.said made ≡ spec.fields_in newest_rules edition
         territory.now date (option_map (λ w. w.now) named.entry)) }
 {
     let Some(reckoning) = date.reckoning else {
@@ -215,7 +215,7 @@ fn fields_without_place(
     date: AnyDate,
     named: Option<&[u8]>,
 ) -> Result<LetterFields, AllocError>
-    ensures { IfOk result (λ made. spec.fields_and_remarks made ≡ spec.fields_without_place edition date
+    ensures { IfOk result (λ made. spec.said made ≡ spec.fields_without_place edition date
         (option_map (λ w. w.now) named.entry)) }
 {
     let given = weekday_in(named);
@@ -239,7 +239,7 @@ fn fields_of_date(
     date: AnyDate,
     named: Option<&[u8]>,
 ) -> Result<LetterFields, AllocError>
-    ensures { IfOk result (λ made. spec.fields_and_remarks made ≡ spec.fields_of_date newest_rules edition
+    ensures { IfOk result (λ made. spec.said made ≡ spec.fields_of_date newest_rules edition
         (option_map (λ t. t.now) territory.entry) date
         (option_map (λ w. w.now) named.entry)) }
 {
@@ -257,7 +257,7 @@ fn fields_without_date(
     lacks_place: bool,
     named: Option<&[u8]>,
 ) -> Result<LetterFields, AllocError>
-    ensures { IfOk result (λ made. spec.fields_and_remarks made ≡ spec.fields_without_date edition fault
+    ensures { IfOk result (λ made. spec.said made ≡ spec.fields_without_date edition fault
         lacks_place (option_map (λ w. w.now) named.entry)) }
 {
     let reasons = [
@@ -290,7 +290,7 @@ pub fn letter_fields(
     date: &[u8],
     weekday: Option<&[u8]>,
 ) -> Result<LetterFields, AllocError>
-    ensures { IfOk result (λ made. spec.fields_and_remarks made ≡ spec.letter_fields newest_rules
+    ensures { IfOk result (λ made. spec.said made ≡ spec.letter_fields newest_rules
         register.now.lands edition order
         (unwrap_or (option_map (λ places. places.now) places.entry) []) place.now date.now
         (option_map (λ w. w.now) weekday.entry)) }

@@ -5,11 +5,9 @@ ghost use Rattle.osn_letters.specs.LettersInside as inside;
 ghost use Rattle.osn_days.specs.Profile.{newest_rules};
 ghost use Rattle.osn_letters.specs.declared.start.Start.TheVariants.{Past};
 ghost use Rattle.osn_letters.specs.Records.{next_line};
-ghost use Rattle.osn_letters.specs.RowRemarks.{letters_remarks};
 ghost use Rattle.osn_letters.specs.Start.{held};
 ghost use Rattle.osn_letters.specs.Table.{whole, basis, letters_written};
-ghost use Rattle.osn_letters.specs.TableInside.{tally_of, written_of};
-ghost use Rattle.osn_letters.specs.TallyInside.{no_rows, with_rows};
+ghost use Rattle.osn_letters.specs.TableInside.{letters_tally, tally_of, written_of};
 ghost use Rattle.osn_letters.specs.WriterInside.{waiting};
 
 use crate::csv_text::RowWriter;
@@ -45,8 +43,7 @@ impl<'a> Letters<'a> {
         ensures text { (text : List ℕ) → inside.text_from result text
             ≡ letters_written (basis newest_rules register.now.lands edition settings.entry) text }
         ensures tally { (text : List ℕ) → inside.tally_from result text
-            ≡ with_rows no_rows (letters_remarks
-            (basis newest_rules register.now.lands edition settings.entry) text) }
+            ≡ letters_tally (basis newest_rules register.now.lands edition settings.entry) text }
     {
         Letters {
             start: Start::Nothing,

@@ -1,8 +1,8 @@
 //! Letters: a table in CSV, each row of which is told which days its date means in its place. What
 //! the crate promises to those above: `write_letters` writes the table of the definition and
-//! nothing else, in whatever pieces the bytes come, and says where it ended early and why, and how
-//! many rows have each remark; the fields after a row are those of `letter_fields`, by which days its
-//! date means in the territory.
+//! nothing else, in whatever pieces the bytes come, says where it ended early and why, and tells how
+//! many rows have each remark; the fields after a row are those of `letter_fields`, by which days
+//! its date means in the territory.
 #![tactic(auto)]
 
 mod added_column;

@@ -1,5 +1,5 @@
 //! The reading of a table of places.
-ghost use Rattle.std.specs.Prelude.{ℕ, List, ◌≡◌, ◌≢◌, ◌+◌, ◌<◌, ◌≤◌, ◌^◌, ◌∷◌, [], length, true};
+ghost use Rattle.std.specs.Prelude.{ℕ, List, ◌≡◌, ◌≢◌, ◌+◌, ◌<◌, ◌≤◌, ◌^◌, ◌∷◌, [], length, true, false};
 ghost use Rattle.std.specs.Prelude.{Ok, Err, None, Some, IfOk, IfErr, IfSome, OnOk, MatchResult};
 ghost use Rattle.std.specs.Io.KnownBytes.{IsAtEnd};
 ghost use Rattle.csv.specs.Reading.{strip_bom};
@@ -152,9 +152,9 @@ impl PlaceReader {
 fn unmarked(text: &[u8]) -> &[u8]
     ensures { result.now ≡ strip_bom text.now }
 {
-    match text {
-        [0xef, 0xbb, 0xbf, rest @ ..] => rest,
-        _ => text,
+    match text.strip_prefix(&[0xef, 0xbb, 0xbf]) {
+        Some(rest) => rest,
+        None => text,
     }
 }
 
@@ -163,6 +163,7 @@ fn places_in(alloc: Global, text: &[u8]) -> Result<Places, PlacesFault>
     ensures value { IfOk result (λ places. spec.places_in text.now ≡ Ok places) }
     ensures fault { IfErr result
         (λ fault. (fault ≢ NoMemory) → spec.places_in text.now ≡ Err fault) }
+    ensures unread { IfErr result (λ fault. is_read_fault fault ≡ false) }
 {
     let mut reader = PlaceReader::new(alloc);
     reader.take_all(unmarked(text))?;

@@ -40,8 +40,10 @@ impl Places {
     pub(crate) fn code_of(&self, place: &str) -> Option<&str>
         ensures { option_map (λ code. code.now) result ≡ entries.code_of place.now self.now }
     {
-        let code = self.codes.get(place)?;
-        Some(code.as_str())
+        match self.codes.get(place) {
+            Some(code) => Some(code.as_str()),
+            None => None,
+        }
     }
 
     /// Appends the entry of a place that is not listed.

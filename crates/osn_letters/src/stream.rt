@@ -112,8 +112,8 @@ fn finish_and_write<W: Sink>(letters: &mut Letters<'_>, sink: &mut W) -> Result<
 }
 
 /// Writes a table of letters in CSV from one in CSV: the header with twelve names after those that
-/// came, and each record with the twelve fields of `letter_fields` after its own, by the register of
-/// that edition. Which columns hold the places, the dates and the weekdays is told by their names.
+/// came, and each record with the twelve fields of `letter_fields` after its own, by the register
+/// of that edition. Which columns hold the places, the dates and the weekdays is told by their names.
 /// The fields are separated by what the settings name, or else by the first comma, semicolon or
 /// tab of the header that stands in no quotes, or else by commas; so are those that are written. A
 /// byte order mark at the beginning is left out.

@@ -1,9 +1,9 @@
 //! The table that is written, record by record.
-ghost use Rattle.std.specs.Prelude.{◌≡◌, ◌∷◌, ◌++◌, [], true, get_or, IfErr, OnOk, Some, Ok};
-ghost use Rattle.std.specs.Prelude.{IfOk, None, option_map};
+ghost use Rattle.std.specs.Prelude.{◌≡◌, ◌∷◌, ◌++◌, [], true, get_or, IfErr, IfOk, OnOk, Some, Ok};
+ghost use Rattle.std.specs.Prelude.{None, option_map};
 ghost use Rattle.csv.specs.Records.{fields_of, partial_of};
 ghost use Rattle.osn_letters.specs.Faults.{is_of_table};
-ghost use Rattle.osn_letters.specs.Fields.{fields_and_remarks};
+ghost use Rattle.osn_letters.specs.Fields.{said};
 ghost use Rattle.osn_letters.specs.Table as spec;
 ghost use Rattle.osn_letters.specs.TableInside as inside;
 ghost use Rattle.osn_letters.specs.TallyInside.{with_row};
@@ -100,14 +100,14 @@ impl Table<'_> {
         Ok(())
     }
 
-    /// The twelve fields of a record, with the text of its date, and its remarks.
-    fn said_on(
+    /// The twelve fields of a record with the text of its date, and the remarks.
+    fn fields_on(
         &self,
         columns: Columns,
         row: &ByteRecord,
         date: &[u8],
     ) -> Result<LetterFields, AllocError>
-        ensures { IfOk result (λ made. fields_and_remarks made ≡ spec.said_on
+        ensures { IfOk result (λ made. said made ≡ spec.said_on
             (inside.source_of self.now) columns (fields_of row.now) date.now) }
     {
         letter_fields(
@@ -122,16 +122,16 @@ impl Table<'_> {
         )
     }
 
-    /// The twelve fields of a record, and its remarks.
-    fn said_of(&self, columns: Columns, row: &ByteRecord) -> Result<LetterFields, AllocError>
-        ensures { IfOk result (λ made. fields_and_remarks made ≡ spec.said_of
+    /// The twelve fields of a record, and the remarks.
+    fn row_fields(&self, columns: Columns, row: &ByteRecord) -> Result<LetterFields, AllocError>
+        ensures { IfOk result (λ made. said made ≡ spec.said_of
             (inside.source_of self.now) columns (fields_of row.now)) }
     {
         match columns.date {
-            DateColumns::Whole(index) => self.said_on(columns, row, field_at(row, index)),
+            DateColumns::Whole(index) => self.fields_on(columns, row, field_at(row, index)),
             DateColumns::Apart { year, month, day } => {
                 let date = parts_text(self.alloc, row, year, month, day)?;
-                self.said_on(columns, row, &date)
+                self.fields_on(columns, row, &date)
             }
         }
     }
@@ -150,7 +150,7 @@ impl Table<'_> {
         ensures tally { OnOk result (self.new.tally ≡ with_row self.old.tally
             (spec.said_of (inside.source_of self.old) columns (fields_of row.old)).remarks) }
     {
-        let made = self.said_of(columns, row)?;
+        let made = self.row_fields(columns, row)?;
         push_fields(row, &made.fields)?;
         self.tally.count(&made.remarks)?;
         self.out.write_row(row)

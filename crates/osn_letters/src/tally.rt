@@ -1,5 +1,5 @@
 //! How many rows of a table have each remark.
-ghost use Rattle.std.specs.Prelude.{◌≡◌, IfOk, OnOk, string_bytes};
+ghost use Rattle.std.specs.Prelude.{◌≡◌, ◌++◌, IfOk, OnOk, string_bytes};
 ghost use Rattle.osn_letters.specs.Tally as spec;
 ghost use Rattle.osn_letters.specs.TallyInside as inside;
 
@@ -16,6 +16,21 @@ pub struct Tally {
     remarked: u64,
     /// By the words of the remark.
     by_remark: BTreeMap<&'static str, u64>,
+}
+
+/// Appends a line: `front`, what is counted, and how many there are.
+fn push_line(
+    alloc: Global,
+    text: &mut String,
+    front: &str,
+    label: &str,
+    count: u64,
+) -> Result<(), AllocError>
+    ensures { OnOk result (string_bytes text.new
+        ≡ string_bytes text.old ++ spec.count_line front.now label.now count) }
+{
+    let line = format!(in alloc; "{front}{label}: {count}\n")?;
+    text.push_str(&line)
 }
 
 impl Model for Tally {
@@ -84,9 +99,9 @@ impl Tally {
         self.remarked > 0
     }
 
-    /// The tally in lines: `rows: 6`, `rows with a remark: 3`, and for each remark that a row has
-    /// its words with how many rows have it, as `several days: 2`, in the order of the words. Before
-    /// each line stands `front`.
+    /// The tally in lines, each after `front`: `rows: 6`, `rows with a remark: 3`, and for each
+    /// remark that a row has, in the order of their words, how many rows have it, as
+    /// `several days: 2`.
     ///
     /// # Errors
     ///
@@ -94,14 +109,11 @@ impl Tally {
     pub fn text(&self, alloc: Global, front: &str) -> Result<String, AllocError>
         ensures { IfOk result (λ text. string_bytes text ≡ spec.tally_text front.now self.now) }
     {
-        let rows = self.rows;
-        let remarked = self.remarked;
-        let mut text = format!(in alloc;
-            "{front}rows: {rows}\n{front}rows with a remark: {remarked}\n"
-        )?;
+        let mut text = String::new(alloc);
+        push_line(alloc, &mut text, front, "rows", self.rows)?;
+        push_line(alloc, &mut text, front, "rows with a remark", self.remarked)?;
         for (words, count) in &self.by_remark {
-            let line = format!(in alloc; "{front}{words}: {count}\n")?;
-            text.push_str(&line)?;
+            push_line(alloc, &mut text, front, words, *count)?;
         }
         Ok(text)
     }

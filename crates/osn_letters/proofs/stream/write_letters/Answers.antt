@@ -7,16 +7,17 @@ use Rattle.osn_days.specs.Profile.{newest_rules}
 use Rattle.osn_lines.proofs.ByteLemmas.{Consumes-then, Consumes-end, Consumes-keeps}
 use Rattle.osn_letters.specs.declared.fault.LettersFault.TheVariants.{NoMemory}
 use Rattle.osn_letters.specs.Faults.{is_write_fault}
-use Rattle.osn_letters.specs.LettersInside.{remarked_from, text_from}
-use Rattle.osn_letters.specs.Remarked.{letters_remarked}
+use Rattle.osn_letters.specs.LettersInside.{tally_from, text_from}
+use Rattle.osn_letters.specs.TableInside.{letters_tally}
 use Rattle.osn_letters.specs.Table.{letters_written, basis}
-use Rattle.osn_letters.proofs.KeepFacts.{all_kept, read_kept}
+use Rattle.osn_letters.proofs.CountFacts.{all_counted, read_counted}
 use Rattle.osn_letters.proofs.LetterFacts.{told}
 use Rattle.osn_letters.proofs.StreamFacts.{nothing_early, end_whole, end_early}
 use Rattle.osn_letters.proofs.StreamFacts.{read_early, read_passes, ends_weaker, end_long}
 use Rattle.osn_letters.proofs.QuietFacts.{read_settled}
 use Rattle.osn_letters.proofs.StreamFacts.{unread_ends, unread_fault}
 use Rattle.osn_letters.proofs.StreamFacts.{read_long, input_long, both_ways, told_ends}
+use Rattle.osn_letters.proofs.RemarkFacts.{told_tally}
 use Rattle.osn_letters.proofs.stream.write_letters.Goals as goal
 
 pub returns-in_default-clause-early : goal.returns-in_default-clause-early
@@ -45,9 +46,9 @@ returns-then-read-eq0-clause-whole g c =
     (bytes.1 c.if-read-eq0.true some) inv.3 h)
     c.finish_and_write.ensures.whole
 
-pub returns-then-read-eq0-clause-remarked : goal.returns-then-read-eq0-clause-remarked
-returns-then-read-eq0-clause-remarked g c =
-    let all = letters_remarked (basis newest_rules c.args.register.now.lands c.args.edition
+pub returns-then-read-eq0-clause-tally : goal.returns-then-read-eq0-clause-tally
+returns-then-read-eq0-clause-tally g c =
+    let all = letters_tally (basis newest_rules c.args.register.now.lands c.args.edition
     c.args.settings) in
     let inv = c.loop-call.invariant.taken in
     let bytes = c.in-Ok-read.ensures.bytes in
@@ -62,9 +63,9 @@ returns-then-read-eq0-clause-remarked g c =
     Consumes-end _ _ _ inv.0 c.read.new.buffer c.in-Ok-read.read c.if-read-eq0.true inv.2
     bytes.0 in
     IfOk-weaker c.finish_and_write.result _ _
-    (λ remarked h. all_kept all (remarked_from c.loop-call.letters) _ _ inv.0 remarked consumed
-    (bytes.1 c.if-read-eq0.true some) inv.4 h)
-    c.finish_and_write.ensures.remarked
+    (λ tally h. told_tally _ _ tally (all_counted all (tally_from c.loop-call.letters) _ _ inv.0
+    tally consumed (bytes.1 c.if-read-eq0.true some) inv.4 h))
+    c.finish_and_write.ensures.tally
 
 pub returns-then-read-eq0-clause-early : goal.returns-then-read-eq0-clause-early
 returns-then-read-eq0-clause-early g c =
@@ -240,9 +241,9 @@ loop-call-preserved g c =
         read_passes all (text_from c.loop-call.letters)
             (text_from c.take_and_write.new.letters) _ _ _ inv.0 got _ same inv.3
             c.in_ok-take_and_write.ensures.passes,
-        read_kept (letters_remarked (basis newest_rules c.args.register.now.lands c.args.edition
-            c.args.settings)) (remarked_from c.loop-call.letters)
-            (remarked_from c.take_and_write.new.letters) inv.0 got _ same inv.4
-            c.in_ok-take_and_write.ensures.keeps,
+        read_counted (letters_tally (basis newest_rules c.args.register.now.lands c.args.edition
+            c.args.settings)) (tally_from c.loop-call.letters)
+            (tally_from c.take_and_write.new.letters) inv.0 got _ same inv.4
+            c.in_ok-take_and_write.ensures.counts,
       );
     }

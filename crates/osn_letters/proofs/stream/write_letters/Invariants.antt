@@ -1,11 +1,11 @@
 use Rattle.std.proofs.Common.{◌≡◌, ◌+◌, ◌*◌, ◌≤◌, ℕ, List, [], ◌++◌, length}
 use Rattle.std.specs.Io.KnownBytes.{Consumes}
 use Rattle.osn_days.specs.Profile.{newest_rules}
-use Rattle.osn_letters.specs.LettersInside.{IsReady, Passes, remarked_from, text_from}
-use Rattle.osn_letters.specs.Remarked.{letters_remarked}
+use Rattle.osn_letters.specs.LettersInside.{IsReady, Passes, tally_from, text_from}
+use Rattle.osn_letters.specs.TableInside.{letters_tally}
 use Rattle.osn_letters.specs.Table.{letters_written, basis}
 use Rattle.osn_letters.specs.WriterInside.{waiting}
-use Rattle.osn_letters.proofs.KeepFacts.{KeepsRead}
+use Rattle.osn_letters.proofs.CountFacts.{CountsRead}
 use Rattle.osn_letters.proofs.stream.write_letters.Given as goal
 
 -- of what was read all that comes of it was written
@@ -25,7 +25,7 @@ invariant-loop-call g l =
           (letters_written (basis newest_rules l.fn.register.lands l.fn.edition l.fn.settings)
           (read ++ more))
           (text_from l.letters more))
-          × KeepsRead
-          (letters_remarked (basis newest_rules l.fn.register.lands l.fn.edition l.fn.settings))
-          (remarked_from l.letters) read;
+          × CountsRead
+          (letters_tally (basis newest_rules l.fn.register.lands l.fn.edition l.fn.settings))
+          (tally_from l.letters) read;
     }

@@ -3,7 +3,7 @@ use Rattle.std.proofs.lemmas.Result.{on_ok_weaker, IfErr-weaker}
 use Rattle.osn_letters.specs.LettersInside.{Wrote, text_behind}
 use Rattle.osn_letters.specs.Table.{whole}
 use Rattle.osn_letters.specs.WriterInside.{waiting}
-use Rattle.osn_letters.proofs.KeepFacts.{end_kept}
+use Rattle.osn_letters.proofs.CountFacts.{end_counted}
 use Rattle.osn_letters.proofs.LetterFacts.{told, end_taken, end_stops, end_stops_held}
 use Rattle.osn_letters.proofs.PassFacts.{last_stops}
 use Rattle.osn_letters.proofs.letters.Letters.finish.Goals as goal
@@ -39,9 +39,9 @@ returns-clause-stops c =
     (last_stops fault c.in_ok-take_last.ensures.takes h.0 h.1))
     c.finish.ensures.fault
 
-pub returns-clause-keeps : goal.returns-clause-keeps
-returns-clause-keeps c =
+pub returns-clause-counts : goal.returns-clause-counts
+returns-clause-counts c =
     on_ok_weaker c.finish.result
-    (λ ended. end_kept c.args.self.now c.take_held.new.self _ c.in_ok-take_held.ensures.keeps
-    c.in_ok-take_last.ensures.keeps)
+    (λ ended. end_counted c.args.self.now c.take_held.new.self _ c.in_ok-take_held.ensures.counts
+    c.in_ok-take_last.ensures.counts)
     c.finish.ensures.whole

@@ -1,7 +1,7 @@
 use Rattle.std.proofs.Common.{◌≡◌, ◌∙◌, [], ◌∷◌, None, rules}
 use Rattle.std.proofs.lemmas.Result.{on_ok_weaker, IfErr-weaker}
 use Rattle.osn_letters.specs.Start.{held, next_start}
-use Rattle.osn_letters.proofs.KeepFacts.{behind_kept, mark_kept, text_kept}
+use Rattle.osn_letters.proofs.CountFacts.{behind_counted, mark_counted, text_counted}
 use Rattle.osn_letters.proofs.LetterFacts.{told, mark_taken, text_taken, text_stops, stops_first}
 use Rattle.osn_letters.proofs.LetterFacts.{behind_then, behind_stops}
 use Rattle.osn_letters.proofs.letters.Letters.take_byte.Goals as goal
@@ -40,17 +40,17 @@ returns-clause-stops c =
     (c.args.byte ∷ []) fault c.in_ok-take_held.ensures.takes h))
     c.take_behind.ensures.stops
 
-pub returns-in-Some-clause-keeps : goal.returns-in-Some-clause-keeps
-returns-in-Some-clause-keeps c =
-    mark_kept c.args.self.now c.in-Some.start c.args.byte (search rules)
+pub returns-in-Some-clause-counts : goal.returns-in-Some-clause-counts
+returns-in-Some-clause-counts c =
+    mark_counted c.args.self.now c.in-Some.start c.args.byte (search rules)
 
-pub returns-clause-keeps : goal.returns-clause-keeps
-returns-clause-keeps c =
+pub returns-clause-counts : goal.returns-clause-counts
+returns-clause-counts c =
     let s = c.args.self.now in
     let none : next_start s.start c.args.byte ≡ None = search rules in
     on_ok_weaker c.take_behind.result
-    (λ h. text_kept s c.take_behind.new.self c.args.byte none
+    (λ h. text_counted s c.take_behind.new.self c.args.byte none
     (c.take_behind.ensures.start ∙ c.take_held.ensures.start)
-    (behind_kept s c.take_held.new.self c.take_behind.new.self (held s.start)
-    (c.args.byte ∷ []) c.in_ok-take_held.ensures.keeps h))
-    c.take_behind.ensures.keeps
+    (behind_counted s c.take_held.new.self c.take_behind.new.self (held s.start)
+    (c.args.byte ∷ []) c.in_ok-take_held.ensures.counts h))
+    c.take_behind.ensures.counts

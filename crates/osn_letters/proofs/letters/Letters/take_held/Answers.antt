@@ -1,5 +1,5 @@
 use Rattle.std.proofs.lemmas.Result.{on_ok_weaker, IfErr-weaker}
-use Rattle.osn_letters.proofs.KeepFacts.{held_kept}
+use Rattle.osn_letters.proofs.CountFacts.{held_counted}
 use Rattle.osn_letters.proofs.LetterFacts.{told, held_takes, held_stops, held_stops_first}
 use Rattle.osn_letters.proofs.letters.Letters.take_held.Goals as goal
 
@@ -29,11 +29,11 @@ returns-in_ok-take_behind-in-TwoBytes-clause-stops c =
     c.in_ok-take_behind-in-TwoBytes.ensures.takes)
     c.take_behind-in-TwoBytes-2.ensures.stops
 
-pub returns-in_ok-take_behind-in-TwoBytes-clause-keeps :
-    goal.returns-in_ok-take_behind-in-TwoBytes-clause-keeps
-returns-in_ok-take_behind-in-TwoBytes-clause-keeps c =
+pub returns-in_ok-take_behind-in-TwoBytes-clause-counts :
+    goal.returns-in_ok-take_behind-in-TwoBytes-clause-counts
+returns-in_ok-take_behind-in-TwoBytes-clause-counts c =
     on_ok_weaker c.take_behind-in-TwoBytes-2.result
-    (held_kept c.args.self.now c.take_behind-in-TwoBytes.new.self
+    (held_counted c.args.self.now c.take_behind-in-TwoBytes.new.self
     c.take_behind-in-TwoBytes-2.new.self c.args.self.now.start c.in-TwoBytes.is
-    c.in_ok-take_behind-in-TwoBytes.ensures.keeps)
-    c.take_behind-in-TwoBytes-2.ensures.keeps
+    c.in_ok-take_behind-in-TwoBytes.ensures.counts)
+    c.take_behind-in-TwoBytes-2.ensures.counts

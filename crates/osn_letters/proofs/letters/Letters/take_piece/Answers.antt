@@ -1,5 +1,5 @@
 use Rattle.std.proofs.Common.{refl, arith}
-use Rattle.osn_letters.proofs.KeepFacts.{byte_kept}
+use Rattle.osn_letters.proofs.CountFacts.{byte_counted}
 use Rattle.osn_letters.proofs.LetterFacts.{told, piece_stops, byte_then}
 use Rattle.osn_letters.proofs.letters.Letters.take_piece.Goals as goal
 
@@ -18,8 +18,8 @@ loop-byte-preserved c = record {
       byte_then c.args.self.now c.loop-byte.self c.take_byte.new.self c.args.piece.now
       c.loop-byte.byte-index _ c.loop-byte-test.true refl c.loop-byte.invariant.taken
       c.in_ok-take_byte.ensures.takes;
-  kept =
-      byte_kept c.args.self.now c.loop-byte.self c.take_byte.new.self c.args.piece.now
-      c.loop-byte.byte-index _ c.loop-byte-test.true refl c.loop-byte.invariant.kept
-      c.in_ok-take_byte.ensures.keeps;
+  counted =
+      byte_counted c.args.self.now c.loop-byte.self c.take_byte.new.self c.args.piece.now
+      c.loop-byte.byte-index _ c.loop-byte-test.true refl c.loop-byte.invariant.counted
+      c.in_ok-take_byte.ensures.counts;
 }

@@ -1,5 +1,5 @@
 use Rattle.std.proofs.Common.{◌+◌, ◌≤◌, take}
-use Rattle.osn_letters.specs.LettersInside.{IsReady, KeepsBytes, TakesBytes}
+use Rattle.osn_letters.specs.LettersInside.{IsReady, CountsBytes, TakesBytes}
 use Rattle.osn_letters.proofs.letters.Letters.take_piece.Given as goal
 
 -- the bytes so far were taken
@@ -9,5 +9,5 @@ invariant-loop-byte l =
       ready : IsReady l.self;
       line : l.self.parser.line ≤ l.initial.self.parser.line + l.byte-index;
       taken : TakesBytes l.initial.self l.self (take l.byte-index l.piece);
-      kept : KeepsBytes l.initial.self l.self (take l.byte-index l.piece);
+      counted : CountsBytes l.initial.self l.self (take l.byte-index l.piece);
     }

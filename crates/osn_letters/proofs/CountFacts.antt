@@ -1,0 +1,83 @@
+-- Rows are counted piece by piece.
+use Rattle.std.proofs.Common.{◌≡◌, ◌<◌, ◌∙◌, ℕ, ◌+◌, List, [], ◌∷◌, ◌++◌, length, take}
+use Rattle.std.proofs.Common.{get_or, Option, Some, None, sym, ap, subst, append_assoc}
+use Rattle.std.proofs.Common.{append-nil, add-one, IfSome}
+use Rattle.std.proofs.Math.Seq.{take-suc}
+use Rattle.std.specs.Io.KnownBytes.{Consumes, IsAtEnd}
+use Rattle.osn_lines.proofs.InputLemmas.{known_whole}
+use Rattle.osn_letters.specs.declared.letters.Letters.{Letters}
+use Rattle.osn_letters.specs.declared.start.Start.{Start}
+use Rattle.osn_letters.specs.declared.start.Start.TheVariants.{Past, TwoBytes}
+use Rattle.osn_letters.specs.LettersInside.{CountsBehind, CountsBytes, tally_behind}
+use Rattle.osn_letters.specs.LettersInside.{tally_from}
+use Rattle.osn_letters.specs.Start.{held, unmarked, next_start}
+use Rattle.osn_letters.specs.Tally.{TallyModel}
+use Rattle.osn_letters.proofs.StartFacts.{marked, unmarked_held, unmarked_end}
+
+-- bytes after bytes, after the beginning
+pub behind_counted : (s t u : Letters) (xs ys : List ℕ) → CountsBehind s t xs → CountsBehind t u ys
+    → CountsBehind s u (xs ++ ys)
+behind_counted s t u xs ys x y more =
+    ap (tally_behind s) (append_assoc xs ys more) ∙ (x (ys ++ more) ∙ y more)
+
+-- the bytes that were held back
+pub held_counted : (s t u : Letters) (start : Start) → start ≡ TwoBytes
+    → CountsBehind s t (0xEF ∷ []) → CountsBehind t u (0xBB ∷ []) → CountsBehind s u (held start)
+held_counted s t u start is x y =
+    subst (λ b. CountsBehind s u (held b)) (sym is)
+    (behind_counted s t u (0xEF ∷ []) (0xBB ∷ []) x y)
+
+-- a byte that goes on with the mark
+pub mark_counted : (s : Letters) (next : Start) (b : ℕ) → next_start s.start b ≡ Some next
+    → CountsBytes s (record { start = next; parser = s.parser; table = s.table }) (b ∷ [])
+mark_counted s next b h more = ap (tally_behind s) (marked s.start next b h more)
+
+-- a byte that shows that there is no mark
+pub text_counted : (s u : Letters) (b : ℕ) → next_start s.start b ≡ None → u.start ≡ Past
+    → CountsBehind s u (held s.start ++ b ∷ []) → CountsBytes s u (b ∷ [])
+text_counted s u b h past x more =
+    ap (tally_behind s)
+    (unmarked_held s.start b h more ∙ sym (append_assoc (held s.start) (b ∷ []) more))
+    ∙ (x more ∙ ap (λ start. tally_behind u (unmarked start more)) (sym past))
+
+-- at the end of the text
+pub end_counted : (s t : Letters) (tally : TallyModel) → CountsBehind s t (held s.start)
+    → tally_behind t [] ≡ tally → tally_from s [] ≡ tally
+end_counted s t tally x y =
+    ap (tally_behind s) (unmarked_end s.start) ∙ (x [] ∙ y)
+
+-- bytes after bytes
+pub bytes_counted : (s t u : Letters) (xs ys : List ℕ) → CountsBytes s t xs → CountsBytes t u ys
+    → CountsBytes s u (xs ++ ys)
+bytes_counted s t u xs ys x y more =
+    ap (tally_from s) (append_assoc xs ys more) ∙ (x (ys ++ more) ∙ y more)
+
+-- one byte more
+pub byte_counted : (s t u : Letters) (piece : List ℕ) (i b : ℕ) → i < length piece
+    → b ≡ get_or piece i 0 → CountsBytes s t (take i piece) → CountsBytes t u (b ∷ [])
+    → CountsBytes s u (take (i + 1) piece)
+byte_counted s t u piece i b low is x y =
+    subst (CountsBytes s u)
+    (ap (λ c. take i piece ++ c ∷ []) is ∙ sym (take-suc piece i 0 low)
+    ∙ ap (λ k. take k piece) (sym (add-one i)))
+    (bytes_counted s t u (take i piece) (b ∷ []) x y)
+
+-- ---- all that is read
+
+-- of what was read and of more, as it will be of more
+abbrev pub CountsRead : (List ℕ → TallyModel) → (List ℕ → TallyModel) → List ℕ → Type 0
+CountsRead all rest read = (more : List ℕ) → all (read ++ more) ≡ rest more
+
+pub read_counted : (all rest next : List ℕ → TallyModel) (read got piece : List ℕ) → piece ≡ got
+    → CountsRead all rest read → ((more : List ℕ) → rest (piece ++ more) ≡ next more)
+    → CountsRead all next (read ++ got)
+read_counted all rest next read got piece same x y more =
+    ap all (append_assoc read got more)
+    ∙ (x (got ++ more) ∙ (ap (λ l. rest (l ++ more)) (sym same) ∙ y more))
+
+pub all_counted : (all rest : List ℕ → TallyModel) (input left : Option (List ℕ)) (read : List ℕ)
+    (tally : TallyModel) → Consumes input left read → IsAtEnd left → CountsRead all rest read
+    → rest [] ≡ tally → IfSome input (λ text. all text ≡ tally)
+all_counted all rest input left read tally consumed end x y =
+    known_whole (λ text. all text ≡ tally) input left read consumed end
+    (ap all (sym (append-nil read)) ∙ (x [] ∙ y))

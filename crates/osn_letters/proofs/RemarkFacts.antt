@@ -1,0 +1,227 @@
+-- No row has two remarks with the same words, so the tally of a table counts its rows.
+use Rattle.std.proofs.Common.{◌≡◌, ℕ, Bool, true, false, ◌||◌, if◌then◌else◌, List, [], ◌∷◌}
+use Rattle.std.proofs.Common.{◌++◌, map, refl, subst, Option, Some, None, Result, Ok, Err, IfSome}
+use Rattle.std.proofs.Common.{get_or, is_none, option_map}
+use Rattle.std.specs.Str.{bytes_eq}
+use Rattle.osn_days.specs.declared.weekday.Weekday.{Weekday}
+use Rattle.osn_days.specs.Profile.{Profile}
+use Rattle.osn_grammar.specs.declared.written.Written.{Written}
+use Rattle.osn_grammar.specs.declared.written.Written.TheVariants as written
+use Rattle.osn_grammar.specs.declared.written.WrittenDate.{WrittenDate as AnyDate}
+use Rattle.osn_lands.specs.declared.dated.DatedDay.{DatedDay}
+use Rattle.osn_lands.specs.declared.runs.Run.{Run}
+use Rattle.osn_lands.specs.Territory.{TerritoryModel}
+use Rattle.osn_written.specs.declared.absence.Absence.TheVariants as why
+use Rattle.osn_written.specs.declared.finding.NoDay.{NoDay}
+use Rattle.osn_written.specs.declared.finding.NoDay.TheVariants as none
+use Rattle.osn_written.specs.declared.written_date.DateFault.{DateFault}
+use Rattle.osn_written.specs.declared.written_date.DateFault.TheVariants as faults
+use Rattle.osn_written.specs.declared.written_date.WrittenDate.{WrittenDate}
+use Rattle.osn_written.specs.Absence.{absence}
+use Rattle.osn_written.specs.Finding.{found, is_by_other_calendar, reckoned}
+use Rattle.osn_written.specs.Meaning.{meaning}
+use Rattle.osn_written.specs.Said.{one_day}
+use Rattle.osn_letters.specs.declared.columns.Columns.{Columns}
+use Rattle.osn_letters.specs.declared.fault.LettersFault.{LettersFault}
+use Rattle.osn_letters.specs.declared.remark.Remark.{Remark}
+use Rattle.osn_letters.specs.declared.remark.Remark.TheVariants as told
+use Rattle.osn_letters.specs.declared.separator.Separator.{Separator}
+use Rattle.osn_letters.specs.Columns.{columns_of}
+use Rattle.osn_letters.specs.DateParts.{date_in}
+use Rattle.osn_letters.specs.Fields.{fields_of_either}
+use Rattle.osn_letters.specs.Fields.{fields_of_found, fields_of_meaning, fields_said}
+use Rattle.osn_letters.specs.Records.{PlacedRecord, records_of}
+use Rattle.osn_letters.specs.Remarks.{are_on_weekday, remark_words, remarks_beside}
+use Rattle.osn_letters.specs.Remarks.{remarks_on_days, those_that_apply}
+use Rattle.osn_letters.specs.RowFields.{is_malformed_weekday, said_in, territory_in, weekday_in}
+use Rattle.osn_letters.specs.RowRemarks.{IsTallyOf, first_remarks, header_remarks}
+use Rattle.osn_letters.specs.RowRemarks.{letters_remarks, rows_remarks, table_remarks}
+use Rattle.osn_letters.specs.Table.{TableBasis, said_of}
+use Rattle.osn_letters.specs.TableInside.{letters_tally}
+use Rattle.osn_letters.specs.Tally.{IsTally, TallyModel, has_words}
+use Rattle.osn_letters.specs.TallyInside.{no_rows}
+use Rattle.osn_letters.proofs.TallyFacts.{AreAllApart, AreApart, none_tallied, rows_tallied}
+
+-- ---- those that apply, of some that are apart
+
+abbrev remarks_in : List (Bool × Remark) → List Remark
+remarks_in all = map (λ r. r.1) all
+
+neither : (a b c : Bool) → (a || b) ≡ false → (b ≡ false → c ≡ false) → (a || c) ≡ false
+neither true b c none goes = absurd (cc none)
+neither false b c none goes = goes none
+
+right_false : (a b : Bool) → (a || b) ≡ false → b ≡ false
+right_false true b none = absurd (cc none)
+right_false false b none = none
+
+none_has : (words : List ℕ) (all : List (Bool × Remark)) → has_words words (remarks_in all) ≡ false
+    → has_words words (those_that_apply all) ≡ false
+none_has words [] none = refl
+none_has words ((true, r) ∷ rest) none =
+    neither (bytes_eq words (remark_words r)) (has_words words (remarks_in rest))
+    (has_words words (those_that_apply rest)) none (none_has words rest)
+none_has words ((false, r) ∷ rest) none =
+    none_has words rest
+    (right_false (bytes_eq words (remark_words r)) (has_words words (remarks_in rest)) none)
+
+apart_those : (all : List (Bool × Remark)) → AreApart (remarks_in all)
+    → AreApart (those_that_apply all)
+apart_those [] apart = tt
+apart_those ((true, r) ∷ rest) (first, apart) =
+    (none_has (remark_words r) rest first, apart_those rest apart)
+apart_those ((false, r) ∷ rest) (first, apart) = apart_those rest apart
+
+-- ---- what is said of a letter
+
+abbrev Beside : Type 0
+Beside = AnyDate × Option Weekday × Bool × Bool
+
+abbrev beside : Beside → List (Bool × Remark)
+beside (w, given, other, malformed) = remarks_beside w given other malformed
+
+beside_apart : (b : Beside) → AreApart (remarks_in (beside b))
+beside_apart b = (refl, (refl, (refl, (refl, tt))))
+
+place_apart : (applies : Bool) (b : Beside)
+    → AreApart (remarks_in ((applies, told.UnknownPlace) ∷ beside b))
+place_apart applies b = (refl, beside_apart b)
+
+absence_apart : (applies : Bool) (reason : NoDay) (b : Beside)
+    → AreApart (remarks_in ((applies, told.NoDay reason) ∷ beside b))
+absence_apart applies (none.Absent why.NotWithBothYears) b = (refl, beside_apart b)
+absence_apart applies (none.Absent why.NotOfItsCalendar) b = (refl, beside_apart b)
+absence_apart applies (none.Absent why.OffTheLine) b = (refl, beside_apart b)
+absence_apart applies (none.Absent why.Skipped) b = (refl, beside_apart b)
+absence_apart applies (none.Absent why.NotInThatYear) b = (refl, beside_apart b)
+absence_apart applies (none.LastAbsent why.NotWithBothYears) b = (refl, beside_apart b)
+absence_apart applies (none.LastAbsent why.NotOfItsCalendar) b = (refl, beside_apart b)
+absence_apart applies (none.LastAbsent why.OffTheLine) b = (refl, beside_apart b)
+absence_apart applies (none.LastAbsent why.Skipped) b = (refl, beside_apart b)
+absence_apart applies (none.LastAbsent why.NotInThatYear) b = (refl, beside_apart b)
+absence_apart applies none.OutOfOrder b = (refl, beside_apart b)
+absence_apart applies none.OffTheLine b = (refl, beside_apart b)
+
+several_apart : (one : Bool) (b : Beside)
+    → AreApart ((if one then told.ByItsWeekday else told.SeveralDays)
+    ∷ told.WeekdayDiffers ∷ told.NotCountedDouble ∷ remarks_in (beside b))
+several_apart true b = (refl, (refl, (refl, beside_apart b)))
+several_apart false b = (refl, (refl, (refl, beside_apart b)))
+
+days_apart : (day : WrittenDate) (given : Option Weekday) (days : List DatedDay) (b : Beside)
+    → AreApart (remarks_in (remarks_on_days day given days ++ beside b))
+days_apart day given days b = several_apart (are_on_weekday 1 day given days) b
+
+date_apart : (applies lacks malformed : Bool) (fault : DateFault)
+    → AreApart (remarks_in ((applies, told.NotRead fault) ∷ (lacks, told.UnknownPlace)
+    ∷ (malformed, told.MalformedWeekday) ∷ []))
+date_apart a l m faults.Malformed = (refl, (refl, (refl, tt)))
+date_apart a l m faults.LaterYear = (refl, (refl, (refl, tt)))
+date_apart a l m faults.Year = (refl, (refl, (refl, tt)))
+date_apart a l m faults.Month = (refl, (refl, (refl, tt)))
+date_apart a l m faults.Day = (refl, (refl, (refl, tt)))
+date_apart a l m faults.NoDate = (refl, (refl, (refl, tt)))
+date_apart a l m faults.NotOneDay = (refl, (refl, (refl, tt)))
+date_apart a l m faults.Qualifier = (refl, (refl, (refl, tt)))
+date_apart a l m faults.ShortYear = (refl, (refl, (refl, tt)))
+date_apart a l m faults.DayOrMonth = (refl, (refl, (refl, tt)))
+date_apart a l m faults.TwoDays = (refl, (refl, (refl, tt)))
+date_apart a l m faults.Feast = (refl, (refl, (refl, tt)))
+date_apart a l m faults.RomanNumeral = (refl, (refl, (refl, tt)))
+
+fault_apart : (lacks malformed : Bool) (fault : DateFault)
+    → AreApart (those_that_apply ((true, told.NotRead fault) ∷ (lacks, told.UnknownPlace)
+    ∷ (malformed, told.MalformedWeekday) ∷ []))
+fault_apart lacks malformed fault =
+    apart_those ((true, told.NotRead fault) ∷ (lacks, told.UnknownPlace)
+    ∷ (malformed, told.MalformedWeekday) ∷ []) (date_apart true lacks malformed fault)
+
+-- ---- of a date in its territory
+
+meaning_apart : (edition : ℕ) (w : AnyDate) (day : WrittenDate) (given : Option Weekday)
+    (reason : NoDay) (b : Beside) (days : List DatedDay)
+    → AreApart (fields_of_meaning edition w day given reason (beside b) days).remarks
+meaning_apart edition w day given reason b [] =
+    apart_those ((true, told.NoDay reason) ∷ beside b) (absence_apart true reason b)
+meaning_apart edition w day given reason b (first ∷ rest) =
+    apart_those (remarks_on_days day given (first ∷ rest) ++ beside b)
+    (days_apart day given (first ∷ rest) b)
+
+found_apart : (edition : ℕ) (w : AnyDate) (b : Beside) (r : Result (List Run) NoDay)
+    → AreApart (fields_of_found edition w (beside b) r).remarks
+found_apart edition w b (Ok runs) = apart_those (beside b) (beside_apart b)
+found_apart edition w b (Err reason) =
+    apart_those ((true, told.NoDay reason) ∷ beside b) (absence_apart true reason b)
+
+either_apart : (p : Profile) (edition : ℕ) (t : TerritoryModel) (w : AnyDate)
+    (given : Option Weekday) (b : Beside) (one : Option WrittenDate)
+    → AreApart (fields_of_either p edition t w given (beside b) one).remarks
+either_apart p edition t w given b (Some day) =
+    meaning_apart edition w day given (none.Absent (absence p t day)) b (meaning p t day given)
+either_apart p edition t w given b None = found_apart edition w b (found p t w.extent)
+
+said_apart : (p : Profile) (edition : ℕ) (t : Option TerritoryModel) (named : Option (List ℕ))
+    (r : Result Written DateFault) → AreApart (fields_said p edition t named r).remarks
+said_apart p edition (Some t) named (Ok (written.Date w)) =
+    either_apart p edition (reckoned t w.reckoning) w (weekday_in named)
+    (w, weekday_in named, is_by_other_calendar p t w, is_malformed_weekday named) (one_day w)
+said_apart p edition None named (Ok (written.Date w)) =
+    let b : Beside = (w, weekday_in named, false, is_malformed_weekday named) in
+    apart_those ((true, told.UnknownPlace) ∷ beside b) (place_apart true b)
+said_apart p edition t named (Ok written.NoDate) =
+    fault_apart (is_none t) (is_malformed_weekday named) faults.NoDate
+said_apart p edition t named (Err fault) =
+    fault_apart (is_none t) (is_malformed_weekday named) fault
+
+-- ---- of the rows of a table
+
+row_apart : (s : TableBasis) (columns : Columns) (record_fields : List (List ℕ))
+    → AreApart (said_of s columns record_fields).remarks
+row_apart s columns record_fields =
+    said_apart s.rules s.edition
+    (territory_in s.lands s.places (get_or record_fields columns.place []))
+    (option_map (λ n. get_or record_fields n []) columns.weekday)
+    (said_in s.order (date_in columns.date record_fields))
+
+abbrev AreRowsApart : TableBasis → Columns → List PlacedRecord → Type 0
+AreRowsApart s columns records = AreAllApart (rows_remarks s columns records)
+
+more_apart : (s : TableBasis) (columns : Columns) (line : ℕ) (separator : Separator)
+    (r : Result (List (List ℕ)) LettersFault) (rest : List PlacedRecord)
+    → AreRowsApart s columns rest
+    → AreRowsApart s columns (record { line = line; separator = separator; fields = r } ∷ rest)
+more_apart s columns line separator (Ok record_fields) rest apart =
+    (row_apart s columns record_fields, apart)
+more_apart s columns line separator (Err fault) rest apart = apart
+
+rows_apart : (s : TableBasis) (columns : Columns) (records : List PlacedRecord)
+    → AreRowsApart s columns records
+rows_apart s columns [] = tt
+rows_apart s columns (r ∷ rest) =
+    more_apart s columns r.line r.separator r.fields rest (rows_apart s columns rest)
+
+header_apart : (s : TableBasis) (r : Result Columns LettersFault) (rest : List PlacedRecord)
+    → AreAllApart (header_remarks s r rest)
+header_apart s (Ok columns) rest = rows_apart s columns rest
+header_apart s (Err fault) rest = tt
+
+first_apart : (s : TableBasis) (line : ℕ) (r : Result (List (List ℕ)) LettersFault)
+    (rest : List PlacedRecord) → AreAllApart (first_remarks s line r rest)
+first_apart s line (Ok header) rest = header_apart s (columns_of s.names line header) rest
+first_apart s line (Err fault) rest = tt
+
+table_apart : (s : TableBasis) (records : List PlacedRecord) → AreAllApart (table_remarks s records)
+table_apart s [] = tt
+table_apart s (r ∷ rest) = first_apart s r.line r.fields rest
+
+-- ---- the tally
+
+-- the tally that comes of the rows, one after the other, is that of the table
+pub told_tally : (s : TableBasis) (input : Option (List ℕ)) (tally : TallyModel)
+    → IfSome input (λ text. letters_tally s text ≡ tally)
+    → IfSome input (λ text. IsTallyOf s text tally)
+told_tally s None tally is = tt
+told_tally s (Some text) tally is =
+    subst (IsTally (letters_remarks s text)) is
+    (rows_tallied [] (letters_remarks s text) no_rows
+    (table_apart s (records_of s.separator text)) none_tallied)
