@@ -1,4 +1,4 @@
-//! The words of dates: months and weekdays in nine languages, ordinals, and words around a date.
+//! The words of dates: months and weekdays in ten languages, ordinals, and words around a date.
 ghost use Rattle.std.specs.Prelude.{◌≡◌};
 ghost use Rattle.osn_grammar.specs.Names as spec;
 
