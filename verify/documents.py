@@ -2,9 +2,10 @@
 """Holds what documents show against the program: verify/documents.py FILE..
 
 A session is the lines of one document that begin with '> ', its requests, and with '< ', its
-replies. A run is a line that begins with '$ ./oldstyle ', from the top of the repository, and what
-it prints are the lines after it, up to the next run or the end of the block. Prints each reply and
-each run that differs, and ends with status 1 where one does.
+replies. A run is a line that begins with '$ ./oldstyle ', from the top of the repository. It may
+end with '< FILE', its input. What it prints, on standard output and then on standard error, are the
+lines after it, up to the next run or the end of the block. Prints each reply and each run that
+differs, and ends with status 1 where one does.
 """
 import itertools
 import os
@@ -28,6 +29,17 @@ def runs(lines):
             yield shlex.split(line[len(RUN) :]), list(itertools.takewhile(ends, lines[place + 1 :]))
 
 
+def printed_by(words):
+    """The lines that a run prints, with the input of the file that it names after '<'."""
+    given = []
+    if "<" in words:
+        words, (_, path) = words[:-2], words[-2:]
+        with open(path, encoding="utf-8", newline="\n") as file:
+            given = file.read().split("\n")[:-1]
+    ended = run(PROGRAM, words, lines=given)
+    return (ended.stdout + ended.stderr).split("\n")[:-1]
+
+
 def told_otherwise(lines):
     """Each request and run of a document that has another answer than it shows."""
     requests, shown = marked(lines, "> "), marked(lines, "< ")
@@ -36,7 +48,7 @@ def told_otherwise(lines):
         if told != reply:
             yield f"{request}\n  shown {told}\n  told  {reply}"
     for words, told in runs(lines):
-        printed = run(PROGRAM, words).stdout.split("\n")[:-1]
+        printed = printed_by(words)
         if told != printed:
             yield f"{shlex.join(words)}\n  shown {told}\n  told  {printed}"
 
