@@ -1,7 +1,7 @@
 //! What the gate of a desk is told: whom, of which item, ahead of it and behind it, in order; and
 //! a gate that is closed to each item in turn.
-use crate::compare::same;
 use crate::desks::desk;
+use crate::support::compare::same;
 use osn_live::{DeskFault, Gate};
 use std::alloc::{AllocError, Global};
 use std::process::Abort;

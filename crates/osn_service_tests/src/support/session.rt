@@ -1,5 +1,5 @@
 //! Sessions of the service over memory, written as what is read and what is written.
-use crate::compare::same;
+use crate::support::compare::same;
 use osn_lines::Plain;
 use osn_register::Limits;
 use osn_service::serve;
