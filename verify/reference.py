@@ -1,17 +1,19 @@
 #!/usr/bin/env python3
-"""The service written apart, slowly: verify/reference.py < examples/rome.jsonl
+"""Answers request lines as the program does, slowly: the service written apart.
 
-It answers request lines as the program does, from docs/FORMATS.md and docs/DEFINITIONS.md alone,
-for eight readers and the standard limits. Calendars are walks along every day of the line, a
-reading is a search through every day, Easter is found by the tables of the moon. Its replies are to
-be those of the program, byte for byte. Of `written` it answers dates in the usual forms alone, and
-fails at any other text.
+It was written from docs/FORMATS.md and docs/DEFINITIONS.md alone, for eight readers and the
+standard limits: verify/reference.py < examples/rome.jsonl. Calendars are walks along every day of
+the line, a reading is a search through every day, Easter is found by the tables of the moon. Its
+replies are to be those of the program, byte for byte. Of `written` it answers days, months, years,
+ranges and bounds in their usual English forms, and ends at any other text.
 """
 import array
 import functools
 import json
 import re
 import sys
+
+from common import SCRIPT, CommandLine, compact, end
 
 HIGH, LAST_YEAR, LAST_LABEL_YEAR = 3_652_059, 9_999, 10_000
 MONTHS = (
@@ -261,6 +263,10 @@ MEMBERS = {
 }
 
 
+class Unread(Exception):
+    """A text that may be a date, and that is in no form which is read here."""
+
+
 class Fault(Exception):
     def __init__(self, number, **members):
         super().__init__(number)
@@ -338,7 +344,7 @@ class Service:
                 members = self.stage(op, value)
         except Fault as fault:
             members = fault.members
-        return json.dumps(members, separators=(",", ":"), sort_keys=True, ensure_ascii=False)
+        return compact(members)
 
     def publish(self):
         refuse((lambda: self.pending == 0, 15), (lambda: self.edition >= self.most["editions"], 17))
@@ -429,29 +435,22 @@ def is_weekday(name):
     return name.isascii() and name.capitalize() in WEEKDAYS
 
 
-def runs_of(days):
-    """The first and the last day of each run of days."""
-    runs = []
-    for day in sorted(days):
-        if runs and runs[-1][1] == day - 1:
-            runs[-1][1] = day
-        else:
-            runs.append([day, day])
-    return runs
-
-
 def written_answer(land, text, given):
     """What a text in one of the usual forms means."""
+    from span_texts import span_of, why_none
+    from spans import none_answer, runs_of, span_answer
     from written import Malformed, Territory, has_weekday, parse
 
+    if why := why_none(text):
+        return none_answer(why)
     try:
         date = parse(text)
     except Malformed:
-        raise NotImplementedError(text) from None
+        return span_answer(land, span_of(text), given and given.capitalize())
     territory, given = Territory(land), given and given.capitalize()
     days = territory.days_meant(date)
     is_on = any(has_weekday(date, given, day) for day in days)
-    runs = [[land.found(day) for day in run] for run in runs_of(days)]
+    runs = [[land.found(day) for day in run] for run in runs_of(sorted(days))]
     return {
         "approximate": False, "kind": "day", "other_calendar": False,
         "reason": None if days else territory.absence(date),
@@ -480,7 +479,18 @@ def is_name(name):
     return 1 <= len(encoded) <= 64 and all(byte >= 0x20 and byte != 0x7F for byte in encoded)
 
 
-if __name__ == "__main__":
+def main():
+    CommandLine(__doc__).parse_args()
     service = Service()
-    for line in sys.stdin.buffer:
-        print(service.reply(line.removesuffix(b"\n")))
+    for number, line in enumerate(sys.stdin.buffer, 1):
+        try:
+            print(service.reply(line.removesuffix(b"\n")))
+        except Unread as text:
+            sys.exit(f"{SCRIPT}: line {number}: {text} may be a date, and no form that is read "
+                     "here: ask the program alone")
+
+
+if __name__ == "__main__":
+    import reference  # by the name that written.py has for it, so that the line is walked once
+
+    end(reference.main)
