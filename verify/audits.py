@@ -133,7 +133,8 @@ def main():
         one = at_desk(oldstyle, chance, journal, questions)[0]
         told = long_audit(oldstyle, journal, transcript, one)
         hold(told, ([f"oldstyle: {place} MiB of the transcript read" for place in (64, 128)], []))
-    print(f"{options.count} transcripts: {agreed} replies agreed to, {refused} changed ones refused")
+    print(f"{options.count} transcripts: {agreed} replies agreed to, {refused} changed ones "
+          "refused")
 
 
 if __name__ == "__main__":

@@ -73,7 +73,7 @@ def hold(holds, otherwise):
 def check(transcript, questions, told):
     """Holds the lines of a transcript against what the service told; answers the editions that
     were met."""
-    hold(len(transcript) == len(questions), f"{len(transcript)} replies, {len(questions)} questions")
+    hold(len(transcript) == len(questions), f"{len(transcript)} replies to {len(questions)}")
     last, met = {}, set()
     for line, (reader, query) in zip(transcript, questions):
         value = json.loads(line)

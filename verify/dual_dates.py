@@ -12,9 +12,9 @@ import os
 import random
 import tempfile
 
+from calendars import HIGH
 from common import CommandLine, end, run
 from letter_rows import COLUMNS
-from reference import HIGH
 from samples import journal_lines, later_digits, middle_day, write_journal
 from written import Territory, parse, weekday_of
 

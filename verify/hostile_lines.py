@@ -4,13 +4,13 @@
 A line that is one flat object of few texts and whole numbers is read with no tree of values, any
 other one by the tree of its JSON value. Each random line lies near the border between them: escapes
 in names and texts, members twice, nested, of other types and in any number, numbers with fractions,
-exponents and many digits, spaces, bytes that are no text, lines cut off. It is sent twice: as it is,
-and with a further member that no op has and whose value is a list, which is never read the first
-way and asks for the same. Both replies have to be the same. A line that is no object has no second
-form.
+exponents and many digits, spaces, bytes that are no text, lines cut off. It is sent twice: as it
+is, and with a further member that no op has and whose value is a list, which is never read the
+first way and asks for the same. Both replies have to be the same. A line that is no object has no
+second form.
 
-Where an older program is named, which has to know the same ops, files of the lines are sent to both,
-and they have to write the same bytes.
+Where an older program is named, which has to know the same ops, files of the lines are sent to
+both, and they have to write the same bytes.
 """
 import random
 import subprocess

@@ -1,4 +1,4 @@
-"""A service that keeps its journal, and an editor: for kept_journals.py and disturbed_journals.py."""
+"""A service that keeps its journal, and an editor: kept_journals.py and disturbed_journals.py."""
 import json
 import random
 import subprocess

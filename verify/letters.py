@@ -1,20 +1,21 @@
 #!/usr/bin/env python3
 """Holds tables of letters against tables written apart, byte by byte.
 
-Each table is about a random territory, and has up to 60 rows. Its fields stand between commas, semicolons or tabs, in
-quotes or not, with line ends in them; its lines end by LF, CR or CRLF, and empty ones stand
-between. Its dates are of all forms, its places and weekdays are wrong now and then, and spaces
-stand around them. Many tables have a fault in the header or in a row: what stands before it has to
-be written, and the fault has to be told with the line on which the record begins, status 1.
+Each table is about a random territory, and has up to 60 rows. Its fields stand between commas,
+semicolons or tabs, in quotes or not, with line ends in them; its lines end by LF, CR or CRLF, and
+empty ones stand between. Its dates are of all forms, its places and weekdays are wrong now and
+then, and spaces stand around them. Many tables have a fault in the header or in a row: what stands
+before it has to be written, and the fault has to be told with the line on which the record begins,
+status 1.
 """
 import os
 import random
 import subprocess
 import tempfile
 
+from calendars import WEEKDAYS
 from common import CommandLine, end
 from letter_rows import COLUMNS, letter_fields
-from reference import WEEKDAYS
 from samples import (MALFORMED, any_case, date_text, journal_lines, label_near, middle_day,
                      write_journal)
 from written import Territory

@@ -3,8 +3,8 @@
 
 `ncal -p | examples/from_ncal.py` makes a journal of the countries. Of each the six months about its
 change and three of other centuries are printed by `month` and by `ncal -S -s`, which has a line for
-each weekday where `month` has one for each week: so the weeks are turned round, and compared line by
-line, without the spaces at ends. The British months are compared with those of `ncal -b` too, as
+each weekday where `month` has one for each week: so the weeks are turned round, and compared line
+by line, without the spaces at ends. The British months are compared with those of `ncal -b` too, as
 they stand. It wants the Debian package ncal.
 """
 import os

@@ -4,18 +4,18 @@
 Random territories are put into a journal, with their changes near one another, listed Easters and
 edits that wait. Of each date the page of `read` is held against the one of `page_texts.py`, which
 asks every day of the line that has the month and day. So are those of months, years, ranges and
-bounds in random forms, by `spans.py`, with the answer of the query `written`, and the pages of days about the changes, of the date's month,
-of conversions, and of the territories. Words that are wrong, codes that are unknown and files that
-are not there have to be told as docs/FORMATS.md says.
+bounds in random forms, by `spans.py`, with the answer of the query `written`, and the pages of days
+about the changes, of the date's month, of conversions, and of the territories. Words that are
+wrong, codes that are unknown and files that are not there have to be told as docs/FORMATS.md says.
 """
 import os
 import random
 import tempfile
 
+from calendars import MONTHS, WEEKDAYS, dates, written
 from common import CommandLine, compact, end, run
 from page_texts import (Place, conversion_page, day_page, list_page, month_page, pending_lines,
                         reading_page, territory_page)
-from reference import MONTHS, WEEKDAYS, dates, written
 from samples import (MALFORMED, NAMES, any_case, date_text, day_near, journal_lines, label_near,
                      middle_day, write_journal)
 from spans import span_answer, span_near, span_page, text_of

@@ -1,10 +1,10 @@
 #!/usr/bin/env python3
 """Holds what GNU parallel makes of parts of a file against one run over all of it.
 
-A file of questions goes through `serve`, and a table through `letters`: once in one run, and once in
-parts that `parallel --pipe` hands to four processes. Both have to write the same bytes, but for the
-header of the table, which each part has. Tells the seconds of each by the clock. With `--ssh` the
-four processes are two on each of two hosts, which are servers that this script starts on this
+A file of questions goes through `serve`, and a table through `letters`: once in one run, and once
+in parts that `parallel --pipe` hands to four processes. Both have to write the same bytes, but for
+the header of the table, which each part has. Tells the seconds of each by the clock. With `--ssh`
+the four processes are two on each of two hosts, which are servers that this script starts on this
 machine. It wants Debian's package parallel, and for `--ssh` openssh-server and to be root.
 """
 import contextlib

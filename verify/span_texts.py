@@ -1,10 +1,9 @@
-"""The spans that texts mean: what reference.py reads of docs/DATES.md, in all forms that spans.py draws.
+"""The spans that texts mean: what reference.py reads of docs/DATES.md, and all that spans.py draws.
 
 What is said beside a date stands at the ends of the text. Each other text is Unread.
 """
 import re
 
-from reference import Unread
 from spans import NAMES, Simple, Span
 
 MONTHS = {name.lower(): month for names in NAMES for month, name in enumerate(names, 1)}
@@ -84,6 +83,10 @@ def extent_of(text):
             last = date_of(found[2])
             return Span("range", front_of(found[1], last), last)
     raise Unread(text)
+
+
+class Unread(Exception):
+    """A text that may be a date, and that is in no form which is read here."""
 
 
 def why_none(text):

@@ -1,13 +1,13 @@
 """Months, years, ranges and bounds as people write them, and the days that they may mean.
 
-Written from docs/DATES.md and docs/FORMATS.md alone, over written.py, for pages.py and reference.py.
-Texts are drawn in random forms; their days are found by a search through every day about their
-years.
+Written from docs/DATES.md and docs/FORMATS.md alone, over written.py, for pages.py and
+reference.py. Texts are drawn in random forms; their days are found by a search through every day
+about their years.
 """
 from typing import NamedTuple, Optional
 
+from calendars import HIGH, MONTHS
 from page_texts import day_line, why_lines, years_written
-from reference import HIGH, MONTHS
 from written import Territory, Written, weekday_of, years_about
 
 NAMES = [MONTHS]
