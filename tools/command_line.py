@@ -1,6 +1,7 @@
 """The command lines of scripts: options of one form, and what is wrong told in a line or two."""
 import argparse
 import os
+import re
 import shlex
 import shutil
 import subprocess
@@ -9,6 +10,8 @@ import sys
 TOP = os.path.dirname(os.path.dirname(os.path.abspath(__file__)))
 BUILT = os.path.join(TOP, "crates", "oldstyle", "out", "oldstyle")
 SCRIPT = os.path.basename(sys.argv[0])
+# Crates that the program does not stand on.
+NO_PART = re.compile(r"_tests?[_/]|osn_wire/")
 
 
 class CommandLine(argparse.ArgumentParser):
@@ -88,7 +91,7 @@ def newer_source():
     built = os.path.getmtime(BUILT)
     for folder, _, names in os.walk(os.path.join(TOP, "crates")):
         for path in (os.path.join(folder, name) for name in names if name.endswith(".rt")):
-            if "_tests" + os.sep not in path and os.path.getmtime(path) > built:
+            if not NO_PART.search(path) and os.path.getmtime(path) > built:
                 return os.path.relpath(path)
     return None
 
