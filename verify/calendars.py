@@ -1,6 +1,6 @@
 """Calendars, Easter and territories, by walks along every day and the tables of the moon.
 
-Written from docs/DEFINITIONS.md alone, for reference.py and what stands over it.
+Written from docs/CALENDARS.md alone, for reference.py and what stands over it.
 """
 import array
 import functools

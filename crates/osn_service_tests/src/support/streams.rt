@@ -171,7 +171,7 @@ pub fn tried(alloc: Global, input: &[u8], plan: Plan) -> Result<Outcome, AllocEr
     })
 }
 
-/// A session of Rome. Its lines end behind 98, 115 and 141 bytes.
+/// A session of Rome. Its lines end after 98, 115 and 141 bytes.
 pub const READ: &str = concat!(
     r#"{"op":"add_land","code":"RM","name":"Rome","calendar":"julian","#,
     r#""style":"january","rule":"julian"}
@@ -180,7 +180,7 @@ pub const READ: &str = concat!(
 "#
 );
 
-/// What is written for it. The replies end behind 28, 59 and 133 bytes.
+/// What is written for it. The replies end after 28, 59 and 133 bytes.
 pub const WRITTEN: &str = r#"{"ok":"staged","pending":1}
 {"edition":1,"ok":"published"}
 {"answer":{"lands":[{"code":"RM","name":"Rome"}]},"edition":1,"reader":1}
