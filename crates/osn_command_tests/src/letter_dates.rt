@@ -249,7 +249,7 @@ fn is_told(
     let (place, date, weekday, days, wanted) = row;
     let weekday = weekday.map(|text| text.as_bytes());
     let (place, date) = (place.as_bytes(), date.as_bytes());
-    let letter = letter_fields(alloc, register, 2, order, place, date, weekday)?;
+    let letter = letter_fields(alloc, register, 2, order, None, place, date, weekday)?;
     let fields = &letter.fields;
     let (earliest, latest) = (text_at(fields, 6)?, text_at(fields, 7)?);
     let (kind, edtf) = (text_at(fields, 8)?, text_at(fields, 9)?);

@@ -177,7 +177,7 @@ fn is_told(rt: &impl Abort, alloc: Global, register: &Register, row: &Row) -> Re
     let weekday = weekday.map(|text| text.as_bytes());
     let (place, date) = (place.as_bytes(), date.as_bytes());
     let order = DateOrder::Unknown;
-    let letter = letter_fields(alloc, register, 2, order, place, date, weekday)?;
+    let letter = letter_fields(alloc, register, 2, order, None, place, date, weekday)?;
     let fields = &letter.fields;
     let days = str::from_utf8(fields.get(0).unwrap_or_default())?;
     let duals = str::from_utf8(fields.get(3).unwrap_or_default())?;

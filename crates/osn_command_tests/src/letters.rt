@@ -5,8 +5,8 @@ use crate::journals::europe;
 use csv::ByteRecord;
 use osn_grammar::DateOrder;
 use osn_letters::{
-    AddedColumn, Column, ColumnNames, Columns, LettersFault, Progress, Separator, TableSettings,
-    Tally, WeekdayName, find_columns, write_letters,
+    AddedColumn, Column, ColumnNames, Columns, DateColumns, DateNames, LettersFault, Progress,
+    Separator, TableSettings, Tally, WeekdayName, find_columns, write_letters,
 };
 use osn_lines::Plain;
 use osn_register::Register;
@@ -18,7 +18,7 @@ use std::test::Fail;
 
 const NAMES: ColumnNames<'static> = ColumnNames {
     place: "place",
-    date: "date",
+    date: DateNames::Whole("date"),
     weekday: WeekdayName::Optional("weekday"),
 };
 
@@ -26,22 +26,40 @@ const BY_HEADER: TableSettings<'static> = TableSettings {
     names: NAMES,
     separator: None,
     order: DateOrder::Unknown,
+    places: None,
 };
 
 const OTHER_NAMES: TableSettings<'static> = TableSettings {
     names: ColumnNames {
         place: "Ort",
-        date: "Datum, wie geschrieben",
+        date: DateNames::Whole("Datum, wie geschrieben"),
         weekday: WeekdayName::Required("Tag"),
     },
     separator: None,
     order: DateOrder::Unknown,
+    places: None,
 };
 
 const BY_SEMICOLON: TableSettings<'static> = TableSettings {
     names: NAMES,
     separator: Some(Separator::Semicolon),
     order: DateOrder::Unknown,
+    places: None,
+};
+
+const THREE_COLUMNS: TableSettings<'static> = TableSettings {
+    names: ColumnNames {
+        place: "place",
+        date: DateNames::Apart {
+            year: "year",
+            month: Some("month"),
+            day: Some("day"),
+        },
+        weekday: WeekdayName::Optional("weekday"),
+    },
+    separator: None,
+    order: DateOrder::Unknown,
+    places: None,
 };
 
 /// How a table ends: by what fault, if any, on which line, and what else is told.
@@ -54,7 +72,7 @@ const REMARKED: End = ("whole, with a remark", 0, "");
 /// How a table is read, the table, what is written, and how it ends.
 type Row = (TableSettings<'static>, &'static str, &'static str, End);
 
-const TABLES: [Row; 7] = [
+const TABLES: [Row; 8] = [
     (
         BY_HEADER,
         "id,place,date,weekday,text
@@ -142,6 +160,25 @@ GB,1752-09-02,XX,639796,1752-09-13,1752-09-02,2 September 1752,Wednesday,2361221
 ",
         WHOLE,
     ),
+    (
+        THREE_COLUMNS,
+        "place,day,month,year
+GB,11,2,1731/32
+GB, 14 , September ,1752
+GB,3,,1752
+GB,,,
+",
+        "place,day,month,year,days,gregorian,julian,dual,weekday_found,jdn,earliest,latest,kind,
+  edtf,edition,remark
+GB,11,2,1731/32,632287,1732-02-22,1732-02-11,11 February 1731/2,Friday,2353712,
+  1732-02-22,1732-02-22,day,1732-02-22,2,
+GB, 14 , September ,1752,639797,1752-09-14,1752-09-03,14 September 1752,Thursday,2361222,
+  1752-09-14,1752-09-14,day,1752-09-14,2,
+GB,3,,1752,,,,,,,,,,,2,malformed date
+GB,,,,,,,,,,,,,,2,no date
+",
+        REMARKED,
+    ),
 ];
 
 /// A header with the twelve columns after it.
@@ -156,7 +193,13 @@ GB,1752-09-14,639797,1752-09-14,1752-09-03,14 September 1752,Thursday,2361222,
   1752-09-14,1752-09-14,day,1752-09-14,2,
 ";
 
-const FAULTS: [Row; 13] = [
+const FAULTS: [Row; 14] = [
+    (
+        THREE_COLUMNS,
+        "year,place,day\n1731,GB,2\n",
+        "",
+        ("no column of months", 1, "year, place, day"),
+    ),
     (BY_HEADER, "", "", ("no header", 0, "")),
     (BY_HEADER, "\r\n\n", "", ("no header", 0, "")),
     (
@@ -229,7 +272,7 @@ const FAULTS: [Row; 13] = [
 
 /// How many bytes were read.
 #[derive(Drop)]
-struct BytesRead(usize);
+pub struct BytesRead(pub usize);
 
 impl Progress for BytesRead {
     fn count(&mut self, bytes: usize) {
@@ -242,6 +285,9 @@ fn lack(column: Column) -> &'static str {
     match column {
         Column::Place => "no column of places",
         Column::Date => "no column of dates",
+        Column::Year => "no column of years",
+        Column::Month => "no column of months",
+        Column::Day => "no column of days",
         Column::Weekday => "no column of weekdays",
     }
 }
@@ -355,7 +401,7 @@ fn columns_are_found(rt: HostRuntime) -> Result<(), Fail> {
     header.push_field(b"place")?;
     let columns = Columns {
         place: 1,
-        date: 0,
+        date: DateColumns::Whole(0),
         weekday: None,
     };
     let found = find_columns(rt.alloc(), &header, NAMES, 1);

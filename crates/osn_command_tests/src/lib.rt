@@ -43,6 +43,8 @@ mod mistakes;
 #[cfg(test)]
 mod misuses;
 #[cfg(test)]
+mod places;
+#[cfg(test)]
 mod printed;
 #[cfg(test)]
 mod readings;

@@ -1,3 +1,4 @@
+pub mod BomFacts
 pub mod ClearFacts
 pub mod ColumnFacts
 pub mod FoundFacts
@@ -7,12 +8,15 @@ pub mod JoinFacts
 pub mod CountFacts
 pub mod TallyFacts
 pub mod RemarkFacts
+pub mod LastFacts
 pub mod LaterFacts
 pub mod LawFacts
 pub mod LetterFacts
 pub mod MarkFacts
 pub mod PartFacts
 pub mod PassFacts
+pub mod PlaceFacts
+pub mod PlaceFaultFacts
 pub mod QuietFacts
 pub mod RowFacts
 pub mod SeamFacts

@@ -27,6 +27,7 @@ use Rattle.osn_letters.specs.declared.remark.Remark.{Remark}
 use Rattle.osn_letters.specs.declared.remark.Remark.TheVariants as told
 use Rattle.osn_letters.specs.declared.separator.Separator.{Separator}
 use Rattle.osn_letters.specs.Columns.{columns_of}
+use Rattle.osn_letters.specs.DateParts.{date_in}
 use Rattle.osn_letters.specs.Fields.{fields_of_either}
 use Rattle.osn_letters.specs.Fields.{fields_of_found, fields_of_meaning, fields_said}
 use Rattle.osn_letters.specs.Records.{PlacedRecord, records_of}
@@ -178,9 +179,9 @@ row_apart : (s : TableBasis) (columns : Columns) (record_fields : List (List ℕ
     → AreApart (said_of s columns record_fields).remarks
 row_apart s columns record_fields =
     said_apart s.rules s.edition
-    (territory_in s.lands (get_or record_fields columns.place []))
+    (territory_in s.lands s.places (get_or record_fields columns.place []))
     (option_map (λ n. get_or record_fields n []) columns.weekday)
-    (said_in s.order (get_or record_fields columns.date []))
+    (said_in s.order (date_in columns.date record_fields))
 
 abbrev AreRowsApart : TableBasis → Columns → List PlacedRecord → Type 0
 AreRowsApart s columns records = AreAllApart (rows_remarks s columns records)

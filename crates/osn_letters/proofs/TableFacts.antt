@@ -8,6 +8,7 @@ use Rattle.osn_grammar.specs.declared.written.DateOrder.{DateOrder}
 use Rattle.osn_register.specs.Plain.{LandModel}
 use Rattle.osn_letters.specs.declared.separator.Separator.{Separator}
 use Rattle.osn_letters.specs.Fields.{letter_fields}
+use Rattle.osn_letters.specs.PlaceEntries.{PlaceEntry}
 use Rattle.osn_letters.specs.Separators.{writer_by}
 
 -- a record that is written as what it is
@@ -27,9 +28,9 @@ written_by r x y new middle old a b same kept e h =
 
 -- the fields by the fields that are read
 pub same_fields : (p : Profile) (lands : List LandModel) (edition : ℕ) (o : DateOrder)
-    (a b c d : List ℕ) (v w : Option (List ℕ)) → a ≡ b → c ≡ d → v ≡ w
-    → letter_fields p lands edition o a c v ≡ letter_fields p lands edition o b d w
-same_fields p lands edition o a b c d v w e1 e2 e3 =
-    ap (λ x. letter_fields p lands edition o x c v) e1
-    ∙ ap (λ x. letter_fields p lands edition o b x v) e2
-    ∙ ap (λ x. letter_fields p lands edition o b d x) e3
+    (places : List PlaceEntry) (a b date : List ℕ) (v w : Option (List ℕ)) → a ≡ b → v ≡ w
+    → letter_fields p lands edition o places a date v
+    ≡ letter_fields p lands edition o places b date w
+same_fields p lands edition o places a b date v w e1 e2 =
+    ap (λ x. letter_fields p lands edition o places x date v) e1
+    ∙ ap (λ x. letter_fields p lands edition o places b date x) e2

@@ -1,13 +1,17 @@
 -- Where the columns that are read stand in a header: this project's profile.
 use Rattle.std.specs.Prelude.{ℕ, Bool, true, false, ◌&&◌, if◌then◌else◌, List, [], ◌∷◌}
-use Rattle.std.specs.Prelude.{◌++◌, length, get_or, Option, Some, None, is_none, is_some, Result}
-use Rattle.std.specs.Prelude.{Ok, Err, codes}
+use Rattle.std.specs.Prelude.{◌++◌, length, get_or, Option, Some, None, option_map, is_none}
+use Rattle.std.specs.Prelude.{is_some, ok_or, Result, Ok, Err, codes}
 use Rattle.std.specs.List.{find, flat_map, range_with_len}
 use Rattle.std.specs.Str.{bytes_eq}
 use Rattle.std.specs.Str.Lossy.{utf8_lossy}
 use Rattle.osn_letters.specs.declared.added_column.AddedColumn.{AddedColumn}
 use Rattle.osn_letters.specs.declared.columns.ColumnNames.{ColumnNames}
 use Rattle.osn_letters.specs.declared.columns.Columns.{Columns}
+use Rattle.osn_letters.specs.declared.columns.DateColumns.{DateColumns}
+use Rattle.osn_letters.specs.declared.columns.DateColumns.TheVariants.{Whole, Apart}
+use Rattle.osn_letters.specs.declared.columns.DateNames.{DateNames}
+use Rattle.osn_letters.specs.declared.columns.DateNames.TheVariants as names
 use Rattle.osn_letters.specs.declared.columns.WeekdayName.{WeekdayName}
 use Rattle.osn_letters.specs.declared.columns.WeekdayName.TheVariants.{Required, Optional}
 use Rattle.osn_letters.specs.declared.fault.Column.{Column}
@@ -15,6 +19,7 @@ use Rattle.osn_letters.specs.declared.fault.Column.TheVariants as column
 use Rattle.osn_letters.specs.declared.fault.LettersFault.{LettersFault}
 use Rattle.osn_letters.specs.declared.fault.LettersFault.TheVariants.{LacksColumn, HasColumn}
 use Rattle.osn_letters.specs.AddedColumns.{added_columns, added_name}
+use Rattle.osn_letters.specs.Chain.{◌>>=◌}
 
 -- the name of the column of the weekdays, and whether it has to be there
 abbrev pub weekday_name : WeekdayName → List ℕ
@@ -25,17 +30,28 @@ abbrev pub is_required : WeekdayName → Bool
 is_required (Required name) = true
 is_required (Optional name) = false
 
+-- the names of the columns that say the date: of one that has it all, or of its year, and perhaps of
+-- its month and of its day
+pub data DateTexts : Type 0 where
+  OneText : List ℕ → DateTexts
+  PartTexts : List ℕ → Option (List ℕ) → Option (List ℕ) → DateTexts
+
+abbrev pub dates_of : DateNames → DateTexts
+dates_of (names.Whole name) = OneText name.now
+dates_of (names.Apart year month day) =
+    PartTexts year.now (option_map (λ name. name.now) month) (option_map (λ name. name.now) day)
+
 -- the names of the columns that are read
 pub record NameTexts : Type 0 where
   pub place : List ℕ
-  pub date : List ℕ
+  pub date : DateTexts
   pub weekday : List ℕ
   pub needs_weekday : Bool
 
 abbrev pub names_of : ColumnNames → NameTexts
 names_of n = record {
   place = n.place.now;
-  date = n.date.now;
+  date = dates_of n.date;
   weekday = weekday_name n.weekday;
   needs_weekday = is_required n.weekday;
 }
@@ -60,15 +76,39 @@ names_text (name ∷ names) = name ++ flat_map after_comma names
 abbrev pub lacks : ℕ → List (List ℕ) → Column → LettersFault
 lacks line header column = LacksColumn column line (utf8_lossy (names_text header))
 
--- the columns, of which those of the places and of the dates have to be there, and that of the
--- weekdays where it is needed
-abbrev pub columns_at : (Column → LettersFault) → Bool → Option ℕ → Option ℕ → Option ℕ
-    → Result Columns LettersFault
-columns_at missing needs_weekday None date weekday = Err (missing column.Place)
-columns_at missing needs_weekday (Some place) None weekday = Err (missing column.Date)
-columns_at missing needs_weekday (Some place) (Some date) weekday =
-    if needs_weekday && is_none weekday then Err (missing column.Weekday)
-    else Ok (record { place = place; date = date; weekday = weekday })
+-- where a column stands in a header on that line, which has to have it
+abbrev pub column_in : ℕ → List (List ℕ) → Column → List ℕ → Result ℕ LettersFault
+column_in line header column name = ok_or (index_of name header) (lacks line header column)
+
+-- the same of a column that may not be named
+abbrev pub part_column_in : ℕ → List (List ℕ) → Column → Option (List ℕ)
+    → Result (Option ℕ) LettersFault
+part_column_in line header column None = Ok None
+part_column_in line header column (Some name) =
+    column_in line header column name >>= λ index. Ok (Some index)
+
+-- where the columns of the date stand
+abbrev pub date_columns_in : ℕ → List (List ℕ) → DateTexts → Result DateColumns LettersFault
+date_columns_in line header (OneText name) =
+    column_in line header column.Date name >>= λ index. Ok (Whole index)
+date_columns_in line header (PartTexts year month day) =
+    column_in line header column.Year year
+    >>= λ year. part_column_in line header column.Month month
+    >>= λ month. part_column_in line header column.Day day
+    >>= λ day. Ok (Apart year month day)
+
+-- where the column of the weekdays stands, which has to be there where it is needed
+abbrev pub weekday_at : ℕ → List (List ℕ) → Bool → Option ℕ → Result (Option ℕ) LettersFault
+weekday_at line header needs_weekday index =
+    if needs_weekday && is_none index then Err (lacks line header column.Weekday) else Ok index
+
+-- the columns of these names in a header on that line
+abbrev pub columns_at : NameTexts → ℕ → List (List ℕ) → Result Columns LettersFault
+columns_at names line header =
+    column_in line header column.Place names.place
+    >>= λ place. date_columns_in line header names.date
+    >>= λ date. weekday_at line header names.needs_weekday (index_of names.weekday header)
+    >>= λ weekday. Ok (record { place = place; date = date; weekday = weekday })
 
 -- a header has a column of that name
 abbrev pub has_column : List (List ℕ) → AddedColumn → Bool
@@ -80,9 +120,7 @@ abbrev pub columns_without : ℕ → Option AddedColumn → Result Columns Lette
 columns_without line None columns = columns
 columns_without line (Some column) columns = Err (HasColumn line column)
 
--- the columns of these names in a header on that line
+-- the columns of these names in a header on that line, unless it has one of those that are added
 abbrev pub columns_of : NameTexts → ℕ → List (List ℕ) → Result Columns LettersFault
 columns_of names line header =
-    columns_without line (find (has_column header) added_columns)
-    (columns_at (lacks line header) names.needs_weekday (index_of names.place header)
-    (index_of names.date header) (index_of names.weekday header))
+    columns_without line (find (has_column header) added_columns) (columns_at names line header)

@@ -40,6 +40,7 @@ use Rattle.osn_letters.specs.declared.remark.Remark.{Remark}
 use Rattle.osn_letters.specs.declared.remark.Remark.TheVariants as told
 use Rattle.osn_letters.specs.declared.span.Span.{Span}
 use Rattle.osn_letters.specs.Edtf.{edtf_of_days, edtf_of_span, sign}
+use Rattle.osn_letters.specs.PlaceEntries.{PlaceEntry}
 use Rattle.osn_letters.specs.Remarks.{remark_text, remarks_beside, remarks_on_days}
 use Rattle.osn_letters.specs.Remarks.{those_that_apply}
 use Rattle.osn_letters.specs.RowFields.{is_malformed_weekday, said_in, territory_in, weekday_in}
@@ -217,8 +218,9 @@ fields_said p edition t named (Ok written.NoDate) =
     fields_without_date edition NoDate (is_none t) named
 fields_said p edition t named (Err fault) = fields_without_date edition fault (is_none t) named
 
--- the twelve fields for a place, a date and perhaps a weekday, by the territories of an edition
-abbrev pub letter_fields : Profile → List LandModel → ℕ → DateOrder → List ℕ → List ℕ
-    → Option (List ℕ) → FieldsAndRemarks
-letter_fields p lands edition order place date named =
-    fields_said p edition (territory_in lands place) named (said_in order date)
+-- the twelve fields for a place, a date and perhaps a weekday, by the territories of an edition and
+-- a table of places
+abbrev pub letter_fields : Profile → List LandModel → ℕ → DateOrder → List PlaceEntry → List ℕ
+    → List ℕ → Option (List ℕ) → FieldsAndRemarks
+letter_fields p lands edition order places place date named =
+    fields_said p edition (territory_in lands places place) named (said_in order date)

@@ -3,12 +3,14 @@ use Rattle.std.specs.Prelude.{ℕ, ◌-◌, Bool, false, not, ◌&&◌, ◌==◌
 use Rattle.std.specs.Prelude.{take, drop, Option, Some, None, is_none, Result, Err}
 use Rattle.std.specs.Char.{is_ascii_whitespace}
 use Rattle.std.specs.List.{prefix_len, suffix_len}
-use Rattle.std.specs.Option.{option_and_then}
+use Rattle.std.specs.Option.{option_and_then, option_or}
 use Rattle.std.specs.Str.{is_utf8}
 use Rattle.osn_days.specs.declared.weekday.Weekday.{Weekday}
 use Rattle.osn_grammar.specs.declared.written.DateOrder.{DateOrder}
 use Rattle.osn_grammar.specs.declared.written.Written.{Written}
 use Rattle.osn_lands.specs.Territory.{TerritoryModel}
+use Rattle.osn_letters.specs.PlaceEntries.{PlaceEntry, code_of}
+use Rattle.osn_register.specs.ByName.{territory_named}
 use Rattle.osn_register.specs.Code.{is_code}
 use Rattle.osn_register.specs.Plain.{LandModel, territory_of}
 use Rattle.osn_written.specs.declared.written_date.DateFault.{DateFault}
@@ -41,12 +43,27 @@ abbrev pub said_in : DateOrder → List ℕ → Result Written DateFault
 said_in order field = said_of order (text_in_field field)
 
 -- the territory of a text, if that is a code, and that of a territory
+abbrev pub territory_of_code : List LandModel → List ℕ → Option TerritoryModel
+territory_of_code lands text = if is_code text then territory_of text lands else None
+
+-- the territory of a code, or else the first one of a name
 abbrev pub territory_of_text : List LandModel → List ℕ → Option TerritoryModel
-territory_of_text lands text = if is_code text then territory_of text lands else None
+territory_of_text lands text =
+    option_or (territory_of_code lands text) (territory_named text lands)
+
+-- the territory of the code that a table of places has for a text, if it has one, else that of the
+-- text
+abbrev pub territory_by : List LandModel → List ℕ → Option (List ℕ) → Option TerritoryModel
+territory_by lands text None = territory_of_text lands text
+territory_by lands text (Some code) = territory_of_code lands code
+
+abbrev pub territory_of_place : List LandModel → List PlaceEntry → List ℕ → Option TerritoryModel
+territory_of_place lands places text = territory_by lands text (code_of text places)
 
 -- the territory of a field
-abbrev pub territory_in : List LandModel → List ℕ → Option TerritoryModel
-territory_in lands place = option_and_then (territory_of_text lands) (text_in_field place)
+abbrev pub territory_in : List LandModel → List PlaceEntry → List ℕ → Option TerritoryModel
+territory_in lands places place =
+    option_and_then (territory_of_place lands places) (text_in_field place)
 
 -- the weekday of a field, which may be lacking
 abbrev pub weekday_in : Option (List ℕ) → Option Weekday

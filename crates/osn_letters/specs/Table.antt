@@ -2,7 +2,7 @@
 -- This project's profile.
 use Rattle.std.specs.Prelude.{◌≡◌, ◌≤◌, ℕ, true, ◌==◌, List, [], ◌∷◌, ◌++◌, length, get_or}
 use Rattle.std.specs.Prelude.{if◌then◌else◌}
-use Rattle.std.specs.Prelude.{Option, Some, None, option_map, Result, Ok, Err}
+use Rattle.std.specs.Prelude.{Option, Some, None, option_map, unwrap_or, Result, Ok, Err}
 use Rattle.std.specs.Io.KnownBytes.{Appends, Consumes}
 use Rattle.csv.specs.Writing.{row_text}
 use Rattle.osn_days.specs.Profile.{Profile}
@@ -15,14 +15,16 @@ use Rattle.osn_letters.specs.declared.fault.LettersFault.{LettersFault}
 use Rattle.osn_letters.specs.declared.fault.LettersFault.TheVariants.{NoHeader, BadRecord}
 use Rattle.osn_letters.specs.AddedColumns.{added_names}
 use Rattle.osn_letters.specs.Columns.{NameTexts, names_of, columns_of}
+use Rattle.osn_letters.specs.DateParts.{date_in}
 use Rattle.osn_letters.specs.Faults.{is_of_table}
 use Rattle.osn_letters.specs.Fields.{FieldsAndRemarks, letter_fields}
+use Rattle.osn_letters.specs.PlaceEntries.{PlaceEntry}
 use Rattle.osn_letters.specs.Records.{PlacedRecord, records_of}
 use Rattle.osn_letters.specs.Separators.{writer_by}
 
 -- by what a table is made: the rules, the territories, the number of their edition, the names of
--- the columns that are read, what separates the fields, if it was named, and how a date is read
--- that may begin with its day or its month
+-- the columns that are read, what separates the fields, if it was named, how a date is read that
+-- may begin with its day or its month, and the entries of the table of places
 pub record TableBasis : Type 0 where
   pub rules : Profile
   pub lands : List LandModel
@@ -30,6 +32,7 @@ pub record TableBasis : Type 0 where
   pub names : NameTexts
   pub separator : Option Separator
   pub order : DateOrder
+  pub places : List PlaceEntry
 
 abbrev pub basis : Profile → List LandModel → ℕ → TableSettings → TableBasis
 basis p lands edition settings = record {
@@ -39,6 +42,7 @@ basis p lands edition settings = record {
   names = names_of settings.names;
   separator = settings.separator;
   order = settings.order;
+  places = unwrap_or (option_map (λ places. places.now) settings.places) [];
 }
 
 -- what the header says of the records after it: where the columns that are read stand, how many
@@ -69,13 +73,16 @@ behind text written = record { text = text ++ written.text; fault = written.faul
 abbrev pub header_text : Separator → List (List ℕ) → List ℕ
 header_text separator header = row_text (writer_by separator) (header ++ added_names)
 
--- what is said of a record: the twelve fields, and the remarks
+-- what is said of a record, with the text of its date: the twelve fields, and the remarks
+abbrev pub said_on : TableBasis → Columns → List (List ℕ) → List ℕ → FieldsAndRemarks
+said_on s columns record_fields date =
+    letter_fields s.rules s.lands s.edition s.order s.places
+    (get_or record_fields columns.place []) date
+    (option_map (λ n. get_or record_fields n []) columns.weekday)
+
 abbrev pub said_of : TableBasis → Columns → List (List ℕ) → FieldsAndRemarks
 said_of s columns record_fields =
-    letter_fields s.rules s.lands s.edition s.order
-    (get_or record_fields columns.place [])
-    (get_or record_fields columns.date [])
-    (option_map (λ n. get_or record_fields n []) columns.weekday)
+    said_on s columns record_fields (date_in columns.date record_fields)
 
 -- the twelve fields of a record
 abbrev pub fields_behind : TableBasis → Columns → List (List ℕ) → List (List ℕ)

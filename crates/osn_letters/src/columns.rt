@@ -1,5 +1,5 @@
 //! Which columns of a table are read.
-ghost use Rattle.std.specs.Prelude.{◌≡◌, ◌≢◌, [], get_or, false, IfOk, IfErr, Ok, Err};
+ghost use Rattle.std.specs.Prelude.{◌≡◌, ◌≢◌, [], get_or, false, IfOk, IfErr, Ok, Err, option_map};
 ghost use Rattle.std.specs.List.{find};
 ghost use Rattle.std.specs.Str.Lossy.{utf8_lossy};
 ghost use Rattle.csv.specs.Records.{fields_of};
@@ -22,19 +22,45 @@ pub enum WeekdayName<'a> {
     Optional(&'a str),
 }
 
+/// The names by which a header tells the columns that say the date.
+#[derive(Clone, Copy, Debug)]
+pub enum DateNames<'a> {
+    /// One column has the whole date.
+    Whole(&'a str),
+    /// The year, and perhaps the month and the day, have columns of their own.
+    Apart {
+        year: &'a str,
+        month: Option<&'a str>,
+        day: Option<&'a str>,
+    },
+}
+
 /// The names by which a header tells the columns that are read.
 #[derive(Clone, Copy, Debug)]
 pub struct ColumnNames<'a> {
     pub place: &'a str,
-    pub date: &'a str,
+    pub date: DateNames<'a>,
     pub weekday: WeekdayName<'a>,
+}
+
+/// Where the columns that say the date stand, counted from 0.
+#[derive(Clone, Copy, Debug, PartialEq, Eq)]
+pub enum DateColumns {
+    /// One has the whole date.
+    Whole(usize),
+    /// The year, and perhaps the month and the day, have columns of their own.
+    Apart {
+        year: usize,
+        month: Option<usize>,
+        day: Option<usize>,
+    },
 }
 
 /// Where the columns that are read stand, counted from 0.
 #[derive(Clone, Copy, Debug, PartialEq, Eq)]
 pub struct Columns {
     pub place: usize,
-    pub date: usize,
+    pub date: DateColumns,
     pub weekday: Option<usize>,
 }
 
@@ -56,7 +82,7 @@ fn is_at(header: &ByteRecord, name: &str, index: usize) -> bool
 }
 
 /// Where the first field stands that is the name.
-fn index_of(header: &ByteRecord, name: &str) -> Option<usize>
+pub(crate) fn index_of(header: &ByteRecord, name: &str) -> Option<usize>
     ensures { result ≡ spec.index_of name.now (fields_of header.now) }
 {
     (0..header.len()).find(|index| is_at(header, name, *index))
@@ -94,7 +120,7 @@ fn names_text(alloc: Global, header: &ByteRecord) -> Result<Vec<u8>, AllocError>
 }
 
 /// The same as a text. Bytes that aren't UTF-8 are replaced.
-fn names_found(alloc: Global, header: &ByteRecord) -> Result<Text, AllocError>
+pub(crate) fn names_found(alloc: Global, header: &ByteRecord) -> Result<Text, AllocError>
     ensures { IfOk result (λ found. found ≡ utf8_lossy (spec.names_text (fields_of header.now))) }
 {
     let names = names_text(alloc, header)?;
@@ -134,14 +160,84 @@ fn column_had(header: &ByteRecord, columns: &[AddedColumn]) -> Option<AddedColum
         .find(|column| has_column(header, *column))
 }
 
+/// Where a column stands in a header, which begins on the line.
+fn find_column(
+    alloc: Global,
+    header: &ByteRecord,
+    line: u64,
+    column: Column,
+    name: &str,
+) -> Result<usize, LettersFault>
+    ensures value { IfOk result (λ index.
+        spec.column_in line (fields_of header.now) column name.now ≡ Ok index) }
+    ensures fault { IfErr result (λ fault. (fault ≢ NoMemory)
+        → spec.column_in line (fields_of header.now) column name.now ≡ Err fault) }
+    ensures inner { IfErr result (λ fault. is_of_stream fault ≡ false) }
+{
+    match index_of(header, name) {
+        Some(index) => Ok(index),
+        None => Err(lacks(alloc, header, line, column)?),
+    }
+}
+
+/// Where a column stands that may not be named.
+fn find_part_column(
+    alloc: Global,
+    header: &ByteRecord,
+    line: u64,
+    column: Column,
+    name: Option<&str>,
+) -> Result<Option<usize>, LettersFault>
+    ensures value { IfOk result (λ index. spec.part_column_in line (fields_of header.now) column
+        (option_map (λ name. name.now) name.entry) ≡ Ok index) }
+    ensures fault { IfErr result (λ fault. (fault ≢ NoMemory)
+        → spec.part_column_in line (fields_of header.now) column
+        (option_map (λ name. name.now) name.entry) ≡ Err fault) }
+    ensures inner { IfErr result (λ fault. is_of_stream fault ≡ false) }
+{
+    match name {
+        Some(name) => Ok(Some(find_column(alloc, header, line, column, name)?)),
+        None => Ok(None),
+    }
+}
+
+/// Where the columns of the date stand.
+fn find_date_columns(
+    alloc: Global,
+    header: &ByteRecord,
+    line: u64,
+    names: DateNames<'_>,
+) -> Result<DateColumns, LettersFault>
+    ensures value { IfOk result (λ columns.
+        spec.date_columns_in line (fields_of header.now) (spec.dates_of names.entry)
+        ≡ Ok columns) }
+    ensures fault { IfErr result (λ fault. (fault ≢ NoMemory)
+        → spec.date_columns_in line (fields_of header.now) (spec.dates_of names.entry)
+        ≡ Err fault) }
+    ensures inner { IfErr result (λ fault. is_of_stream fault ≡ false) }
+{
+    match names {
+        DateNames::Whole(name) => {
+            let date = find_column(alloc, header, line, Column::Date, name)?;
+            Ok(DateColumns::Whole(date))
+        }
+        DateNames::Apart { year, month, day } => Ok(DateColumns::Apart {
+            year: find_column(alloc, header, line, Column::Year, year)?,
+            month: find_part_column(alloc, header, line, Column::Month, month)?,
+            day: find_part_column(alloc, header, line, Column::Day, day)?,
+        }),
+    }
+}
+
 /// Where the columns of these names stand in a header, which begins on the line. The first column
 /// of a name counts. Names are compared byte by byte, spaces and capitals included.
 ///
 /// # Errors
 ///
 /// `HasColumn` where the header has one of the columns that are put after its own, else
-/// `LacksColumn` where no column has the name of the places, or else none that of the dates, or
-/// else none that of the weekdays, if it has to be there; and `NoMemory`.
+/// `LacksColumn` where no column has the name of the places, or else none a name that is given for
+/// the date, or the year, the month and the day, in this order, or else none that of the weekdays,
+/// if it has to be there; and `NoMemory`.
 pub fn find_columns(
     alloc: Global,
     header: &ByteRecord,
@@ -158,12 +254,8 @@ pub fn find_columns(
     if let Some(column) = column_had(header, &ADDED_COLUMNS) {
         return Err(LettersFault::HasColumn { line, column });
     }
-    let Some(place) = index_of(header, names.place) else {
-        return Err(lacks(alloc, header, line, Column::Place)?);
-    };
-    let Some(date) = index_of(header, names.date) else {
-        return Err(lacks(alloc, header, line, Column::Date)?);
-    };
+    let place = find_column(alloc, header, line, Column::Place, names.place)?;
+    let date = find_date_columns(alloc, header, line, names.date)?;
     let weekday = index_of(header, names.weekday.name());
     if names.weekday.is_required() && weekday.is_none() {
         return Err(lacks(alloc, header, line, Column::Weekday)?);

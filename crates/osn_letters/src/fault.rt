@@ -14,6 +14,12 @@ pub enum Column {
     Place,
     /// The column of the dates.
     Date,
+    /// The column of the dates' years.
+    Year,
+    /// The column of the dates' months.
+    Month,
+    /// The column of the dates' days.
+    Day,
     /// The column of the weekdays.
     Weekday,
 }

@@ -1,10 +1,11 @@
 //! The fields that are put after a letter's row.
-ghost use Rattle.std.specs.Prelude.{◌≡◌, [], ◌∷◌, ◌++◌, option_map, IfOk};
+ghost use Rattle.std.specs.Prelude.{◌≡◌, [], ◌∷◌, ◌++◌, option_map, unwrap_or, IfOk};
 ghost use Rattle.osn_days.specs.Profile.{newest_rules};
 ghost use Rattle.osn_letters.specs.Fields as spec;
 
 use crate::added_fields::{Summary, added_fields};
 use crate::edtf::{edtf_of_days, edtf_of_span, sign};
+use crate::places::Places;
 use crate::remark::{Remark, Told, remark_text, remarks_beside, remarks_on_days, those_that_apply};
 use crate::row_field::{is_malformed_weekday, said_in, territory_in, weekday_in};
 use crate::span::{NO_SPAN, span_of_days, span_of_runs};
@@ -270,9 +271,11 @@ fn fields_without_date(
 /// The twelve fields that are put after the row of a letter, by the register of that edition: which
 /// days its date means in its place, as `days`, `gregorian`, `julian`, `dual`, `weekday_found` and
 /// `jdn`, which say each day of a date that is one day; then `earliest`, `latest`, `kind`, `edtf`,
-/// `edition` and `remark`. The place is the code of a territory. The weekday may be lacking or
-/// empty, and its letters may be capital or small. White space of ASCII around each of the three is
-/// passed over. A date that names a calendar is read as if the territory had gone by it.
+/// `edition` and `remark`. The place is one that the table of places lists, which has the code of a
+/// territory for it, or else the code of a territory, or else the name of one, and then the first
+/// one of that name is meant. The weekday may be lacking or empty, and its letters may be capital or
+/// small. White space of ASCII around each of the three is passed over. A date that names a calendar
+/// is read as if the territory had gone by it.
 ///
 /// # Errors
 ///
@@ -282,15 +285,17 @@ pub fn letter_fields(
     register: &Register,
     edition: usize,
     order: DateOrder,
+    places: Option<&Places>,
     place: &[u8],
     date: &[u8],
     weekday: Option<&[u8]>,
 ) -> Result<LetterFields, AllocError>
     ensures { IfOk result (λ made. spec.said made ≡ spec.letter_fields newest_rules
-        register.now.lands edition order place.now date.now
+        register.now.lands edition order
+        (unwrap_or (option_map (λ places. places.now) places.entry) []) place.now date.now
         (option_map (λ w. w.now) weekday.entry)) }
 {
-    let territory = territory_in(register, place);
+    let territory = territory_in(register, places, place);
     let lacks_place = territory.is_none();
     match said_in(alloc, order, date)? {
         Ok(Written::Date(date)) => fields_of_date(alloc, edition, territory, date, weekday),

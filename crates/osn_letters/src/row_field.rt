@@ -1,7 +1,9 @@
 //! What the fields of a row say: the date, the territory and the weekday.
-ghost use Rattle.std.specs.Prelude.{◌≡◌, option_map, IfOk};
+ghost use Rattle.std.specs.Prelude.{◌≡◌, [], option_map, unwrap_or, IfOk};
+ghost use Rattle.osn_letters.specs.PlaceEntries as entries;
 ghost use Rattle.osn_letters.specs.RowFields as spec;
 
+use crate::places::Places;
 use osn_days::Weekday;
 use osn_grammar::{DateOrder, Written};
 use osn_lands::Territory;
@@ -11,14 +13,14 @@ use std::alloc::{AllocError, Global};
 use std::str;
 
 /// Bytes without the white space of ASCII around them.
-fn trimmed(bytes: &[u8]) -> &[u8]
+pub(crate) fn trimmed(bytes: &[u8]) -> &[u8]
     ensures { result.now ≡ spec.trimmed bytes.now }
 {
     bytes.trim_ascii()
 }
 
 /// The text that a field has without the white space around it, if it is a text.
-fn text_in_field(bytes: &[u8]) -> Option<&str>
+pub(crate) fn text_in_field(bytes: &[u8]) -> Option<&str>
     ensures { option_map (λ s. s.now) result ≡ spec.text_in_field bytes.now }
 {
     str::from_utf8(trimmed(bytes)).ok()
@@ -39,19 +41,47 @@ pub(crate) fn said_in(
 }
 
 /// The territory of a code, if some territory has it.
+fn territory_of_code<'a>(register: &'a Register, code: &str) -> Option<&'a Territory>
+    ensures { option_map (λ t. t.now) result
+        ≡ spec.territory_of_code register.now.lands code.now }
+{
+    let (_, territory) = register.land(code).ok()?;
+    Some(territory)
+}
+
+/// The territory of a code, or else the first one of a name.
 fn territory_of_text<'a>(register: &'a Register, text: &str) -> Option<&'a Territory>
     ensures { option_map (λ t. t.now) result
         ≡ spec.territory_of_text register.now.lands text.now }
 {
-    let (_, territory) = register.land(text).ok()?;
-    Some(territory)
+    match territory_of_code(register, text) {
+        Some(territory) => Some(territory),
+        None => register.territory_named(text),
+    }
+}
+
+/// The code that a table of places has for a text.
+fn code_of<'a>(places: Option<&'a Places>, text: &str) -> Option<&'a str>
+    ensures { option_map (λ code. code.now) result ≡ entries.code_of text.now
+        (unwrap_or (option_map (λ places. places.now) places.entry) []) }
+{
+    places?.code_of(text)
 }
 
 /// The territory of a field.
-pub(crate) fn territory_in<'a>(register: &'a Register, place: &[u8]) -> Option<&'a Territory>
-    ensures { option_map (λ t. t.now) result ≡ spec.territory_in register.now.lands place.now }
+pub(crate) fn territory_in<'a>(
+    register: &'a Register,
+    places: Option<&Places>,
+    place: &[u8],
+) -> Option<&'a Territory>
+    ensures { option_map (λ t. t.now) result ≡ spec.territory_in register.now.lands
+        (unwrap_or (option_map (λ places. places.now) places.entry) []) place.now }
 {
-    territory_of_text(register, text_in_field(place)?)
+    let text = text_in_field(place)?;
+    match code_of(places, text) {
+        Some(code) => territory_of_code(register, code),
+        None => territory_of_text(register, text),
+    }
 }
 
 /// The weekday of a field, which may be lacking.

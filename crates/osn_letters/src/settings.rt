@@ -1,5 +1,6 @@
 //! How a table of letters is read.
 use crate::columns::ColumnNames;
+use crate::places::Places;
 use crate::separator::Separator;
 use osn_grammar::DateOrder;
 
@@ -12,4 +13,6 @@ pub struct TableSettings<'a> {
     pub separator: Option<Separator>,
     /// How a date of three numbers is read that may begin with its day or its month.
     pub order: DateOrder,
+    /// The codes of places, for those that are listed.
+    pub places: Option<&'a Places>,
 }

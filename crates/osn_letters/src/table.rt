@@ -1,18 +1,20 @@
 //! The table that is written, record by record.
-ghost use Rattle.std.specs.Prelude.{◌≡◌, ◌∷◌, ◌++◌, [], true, get_or, IfErr, OnOk, Some, Ok};
+ghost use Rattle.std.specs.Prelude.{◌≡◌, ◌∷◌, ◌++◌, [], true, get_or, IfErr, IfOk, OnOk, Some, Ok};
 ghost use Rattle.std.specs.Prelude.{None, option_map};
 ghost use Rattle.csv.specs.Records.{fields_of, partial_of};
 ghost use Rattle.osn_letters.specs.Faults.{is_of_table};
+ghost use Rattle.osn_letters.specs.Fields.{said};
 ghost use Rattle.osn_letters.specs.Table as spec;
 ghost use Rattle.osn_letters.specs.TableInside as inside;
 ghost use Rattle.osn_letters.specs.TallyInside.{with_row};
 ghost use Rattle.osn_letters.specs.WriterInside.{IsBetweenRows, waiting};
 
 use crate::added_column::ADDED_COLUMNS;
-use crate::columns::{Columns, field_at, find_columns};
+use crate::columns::{Columns, DateColumns, field_at, find_columns};
 use crate::csv_text::{RowWriter, push_fields, push_names};
+use crate::date_parts::parts_text;
 use crate::fault::LettersFault;
-use crate::letter::letter_fields;
+use crate::letter::{LetterFields, letter_fields};
 use crate::separator::Separator;
 use crate::settings::TableSettings;
 use crate::tally::Tally;
@@ -98,6 +100,42 @@ impl Table<'_> {
         Ok(())
     }
 
+    /// The twelve fields of a record with the text of its date, and the remarks.
+    fn fields_on(
+        &self,
+        columns: Columns,
+        row: &ByteRecord,
+        date: &[u8],
+    ) -> Result<LetterFields, AllocError>
+        ensures { IfOk result (λ made. said made ≡ spec.said_on
+            (inside.source_of self.now) columns (fields_of row.now) date.now) }
+    {
+        letter_fields(
+            self.alloc,
+            self.register,
+            self.edition,
+            self.settings.order,
+            self.settings.places,
+            field_at(row, columns.place),
+            date,
+            weekday_at(row, columns.weekday),
+        )
+    }
+
+    /// The twelve fields of a record, and the remarks.
+    fn row_fields(&self, columns: Columns, row: &ByteRecord) -> Result<LetterFields, AllocError>
+        ensures { IfOk result (λ made. said made ≡ spec.said_of
+            (inside.source_of self.now) columns (fields_of row.now)) }
+    {
+        match columns.date {
+            DateColumns::Whole(index) => self.fields_on(columns, row, field_at(row, index)),
+            DateColumns::Apart { year, month, day } => {
+                let date = parts_text(self.alloc, row, year, month, day)?;
+                self.fields_on(columns, row, &date)
+            }
+        }
+    }
+
     /// Appends to the text that waits the row of a record, and counts it.
     fn push_row(&mut self, columns: Columns, row: &mut ByteRecord) -> Result<(), AllocError>
         requires partial { partial_of row.old ≡ [] }
@@ -112,15 +150,7 @@ impl Table<'_> {
         ensures tally { OnOk result (self.new.tally ≡ with_row self.old.tally
             (spec.said_of (inside.source_of self.old) columns (fields_of row.old)).remarks) }
     {
-        let made = letter_fields(
-            self.alloc,
-            self.register,
-            self.edition,
-            self.settings.order,
-            field_at(row, columns.place),
-            field_at(row, columns.date),
-            weekday_at(row, columns.weekday),
-        )?;
+        let made = self.row_fields(columns, row)?;
         push_fields(row, &made.fields)?;
         self.tally.count(&made.remarks)?;
         self.out.write_row(row)

@@ -5,6 +5,7 @@ pub mod Query
 pub mod BorrowedQuery
 pub mod Plain
 pub mod Named
+pub mod ByName
 pub mod Answer
 pub mod Inside
 pub mod InsideChange

@@ -1,5 +1,6 @@
-//! The territory that the register keeps under a code, lent with its name.
-ghost use Rattle.std.specs.Prelude.{◌≡◌, Some, is_some, IfOk, IfSome};
+//! The territory that the register keeps under a code or a name, lent.
+ghost use Rattle.std.specs.Prelude.{◌≡◌, Some, is_some, option_map, IfOk, IfSome};
+ghost use Rattle.osn_register.specs.ByName as by_name;
 ghost use Rattle.osn_register.specs.Named.{named_of};
 ghost use Rattle.osn_register.specs.Plain.{code_refusal, land_of};
 ghost use Rattle.osn_register.specs.Refusal.{IsTestOf};
@@ -36,5 +37,18 @@ impl Register {
             return Err(Refusal::BadCode);
         }
         self.named(code).ok_or(Refusal::UnknownLand)
+    }
+
+    /// The first territory that has the name.
+    pub fn territory_named(&self, name: &str) -> Option<&Territory>
+        ensures { option_map (λ t. t.now) result
+            ≡ by_name.territory_named name.now self.now.lands }
+    {
+        for (_code, entry) in &self.lands {
+            if entry.name.as_str() == name {
+                return Some(&entry.territory);
+            }
+        }
+        None
     }
 }

@@ -3,7 +3,7 @@ use Rattle.std.proofs.lemmas.Result.{on_ok_weaker}
 use Rattle.csv.specs.Records.{fields_of}
 use Rattle.osn_letters.specs.Separators.{writer_by}
 use Rattle.osn_letters.specs.Table.{letter_text}
-use Rattle.osn_letters.proofs.TableFacts.{written_as, same_fields}
+use Rattle.osn_letters.proofs.TableFacts.{written_as}
 use Rattle.osn_letters.proofs.table.Table.push_row.Goals as goal
 
 pub returns-clause-text : goal.returns-clause-text
@@ -12,7 +12,5 @@ returns-clause-text c =
     on_ok_weaker c.write_row.result
     (written_as (writer_by c.args.self.now.out.separator) _ _ _ _
     (c.in_ok-push_fields.ensures.fields
-    ∙ ap (λ said. fields_of c.args.row.now ++ said.fields) (c.in_ok-made.ensures
-    ∙ same_fields _ _ _ _ _ _ _ _ _ _ c.field_at.ensures c.field_at-2.ensures
-    c.weekday_at.ensures)))
+    ∙ ap (λ said. fields_of c.args.row.now ++ said.fields) c.in_ok-made.ensures))
     c.write_row.ensures.text
