@@ -1,7 +1,10 @@
+#!/usr/bin/env python3
 """British letters in CSV, in Python with csv and datetime: what `oldstyle letters` is measured by.
 
 It knows one reform, of dates that Great Britain had from 1600 to 1800, and nothing of other places.
+The table is read on standard input: it has a column date.
 """
+import argparse
 import csv
 import sys
 from datetime import date
@@ -57,13 +60,17 @@ def fields(text):
 
 
 def main():
+    argparse.ArgumentParser(description=__doc__).parse_args()
     rows = csv.reader(sys.stdin)
     out = csv.writer(sys.stdout, lineterminator="\n")
-    header = next(rows)
+    header = next(rows, [])
+    if "date" not in header:
+        sys.exit("letters_datetime.py: the table has no column date: name the column of dates so")
     place = header.index("date")
     out.writerow(header + NEW)
     for one in rows:
         out.writerow(one + fields(one[place]))
 
 
-main()
+if __name__ == "__main__":
+    main()

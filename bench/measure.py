@@ -9,26 +9,36 @@ import subprocess
 import sys
 import tempfile
 import time
+from typing import NamedTuple
 
 HERE = os.path.dirname(os.path.abspath(__file__))
-BUILT = os.path.join(HERE, "..", "crates", "oldstyle", "out", "oldstyle")
 PLAIN = os.path.join(HERE, "plain")
+sys.path.append(os.path.join(HERE, "..", "tools"))
+
+from command_line import CommandLine, end, need
+
+__all__ = ["CommandLine", "end", "need"]
 ROUNDS = 5
 
 CALENDARS = ["julian", "gregorian", "swedish"]
 RULES = ["julian", "gregorian"]
 
 # The loads are compared between commits, so they have the styles, years and days that all of these
-# know. The other styles are measured where `--six` is among the words, and the whole line, to the
-# end of the year 9999, where `--long` is.
+# know. The other styles are measured by `reads --six`, and the whole line, to the end of the year
+# 9999, by `reads --long`.
 STYLES = ["january", "annunciation", "nativity", "september"]
 SIX_STYLES = STYLES + ["pisan", "easter"]
-WORDS = [word for word in sys.argv[1:] if word not in ("--six", "--long")]
-IS_SIX, IS_LONG = "--six" in sys.argv[1:], "--long" in sys.argv[1:]
-LAST_DAY, LAST_YEAR = (3_652_059, 9_999) if IS_LONG else (1_095_362, 2_999)
 
-# The days between the changes of a territory that has many.
-APART = 90_000 if IS_LONG else 27_000
+
+class Line(NamedTuple):
+    """The line of days: its end, and the days between the changes of a territory that has many."""
+
+    last_day: int
+    last_year: int
+    apart: int
+
+
+SHORT, LONG = Line(1_095_362, 2_999, 27_000), Line(3_652_059, 9_999, 90_000)
 
 JULIAN = {"calendar": "julian", "style": "january", "rule": "julian"}
 GREGORIAN = {"calendar": "gregorian", "style": "january", "rule": "gregorian"}
@@ -90,12 +100,12 @@ def land_edits(code, opening, changes):
         yield request("add_change", code=code, day=day, **words)
 
 
-def many_territories(count, styles=STYLES):
+def many_territories(count, styles=STYLES, line=SHORT):
     """500 territories with so many changes each, spread over all days up to the last one, of all
     regimes of these styles."""
     edits = []
     for place in range(LANDS):
-        days = [(change * APART + place * 37, change) for change in range(1, count + 1)]
+        days = [(change * line.apart + place * 37, change) for change in range(1, count + 1)]
         changes = [(day, regime(place + change, styles)) for day, change in days]
         edits += land_edits(f"T{place:05}", regime(place, styles), changes)
     return edits
@@ -105,21 +115,23 @@ def land(n):
     return f"T{n * 7 % LANDS:05}"
 
 
-def year(n):
-    return 1 + n * 7919 % LAST_YEAR
+def year(n, line=SHORT):
+    return 1 + n * 7919 % line.last_year
 
 
 def read(code, label_year, month, day):
     return request("read", reader=1, code=code, year=label_year, month=month, day=day)
 
 
-def usual_read(code, n):
-    return read(code, year(n), 1 + n % 12, 1 + n % 28)
+def usual_read(code, n, line=SHORT):
+    return read(code, year(n, line), 1 + n % 12, 1 + n % 28)
 
 
-def program():
-    """The program of the command line, or the one that was built."""
-    return WORDS[0] if WORDS else BUILT
+def given_program(document):
+    """The program that is measured, by a script that takes no other word."""
+    line = CommandLine(document)
+    line.add_program()
+    return line.read().program
 
 
 def is_stale(built, sources):
@@ -134,16 +146,18 @@ def plain_program():
     """The plain Rust program, built first where that is needed."""
     built = os.path.join(PLAIN, "target", "release", "plain")
     if is_stale(built, os.path.join(PLAIN, "src")):
+        need("cargo", "Rust, with Debian's package librust-serde-json-dev")
         print("building the plain Rust program", file=sys.stderr)
         build = ["cargo", "build", "--release", "--offline", "--quiet"]
         if subprocess.run(build, cwd=PLAIN).returncode != 0:
-            sys.exit("it wants cargo and Debian's package librust-serde-json-dev")
+            sys.exit("the plain Rust program is not built: it wants Debian's package "
+                     "librust-serde-json-dev")
     return built
 
 
-def programs():
+def programs(program):
     """The commands to compare, by name."""
-    return {"oldstyle": program(), "plain": plain_program()}
+    return {"oldstyle": program, "plain": plain_program()}
 
 
 class Load:
@@ -235,8 +249,8 @@ def print_head(title, commands, *more):
 
 
 def print_rates(title, rates, floor=None):
-    """The rates of the two programs and their ratio; and, where there is one, that of the floor, with
-    how many times its time the first program takes."""
+    """The rates of the two programs and their ratio; and, where there is one, that of the floor,
+    with how many times its time the first program takes."""
     numbers = "".join(f"{rate:12,.0f}" for rate in rates)
     beside = f"{floor:10,.0f}{floor / rates[0]:10.2f}" if floor else ""
     print(f"{title:28}{numbers}{rates[0] / rates[1]:8.2f}{beside}")

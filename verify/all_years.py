@@ -1,17 +1,14 @@
 #!/usr/bin/env python3
 """Holds the figures of all 9,999 years against formulas written apart.
 
-    verify/all_years.py [PROGRAM]
-
 Easter by the anonymous algorithm of *Nature* (1876) for the Gregorian rule and by Meeus,
 *Astronomical Algorithms*, for the Julian one; Sunday letters from the weekday of 1 January, which
 `datetime` gives for the Gregorian calendar.
 """
 import datetime
 import json
-import sys
 
-from common import program, run
+from common import CommandLine, end, replies
 
 YEARS = range(1, 10_000)
 
@@ -65,9 +62,18 @@ def figures(year):
     }
 
 
-requests = ['{"op":"figures","reader":1,"year":%d}' % year for year in YEARS]
-replies = run(program(1), lines=requests).stdout.splitlines()
-answers = [json.loads(line)["answer"] for line in replies]
-apart = [year for year, answer in zip(YEARS, answers, strict=True) if answer != figures(year)]
-print(f"{len(answers)} years, {len(apart)} differ")
-sys.exit(1 if apart else 0)
+def main():
+    line = CommandLine(__doc__)
+    line.add_program()
+    requests = ('{"op":"figures","reader":1,"year":%d}' % year for year in YEARS)
+    differ = 0
+    for year, reply in zip(YEARS, replies(line.read().program, requests)):
+        if json.loads(reply).get("answer") != figures(year):
+            differ += 1
+            print(f"{year}: {reply}")
+    print(f"{len(YEARS)} years, {differ} differ")
+    return 1 if differ else 0
+
+
+if __name__ == "__main__":
+    end(main)

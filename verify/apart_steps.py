@@ -1,21 +1,17 @@
 #!/usr/bin/env python3
 """Holds what schedules of the nine steps give against a model written apart.
 
-    verify/apart_steps.py [COUNT [SEED [PROGRAM]]]
-        1,000 schedules, seed 1 and ../oldstyle where none is given
-    verify/apart_steps.py --replay READERS < SCHEDULE
-        what the model gives at the steps of one schedule
-
 The model has two copies of the territories, each with its edits made one by one, and a list of the
 edits that the standby lacks. It was written from docs/FORMATS.md alone, and shares the rules of
-edits and queries with reference.py.
+edits and queries with reference.py. With --replay it tells what the model gives at the steps of one
+schedule, of which each is a line of standard input.
 """
 import json
 import random
 import sys
 import tempfile
 
-from common import JULIAN, argument, program, run
+from common import JULIAN, CommandLine, compact, end, run
 from reference import Fault, Service, refuse, request_of
 
 EDITIONS = 5_000
@@ -47,7 +43,7 @@ class Machine:
             members = fault.members
         if isinstance(members, str):
             members = {"out": members}
-        return json.dumps(members, separators=(",", ":"), sort_keys=True, ensure_ascii=False)
+        return compact(members)
 
     def at(self, value, state):
         """The place of the step's reader, if it is in this state."""
@@ -188,26 +184,37 @@ def given(oldstyle, readers, lines):
         return run(oldstyle, words).stdout.splitlines()
 
 
+def differs(place, readers, lines, wanted, got):
+    print(f"schedule {place}, {readers} readers:")
+    for line, one, other in zip(lines, wanted, got + [""] * len(lines)):
+        print("  ", line, one, "" if one == other else f"and not {other}")
+
+
 def main():
-    if sys.argv[1:2] == ["--replay"]:
-        machine = Machine(int(sys.argv[2]))
-        for line in sys.stdin:
-            print(machine.out(line))
-        return
-    count, seed, oldstyle = argument(1, 1_000), argument(2, 1), program(3)
-    chance, steps = random.Random(seed), 0
-    for place in range(count):
+    line = CommandLine(__doc__)
+    line.add_program()
+    line.add_count(1_000, "schedules")
+    line.add_seed()
+    line.add_number("--replay", None, "readers of the model that takes a schedule")
+    options = line.parse_args()
+    if options.replay:
+        machine = Machine(options.replay)
+        for step in sys.stdin:
+            print(machine.out(step))
+        return 0
+    line.find_programs(options)
+    chance, steps, differ = random.Random(options.seed), 0, 0
+    for place in range(options.count):
         readers = chance.randint(1, 4)
         lines, wanted = schedule(chance, Machine(readers))
-        got = given(oldstyle, readers, lines)
+        got = given(options.program, readers, lines)
         if got != wanted:
-            print(f"schedule {place} of seed {seed}, {readers} readers:")
-            for line, one, other in zip(lines, wanted, got + [""] * len(lines)):
-                print("  ", line, one, "" if one == other else f"and not {other}")
-            sys.exit(1)
+            differ += 1
+            differs(place, readers, lines, wanted, got)
         steps += len(lines)
-    print(f"{count} schedules, {steps} steps: all as the model gives")
+    print(f"{options.count} schedules of {steps} steps, {differ} differ")
+    return 1 if differ else 0
 
 
 if __name__ == "__main__":
-    main()
+    end(main)

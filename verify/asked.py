@@ -3,13 +3,8 @@ import json
 import os
 import stat
 import subprocess
-import sys
 import tempfile
 from contextlib import contextmanager
-
-HERE = os.path.dirname(os.path.abspath(__file__))
-PROGRAM = os.path.abspath(sys.argv[1] if len(sys.argv) > 1 else
-                          os.path.join(HERE, "..", "crates", "oldstyle", "out", "oldstyle"))
 
 REGIME = '"calendar":"julian","style":"january","rule":"julian"'
 GREGORIAN = '"calendar":"gregorian","style":"january","rule":"gregorian"'
@@ -43,6 +38,7 @@ QUERIES = [
     '{"op":"figures","reader":1,"year":1954}',
     '{"op":"lands","reader":1}',
     '{"op":"periods","reader":1,"code":"GB"}',
+    '{"op":"written","reader":1,"code":"GB","date":"11 February 1731/2","weekday":"Friday"}',
 ]
 LEFT = [
     PUBLISH,
@@ -154,7 +150,7 @@ def is_refused(words, status, errors):
     return (status, errors) in ([NO_MEMORY, NO_PLACE] if words.startswith("desk") else [NO_MEMORY])
 
 
-def is_transcript(told):
+def is_transcript(program, told):
     """Whether a desk told each question its reply, at an edition of the script."""
     asked = sorted(map(json.loads, QUESTIONS), key=lambda ask: ask["reader"])
     try:
@@ -163,6 +159,6 @@ def is_transcript(told):
     except ValueError:
         return False
     with filled({"a.transcript": told.splitlines()}) as folder:
-        command = [PROGRAM, "audit", "a.script", "a.transcript"]
+        command = [program, "audit", "a.script", "a.transcript"]
         audit = subprocess.run(command, cwd=folder, capture_output=True, text=True, timeout=60)
     return audit.stdout == f"audit: {len(asked)} replies agree\n"

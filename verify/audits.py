@@ -1,9 +1,6 @@
 #!/usr/bin/env python3
 """Audits transcripts of random journals, as they are and with one digit of a reply changed.
 
-    verify/audits.py [COUNT [SEED [PROGRAM]]]
-        1,000 transcripts, seed 1 and ../oldstyle where none is given
-
 A journal of random edits is served, edition by edition, to readers who ask in between; each query
 and its reply are put down as a transcript, or the journal is worked through at a desk, whose
 transcript is taken. The audit has to agree to all replies. Then one digit within a reply is
@@ -15,11 +12,13 @@ import pty
 import random
 import re
 import subprocess
+import sys
 import tempfile
 
-from common import JULIAN, argument, compact, program, run
+from common import JULIAN, SCRIPT, CommandLine, compact, end, run
 
 CODES = ["RM", "GB", "FR", "DE"]
+AGREE = b" replies agree\n"
 
 
 def edit(chance):
@@ -80,6 +79,12 @@ def spoilt(chance, line):
     return line[:place] + digit + line[place + 1:]
 
 
+def hold(told, wanted, of=""):
+    """Ends the script where an audit tells another thing than is wanted."""
+    if told != wanted:
+        sys.exit(f"{SCRIPT}: told {told}, and not {wanted} {of}")
+
+
 def long_audit(oldstyle, journal, transcript, line):
     """What an audit of over 128 MiB says on standard error that is a terminal, and elsewhere."""
     text = (line + "\n").encode()
@@ -93,37 +98,44 @@ def long_audit(oldstyle, journal, transcript, line):
     told = os.read(terminal, 4096)
     os.close(terminal)
     unseen = subprocess.run(command, capture_output=True, check=True)
-    assert shown == unseen.stdout and shown.endswith(b" replies agree\n"), (shown, unseen)
+    hold(shown, unseen.stdout)
+    hold(shown[-len(AGREE):], AGREE)
     return told.decode().splitlines(), unseen.stderr.decode().splitlines()
 
 
+def try_transcript(oldstyle, chance, journal, transcript, lines):
+    """A transcript as it is, and with a reply changed where it has one."""
+    found = audited(oldstyle, journal, transcript, lines)
+    hold(found, (0, f"audit: {len(lines)} replies agree\n"), lines)
+    if lines:
+        bad = chance.randrange(len(lines))
+        changed = lines[:bad] + [spoilt(chance, lines[bad])] + lines[bad + 1:]
+        found = audited(oldstyle, journal, transcript, changed)
+        hold(found, (1, f"oldstyle: transcript line {bad + 1}: 42 WrongReply\n"), changed[bad])
+
+
 def main():
-    count, chance, oldstyle = argument(1, 1_000), random.Random(argument(2, 1)), program(3)
-    agreed = refused = 0
+    line = CommandLine(__doc__)
+    line.add_program()
+    line.add_count(1_000, "transcripts")
+    line.add_seed()
+    options = line.read()
+    oldstyle, chance, agreed, refused = options.program, random.Random(options.seed), 0, 0
     with tempfile.TemporaryDirectory() as room:
         names = ("journal", "questions", "transcript")
         journal, questions, transcript = (os.path.join(room, name) for name in names)
-        for place in range(count):
+        for place in range(options.count):
             lines = served(oldstyle, chance, journal)
             if place % 2:
                 lines = at_desk(oldstyle, chance, journal, questions)
-            status, told = audited(oldstyle, journal, transcript, lines)
-            wanted = f"audit: {len(lines)} replies agree\n"
-            assert (status, told) == (0, wanted), (status, told, lines)
-            agreed += len(lines)
-            if lines:
-                bad = chance.randrange(len(lines))
-                changed = lines[:bad] + [spoilt(chance, lines[bad])] + lines[bad + 1:]
-                status, told = audited(oldstyle, journal, transcript, changed)
-                wanted = f"oldstyle: transcript line {bad + 1}: 42 WrongReply\n"
-                assert (status, told) == (1, wanted), (status, told, changed[bad])
-                refused += 1
-        line = at_desk(oldstyle, chance, journal, questions)[0]
-        told = long_audit(oldstyle, journal, transcript, line)
-        wanted = [f"oldstyle: {place} MiB of the transcript read" for place in (64, 128)]
-        assert told == (wanted, []), told
-    print(f"{count} transcripts: {agreed} replies agreed to, {refused} changed ones refused")
+            try_transcript(oldstyle, chance, journal, transcript, lines)
+            agreed, refused = agreed + len(lines), refused + bool(lines)
+        one = at_desk(oldstyle, chance, journal, questions)[0]
+        told = long_audit(oldstyle, journal, transcript, one)
+        hold(told, ([f"oldstyle: {place} MiB of the transcript read" for place in (64, 128)], []))
+    print(f"{options.count} transcripts: {agreed} replies agreed to, {refused} changed ones "
+          "refused")
 
 
 if __name__ == "__main__":
-    main()
+    end(main)

@@ -1,23 +1,18 @@
-"""What the scripts here share: the program, its words and lines, and two regimes."""
+"""What the scripts here share: the program's words and lines, two regimes, and a disk in memory."""
 import json
 import os
 import subprocess
 import sys
 from contextlib import contextmanager
 
-HERE = os.path.dirname(os.path.abspath(__file__))
+TOP = os.path.dirname(os.path.dirname(os.path.abspath(__file__)))
+sys.path.append(os.path.join(TOP, "tools"))
+
+from command_line import SCRIPT, CommandLine, end, file_at, need
+
+__all__ = ["CommandLine", "end", "file_at", "need"]
 JULIAN = {"calendar": "julian", "style": "january", "rule": "julian"}
 GREGORIAN = {"calendar": "gregorian", "style": "january", "rule": "gregorian"}
-
-
-def argument(place, default):
-    """A word of the command line, or what stands for it where there are fewer."""
-    return type(default)(sys.argv[place]) if len(sys.argv) > place else default
-
-
-def program(place):
-    """The program that a word of the command line names, or this repository's."""
-    return os.path.abspath(argument(place, os.path.join(HERE, "..", "oldstyle")))
 
 
 def compact(value):
@@ -25,11 +20,22 @@ def compact(value):
     return json.dumps(value, separators=(",", ":"), sort_keys=True, ensure_ascii=False)
 
 
-def run(program, words=(), lines=()):
-    """A run of the program with these words and lines of input."""
+def run(program, words=(), lines=(), folder=None):
+    """A run of the program with these words and lines of input, in a folder."""
     text = "".join(line + "\n" for line in lines)
     return subprocess.run([program, *words], input=text, capture_output=True, text=True,
-                          check=False)
+                          check=False, cwd=folder)
+
+
+def replies(program, lines):
+    """The replies of the service to these lines, of which each has to have one."""
+    lines = list(lines)
+    done = run(program, lines=lines)
+    told = done.stdout.splitlines()
+    if len(told) != len(lines):
+        sys.exit(f"{SCRIPT}: {program}: {len(told)} replies to {len(lines)} lines, status "
+                 f"{done.returncode}: {done.stderr}")
+    return told
 
 
 @contextmanager

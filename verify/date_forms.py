@@ -1,5 +1,5 @@
 #!/usr/bin/env python3
-"""Holds the forms of dates that docs/DATES.md shows against the program: verify/date_forms.py.
+"""Holds the forms of dates that docs/DATES.md shows against the program.
 
 A text of the table of days is read as the day beside it, and a text of the tables of months,
 years, ranges and bounds has a page too, and is refused as no single day by `convert`. Prints each
@@ -7,9 +7,8 @@ text that is told otherwise, and ends with status 1 where one is.
 """
 import os
 import re
-import sys
 
-from common import HERE, program, run
+from common import TOP, CommandLine, end, run
 
 DAY = r"\d+ [A-Z][a-z]+ \d+(?:/\d)?"
 NOT_ONE_DAY = "a month, a year or a range is not one day"
@@ -35,21 +34,27 @@ def expected(document):
             yield from ((text, NOT_ONE_DAY) for text in texts)
 
 
-def holds(text, told):
+def holds(program, text, told):
     """Whether the program tells a text so. What is no single day has a page of `read` too."""
-    page = run(PROGRAM, ["read", "examples/samples.journal", "GB", text])
+    page = run(program, ["read", "examples/samples.journal", "GB", text], folder=TOP)
     if told != NOT_ONE_DAY:
         return page.stdout.startswith(f"{told} in Great Britain")
-    done = run(PROGRAM, ["convert", "gregorian", text])
+    done = run(program, ["convert", "gregorian", text])
     return page.returncode == 0 and f"oldstyle: {text}: {told}" in done.stderr
 
 
-PROGRAM = program(1)
-os.chdir(os.path.join(HERE, ".."))
-with open("docs/DATES.md", encoding="utf-8") as file:
-    pairs = list(expected(file.read()))
-others = [(text, told) for text, told in pairs if not holds(text, told)]
-for text, told in others:
-    print(f"{text}: not {told}")
-print(f"{len(pairs)} texts, {len(others)} told otherwise")
-sys.exit(1 if others else 0)
+def main():
+    line = CommandLine(__doc__)
+    line.add_program()
+    program = line.read().program
+    with open(os.path.join(TOP, "docs", "DATES.md"), encoding="utf-8") as file:
+        pairs = list(expected(file.read()))
+    others = [(text, told) for text, told in pairs if not holds(program, text, told)]
+    for text, told in others:
+        print(f"{text}: not {told}")
+    print(f"{len(pairs)} texts, {len(others)} told otherwise")
+    return 1 if others else 0
+
+
+if __name__ == "__main__":
+    end(main)

@@ -1,8 +1,6 @@
 #!/usr/bin/env python3
 """Holds what desks write against what the service answers, edition by edition.
 
-    verify/desk_runs.py [RUNS [QUESTIONS [PROGRAM]]]    200 runs of 100,000 questions, ../oldstyle
-
 An editor works through a script while 64 readers ask, each in a thread of its own. Which edition a
 question meets is the schedule's affair, but the reply has to be that of `serve` at the edition that
 it names, the replies come by reader and then by place, and no reader's editions fall. So first all
@@ -12,9 +10,10 @@ is looked up there. Run it on a busy machine too: that moves the threads about.
 import json
 import os
 import random
+import sys
 import tempfile
 
-from common import GREGORIAN, JULIAN, argument, compact, program, run
+from common import GREGORIAN, JULIAN, SCRIPT, CommandLine, compact, end, run
 
 READERS, EDITIONS, LANDS = 64, 40, 12
 STYLES = ["january", "annunciation", "nativity", "september", "pisan", "easter"]
@@ -65,26 +64,37 @@ def told_by_service(oldstyle, batches, asked):
     return {(reply["edition"], compact(query)): reply for reply, query in pairs}
 
 
+def hold(holds, otherwise):
+    """Ends the script where something does not hold."""
+    if not holds:
+        sys.exit(f"{SCRIPT}: {otherwise}")
+
+
 def check(transcript, questions, told):
     """Holds the lines of a transcript against what the service told; answers the editions that
     were met."""
-    assert len(transcript) == len(questions), "a reply to each question"
+    hold(len(transcript) == len(questions), f"{len(transcript)} replies to {len(questions)}")
     last, met = {}, set()
     for line, (reader, query) in zip(transcript, questions):
         value = json.loads(line)
         edition = value["reply"]["edition"]
         reply = {**told[edition, compact(query)], "reader": reader}
         wanted = {"ask": {**query, "reader": reader}, "reply": reply}
-        assert line == compact(wanted), f"{line}\nand not\n{compact(wanted)}"
-        assert edition >= last.get(reader, 0), f"reader {reader} went back to edition {edition}"
+        hold(line == compact(wanted), f"{line}\nand not\n{compact(wanted)}")
+        hold(edition >= last.get(reader, 0), f"reader {reader} went back to edition {edition}")
         last[reader] = edition
         met.add(edition)
     return met
 
 
 def main():
-    runs, count, oldstyle = argument(1, 200), argument(2, 100_000), program(3)
-    chance, met = random.Random(1), set()
+    line = CommandLine(__doc__)
+    line.add_program()
+    line.add_count(200, "runs")
+    line.add_number("--questions", 100_000, "questions of each run")
+    line.add_seed()
+    options = line.read()
+    oldstyle, chance, met = options.program, random.Random(options.seed), set()
     batches, asked = editions(chance), queries(chance)
     told = told_by_service(oldstyle, batches, asked)
     script = [compact({"journal": 2})]
@@ -92,8 +102,9 @@ def main():
         script += [compact(edit) for edit in batch] + [compact({"op": "publish"})]
     with tempfile.TemporaryDirectory() as room:
         paths = [os.path.join(room, name) for name in ("script", "questions")]
-        for _ in range(runs):
-            questions = [(1 + place % READERS, chance.choice(asked)) for place in range(count)]
+        for _ in range(options.count):
+            questions = [(1 + place % READERS, chance.choice(asked))
+                         for place in range(options.questions)]
             lines = [compact({**query, "reader": reader}) for reader, query in questions]
             for path, text in zip(paths, (script, lines)):
                 with open(path, "w", encoding="utf-8") as file:
@@ -101,9 +112,9 @@ def main():
             by_reader = sorted(questions, key=lambda question: question[0])
             transcript = run(oldstyle, ["desk", *paths]).stdout.splitlines()
             met |= check(transcript, by_reader, told)
-    print(f"{runs} desks of {READERS} readers and {count} questions: "
+    print(f"{options.count} desks of {READERS} readers and {options.questions} questions: "
           f"every reply as the service gives it, {len(met)} of {EDITIONS + 1} editions met")
 
 
 if __name__ == "__main__":
-    main()
+    end(main)

@@ -2,8 +2,6 @@
 """Disturbs the service at random moments while it keeps its journal: no edition is told that is not
 in the file at the path that was named.
 
-    verify/disturbed_journals.py [RUNS] [SEED] [PROGRAM]   200 runs, seed 1, and ../oldstyle
-
 A run of `serve --keep` is sent edits and publishes, one after the reply to the other. Between two
 of them another run would keep the file or save to it, which is refused and changes nothing; or its
 permissions are taken away, which changes nothing either; or another program moves the file, puts
@@ -11,19 +9,15 @@ another one in its place, cuts it or adds to it. Then the run ends by the fault 
 no edition that is sent after that, and the file that it kept has each edition that it told before.
 Two runs that save to one path at once are tried too: one is refused, and nothing is left beside it.
 So is a run that saves to the file that it loaded, where another program has changed its bytes.
-The status is 1 where something went otherwise.
 """
 import os
 import random
 import subprocess
-import sys
 import tempfile
 
-from common import compact
-from kept_journals import HEAD, PROGRAM, PUBLISH, SEED, STOPS, Editor, Run, faults, hold
-from kept_journals import journal_lines, land, run
+from common import CommandLine, compact, end, run
+from keeping import HEAD, HELD, PUBLISH, Editor, Run, hold, journal_lines, land, verdict
 
-HELD = (3, "", "oldstyle: another run of the program keeps that journal\n")
 REPLACED = ("oldstyle: another program moved, replaced or changed the journal: "
             "no more is kept in it\n")
 
@@ -33,53 +27,52 @@ def is_refused(what, done):
     hold(f"{what} is told {told}", told == HELD)
 
 
-def keep_too(path):
-    is_refused("a second keeper", run(["serve", "--keep", path], PUBLISH + "\n"))
+def keep_too(program, path):
+    is_refused("a second keeper", run(program, ["serve", "--keep", path], [PUBLISH]))
 
 
-def save_too(path):
-    edits = compact(land(9_999)) + "\n" + PUBLISH + "\n"
-    is_refused("a saver", run(["serve", "--journal", path, "--save", path], edits))
+def save_too(program, path):
+    edits = [compact(land(9_999)), PUBLISH]
+    is_refused("a saver", run(program, ["serve", "--journal", path, "--save", path], edits))
 
 
-def take_permissions(path):
+def take_permissions(_, path):
     os.chmod(path, 0o400)
 
 
-def move(path):
+def move(_, path):
     os.rename(path, path + ".moved")
 
 
-def replace(path):
+def replace(_, path):
     with open(path + ".new", "w", encoding="utf-8") as file:
         file.write(HEAD + "\n")
     os.replace(path + ".new", path)
 
 
-def cut(path):
+def cut(_, path):
     os.truncate(path, len(HEAD) + 1)
 
 
-def lengthen(path):
+def lengthen(_, path):
     with open(path, "a", encoding="utf-8") as file:
         file.write("{}\n")
 
 
-# what is done, and whether the run ends by it
+# What is done, by the program or not, and whether the run ends by it.
 DISTURBANCES = [(keep_too, False), (save_too, False), (take_permissions, False), (move, True),
                 (replace, True), (cut, True), (lengthen, True)]
 
 
-def try_run(path, number):
+def try_run(program, path, chance, number):
     """One run that is disturbed. Answers how many replies it told."""
-    chance = random.Random(SEED * 1_000_003 + number)
     disturb, ends = DISTURBANCES[number % len(DISTURBANCES)]
-    running, editor, sent = Run(path), Editor(chance.random()), []
+    running, editor, sent = Run(program, path), Editor(chance.random()), []
     moment, count = chance.randrange(2, 40), 45
     for turn in range(count + 2):
         if turn == moment:
             before = kept_before(path)
-            disturb(path)
+            disturb(program, path)
         # the last two are an edit and a publish that is told as an edition, if any is
         request = editor.next() if turn < count else last_of(turn - count, editor)
         sent.append(request)
@@ -118,26 +111,26 @@ def kept_before(path):
     return lines
 
 
-def try_runs(folder):
+def try_runs(options, folder):
     told = 0
-    for number in range(STOPS):
+    for number in range(options.count):
         path = os.path.join(folder, f"{number}.journal")
-        told += try_run(path, number)
-    print(f"{STOPS} runs were disturbed: {told} replies told, no edition after another program "
-          "changed the journal", flush=True)
+        chance = random.Random(options.seed * 1_000_003 + number)
+        told += try_run(options.program, path, chance, number)
+    print(f"{options.count} runs were disturbed: {told} replies told", flush=True)
 
 
-def try_savers(folder):
+def try_savers(program, folder):
     """Two runs that save to one path at once."""
     path = os.path.join(folder, "saved.journal")
     with open(path, "w", encoding="utf-8") as file:
         file.write(HEAD + "\n")
-    words = [PROGRAM, "serve", "--journal", path, "--save", path]
+    words = [program, "serve", "--journal", path, "--save", path]
     with subprocess.Popen(words, stdin=subprocess.PIPE, stdout=subprocess.PIPE) as first:
         first.stdin.write((compact(land(0)) + "\n").encode())
         first.stdin.flush()
         hold("the first saver is not answered", b"staged" in first.stdout.readline())
-        save_too(path)
+        save_too(program, path)
         first.stdin.close()
         first.wait()
     hold("the first saver's edit is not saved", journal_lines(path)[0] == [HEAD, compact(land(0))])
@@ -146,12 +139,12 @@ def try_savers(folder):
     print("two runs that save to one path: the second is refused", flush=True)
 
 
-def try_changed(folder):
+def try_changed(program, folder):
     """A run that saves to the file that it loaded, which someone else has changed meanwhile."""
     path = os.path.join(folder, "changed.journal")
     with open(path, "w", encoding="utf-8") as file:
         file.write(HEAD + "\n")
-    words = [PROGRAM, "serve", "--journal", path, "--save", path]
+    words = [program, "serve", "--journal", path, "--save", path]
     with subprocess.Popen(words, stdin=subprocess.PIPE, stdout=subprocess.PIPE,
                           stderr=subprocess.PIPE) as saver:
         saver.stdin.write((compact(land(0)) + "\n").encode())
@@ -169,12 +162,18 @@ def try_changed(folder):
 
 
 def main():
+    line = CommandLine(__doc__)
+    line.add_program()
+    line.add_count(200, "runs")
+    line.add_seed()
+    options = line.read()
     with tempfile.TemporaryDirectory() as folder:
-        try_runs(folder)
-        try_savers(folder)
-        try_changed(folder)
-    sys.exit(1 if faults else 0)
+        try_runs(options, folder)
+        try_savers(options.program, folder)
+        try_changed(options.program, folder)
+    return verdict(f"{options.count} runs, two savers and a changed file: no edition is told that "
+                   "is not in the file")
 
 
 if __name__ == "__main__":
-    main()
+    end(main)

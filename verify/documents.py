@@ -1,18 +1,17 @@
 #!/usr/bin/env python3
-"""Holds what documents show against the program: verify/documents.py FILE..
+"""Holds what documents show against the program.
 
 A session is the lines of one document that begin with '> ', its requests, and with '< ', its
 replies. A run is a line that begins with '$ ./oldstyle ', from the top of the repository. It may
 end with '< FILE', its input. What it prints, on standard output and then on standard error, are the
 lines after it, up to the next run or the end of the block. Prints each reply and each run that
-differs, and ends with status 1 where one does.
+differs.
 """
 import itertools
 import os
 import shlex
-import sys
 
-from common import HERE, program, run
+from common import TOP, CommandLine, end, file_at, run
 
 RUN = "$ ./oldstyle "
 
@@ -29,39 +28,48 @@ def runs(lines):
             yield shlex.split(line[len(RUN) :]), list(itertools.takewhile(ends, lines[place + 1 :]))
 
 
-def printed_by(words):
+def printed_by(program, words):
     """The lines that a run prints, with the input of the file that it names after '<'."""
     given = []
     if "<" in words:
         words, (_, path) = words[:-2], words[-2:]
-        with open(path, encoding="utf-8", newline="\n") as file:
+        with open(os.path.join(TOP, path), encoding="utf-8", newline="\n") as file:
             given = file.read().split("\n")[:-1]
-    ended = run(PROGRAM, words, lines=given)
+    ended = run(program, words, lines=given, folder=TOP)
     return (ended.stdout + ended.stderr).split("\n")[:-1]
 
 
-def told_otherwise(lines):
+def told_otherwise(program, lines):
     """Each request and run of a document that has another answer than it shows."""
     requests, shown = marked(lines, "> "), marked(lines, "< ")
-    replies = run(PROGRAM, lines=requests).stdout.split("\n")[:-1]
+    replies = run(program, lines=requests).stdout.split("\n")[:-1]
     for request, told, reply in itertools.zip_longest(requests, shown, replies):
         if told != reply:
             yield f"{request}\n  shown {told}\n  told  {reply}"
     for words, told in runs(lines):
-        printed = printed_by(words)
+        printed = printed_by(program, words)
         if told != printed:
             yield f"{shlex.join(words)}\n  shown {told}\n  told  {printed}"
 
 
-PROGRAM = program(len(sys.argv))
-status = 0
-paths = [os.path.abspath(path) for path in sys.argv[1:]]
-os.chdir(os.path.join(HERE, ".."))
-for path in paths:
-    with open(path, encoding="utf-8", newline="\n") as file:
-        lines = file.read().split("\n")
-    for difference in told_otherwise(lines):
-        print(f"{path}: {difference}")
-        status = 1
-    print(f"{path}: {len(marked(lines, '> '))} requests, {len(list(runs(lines)))} runs")
-sys.exit(status)
+def main():
+    line = CommandLine(__doc__)
+    line.add_argument("files", nargs="+", type=file_at, metavar="FILE", help="a document")
+    line.add_program()
+    options = line.read()
+    requests = all_runs = differ = 0
+    for path in options.files:
+        with open(path, encoding="utf-8", newline="\n") as file:
+            lines = file.read().split("\n")
+        for difference in told_otherwise(options.program, lines):
+            differ += 1
+            print(f"{path}: {difference}")
+        requests += len(marked(lines, "> "))
+        all_runs += len(list(runs(lines)))
+    print(f"{requests} requests and {all_runs} runs of {', '.join(options.files)}, "
+          f"{differ} told otherwise")
+    return 1 if differ else 0
+
+
+if __name__ == "__main__":
+    end(main)

@@ -1,10 +1,6 @@
 #!/usr/bin/env python3
 """Holds that what is written of a day is read as that day: a property over random days.
 
-    verify/dual_dates.py [COUNT [READ [SEED [PROGRAM]]]]
-        100,000 days through `letters`, 500 of them through `read` too, seed 1 and ../oldstyle where
-        none is given
-
 Random days of random territories, most of them from January to March. Of each the dual text is
 asked, and where that has both years the text with the last two digits of the later one and with all
 four; each without a weekday and with the day's before it. A row of `letters` has to have that day,
@@ -16,13 +12,12 @@ import os
 import random
 import tempfile
 
-from common import argument, program, run
+from calendars import HIGH
+from common import CommandLine, end, run
 from letter_rows import COLUMNS
-from reference import HIGH
 from samples import journal_lines, later_digits, middle_day, write_journal
 from written import Territory, parse, weekday_of
 
-COUNT, READ, SEED, PROGRAM = argument(1, 100_000), argument(2, 500), argument(3, 1), program(4)
 EACH = 1_000
 
 
@@ -74,10 +69,10 @@ def row_differs(row, day, text, weekday):
     return "" if row["remark"] == wanted else f"the remark is not {wanted!r}"
 
 
-def letters_differ(journal, asked):
+def letters_differ(program, journal, asked):
     """Each text whose row in a table of letters hasn't the day."""
     lines = ["place,date", *(f"XX,{text}" for _, text, _ in asked)]
-    done = run(PROGRAM, ["letters", journal], lines)
+    done = run(program, ["letters", journal], lines)
     rows = list(csv.DictReader(done.stdout.splitlines()))
     if done.returncode or len(rows) != len(asked) or list(rows[0])[2:] != COLUMNS:
         yield f"status {done.returncode}, {len(rows)} of {len(asked)} rows: {done.stderr}"
@@ -87,39 +82,45 @@ def letters_differ(journal, asked):
             yield f"day {day}, {text}: {why}: {row}"
 
 
-def page_differs(journal, day, text, weekday):
-    done = run(PROGRAM, ["read", journal, "XX", text])
+def page_differs(program, journal, day, text, weekday):
+    done = run(program, ["read", journal, "XX", text])
     lines = [line for line in done.stdout.splitlines() if f"    day {day}    JDN " in line]
     if len(lines) != 1 or lines[0].endswith(" ok") != (weekday is not None):
         yield f"day {day}, {text}: {done.stdout}{done.stderr}"
 
 
-def differences(chance, journal, count, read):
+def differences(program, chance, journal, count, read):
     """Those about this many random days of a random territory, of which some are read too."""
     middle = middle_day(chance)
     service = write_journal(journal, journal_lines(chance, middle))
     territory = Territory(service.published["XX"])
     days = [random_day(chance, territory, middle) for _ in range(count)]
     asked = [(day, *text) for day in days for text in all_texts(territory, day)]
-    yield from letters_differ(journal, asked)
+    yield from letters_differ(program, journal, asked)
     for day in days[:read]:
         for text in all_texts(territory, day):
-            yield from page_differs(journal, day, *text)
+            yield from page_differs(program, journal, day, *text)
 
 
 def main():
-    chance = random.Random(SEED)
-    differ = 0
+    line = CommandLine(__doc__)
+    line.add_program()
+    line.add_count(100_000, "days through letters")
+    line.add_number("--read", 500, "days of these through read too", 0)
+    line.add_seed()
+    options = line.read()
+    chance, differ = random.Random(options.seed), 0
     with tempfile.TemporaryDirectory() as folder:
         journal = os.path.join(folder, "some.journal")
-        for done in range(0, COUNT, EACH):
-            count = min(EACH, COUNT - done)
-            for difference in differences(chance, journal, count, READ * count // COUNT):
+        for done in range(0, options.count, EACH):
+            count = min(EACH, options.count - done)
+            read = options.read * count // options.count
+            for difference in differences(options.program, chance, journal, count, read):
                 differ += 1
                 print(difference, flush=True)
-    print(f"{COUNT} days, {differ} texts differ")
+    print(f"{options.count} days, {differ} texts differ")
     return 1 if differ else 0
 
 
 if __name__ == "__main__":
-    raise SystemExit(main())
+    end(main)

@@ -1,14 +1,11 @@
 #!/usr/bin/env python3
 """Refuses each growth of memory in turn to the calls of the libraries and to the program.
 
-    verify/growths.py [PROGRAM]     the program is crates/oldstyle/out/oldstyle by default
-
 A call that is refused a growth answers that it wants memory, or what it answers with ample memory;
 and made again with memory, it answers as if the refused one had never been. Each growth of a call
 is refused in a run of its own. A row is written for each call: how many growths it made, at how
 many of them it was refused, at how many it answered the same as with ample memory, and how many
-calls that were made again answered right. The status is 1 where a run did anything else, which is
-told above the rows.
+calls that were made again answered right. What a run did otherwise is told above the rows.
 
 The calls are made by the programs in growths/, of which each says how it is run: `requests` makes
 those of a register, of the sequential object and of the running register, `steps` those of the
@@ -27,19 +24,17 @@ import json
 import os
 import re
 import subprocess
-import sys
 import tempfile
 from collections import namedtuple
 from concurrent.futures import ThreadPoolExecutor
 
-HERE = os.path.dirname(os.path.abspath(__file__))
-PROGRAMS = os.path.join(HERE, "growths")
-sys.path.append(os.path.join(HERE, "..", "tools"))
-
-from asked import BEGUN, COMMANDS, EDITS, LEFT, PROGRAM, PUBLISH, QUERIES, QUESTIONS, SCRIPT
-from asked import SESSION, SETUP, STEPS, TRANSCRIPT, filled, held, is_refused, is_transcript
-from asked import text_of
+from asked import BEGUN, COMMANDS, EDITS, LEFT, PUBLISH, QUERIES, QUESTIONS, SCRIPT, SESSION, SETUP
+from asked import STEPS, TRANSCRIPT, filled, held, is_refused, is_transcript, text_of
+from common import TOP, CommandLine, end, need
 from clone import add_program, built_program, cloned
+
+PROGRAMS = os.path.join(TOP, "verify", "growths")
+COMPILER = os.environ.get("CC", "cc")
 
 LIBRARIES = {
     "requests": ["osn_core", "osn_live", "osn_register", "osn_request", "anyhow"],
@@ -69,8 +64,8 @@ Row = namedtuple("Row", "growths same again wrong")
 
 def build_library():
     """Builds the library that refuses one growth."""
-    compiler = [os.environ.get("CC", "cc"), "-O2", "-shared", "-fPIC", "-o", LIBRARY]
-    subprocess.run([*compiler, os.path.join(PROGRAMS, "growths.c")], check=True)
+    command = [COMPILER, "-O2", "-shared", "-fPIC", "-o", LIBRARY]
+    subprocess.run([*command, os.path.join(PROGRAMS, "growths.c")], check=True)
 
 
 def run(command, given, refused, folder=None, **names):
@@ -165,14 +160,14 @@ def stream_calls():
     yield "`read_schedule`", ["read_schedule", ""], STEPS
 
 
-def call_rows(built):
+def call_rows(program, built):
     """The rows of all calls, those of one name together."""
-    for program, calls in [("requests", request_calls()), ("steps", step_calls()),
-                           ("streams", stream_calls())]:
+    for small, calls in [("requests", request_calls()), ("steps", step_calls()),
+                         ("streams", stream_calls())]:
         for name, words, lines in calls:
-            yield name, call_row([built[program], *words], lines)
+            yield name, call_row([built[small], *words], lines)
     command = [built["streams"], "run_desk", text_of(SCRIPT)]
-    yield "`run_desk`", call_row(command, QUESTIONS, is_transcript)
+    yield "`run_desk`", call_row(command, QUESTIONS, lambda told: is_transcript(program, told))
 
 
 # ---- the course of three editions
@@ -214,16 +209,17 @@ def editions_row(program):
 # ---- commands of the program
 
 
-def command_row(words, lines):
+def command_row(program, words, lines):
     """The row of a command. Made again is the command in the folder that the refused one left."""
-    command, given = [PROGRAM, *words.split()], text_of(lines)
+    command, given = [program, *words.split()], text_of(lines)
     with filled() as folder:
         before = held(folder)
         ample = run(command, given, 0, folder)
         after = held(folder)
 
     def is_right(got, folder):
-        told = is_transcript(got.told) if words.startswith("desk") else got.told == ample.told
+        is_desk = words.startswith("desk")
+        told = is_transcript(program, got.told) if is_desk else got.told == ample.told
         return told and got[::2] == ample[::2] and held(folder) == after
 
     def is_front(told):
@@ -247,11 +243,11 @@ def command_row(words, lines):
 # ---- all rows
 
 
-def all_rows(built):
-    yield from call_rows(built)
+def all_rows(program, built):
+    yield from call_rows(program, built)
     yield "three editions of the running register", editions_row(built["editions"])
     for words, lines in COMMANDS:
-        yield f"`oldstyle {words}`".replace(" `", "`"), command_row(words, lines)
+        yield f"`oldstyle {words}`".replace(" `", "`"), command_row(program, words, lines)
 
 
 def joined(rows):
@@ -266,19 +262,27 @@ def joined(rows):
 
 
 def main():
+    line = CommandLine(__doc__)
+    line.add_program()
+    program = line.read().program
+    need(COMPILER, "a C compiler, or name one by CC")
+    need("rt", "the Rattle kit that KIT names")
     build_library()
     with cloned() as clone:
         built = {}
         for name, libraries in LIBRARIES.items():
             source = os.path.join(PROGRAMS, f"{name}.rattle")
             built[name] = built_program(add_program(clone, source, libraries), WORDS[name])
-        rows = joined(all_rows(built))
+        rows = joined(all_rows(program, built))
     print("| Call | Growths | Refused | The same | Right when made again |")
     print("|---|---|---|---|---|")
     for name, (growths, same, again, _) in rows.items():
         print(f"| {name} | {growths} | {growths - same} | {same} | {again} |")
-    return 1 if any(row.wrong or not row.growths for row in rows.values()) else 0
+    wrong = [name for name, row in rows.items() if row.wrong or not row.growths]
+    growths = sum(row.growths for row in rows.values())
+    print(f"{growths} growths refused in {len(rows)} calls, {len(wrong)} calls go otherwise")
+    return 1 if wrong else 0
 
 
 if __name__ == "__main__":
-    sys.exit(main())
+    end(main)

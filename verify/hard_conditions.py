@@ -1,16 +1,14 @@
 #!/usr/bin/env python3
 """Runs the program where output, files, the disk or memory fail it.
 
-    verify/hard_conditions.py [PROGRAM]   the program is crates/oldstyle/out/oldstyle by default
-
 The conditions are: standard output that is full, closed or a pipe that nobody reads, and standard
 error full as well; standard input that is closed or a folder; a folder in the place of each file
 that is read or saved; a file that grows shorter while it is read; a full disk under `--save`, and
 a limit on the length of files; and 6 MB of addresses. Under each one every command that it concerns
-is run. Held against docs/PAGES.md and docs/SERVING.md are the status, what is written, and that the
-files of the folder are as they were, their permissions too, with none beside them; and once the
-condition is over, the same command saves what it should. A row is written for each condition. The status is
-1 where a run went otherwise, which is told above the rows; what could not be tried is told as well.
+is run. Held against what docs/PAGES.md and docs/SERVING.md say are the status, what is written, and that the files
+of the folder are as they were, their permissions too, with none beside them; and once the condition
+is over, the same command saves what it should. A row is written for each condition. What went
+otherwise is told above the rows; what could not be tried is told as well.
 
 A disk that is full is one in memory, which only root may mount.
 """
@@ -18,12 +16,14 @@ import os
 import resource
 import signal
 import subprocess
-import sys
-import time
 
-from asked import ADD_ROME, BEGUN, COMMANDS, GREGORIAN, PROGRAM, PUBLISH, REGIME, SESSION
+from asked import ADD_ROME, BEGUN, COMMANDS, GREGORIAN, PUBLISH, REGIME, SESSION
 from asked import filled, held, is_refused, is_transcript, text_of
-from common import mounted
+from common import CommandLine, end, mounted
+
+LINE = CommandLine(__doc__)
+LINE.add_program()
+PROGRAM = LINE.read().program
 
 ADDRESSES = 6_000_000
 READ_FAULT = (3, "", "oldstyle: read fault\n")
@@ -329,7 +329,7 @@ def try_addresses(words, given, files):
         is_short = is_refused(words, status, errors)
         if is_short and left == before and is_front(told, ample[1] if given else ""):
             got, left = run(folder, words, given), held(folder)
-    if is_desk and got[0] == 0 and is_transcript(got[1]):
+    if is_desk and got[0] == 0 and is_transcript(PROGRAM, got[1]):
         ample = got
     condition = "6 MB of addresses, which are too few" if is_short else "6 MB of addresses"
     hold(condition, words, (got, left), (ample, after))
@@ -358,8 +358,11 @@ def main():
         print(f"| {condition} | {tried} | {right} |")
     for what in untried:
         print(f"not tried: {what}")
-    return 1 if any(tried != right for tried, right in counts.values()) else 0
+    tried, right = map(sum, zip(*counts.values()))
+    print(f"{tried} runs under {len(counts)} conditions, {tried - right} go otherwise, "
+          f"{len(untried)} not tried")
+    return 0 if tried == right else 1
 
 
 if __name__ == "__main__":
-    sys.exit(main())
+    end(main)

@@ -1,29 +1,29 @@
 #!/usr/bin/env python3
 """Holds the two ways of reading a request line against each other, and against an older program.
 
-    verify/hostile_lines.py [LINES [SEED [PROGRAM [OLDER]]]]
-                                           100,000 lines and seed 1 where none is given
-
 A line that is one flat object of few texts and whole numbers is read with no tree of values, any
 other one by the tree of its JSON value. Each random line lies near the border between them: escapes
 in names and texts, members twice, nested, of other types and in any number, numbers with fractions,
-exponents and many digits, spaces, bytes that are no text, lines cut off. It is sent twice: as it is,
-and with a further member that no op has and whose value is a list, which is never read the first
-way and asks for the same. Both replies have to be the same. A line that is no object has no second
-form.
+exponents and many digits, spaces, bytes that are no text, lines cut off. It is sent twice: as it
+is, and with a further member that no op has and whose value is a list, which is never read the
+first way and asks for the same. Both replies have to be the same. A line that is no object has no
+second form.
 
-Where an older program is named, which has to know the same ops, files of the lines are sent to both,
-and they have to write the same bytes.
+Where an older program is named, which has to know the same ops, files of the lines are sent to
+both, and they have to write the same bytes.
 """
 import random
 import subprocess
-import sys
 
-from common import argument, program
+from common import CommandLine, end
 
-COUNT, SEED, PROGRAM = argument(1, 100_000), argument(2, 1), program(3)
-OLDER = argument(4, "")
-CHANCE = random.Random(SEED)
+LINE = CommandLine(__doc__)
+LINE.add_program()
+LINE.add_older("an older program, which knows the same ops")
+LINE.add_count(100_000, "lines")
+LINE.add_seed()
+OPTIONS = LINE.read()
+CHANCE = random.Random(OPTIONS.seed)
 LINES_A_FILE = 32
 
 OPS = ["add_land", "add_change", "alter_change", "drop_change", "add_exception", "drop_exception",
@@ -132,28 +132,30 @@ def lines():
     return broken(one).replace(b"\n", b" "), None
 
 
-def replies(command, asked):
-    """The replies to lines, one after the other."""
-    done = subprocess.run(command, input=b"\n".join(asked) + b"\n", capture_output=True, check=True)
-    return done.stdout.splitlines()
+def replies(program, asked):
+    """The replies to lines, one after the other; None for each that has none."""
+    text = b"\n".join(asked) + b"\n"
+    told = subprocess.run([program], input=text, capture_output=True, check=True).stdout
+    return [*told.splitlines(), *[None] * len(asked)][:len(asked)]
 
 
 def main():
     differ = files = 0
-    for _ in range(0, COUNT, LINES_A_FILE):
+    for _ in range(0, OPTIONS.count, LINES_A_FILE):
         pairs = [lines() for _ in range(LINES_A_FILE)]
         ones = [one for one, _ in pairs]
         others = [one if other is None else other for one, other in pairs]
-        told, again = replies([PROGRAM], ones), replies([PROGRAM], others)
-        before = replies([OLDER], ones) if OLDER else told
+        told, again = replies(OPTIONS.program, ones), replies(OPTIONS.program, others)
+        before = replies(OPTIONS.older, ones) if OPTIONS.older else told
         files += 1
-        for line, reply, other, old in zip(ones, told, again, before, strict=True):
-            if reply != other or reply != old:
+        for line, reply, other, old in zip(ones, told, again, before):
+            if reply is None or reply != other or reply != old:
                 differ += 1
                 print(line, reply, other, old, sep="\n    ")
-    beside = f", {files} files by both programs" if OLDER else ""
+    beside = f", {files} files by both programs" if OPTIONS.older else ""
     print(f"{files * LINES_A_FILE} lines in both forms{beside}: {differ} differ")
-    sys.exit(differ > 0)
+    return 1 if differ else 0
 
 
-main()
+if __name__ == "__main__":
+    end(main)

@@ -1,8 +1,6 @@
 #!/usr/bin/env python3
 """Stops the service at random moments while it keeps its journal, and looks at what the file holds.
 
-    verify/kept_journals.py [STOPS] [SEED] [PROGRAM]   200 stops, seed 1, and ../oldstyle by default
-
 A run of `serve --keep` is sent edits and publishes, some of them refused, one after the reply to
 the other or many at once, and is killed (SIGKILL) at a random moment. The next run keeps the same
 file and goes on. After each stop the file has every edition and every pending edit that a reply
@@ -17,7 +15,6 @@ last line that is still being written, which is counted.
 
 Then: a full disk and a disk that is read alone (which only root can mount), and a limit on the
 length of files. One line tells each, the file has what was told, and the next run goes on from it.
-The status is 1 where something went otherwise.
 """
 import json
 import os
@@ -26,111 +23,16 @@ import re
 import resource
 import signal
 import subprocess
-import sys
 import tempfile
 import threading
-import time
 from contextlib import contextmanager
 
-from common import JULIAN, argument, compact, mounted, program
-
-STOPS, SEED = argument(1, 200), argument(2, 1)
-PROGRAM = program(3)
-HEAD, PUBLISH = compact({"journal": 2}), compact({"op": "publish"})
-faults = []
-
-
-def hold(what, holds):
-    """Tells what does not hold."""
-    if not holds:
-        faults.append(what)
-        print(f"not so: {what}", flush=True)
-
-
-def land(number):
-    return {"op": "add_land", "code": f"T{number}", "name": f"Town {number}", **JULIAN}
-
-
-class Editor:
-    """What an editor sends in turn, and which of it the register takes."""
-
-    def __init__(self, seed):
-        self.random, self.towns, self.pending, self.year = random.Random(seed), 0, 0, 0
-
-    def next(self):
-        """The next request, and whether it will be accepted."""
-        kind = self.random.random()
-        if kind < 0.3:
-            accepted, self.pending = self.pending > 0, 0
-            return {"op": "publish"}, accepted
-        if kind < 0.4 and self.towns:
-            return land(self.random.randrange(self.towns)), False
-        self.pending += 1
-        if self.towns < 400:
-            self.towns += 1
-            return land(self.towns - 1), True
-        self.year += 1
-        return {"op": "add_exception", "code": f"T{self.year % 400}",
-                "year": 1 + self.year // 400, "day": 500_000}, True
+from common import CommandLine, compact, end, mounted, run
+from keeping import HEAD, HELD, PUBLISH, Editor, Run, hold, journal_lines, land, verdict
 
 
 def lines_of(text):
     return [json.loads(line) for line in text.splitlines()]
-
-
-def journal_lines(path):
-    """The lines of a file, and what stands after them that is no line: its last line may lack the
-    line feed alone."""
-    with open(path, encoding="utf-8") as file:
-        held = file.read()
-    lines, rest = held.split("\n")[:-1], held.split("\n")[-1]
-    return (lines + [rest], "") if rest.endswith("}") else (lines, rest)
-
-
-def run(words, text=""):
-    return subprocess.run([PROGRAM, *words], input=text, capture_output=True, text=True,
-                          timeout=60, check=False)
-
-
-class Run:
-    """A run that keeps a file, and what it told."""
-
-    def __init__(self, path):
-        self.process = subprocess.Popen([PROGRAM, "serve", "--keep", path], stdin=subprocess.PIPE,
-                                        stdout=subprocess.PIPE, stderr=subprocess.PIPE)
-        self.replies = []
-        self.reader = threading.Thread(target=self.read)
-        self.reader.start()
-
-    def read(self):
-        for line in self.process.stdout:
-            if line.endswith(b"\n"):
-                self.replies.append(json.loads(line))
-
-    def send(self, requests):
-        """Sends requests, or as many as the run takes before it ends."""
-        try:
-            for request in requests:
-                self.process.stdin.write((compact(request) + "\n").encode())
-            self.process.stdin.flush()
-        except BrokenPipeError:
-            pass
-
-    def wait_for(self, count):
-        while len(self.replies) < count and self.process.poll() is None:
-            time.sleep(0.0002)
-
-    def stopped(self):
-        """What was told in all, and on standard error, once it has ended."""
-        self.process.wait()
-        self.reader.join()
-        errors = self.process.stderr.read().decode()
-        for stream in (self.process.stdin, self.process.stdout, self.process.stderr):
-            try:
-                stream.close()
-            except BrokenPipeError:
-                pass
-        return self.replies, errors
 
 
 def sent_until_stopped(running, editor, one_by_one):
@@ -145,12 +47,12 @@ def sent_until_stopped(running, editor, one_by_one):
     return sent
 
 
-def try_stop(path, number, known, rest):
-    """One run that is stopped. `known` has the journal's lines before it, and `rest` what stands
-    after them. Answers the same after the run, and how many replies were told."""
-    chance = random.Random(SEED * 1_000_003 + number)
+def try_stop(program, path, chance, number, before):
+    """One run that is stopped. `before` has the journal's lines before it, and what stands after
+    them. Answers the same after the run, and how many replies were told."""
+    known, rest = before
     editor = editor_of(known, chance.random())
-    running = Run(path)
+    running = Run(program, path)
     timer = threading.Timer(chance.uniform(0.003, 0.12), running.process.kill)
     timer.start()
     sent = sent_until_stopped(running, editor, number % 2 == 0)
@@ -163,8 +65,8 @@ def try_stop(path, number, known, rest):
         hold(f"stop {number}: {compact(request)} is told {reply}", is_taken == ("ok" in reply))
     hold(f"stop {number}: {errors!r} is told", errors == "" or rest and errors == cut_line(known))
     hold(f"stop {number}: {rest!r} is not told", errors != "" or not rest or not replies)
-    lines = held_after(path, number, (known, rest), accepted, told)
-    return (*cut_anywhere(path, chance, lines), len(replies))
+    lines = held_after(program, path, number, before, accepted, told)
+    return cut_anywhere(path, chance, lines), len(replies)
 
 
 def editor_of(known, seed):
@@ -178,7 +80,7 @@ def editor_of(known, seed):
     return editor
 
 
-def held_after(path, number, before, accepted, told):
+def held_after(program, path, number, before, accepted, told):
     """The lines that the file holds after a stop, held against what it held before and what was
     told. A run that is stopped at once has not cut off what was not finished before it."""
     known = before[0]
@@ -192,7 +94,7 @@ def held_after(path, number, before, accepted, told):
     hold(f"stop {number}: other lines", lines == wanted[:len(lines)])
     hold(f"stop {number}: {rest!r} is no front of the next line",
          is_front(rest, wanted, lines) or (lines, rest) == before)
-    hold(f"stop {number}: its lines are not loaded", not lines or is_loaded(path, lines))
+    hold(f"stop {number}: its lines are not loaded", not lines or is_loaded(program, path, lines))
     return lines
 
 
@@ -215,13 +117,13 @@ def cut_line(known):
     return f"oldstyle: journal line {len(known) + 1} was not finished, and is cut off\n"
 
 
-def is_loaded(path, lines):
+def is_loaded(program, path, lines):
     """That the lines are loaded, with their last edition and as many pending edits."""
     copy = path + ".copy"
     with open(copy, "w", encoding="utf-8") as file:
         file.write("".join(line + "\n" for line in lines))
     asked = ['{"op":"lands","reader":1}', compact(land(999_999))]
-    done = run(["serve", "--journal", copy], "".join(line + "\n" for line in asked))
+    done = run(program, ["serve", "--journal", copy], asked)
     answer, staged = lines_of(done.stdout)
     towns = [json.loads(line) for line in published(lines)]
     wanted = [{"code": town["code"], "name": town["name"]} for town in towns
@@ -237,27 +139,28 @@ def published(lines):
     return [line for line in lines[1:last] if line != PUBLISH]
 
 
-def try_stops(path):
+def try_stops(options, path):
     """Stops, one after the other, over one file; a new one where it holds many editions."""
-    known, rest, told, cut, files = [], "", 0, 0, 1
-    for number in range(STOPS):
-        if known.count(PUBLISH) > 4_000 or len(known) > 16_000:
+    before, told, cut, files = ([], ""), 0, 0, 1
+    for number in range(options.count):
+        if before[0].count(PUBLISH) > 4_000 or len(before[0]) > 16_000:
             os.remove(path)
-            known, rest, files = [], "", files + 1
-        known, rest, replies = try_stop(path, number, known, rest)
-        told, cut = told + replies, cut + (rest != "")
-    print(f"{STOPS} stops over {files} files: {told} replies told, none lost; {cut} times a line "
-          "was not finished", flush=True)
+            before, files = ([], ""), files + 1
+        chance = random.Random(options.seed * 1_000_003 + number)
+        before, replies = try_stop(options.program, path, chance, number, before)
+        told, cut = told + replies, cut + (before[1] != "")
+    print(f"{options.count} stops over {files} files: {told} replies told; {cut} times a line was "
+          "not finished", flush=True)
 
 
 # ---- others at the same time
 
 
-def read_beside(path, running, counts):
+def read_beside(program, path, running, counts):
     """Reads the file while it is kept, until the run has ended."""
     while running.process.poll() is None:
         before = sum(reply.get("ok") == "published" for reply in running.replies)
-        done = run(["territory", path])
+        done = run(program, ["territory", path])
         found = re.match(r"Territories, edition (\d+)\n", done.stdout)
         if found:
             counts["read"] += 1
@@ -268,17 +171,17 @@ def read_beside(path, running, counts):
                 r"oldstyle: journal line \d+: 32 NotJson\n", done.stderr))
 
 
-def try_others(path):
+def try_others(program, path, seed):
     """A second editor, and readers, while a journal is kept."""
-    running, editor, counts = Run(path), Editor(SEED), {"read": 0, "refused": 0}
+    running, editor, counts = Run(program, path), Editor(seed), {"read": 0, "refused": 0}
     running.send([land(0), {"op": "publish"}])
     running.wait_for(2)
-    second = run(["serve", "--keep", path], "{}\n")
-    wanted = (3, "", "oldstyle: another run of the program keeps that journal\n")
+    second = run(program, ["serve", "--keep", path], ["{}"])
     hold(f"a second editor is told {second}",
-         (second.returncode, second.stdout, second.stderr) == wanted)
+         (second.returncode, second.stdout, second.stderr) == HELD)
     editor.towns = 1
-    readers = [threading.Thread(target=read_beside, args=(path, running, counts)) for _ in range(3)]
+    beside = (program, path, running, counts)
+    readers = [threading.Thread(target=read_beside, args=beside) for _ in range(3)]
     for reader in readers:
         reader.start()
     for _ in range(2_000):
@@ -312,10 +215,10 @@ def edits_of(count):
     return requests
 
 
-def is_stopped_by(what, path, limit=None):
+def is_stopped_by(program, what, path, limit=None):
     """That a run which the file takes no further ends by a write fault, and holds what it told."""
     text = "".join(compact(request) + "\n" for request in edits_of(400))
-    done = subprocess.run([PROGRAM, "serve", "--keep", path], input=text, capture_output=True,
+    done = subprocess.run([program, "serve", "--keep", path], input=text, capture_output=True,
                           text=True, timeout=60, check=False, preexec_fn=limit)
     replies = lines_of(done.stdout)
     lines, rest = journal_lines(path)
@@ -328,10 +231,10 @@ def is_stopped_by(what, path, limit=None):
     return lines
 
 
-def goes_on(what, path, lines):
+def goes_on(program, what, path, lines):
     """That the next run goes on from these lines."""
     editions = lines.count(PUBLISH)
-    done = run(["serve", "--keep", path], '{"op":"lands","reader":1}\n')
+    done = run(program, ["serve", "--keep", path], ['{"op":"lands","reader":1}'])
     hold(f"{what}: the next run is told {done.stderr!r}",
          done.returncode == 0 and json.loads(done.stdout)["edition"] == editions)
     with open(path, encoding="utf-8") as file:
@@ -339,31 +242,31 @@ def goes_on(what, path, lines):
     hold(f"{what}: the next run holds other lines", held == "".join(line + "\n" for line in lines))
 
 
-def try_full_disk(folder):
+def try_full_disk(program, folder):
     with disk_in(folder, "disk", "size=32k") as disk:
         if disk is None:
             print("not tried: a full disk, which only root may mount")
             return
         path = os.path.join(disk, "a.journal")
-        lines = is_stopped_by("a full disk", path)
+        lines = is_stopped_by(program, "a full disk", path)
         subprocess.run(["mount", "-o", "remount,size=1m", disk], check=True)
-        goes_on("a full disk", path, lines)
+        goes_on(program, "a full disk", path, lines)
     print(f"a full disk: {len(lines) - 1} changes kept, and the next run goes on", flush=True)
 
 
-def try_long_file(folder):
+def try_long_file(program, folder):
     def limited():
         signal.signal(signal.SIGXFSZ, signal.SIG_IGN)
         resource.setrlimit(resource.RLIMIT_FSIZE, (10_000, 10_000))
 
     path = os.path.join(folder, "long.journal")
-    lines = is_stopped_by("a limit on the length of files", path, limited)
-    goes_on("a limit on the length of files", path, lines)
+    lines = is_stopped_by(program, "a limit on the length of files", path, limited)
+    goes_on(program, "a limit on the length of files", path, lines)
     print(f"a limit on the length of files: {len(lines) - 1} changes kept, and the next run goes "
           "on", flush=True)
 
 
-def try_no_folder(folder):
+def try_no_folder(program, folder):
     """A disk that may be read alone, with a journal on it and without."""
     with disk_in(folder, "read", "size=64k") as disk:
         if disk is None:
@@ -374,7 +277,7 @@ def try_no_folder(folder):
             file.write(held)
         subprocess.run(["mount", "-o", "remount,ro", disk], check=True)
         for name in ("a.journal", "b.journal"):
-            done = run(["serve", "--keep", os.path.join(disk, name)], '{"op":"publish"}\n')
+            done = run(program, ["serve", "--keep", os.path.join(disk, name)], [PUBLISH])
             hold(f"read alone: {done}", (done.returncode, done.stdout, done.stderr)
                  == (3, "", "oldstyle: read fault\n"))
         hold("read alone: other files", os.listdir(disk) == ["a.journal"])
@@ -382,14 +285,19 @@ def try_no_folder(folder):
 
 
 def main():
+    line = CommandLine(__doc__)
+    line.add_program()
+    line.add_count(200, "stops")
+    line.add_seed()
+    options = line.read()
     with tempfile.TemporaryDirectory() as folder:
-        try_stops(os.path.join(folder, "a.journal"))
-        try_others(os.path.join(folder, "others.journal"))
-        try_full_disk(folder)
-        try_long_file(folder)
-        try_no_folder(folder)
-    sys.exit(1 if faults else 0)
+        try_stops(options, os.path.join(folder, "a.journal"))
+        try_others(options.program, os.path.join(folder, "others.journal"), options.seed)
+        try_full_disk(options.program, folder)
+        try_long_file(options.program, folder)
+        try_no_folder(options.program, folder)
+    return verdict(f"{options.count} stops, and what beside them: nothing that was told is lost")
 
 
 if __name__ == "__main__":
-    main()
+    end(main)

@@ -2,7 +2,7 @@
 
 Written from docs/PAGES.md alone, for letters.py and dual_dates.py.
 """
-from reference import dates, written
+from calendars import dates, written
 from written import Malformed, has_weekday, is_not_counted_double, parse, weekday_named, weekday_of
 
 COLUMNS = ["days", "gregorian", "julian", "dual", "weekday_found", "jdn", "earliest", "latest",

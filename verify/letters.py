@@ -1,28 +1,25 @@
 #!/usr/bin/env python3
 """Holds tables of letters against tables written apart, byte by byte.
 
-    verify/letters.py [COUNT [SEED [PROGRAM]]]
-        200 tables of up to 60 rows, seed 1 and ../oldstyle where none is given
-
-Each table is about a random territory. Its fields stand between commas, semicolons or tabs, in
-quotes or not, with line ends in them; its lines end by LF, CR or CRLF, and empty ones stand
-between. Its dates are of all forms, its places and weekdays are wrong now and then, and spaces
-stand around them. Many tables have a fault in the header or in a row: what stands before it has to
-be written, and the fault has to be told with the line on which the record begins, status 1.
+Each table is about a random territory, and has up to 60 rows. Its fields stand between commas,
+semicolons or tabs, in quotes or not, with line ends in them; its lines end by LF, CR or CRLF, and
+empty ones stand between. Its dates are of all forms, its places and weekdays are wrong now and
+then, and spaces stand around them. Many tables have a fault in the header or in a row: what stands
+before it has to be written, and the fault has to be told with the line on which the record begins,
+status 1.
 """
 import os
 import random
 import subprocess
 import tempfile
 
-from common import argument, program
+from calendars import WEEKDAYS
+from common import CommandLine, end
 from letter_rows import COLUMNS, letter_fields
-from reference import WEEKDAYS
 from samples import (MALFORMED, any_case, date_text, journal_lines, label_near, middle_day,
                      write_journal)
 from written import Territory
 
-COUNT, SEED, PROGRAM = argument(1, 200), argument(2, 1), program(3)
 SEPARATORS = {"comma": ",", "semicolon": ";", "tab": "\t"}
 READ = ["place", "date", "weekday"]
 TEXTS = ["", "x", "Sir, yours came", 'he said "no"', "one\ntwo", "one\rtwo", "one\r\ntwo", "a;b",
@@ -175,9 +172,9 @@ def table_of(chance, form, territories, edition, middle):
     return table
 
 
-def differs(journal, form, table):
+def differs(program, journal, form, table):
     """Where the program writes or tells another thing: what it was given and gave."""
-    words = [PROGRAM, "letters", journal, *form.options()]
+    words = [program, "letters", journal, *form.options()]
     mark = form.chance.choice(["", "\ufeff"])
     done = subprocess.run(words, input=(mark + table.text).encode(), capture_output=True,
                           check=False)
@@ -196,22 +193,27 @@ def differs(journal, form, table):
 
 
 def main():
-    chance = random.Random(SEED)
+    line = CommandLine(__doc__)
+    line.add_program()
+    line.add_count(200, "tables")
+    line.add_seed()
+    options = line.read()
+    chance = random.Random(options.seed)
     differ = faults = 0
     with tempfile.TemporaryDirectory() as folder:
         journal = os.path.join(folder, "some.journal")
-        for _ in range(COUNT):
+        for _ in range(options.count):
             middle, form = middle_day(chance), Form(chance)
             service = write_journal(journal, journal_lines(chance, middle))
             lands = {code: Territory(land) for code, land in service.published.items()}
             table = table_of(chance, form, lands, service.edition, middle)
             faults += table.fault != ""
-            for difference in differs(journal, form, table):
+            for difference in differs(options.program, journal, form, table):
                 differ += 1
                 print(difference, flush=True)
-    print(f"{COUNT} tables, {faults} of them with a fault: {differ} differ")
+    print(f"{options.count} tables, {faults} of them with a fault: {differ} differ")
     return 1 if differ else 0
 
 
 if __name__ == "__main__":
-    raise SystemExit(main())
+    end(main)

@@ -1,13 +1,10 @@
 #!/usr/bin/env python3
 """Holds the months of the countries that ncal knows against the grids that it prints.
 
-    verify/month_grids.py [PROGRAM]
-        ../oldstyle where none is given
-
 `ncal -p | examples/from_ncal.py` makes a journal of the countries. Of each the six months about its
 change and three of other centuries are printed by `month` and by `ncal -S -s`, which has a line for
-each weekday where `month` has one for each week: so the weeks are turned round, and compared line by
-line, without the spaces at ends. The British months are compared with those of `ncal -b` too, as
+each weekday where `month` has one for each week: so the weeks are turned round, and compared line
+by line, without the spaces at ends. The British months are compared with those of `ncal -b` too, as
 they stand. It wants the Debian package ncal.
 """
 import os
@@ -15,9 +12,8 @@ import subprocess
 import sys
 import tempfile
 
-from common import HERE, program, run
+from common import TOP, CommandLine, end, need, run
 
-PROGRAM = program(1)
 OTHERS = [(1_100, 2), (1_700, 2), (2_000, 2)]
 
 
@@ -32,12 +28,12 @@ def countries():
             yield words[names[-1]], int(year), int(month)
 
 
-def journal_in(folder):
+def journal_in(program, folder):
     path = os.path.join(folder, "countries.journal")
     listed = subprocess.run(["ncal", "-p"], capture_output=True, text=True, check=True).stdout
-    lines = subprocess.run([sys.executable, os.path.join(HERE, "..", "examples", "from_ncal.py")],
+    lines = subprocess.run([sys.executable, os.path.join(TOP, "examples", "from_ncal.py")],
                            input=listed, capture_output=True, text=True, check=True).stdout
-    run(PROGRAM, ["serve", "--save", path], lines.splitlines())
+    run(program, ["serve", "--save", path], lines.splitlines())
     return path
 
 
@@ -53,9 +49,9 @@ def turned(grid):
     return [title.strip()] + [line.rstrip() for line in lines]
 
 
-def differs(journal, code, year, month):
+def differs(program, journal, code, year, month):
     """Whether ncal prints another month than the program."""
-    ours = run(PROGRAM, ["month", journal, code, str(year), str(month)]).stdout.splitlines()[1:]
+    ours = run(program, ["month", journal, code, str(year), str(month)]).stdout.splitlines()[1:]
     title, *theirs = trimmed(run("ncal", ["-S", "-s", code, str(month), str(year)]).stdout)
     as_cal = trimmed(run("ncal", ["-b", str(month), str(year)]).stdout)
     return turned(ours) != [title.strip(), *theirs] or (code == "GB" and ours != as_cal)
@@ -67,17 +63,22 @@ def months_about(year, month):
 
 
 def main():
+    line = CommandLine(__doc__)
+    line.add_program()
+    program = line.read().program
+    need("ncal", "the Debian package ncal")
     compared = differ = 0
     with tempfile.TemporaryDirectory() as folder:
-        journal = journal_in(folder)
+        journal = journal_in(program, folder)
         for code, year, month in countries():
             for at in months_about(year, month) + OTHERS:
                 compared += 1
-                if differs(journal, code, *at):
+                if differs(program, journal, code, *at):
                     differ += 1
                     print(code, *at)
     print(f"{compared} months, {differ} differ")
     return 1 if differ or not compared else 0
 
 
-raise SystemExit(main())
+if __name__ == "__main__":
+    end(main)

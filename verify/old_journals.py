@@ -1,10 +1,7 @@
 #!/usr/bin/env python3
 """Holds what an older program and a newer one make of random journals of version 1.
 
-    verify/old_journals.py OLD NEW [COUNT [SEED]]      1,000 journals and seed 1 if none is given
-
-OLD and NEW are the words of a command, as in 'path/to/oldstyle', to which `serve` and its options
-are added. Each journal has edits of all six kinds and publishes, in any spelling that is allowed,
+Each journal has edits of all six kinds and publishes, in any spelling that is allowed,
 and mostly edits that are pending. Some have a line that is refused or no request, so that nothing
 is loaded. Both programs load each journal, answer queries of all six kinds, make some further
 edits, and save. What they have to agree in: their statuses and messages, their replies, and what
@@ -19,10 +16,10 @@ out, and of labels about the year 2999 the skipped dates are not compared.
 import json
 import os
 import random
-import shlex
 import subprocess
-import sys
 import tempfile
+
+from common import CommandLine, compact, end
 
 # The last day and year by the older program's rules, and what is off the line by those of both.
 HIGH, LAST_YEAR = 1_095_362, 2_999
@@ -140,7 +137,7 @@ def spelt(chance, value):
     """A line of the value: as a program writes it, or with its members in another order, spaces,
     a further member, and letters as numbers."""
     if chance.random() < 0.5:
-        return json.dumps(value, separators=(",", ":"), sort_keys=True, ensure_ascii=False)
+        return compact(value)
     members = list(value.items()) + [("note", {"a": [1, None, 2.5]})] * chance.randrange(2)
     chance.shuffle(members)
     separators = chance.choice([(",", ":"), (", ", ": "), (" ,\t", " :  ")])
@@ -199,22 +196,18 @@ def random_requests(chance, lands):
     return [spelt(chance, request) for request in requests]
 
 
-def made(command, journal, requests, saved):
+def made(program, journal, requests, saved):
     """What a program makes of a journal: its status and message, its replies, and what it saves,
     or None where it saves nothing."""
     if os.path.exists(saved):
         os.remove(saved)
-    words = [*command, "serve", "--journal", journal, "--save", saved]
+    words = [program, "serve", "--journal", journal, "--save", saved]
     done = subprocess.run(words, input=requests, capture_output=True, check=False)
     journal_text = None
     if os.path.exists(saved):
         with open(saved, "rb") as file:
             journal_text = file.read()
     return done.returncode, done.stderr, done.stdout, journal_text
-
-
-def compact(value):
-    return json.dumps(value, separators=(",", ":"), sort_keys=True, ensure_ascii=False)
 
 
 def on_shorter_line(request, reply):
@@ -258,31 +251,33 @@ def difference(old, new):
 
 
 def main():
-    if len(sys.argv) < 3:
-        sys.exit(__doc__)
-    commands = [shlex.split(words) for words in sys.argv[1:3]]
-    count = int(sys.argv[3]) if len(sys.argv) > 3 else 1_000
-    chance = random.Random(int(sys.argv[4]) if len(sys.argv) > 4 else 1)
-    failed = refused = 0
+    line = CommandLine(__doc__)
+    line.add_older("the older program", required=True)
+    line.add_program()
+    line.add_count(1_000, "journals")
+    line.add_seed()
+    options = line.read()
+    chance, failed, refused = random.Random(options.seed), 0, 0
     with tempfile.TemporaryDirectory() as room:
         journal, saved = (os.path.join(room, name) for name in ("journal", "saved"))
-        for place in range(count):
+        for place in range(options.count):
             lines, lands = random_journal(chance)
             requests = random_requests(chance, lands)
             with open(journal, "w", encoding="utf-8", newline="\n") as file:
                 file.write("\n".join(lines) + chance.choice(["\n", ""]))
             text = "".join(line + "\n" for line in requests).encode()
-            runs = [made(command, journal, text, saved) for command in commands]
+            runs = [made(program, journal, text, saved)
+                    for program in (options.older, options.program)]
             old, new = (compared(requests, run) for run in runs)
             refused += old[0] == 1
             if told := difference(old, new):
                 failed += 1
                 if failed <= 10:
                     print(f"journal {place}, {len(lines)} lines: {told}")
-    print(f"{refused} of the journals are refused by the older program")
-    print(f"journals: {count - failed} hold, {failed} fail")
+    print(f"{options.count} journals, {refused} of them refused by the older program: {failed} "
+          "differ")
     return 1 if failed else 0
 
 
 if __name__ == "__main__":
-    sys.exit(main())
+    end(main)

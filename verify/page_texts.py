@@ -4,7 +4,7 @@ Written from docs/PAGES.md alone, for pages.py.
 """
 from typing import NamedTuple
 
-from reference import HIGH, MONTHS, dates
+from calendars import HIGH, MONTHS, dates
 from written import Territory, is_not_counted_double, weekday_of
 
 YEARS = {"january": "1 January", "annunciation": "25 March", "nativity": "25 December"}

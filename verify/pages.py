@@ -1,30 +1,26 @@
 #!/usr/bin/env python3
 """Holds the pages that people read against pages written apart.
 
-    verify/pages.py [COUNT [SEED [PROGRAM]]]
-        2,000 dates, seed 1 and ../oldstyle where none is given
-
 Random territories are put into a journal, with their changes near one another, listed Easters and
 edits that wait. Of each date the page of `read` is held against the one of `page_texts.py`, which
 asks every day of the line that has the month and day. So are those of months, years, ranges and
-bounds in random forms, by `spans.py`, and the pages of days about the changes, of the date's month,
-of conversions, and of the territories. Words that are wrong, codes that are unknown and files that
-are not there have to be told as docs/PAGES.md says.
+bounds in random forms, by `spans.py`, with the answer of the query `written`, and the pages of days
+about the changes, of the date's month, of conversions, and of the territories. Words that are
+wrong, codes that are unknown and files that are not there have to be told as docs/PAGES.md says.
 """
 import os
 import random
 import tempfile
 
-from common import argument, program, run
+from calendars import MONTHS, WEEKDAYS, dates, written
+from common import CommandLine, compact, end, run
 from page_texts import (Place, conversion_page, day_page, list_page, month_page, pending_lines,
                         reading_page, territory_page)
-from reference import MONTHS, WEEKDAYS, dates, written
 from samples import (MALFORMED, NAMES, any_case, date_text, day_near, journal_lines, label_near,
                      middle_day, write_journal)
-from spans import span_near, span_page, text_of
+from spans import span_answer, span_near, span_page, text_of
 from written import Malformed, Territory, days_by_month_and_day, parse
 
-COUNT, SEED, PROGRAM = argument(1, 2_000), argument(2, 1), program(3)
 EACH = 40
 CALENDARS = ["gregorian", "julian", "swedish"]
 WRONG_WORDS = {
@@ -61,48 +57,46 @@ EARLIER_MISTAKES = [
 NO_CODE = "a code is 2 to 8 capital letters or digits, the first a letter"
 
 
-def told(words):
-    """The status of a run, and the lines that it prints and that it tells."""
-    done = run(PROGRAM, words)
-    return done.returncode, done.stdout.splitlines(), done.stderr.splitlines()
-
-
-def differs(words, wanted, status=0, fault=None):
+def differs(program, words, wanted, status=0, fault=None):
     """Where a run gives another page, or tells another fault: what it was asked and gave."""
-    found = told(words)
+    done = run(program, words)
+    found = done.returncode, done.stdout.splitlines(), done.stderr.splitlines()
     if found != (status, wanted, [fault] if fault else []):
         yield f"{words}:\n  wanted {wanted} {fault or ''}\n  found  {found}"
 
 
-def mistakes(journal):
+def mistakes(program, journal):
     """Each wrong word, unknown code and lacking file that is told otherwise than it is to be."""
     said = [(words, words.split()[-1], why) for words, why in MISTAKES] + EARLIER_MISTAKES
     for text, word, why in said:
         words = text.replace("FILE", journal).split()
-        yield from differs(words, [], 2, f"oldstyle: {word}: {why}")
+        yield from differs(program, words, [], 2, f"oldstyle: {word}: {why}")
     unknown = f"oldstyle: no territory has the code ZZ: see oldstyle territory {journal}"
     gone = journal + ".gone"
     for words in (["read", "XX", "1700-01-01"], ["day", "XX", "1"], ["month", "XX", "1700", "1"],
                   ["territory", "XX"]):
         name, _, *others = words
-        yield from differs([name, journal, "ZZ", *others], [], 1, unknown)
-        yield from differs([name, journal, "x", *others], [], 1, f"oldstyle: x: {NO_CODE}")
-        yield from differs([name, gone, "XX", *others], [], 3, f"oldstyle: {gone}: no such file")
-    yield from differs(["letters", gone], [], 3, f"oldstyle: {gone}: no such file")
+        said = f"oldstyle: {gone}: no such file"
+        yield from differs(program, [name, journal, "ZZ", *others], [], 1, unknown)
+        yield from differs(program, [name, journal, "x", *others], [], 1, f"oldstyle: x: {NO_CODE}")
+        yield from differs(program, [name, gone, "XX", *others], [], 3, said)
+    yield from differs(program, ["letters", gone], [], 3, said)
 
 
 class Asked:
     """A journal with a random territory, and what its pages are to be."""
 
-    def __init__(self, chance, journal):
-        self.chance, self.journal, self.middle = chance, journal, middle_day(chance)
+    def __init__(self, program, chance, journal):
+        self.program, self.chance, self.journal = program, chance, journal
+        self.middle = middle_day(chance)
         self.service = write_journal(journal, journal_lines(chance, self.middle))
         self.territory = Territory(self.service.published["XX"])
         self.place = Place(NAMES["XX"], "XX", self.service.edition, self.territory)
         self.pending = pending_lines(self.service.pending)
 
     def page(self, words, lines):
-        yield from differs([words[0], self.journal, *words[1:]], lines + self.pending)
+        words = [words[0], self.journal, *words[1:]]
+        yield from differs(self.program, words, lines + self.pending)
 
     def territories(self):
         lands = list_page(self.service.published, self.service.edition)
@@ -113,7 +107,7 @@ class Asked:
             parse(text)
         except Malformed as why:
             line = f"oldstyle: {text}: {WRONG_WORDS[str(why)]}"
-            yield from differs(["read", self.journal, "XX", text], [], 2, line)
+            yield from differs(self.program, ["read", self.journal, "XX", text], [], 2, line)
 
     def reading(self, label):
         text = date_text(self.chance, label)
@@ -130,6 +124,17 @@ class Asked:
         given = self.chance.choice([None] * 6 + WEEKDAYS[:2])
         words = ["--weekday", given] if given else []
         yield from self.page(["read", "XX", text, *words], span_page(self.place, span, given))
+        yield from self.query(text, span, given)
+
+    def query(self, text, span, given):
+        """What the service answers to such a date."""
+        ask = {"op": "written", "reader": 1, "code": "XX", "date": text}
+        asked = compact({**ask, "weekday": given} if given else ask)
+        answer = span_answer(self.territory.land, span, given)
+        wanted = compact({"answer": answer, "edition": self.service.edition, "reader": 1})
+        found = run(self.program, ["serve", "--journal", self.journal], [asked]).stdout
+        if found != wanted + "\n":
+            yield f"{asked}:\n  wanted {wanted}\n  found  {found}"
 
     def day(self):
         day = day_near(self.chance, self.territory, self.middle)
@@ -150,11 +155,12 @@ class Asked:
         if not found:
             line = (f"oldstyle: {text}: the {calendar} calendar has no such date "
                     "in the years 1 to 9999")
-            yield from differs(["convert", calendar, text], [], 2, line)
+            yield from differs(self.program, ["convert", calendar, text], [], 2, line)
             return
-        page = conversion_page(found[0], weekday or None)
-        yield from differs(["convert", calendar, f"{weekday} {text}".strip()], page)
-        yield from differs(["convert", "day", str(found[0])], conversion_page(found[0]))
+        words = ["convert", calendar, f"{weekday} {text}".strip()]
+        yield from differs(self.program, words, conversion_page(found[0], weekday or None))
+        words = ["convert", "day", str(found[0])]
+        yield from differs(self.program, words, conversion_page(found[0]))
 
     def pages(self):
         """Each page about a date that is another than the one written apart."""
@@ -167,14 +173,18 @@ class Asked:
 
 
 def main():
-    chance = random.Random(SEED)
-    asked = differ = 0
+    line = CommandLine(__doc__)
+    line.add_program()
+    line.add_count(2_000, "dates")
+    line.add_seed()
+    options = line.read()
+    program, chance, asked, differ = options.program, random.Random(options.seed), 0, 0
     with tempfile.TemporaryDirectory() as folder:
-        while asked < COUNT:
-            about = Asked(chance, os.path.join(folder, "some.journal"))
-            found = [] if asked else list(mistakes(about.journal))
+        while asked < options.count:
+            about = Asked(program, chance, os.path.join(folder, "some.journal"))
+            found = [] if asked else list(mistakes(program, about.journal))
             found += about.territories()
-            for _ in range(min(EACH, COUNT - asked)):
+            for _ in range(min(EACH, options.count - asked)):
                 asked += 1
                 found += about.pages()
             differ += len(found)
@@ -185,4 +195,4 @@ def main():
 
 
 if __name__ == "__main__":
-    raise SystemExit(main())
+    end(main)

@@ -1,29 +1,20 @@
 #!/usr/bin/env python3
 """Holds what GNU parallel makes of parts of a file against one run over all of it.
 
-    verify/parallel_runs.py [LINES [PROGRAM]] [--ssh]
-        200,000 lines and ../oldstyle where none are given
-
-A file of questions goes through `serve`, and a table through `letters`: once in one run, and once in
-parts that `parallel --pipe` hands to four processes. Both have to write the same bytes, but for the
-header of the table, which each part has. Tells the seconds of each by the clock. With `--ssh` the
-four processes are two on each of two hosts, which are servers that this script starts on this
+A file of questions goes through `serve`, and a table through `letters`: once in one run, and once
+in parts that `parallel --pipe` hands to four processes. Both have to write the same bytes, but for
+the header of the table, which each part has. Tells the seconds of each by the clock. With `--ssh`
+the four processes are two on each of two hosts, which are servers that this script starts on this
 machine. It wants Debian's package parallel, and for `--ssh` openssh-server and to be root.
 """
 import contextlib
 import os
 import subprocess
-import sys
 import tempfile
 import time
 
-from common import GREGORIAN, JULIAN, compact
+from common import GREGORIAN, JULIAN, CommandLine, compact, end, need
 
-IS_SSH = "--ssh" in sys.argv[1:]
-WORDS = [word for word in sys.argv[1:] if word != "--ssh"]
-LINES = int(WORDS[0]) if WORDS else 200_000
-HERE = os.path.dirname(os.path.abspath(__file__))
-PROGRAM = os.path.abspath(WORDS[1] if len(WORDS) > 1 else os.path.join(HERE, "..", "oldstyle"))
 PORTS = {"first": 42_201, "second": 42_202}
 
 
@@ -105,17 +96,27 @@ def compare(name, command, source, words, where):
 
 
 def main():
+    line = CommandLine(__doc__)
+    line.add_program()
+    line.add_count(200_000, "lines")
+    line.add_argument("--ssh", action="store_true", help="on two hosts, which root alone can start")
+    options = line.read()
+    program, count = options.program, options.count
+    need("parallel", "the Debian package parallel")
+    if options.ssh:
+        need("/usr/sbin/sshd", "the Debian package openssh-server")
     with tempfile.TemporaryDirectory() as folder:
         journal = written(folder, "a.journal", journal_lines())
-        asked = written(folder, "questions", map(question, range(LINES)))
-        table = written(folder, "table", ["letter,place,date,text", *map(row, range(LINES))])
+        asked = written(folder, "questions", map(question, range(count)))
+        table = written(folder, "table", ["letter,place,date,text", *map(row, range(count))])
         near = contextlib.nullcontext(["-j", "4"])
-        with hosts(folder) if IS_SSH else near as where:
-            serve = [PROGRAM, "serve", "--journal", journal]
+        with hosts(folder) if options.ssh else near as where:
+            serve, letters = [program, "serve", "--journal", journal], [program, "letters", journal]
             are_same = [compare("questions", serve, asked, [], where),
-                        compare("letters", [PROGRAM, "letters", journal], table,
-                                ["--header", ":"], where)]
+                        compare("letters", letters, table, ["--header", ":"], where)]
+    print(f"{count} questions and {count} rows in parts: {are_same.count(False)} of 2 differ")
     return 0 if all(are_same) else 1
 
 
-raise SystemExit(main())
+if __name__ == "__main__":
+    end(main)

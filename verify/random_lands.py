@@ -1,9 +1,6 @@
 #!/usr/bin/env python3
 """Holds what random territories answer against a search through every day.
 
-    verify/random_lands.py [SEED [PROGRAM [COUNT]]]
-        seed 1, ../oldstyle and 100 territories where none is given
-
 The search shares no rule of conversion with the service. The calendars are laid out month by month
 over all 3,652,059 days, each day is given its label under each calendar and style, and what a label
 means is looked up among all of them: that gives the readings and the skipped dates, the latter by
@@ -18,9 +15,8 @@ import random
 import sys
 from array import array
 
-import common
+from common import CommandLine, end, replies
 
-SEED, PROGRAM, COUNT = common.argument(1, 1), common.program(2), common.argument(3, 100)
 LANDS, READINGS = 30, 100
 HIGH, LAST_YEAR, LAST_LABEL_YEAR = 3_652_059, 9_999, 10_000
 CALENDARS = ["julian", "gregorian", "swedish"]
@@ -223,13 +219,6 @@ def edits(code, starts, exceptions):
         yield {"op": "add_exception", "code": code, "year": year, "day": day}
 
 
-def replies(requests):
-    lines = common.run(PROGRAM, lines=map(json.dumps, requests)).stdout.splitlines()
-    if len(lines) != len(requests):
-        sys.exit(f"{len(lines)} replies to {len(requests)} lines")
-    return [json.loads(line) for line in lines]
-
-
 def label_text(label):
     return f"{label // 10_000:04}-{label // 100 % 100:02}-{label % 100:02}"
 
@@ -298,7 +287,7 @@ def days_that_begin(dates, easters):
     return sorted(days)
 
 
-def run(numbers, count, labels, easters, beginnings):
+def run(program, numbers, count, labels, easters, beginnings):
     """One run of so many territories, and what came of it."""
     lands = random_lands(numbers, count, labels, beginnings)
     asked = set().union(*(wanted for _, _, wanted in lands.values()))
@@ -312,14 +301,20 @@ def run(numbers, count, labels, easters, beginnings):
         cases += easter_queries(code, starts, exceptions, line, easters)
     staged.append({"op": "publish"})
 
-    lines = replies(staged + [request for request, _ in cases])
+    requests = map(json.dumps, staged + [request for request, _ in cases])
+    lines = [json.loads(line) for line in replies(program, requests)]
     if any("fault" in line for line in lines[: len(staged)]):
         sys.exit("an edit was refused")
     return compared(cases, lines[len(staged) :])
 
 
 def main():
-    numbers = random.Random(SEED)
+    line = CommandLine(__doc__)
+    line.add_program()
+    line.add_count(100, "territories")
+    line.add_seed()
+    options = line.read()
+    numbers = random.Random(options.seed)
     dates = {calendar: chain(calendar) for calendar in CALENDARS}
     easters = {rule: easter_days(rule, dates[rule]) for rule in RULES}
     labels = {
@@ -331,12 +326,14 @@ def main():
     beginnings = days_that_begin(dates, easters)
 
     sums = [0, 0, 0, 0]
-    for done in range(0, COUNT, LANDS):
-        told = run(numbers, min(LANDS, COUNT - done), labels, easters, beginnings)
+    for done in range(0, options.count, LANDS):
+        count = min(LANDS, options.count - done)
+        told = run(options.program, numbers, count, labels, easters, beginnings)
         sums = [one + more for one, more in zip(sums, told)]
     cases, several, lost, apart = sums
     print(f"{cases} cases, {several} of several days, {lost} skipped, {apart} differ")
     return 1 if apart else 0
 
 
-sys.exit(main())
+if __name__ == "__main__":
+    end(main)

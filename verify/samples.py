@@ -1,8 +1,9 @@
 """Random journals, and dates to ask of them, for pages.py, letters.py and dual_dates.py."""
 
 
+from calendars import HIGH, MONTHS, WEEKDAYS, dates, style_year
 from common import compact
-from reference import HIGH, MONTHS, WEEKDAYS, Service, dates, style_year
+from reference import Service
 
 STYLES = ["january", "annunciation", "nativity", "september", "pisan", "easter"]
 CALENDARS = ["julian", "gregorian", "swedish"]
@@ -97,8 +98,8 @@ def later_digits(year, count):
     return f"{year:0{count}}"[-count:]
 
 
-MALFORMED = ["11 February 1731/5", "11 February 1731/", "1731/33-02-11", "11 Febuary 1731", "11 1731",
-             "11  Febuary 1731", "Fryday 11 February 1731", "1731-13-01", "1731-02-32",
+MALFORMED = ["11 February 1731/5", "11 February 1731/", "1731/33-02-11", "11 Febuary 1731",
+             "11 1731", "11  Febuary 1731", "Fryday 11 February 1731", "1731-13-01", "1731-02-32",
              "1731-00-01", "10001-01-01", "1731-02-", "0 February 1731", "11 February 1731/z", "z"]
 
 

@@ -1,13 +1,14 @@
 """Months, years, ranges and bounds as people write them, and the days that they may mean.
 
-Written from docs/DATES.md and docs/PAGES.md alone, over written.py, for pages.py. Texts are drawn
-in random forms; their days are found by a search through every day about their years.
+Written from docs/DATES.md and docs/PAGES.md alone, over written.py, for pages.py and
+reference.py. Texts are drawn in random forms; their days are found by a search through every day
+about their years.
 """
 from typing import NamedTuple, Optional
 
+from calendars import HIGH, MONTHS
 from page_texts import day_line, why_lines, years_written
-from reference import HIGH, MONTHS
-from written import Territory, Written, years_about
+from written import Territory, Written, weekday_of, years_about
 
 NAMES = [MONTHS]
 NAMES += [line.split() for line in (
@@ -179,6 +180,53 @@ def span_page(place, span, weekday=None):
     if weekday:
         lines.append(f"{weekday} is not looked for: that is done for one day alone")
     return [f"{span.words()} in {place.heading()}", *lines]
+
+
+# What the query `written` answers of such a date.
+
+
+def kind_of(span):
+    if span.kind == "on":
+        return "day" if span.first.day else "month" if span.first.month else "year"
+    return {"range": "range", "before": "before", "not after": "before"}.get(span.kind, "after")
+
+
+def reason_of(territory, span, why):
+    """Why a span has no day."""
+    if why == "first":
+        return territory.absence(span.first.first_day())
+    if why == "last":
+        return f"last date: {territory.absence(span.last.first_day())}"
+    return {"order": "first date after the last", "line": "off the line"}[why]
+
+
+def has_day_of(runs, weekday):
+    return any(weekday_of(day) == weekday
+               for first, last in runs for day in range(first, last + 1))
+
+
+def none_answer(why):
+    """The answer of a text that is no date."""
+    return {"approximate": False, "kind": "none", "other_calendar": False, "reason": why,
+            "runs": [], "supplied": False, "uncertain": False, "weekday": None}
+
+
+def span_answer(land, span, weekday=None):
+    """The answer of a span, and of a weekday that is given with it."""
+    territory = Territory(land)
+    by_name = reckoned(territory, span)
+    runs, own = found(by_name, span), found(territory, span)
+    is_none = isinstance(runs, str)
+    is_asked = weekday is not None and kind_of(span) == "day"
+    return {
+        "approximate": span.approximate, "kind": kind_of(span),
+        "other_calendar": runs != own and not (is_none and isinstance(own, str)),
+        "reason": reason_of(by_name, span, runs) if is_none else None,
+        "runs": [] if is_none else [{"first": land.found(first), "last": land.found(last)}
+                                    for first, last in runs],
+        "supplied": span.supplied, "uncertain": span.uncertain,
+        "weekday": not is_none and has_day_of(runs, weekday) if is_asked else None,
+    }
 
 
 # Texts of such dates.

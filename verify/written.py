@@ -8,7 +8,7 @@ import functools
 from array import array
 from typing import NamedTuple, Optional
 
-from reference import HIGH, MONTHS, WEEKDAYS, dates, dual_text, easter, style_year
+from calendars import HIGH, MONTHS, WEEKDAYS, dates, dual_text, easter, style_year
 
 # Dates as people write them.
 
@@ -207,7 +207,8 @@ class Territory:
                 if self.date(day)[0] == date.year + 1]
 
     def not_counted_double(self, date):
-        """Of a double date before 25 March the days whose year was the later one by either count."""
+        """Of a double date before 25 March the days whose year was the later one by either
+        count."""
         if (date.month, date.day) >= (3, 25):
             return []
         return [day for day in self.days_of(date.label(1))

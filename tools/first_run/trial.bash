@@ -31,6 +31,12 @@ hold() {
     fi
 }
 
+# Prints the first lines of the script.
+tell_help() {
+    sed -n '2,/^set -/p' "$0" | sed -n 's/^#$//p; s/^# //p'
+    exit
+}
+
 tell_count() {
     echo "tried: $held hold, $failed fail"
     [ "$failed" = 0 ]

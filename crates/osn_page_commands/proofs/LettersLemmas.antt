@@ -1,5 +1,5 @@
 -- A table of letters that ended early ended as the command's contract says.
-use Rattle.std.proofs.Common.{◌≡◌, ℕ, List, IfSome, length}
+use Rattle.std.proofs.Common.{◌≡◌, ℕ, Bool, true, false, List, IfSome, length, subst}
 use Rattle.osn_days.specs.Profile.{newest_rules}
 use Rattle.osn_register.specs.Plain.{LandModel}
 use Rattle.osn_core.specs.Sequential.{ObjectState}
@@ -9,9 +9,11 @@ use Rattle.osn_letters.specs.RowRemarks.{IsTallyOf}
 use Rattle.osn_letters.specs.Tally.{TallyModel}
 use Rattle.osn_lines.specs.Streams.{Input, Output}
 use Rattle.osn_page_commands.specs.Letters.{EndsTable, EndsWhole, IsReason, TableAsked, TellsEnd}
+use Rattle.osn_page_commands.specs.Letters.{TellsIfAsked}
 use Rattle.osn_page_commands.specs.Letters.{table_of}
 use Rattle.osn_page_commands.specs.Page.{published}
 use Rattle.osn_page_commands.specs.declared.letters.EndRules.{EndRules}
+use Rattle.osn_report.specs.Told.{TellsIfMade, TellsNothing}
 use Rattle.osn_report.specs.declared.status.Status.{Status}
 
 -- by what a table is made, of these territories and this edition
@@ -48,3 +50,15 @@ pub ended_table : (s : ObjectState) (asked : TableAsked) (lands : List LandModel
     → EndsTable (table_of s asked) i o ended × IsReason (table_of s asked) i o ended
 ended_table s asked lands edition i o ended is counted early reason =
     rw (is, counted) (early, reason)
+
+module _ (asked : Bool) (text : List ℕ) (e : Output) (given : Status) where
+  -- a text was told that was asked for
+  pub tally_told : (made status : Status) → asked ≡ true → made ≡ given
+      → TellsIfMade e made text status → TellsIfAsked asked text e given status
+  tally_told made status is same told =
+      rw is (subst (λ s. TellsIfMade e s text status) same told)
+
+  -- nothing was told, and nothing was asked for
+  pub tally_untold : (status : Status) → asked ≡ false → status ≡ given → TellsNothing e
+      → TellsIfAsked asked text e given status
+  tally_untold status is same quiet = rw is (same, quiet)

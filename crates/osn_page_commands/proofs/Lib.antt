@@ -1,3 +1,4 @@
 pub mod LettersLemmas
+pub mod FilesLemmas
 pub mod PageLemmas
 pub mod ConversionLemmas

@@ -1,5 +1,5 @@
 -- What a command has written of a table of letters where it ends.
-use Rattle.std.specs.Prelude.{◌≡◌, ◌⊎◌, ◌≤◌, ◌++◌, ◌&&◌, ℕ, Bool, true, if◌then◌else◌}
+use Rattle.std.specs.Prelude.{◌≡◌, ◌⊎◌, ◌≤◌, ◌++◌, ◌&&◌, ℕ, Bool, true, false, if◌then◌else◌}
 use Rattle.std.specs.Prelude.{List, [], length, codes}
 use Rattle.std.specs.Prelude.{Option, IfSome, option_map, unwrap_or}
 use Rattle.std.specs.Fmt.{decimal}
@@ -159,13 +159,18 @@ abbrev pub status_by : Bool → Bool → Status
 status_by is_strict has_remarks =
     if is_strict && has_remarks then statuses.Refused else statuses.Done
 
--- the table was written whole, and has this tally: the status says whether a row has a remark, where
--- that is asked for; and where it is asked for, standard error was told the tally, and else nothing
+-- standard error was told this text where it was asked for, and else nothing; and this status goes
+-- with it
+abbrev pub TellsIfAsked : Bool → List ℕ → Output → Status → Status → Type 0
+TellsIfAsked false text e given status = (status ≡ given) × TellsNothing e
+TellsIfAsked true text e given status = TellsIfMade e given text status
+
+-- a table was written whole that has this tally, which was told where that is asked for. The status
+-- says whether a row has a remark, where that is asked for
 abbrev pub TellsEnd : EndRules → TallyModel → Output → Status → Type 0
-TellsEnd rules tally e status = if rules.summary
-    then TellsIfMade e (status_by rules.strict (has_remarks tally))
-    (tally_text (codes "oldstyle: letters: ") tally) status
-    else (status ≡ status_by rules.strict (has_remarks tally)) × TellsNothing e
+TellsEnd rules tally e status =
+    TellsIfAsked rules.summary (tally_text (codes "oldstyle: letters: ") tally) e
+    (status_by rules.strict (has_remarks tally)) status
 
 -- all was written, and the end told
 abbrev pub EndsWhole : ObjectState → TableAsked → EndRules → Input → Output → Output → Status

@@ -98,8 +98,8 @@ fn letters_by<D: Folder, R: Source, W: Sink, E: Sink, T: Sink + Drop>(
     let rules = rules_of(options);
     let mut file = open_file(folder, journal)?;
     let mut progress = ReadProgress::new(alloc, "letters", terminal);
-    Ok(match options.places {
-        None => letters_command(
+    match options.places {
+        None => Ok(letters_command(
             alloc,
             limits,
             &mut file,
@@ -109,8 +109,8 @@ fn letters_by<D: Folder, R: Source, W: Sink, E: Sink, T: Sink + Drop>(
             output,
             errors,
             &mut progress,
-        ),
-        Some(path) => letters_by_places(
+        )),
+        Some(path) => Ok(letters_by_places(
             alloc,
             limits,
             folder,
@@ -122,8 +122,8 @@ fn letters_by<D: Folder, R: Source, W: Sink, E: Sink, T: Sink + Drop>(
             output,
             errors,
             &mut progress,
-        ),
-    })
+        )),
+    }
 }
 
 /// Opens the journal of a path, then the table of places, if there is one, and does what

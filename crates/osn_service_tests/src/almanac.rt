@@ -1,7 +1,7 @@
 //! The almanac, over registers that are folded from edits. Its texts were written apart, by walks
 //! along every day.
-use crate::compare::same;
-use crate::register::folded;
+use crate::support::compare::same;
+use crate::support::register_lines::folded;
 use osn_wire::almanac_text;
 use std::alloc::Global;
 use std::process::Abort;

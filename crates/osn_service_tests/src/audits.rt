@@ -1,5 +1,5 @@
 //! Transcripts compared with journals, and the lines of a transcript.
-use crate::compare::same;
+use crate::support::compare::same;
 use osn_core::Object;
 use osn_register::{Limits, Query};
 use osn_test_texts::joined;

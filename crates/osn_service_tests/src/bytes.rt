@@ -1,6 +1,6 @@
 //! Lines of hostile bytes: long, not UTF-8, and without their line feed.
-use crate::compare::same;
-use crate::session::served;
+use crate::support::compare::same;
+use crate::support::session::served;
 use osn_register::Limits;
 use std::alloc::{AllocError, Global};
 use std::process::Abort;

@@ -1,6 +1,6 @@
 //! Desks, where an editor and readers work at once.
-use crate::compare::same;
 use crate::live::{NONE, ONE, ROME};
+use crate::support::compare::same;
 use osn_core::{Command, Reply};
 use osn_live::{DeskFault, Gate, OpenGate, run_desk};
 use osn_register::{Limits, Query};

@@ -1,8 +1,8 @@
 //! The service over streams of which each call fails in turn: how it ends, what it has written and
 //! passed on then, and where the object stands.
-use crate::compare::same;
-use crate::failing::{Course, FailingSink, FailingSource, reads_of};
-use crate::streams::{End, READ, WRITTEN, end_of};
+use crate::support::compare::same;
+use crate::support::failing::{Course, FailingSink, FailingSource, reads_of};
+use crate::support::streams::{End, READ, WRITTEN, end_of};
 use osn_core::Object;
 use osn_lines::{Sink, Source};
 use osn_register::Limits;

@@ -1,6 +1,6 @@
 //! Files of which each read fails in turn: none is taken for a shorter file.
-use crate::compare::same;
-use crate::failing::{Course, FailingSource, reads_of};
+use crate::support::compare::same;
+use crate::support::failing::{Course, FailingSource, reads_of};
 use osn_register::Limits;
 use osn_wire::{
     FileFault, Role, Source, audit, load_journal, read_questions, read_schedule, read_script,

@@ -1,7 +1,7 @@
 //! What the gate of a desk is told: of whom, of which item, before it and after it, in order. Also
 //! a gate that is closed to each item in turn.
-use crate::compare::same;
 use crate::desks::desk;
+use crate::support::compare::same;
 use osn_live::{DeskFault, Gate};
 use std::alloc::{AllocError, Global};
 use std::process::Abort;

@@ -1,8 +1,8 @@
 //! One worked session, cut anywhere, with reads that fail inside a line, and over a writer that
 //! takes one byte a call. Also lines of deep lists.
-use crate::compare::same;
-use crate::failing::{Course, FailingSink, FailingSource};
-use crate::session::served;
+use crate::support::compare::same;
+use crate::support::failing::{Course, FailingSink, FailingSource};
+use crate::support::session::served;
 use osn_register::Limits;
 use osn_service::serve;
 use std::alloc::{AllocError, Global};

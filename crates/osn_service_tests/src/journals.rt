@@ -1,5 +1,5 @@
 //! Journals: the text of an object, the object that lines load, and the lines that are refused.
-use crate::compare::same;
+use crate::support::compare::same;
 use osn_core::Object;
 use osn_register::Limits;
 use osn_test_texts::{apart, joined};
@@ -303,8 +303,8 @@ fn failing_reads(rt: HostRuntime) -> Result<(), Fail> {
 }
 
 const OCTOBER: &str = r#"
-{"op":"read","reader":1,"code":"RM","year":1582,"month":10,"day":4}
-{"answer":{"days":[{"day":577735,"dual":"4 October 1582","gregorian":"1582-10-14","jdn":2299160,
+> {"op":"read","reader":1,"code":"RM","year":1582,"month":10,"day":4}
+< {"answer":{"days":[{"day":577735,"dual":"4 October 1582","gregorian":"1582-10-14","jdn":2299160,
   "julian":"1582-10-04","label":"1582-10-04","weekday":"Thursday"}],"skipped":[]},"edition":1,
   "reader":1}
 "#;
@@ -316,14 +316,14 @@ const ANSWERS: [(&str, &str); 3] = [
     (
         BRITAIN,
         r#"
-{"op":"read","reader":1,"code":"GB","year":1752,"month":9,"day":3}
-{"answer":{"days":[],"skipped":[639797]},"edition":1,"reader":1}
-{"op":"drop_change","code":"GB","day":639551}
-{"ok":"staged","pending":2}
-{"op":"publish"}
-{"edition":2,"ok":"published"}
-{"op":"periods","reader":1,"code":"GB"}
-{"answer":{"periods":[{"calendar":"julian","first":1,"last":LAST_DAY,"rule":"julian",
+> {"op":"read","reader":1,"code":"GB","year":1752,"month":9,"day":3}
+< {"answer":{"days":[],"skipped":[639797]},"edition":1,"reader":1}
+> {"op":"drop_change","code":"GB","day":639551}
+< {"ok":"staged","pending":2}
+> {"op":"publish"}
+< {"edition":2,"ok":"published"}
+> {"op":"periods","reader":1,"code":"GB"}
+< {"answer":{"periods":[{"calendar":"julian","first":1,"last":LAST_DAY,"rule":"julian",
   "style":"annunciation"}]},"edition":2,"reader":1}
 "#,
     ),

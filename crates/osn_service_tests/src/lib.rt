@@ -14,8 +14,6 @@ mod bytes;
 #[cfg(test)]
 mod changes;
 #[cfg(test)]
-mod compare;
-#[cfg(test)]
 mod desks;
 #[cfg(test)]
 mod easter_years;
@@ -23,8 +21,6 @@ mod easter_years;
 mod easters;
 #[cfg(test)]
 mod editions;
-#[cfg(test)]
-mod failing;
 #[cfg(test)]
 mod failures;
 #[cfg(test)]
@@ -58,11 +54,11 @@ mod register;
 #[cfg(test)]
 mod schedules;
 #[cfg(test)]
-mod session;
-#[cfg(test)]
 mod standing;
 #[cfg(test)]
 mod streams;
+#[cfg(test)]
+mod support;
 #[cfg(test)]
 mod takers;
 #[cfg(test)]

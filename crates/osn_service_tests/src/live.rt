@@ -2,8 +2,8 @@
 ghost use Rattle.std.specs.Prelude.{◌≡◌, IfOk, IfSome};
 ghost use Rattle.std.specs.List.{All};
 
-use crate::compare::same;
-use crate::register::edit_of;
+use crate::support::compare::same;
+use crate::support::register_lines::edit_of;
 use osn_live::{AskFault, Editor, Note, OpenFault, PublishFault, Reader, open};
 use osn_register::{Limits, Query};
 use osn_test_texts::joined;

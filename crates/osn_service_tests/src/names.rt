@@ -1,6 +1,6 @@
 //! The numbers and names that replies give, as the formats list them, and the lists that answers
 //! hold.
-use crate::compare::same;
+use crate::support::compare::same;
 use osn_format::{Member, WireFault};
 use osn_register::{Listing, Refusal};
 use std::alloc::AllocError;

@@ -1,6 +1,6 @@
 //! The calls of the object of `osn_core`. Edits and queries are read from their lines.
-use crate::compare::same;
-use crate::register::{edit_of, told};
+use crate::support::compare::same;
+use crate::support::register_lines::{edit_of, told};
 use osn_core::{Batch, Object};
 use osn_register::{BorrowedQuery, Edit, Limits, Query, Refusal};
 use osn_test_texts::joined;

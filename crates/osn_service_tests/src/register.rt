@@ -1,59 +1,13 @@
 //! The calls of `osn_register`: registers folded from edits, copied and changed. Edits and queries
 //! are read from their lines, and answers compared as theirs.
-use crate::compare::same;
+use crate::support::compare::same;
+use crate::support::register_lines::{edit_of, folded, query_of, told};
 use osn_core::Reply;
 use osn_register::{Answer, Edit, Limits, Query, Refusal, Register, Text};
-use osn_test_texts::{apart, joined};
-use osn_wire::{Outcome, Request, read_request, reply_text};
+use osn_test_texts::apart;
 use std::alloc::{AllocError, Global};
 use std::process::Abort;
 use std::test::Fail;
-
-/// The edit of a line.
-pub fn edit_of(alloc: Global, line: &str) -> Result<Edit, Fail> {
-    match read_request(alloc, 1, line.as_bytes())? {
-        Request::Stage(edit) => Ok(edit),
-        _ => Err(Fail::new("no edit")),
-    }
-}
-
-/// The query of a line.
-pub fn query_of(alloc: Global, line: &str) -> Result<Query, Fail> {
-    match read_request(alloc, 1, line.as_bytes())? {
-        Request::Ask { query, .. } => Ok(query),
-        _ => Err(Fail::new("no query")),
-    }
-}
-
-/// The line of a reply that the first reader is told.
-pub fn told(alloc: Global, reply: Reply) -> Result<String, AllocError> {
-    reply_text(alloc, &Outcome::Replied { reader: 1, reply })
-}
-
-/// A copy of an edit, which itself goes.
-fn copy_of(edit: Edit) -> Result<Edit, AllocError> {
-    edit.copy()
-}
-
-/// Adds a copy of the edit of a line.
-fn push_edit(alloc: Global, edits: &mut Vec<Edit>, line: &str) -> Result<(), Fail> {
-    Ok(edits.push(copy_of(edit_of(alloc, line)?)?)?)
-}
-
-/// Copies of the edits of lines.
-fn edits_of(alloc: Global, lines: &str) -> Result<Vec<Edit>, Fail> {
-    let mut edits = Vec::new(alloc);
-    for line in lines.lines() {
-        push_edit(alloc, &mut edits, line)?;
-    }
-    Ok(edits)
-}
-
-/// The register of edits, each on a line.
-pub fn folded(alloc: Global, lines: &str) -> Result<Register, Fail> {
-    let edits = edits_of(alloc, joined(alloc, lines)?.as_str())?;
-    Ok(Register::fold(alloc, Limits::standard(), &edits)?)
-}
 
 /// What a register answers to a copy of a query, which itself goes.
 fn answer_to_copy(register: &Register, query: Query) -> Result<Answer, AllocError> {
@@ -138,37 +92,37 @@ const EDITS: &str = r#"{"op":"add_land","code":"GB","name":"Great Britain","cale
 
 /// What its register is asked, and answers.
 const BRITAIN: &str = r#"
-{"op":"read","reader":1,"code":"GB","year":1731,"month":2,"day":11}
-{"answer":{"days":[{"day":632287,"dual":"11 February 1731/2","gregorian":"1732-02-22",
+> {"op":"read","reader":1,"code":"GB","year":1731,"month":2,"day":11}
+< {"answer":{"days":[{"day":632287,"dual":"11 February 1731/2","gregorian":"1732-02-22",
   "jdn":2353712,"julian":"1732-02-11","label":"1731-02-11","weekday":"Friday"}],"skipped":[]},
   "edition":0,"reader":1}
-{"op":"read","reader":1,"code":"GB","year":1752,"month":9,"day":3}
-{"answer":{"days":[],"skipped":[639797]},"edition":0,"reader":1}
-{"op":"periods","reader":1,"code":"GB"}
-{"answer":{"periods":[{"calendar":"julian","first":1,"last":639550,"rule":"julian",
+> {"op":"read","reader":1,"code":"GB","year":1752,"month":9,"day":3}
+< {"answer":{"days":[],"skipped":[639797]},"edition":0,"reader":1}
+> {"op":"periods","reader":1,"code":"GB"}
+< {"answer":{"periods":[{"calendar":"julian","first":1,"last":639550,"rule":"julian",
   "style":"annunciation"},{"calendar":"julian","first":639551,"last":639796,"rule":"julian",
   "style":"january"},{"calendar":"gregorian","first":639797,"last":LAST_DAY,"rule":"gregorian",
   "style":"january"}]},"edition":0,"reader":1}
-{"op":"lands","reader":1}
-{"answer":{"lands":[{"code":"GB","name":"Great Britain"}]},"edition":0,"reader":1}
-{"op":"figures","reader":1,"year":1753}
-{"answer":{"golden":6,"gregorian":{"easter":640017,"epact":"25","letters":"G"},
+> {"op":"lands","reader":1}
+< {"answer":{"lands":[{"code":"GB","name":"Great Britain"}]},"edition":0,"reader":1}
+> {"op":"figures","reader":1,"year":1753}
+< {"answer":{"golden":6,"gregorian":{"easter":640017,"epact":"25","letters":"G"},
   "indiction":1,"julian":{"easter":640017,"epact":25,"letters":"C"},"year":1753},"edition":0,
   "reader":1}
-{"op":"easter","reader":1,"code":"GB","year":1753}
-{"answer":{"days":[{"day":640017,"dual":"22 April 1753","gregorian":"1753-04-22",
+> {"op":"easter","reader":1,"code":"GB","year":1753}
+< {"answer":{"days":[{"day":640017,"dual":"22 April 1753","gregorian":"1753-04-22",
   "jdn":2361442,"julian":"1753-04-11","label":"1753-04-22","weekday":"Sunday"}],"listed":false},
   "edition":0,"reader":1}
-{"op":"day","reader":1,"code":"GB","day":1}
-{"answer":{"first":1,"found":{"day":1,"dual":"3 January 0/1","gregorian":"0001-01-01",
+> {"op":"day","reader":1,"code":"GB","day":1}
+< {"answer":{"first":1,"found":{"day":1,"dual":"3 January 0/1","gregorian":"0001-01-01",
   "jdn":1721426,"julian":"0001-01-03","label":"0000-01-03","weekday":"Monday"},"last":639550,
   "regime":{"calendar":"julian","rule":"julian","style":"annunciation"}},"edition":0,"reader":1}
 "#;
 
 /// The territories once Rome is added.
 const WITH_ROME: &str = r#"
-{"op":"lands","reader":1}
-{"answer":{"lands":[{"code":"GB","name":"Great Britain"},{"code":"RM","name":"Rome"}]},
+> {"op":"lands","reader":1}
+< {"answer":{"lands":[{"code":"GB","name":"Great Britain"},{"code":"RM","name":"Rome"}]},
   "edition":0,"reader":1}
 "#;
 

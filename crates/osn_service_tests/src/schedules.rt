@@ -1,6 +1,6 @@
 //! Schedules of one reader and of two, as lines: read, taken step by step, and all at once. Every
 //! second line is what the step before it gives.
-use crate::compare::same;
+use crate::support::compare::same;
 use osn_core::{Core, MOST_READERS, Out, Reply, Step, replay};
 use osn_register::{Limits, Query, Refusal, Register};
 use osn_test_texts::apart;
@@ -11,188 +11,188 @@ use std::test::Fail;
 
 /// A publish between a look and its check: the reader looks again.
 const AGAIN: &str = r#"
-{"step":"look","op":"lands","reader":1}
-{"out":"moved"}
-{"step":"stage","op":"add_land","code":"RM","name":"Rome","calendar":"julian",
+> {"step":"look","op":"lands","reader":1}
+< {"out":"moved"}
+> {"step":"stage","op":"add_land","code":"RM","name":"Rome","calendar":"julian",
   "style":"january","rule":"julian"}
-{"ok":"staged","pending":1}
-{"step":"publish"}
-{"edition":1,"ok":"published"}
-{"step":"claim"}
-{"out":"moved"}
-{"step":"pin","reader":1}
-{"out":"moved"}
-{"step":"absorb"}
-{"out":"moved"}
-{"step":"check","reader":1}
-{"out":"again"}
-{"step":"pin","reader":1}
-{"out":"moved"}
-{"step":"check","reader":1}
-{"out":"entered"}
-{"step":"answer","reader":1}
-{"answer":{"lands":[{"code":"RM","name":"Rome"}]},"edition":1,"reader":1}
-{"step":"absorb"}
-{"out":"ready"}
-{"step":"leave","reader":1}
-{"out":"moved"}
+< {"ok":"staged","pending":1}
+> {"step":"publish"}
+< {"edition":1,"ok":"published"}
+> {"step":"claim"}
+< {"out":"moved"}
+> {"step":"pin","reader":1}
+< {"out":"moved"}
+> {"step":"absorb"}
+< {"out":"moved"}
+> {"step":"check","reader":1}
+< {"out":"again"}
+> {"step":"pin","reader":1}
+< {"out":"moved"}
+> {"step":"check","reader":1}
+< {"out":"entered"}
+> {"step":"answer","reader":1}
+< {"answer":{"lands":[{"code":"RM","name":"Rome"}]},"edition":1,"reader":1}
+> {"step":"absorb"}
+< {"out":"ready"}
+> {"step":"leave","reader":1}
+< {"out":"moved"}
 "#;
 
 /// A reader that has entered delays the claim, and is told what it entered with.
 const DRAINS: &str = r#"
-{"step":"stage","op":"add_land","code":"RM","name":"Rome","calendar":"julian",
+> {"step":"stage","op":"add_land","code":"RM","name":"Rome","calendar":"julian",
   "style":"january","rule":"julian"}
-{"ok":"staged","pending":1}
-{"step":"look","op":"lands","reader":1}
-{"out":"moved"}
-{"step":"pin","reader":1}
-{"out":"moved"}
-{"step":"check","reader":1}
-{"out":"entered"}
-{"step":"publish"}
-{"edition":1,"ok":"published"}
-{"step":"claim"}
-{"out":"not_now"}
-{"step":"stage","op":"add_land","code":"RM","name":"Rome","calendar":"julian",
+< {"ok":"staged","pending":1}
+> {"step":"look","op":"lands","reader":1}
+< {"out":"moved"}
+> {"step":"pin","reader":1}
+< {"out":"moved"}
+> {"step":"check","reader":1}
+< {"out":"entered"}
+> {"step":"publish"}
+< {"edition":1,"ok":"published"}
+> {"step":"claim"}
+< {"out":"not_now"}
+> {"step":"stage","op":"add_land","code":"RM","name":"Rome","calendar":"julian",
   "style":"january","rule":"julian"}
-{"out":"not_now"}
-{"step":"answer","reader":1}
-{"answer":{"lands":[]},"edition":0,"reader":1}
-{"step":"answer","reader":1}
-{"out":"not_now"}
-{"step":"claim"}
-{"out":"not_now"}
-{"step":"leave","reader":1}
-{"out":"moved"}
-{"step":"claim"}
-{"out":"moved"}
-{"step":"absorb"}
-{"out":"moved"}
-{"step":"absorb"}
-{"out":"ready"}
-{"step":"stage","op":"add_land","code":"RM","name":"Rome","calendar":"julian",
+< {"out":"not_now"}
+> {"step":"answer","reader":1}
+< {"answer":{"lands":[]},"edition":0,"reader":1}
+> {"step":"answer","reader":1}
+< {"out":"not_now"}
+> {"step":"claim"}
+< {"out":"not_now"}
+> {"step":"leave","reader":1}
+< {"out":"moved"}
+> {"step":"claim"}
+< {"out":"moved"}
+> {"step":"absorb"}
+< {"out":"moved"}
+> {"step":"absorb"}
+< {"out":"ready"}
+> {"step":"stage","op":"add_land","code":"RM","name":"Rome","calendar":"julian",
   "style":"january","rule":"julian"}
-{"fault":4,"name":"LandExists"}
-{"step":"publish"}
-{"fault":15,"name":"NothingPending"}
+< {"fault":4,"name":"LandExists"}
+> {"step":"publish"}
+< {"fault":15,"name":"NothingPending"}
 "#;
 
 /// Two publishes between a look and its pin: the side that was noted is live again.
 const TWICE: &str = r#"
-{"step":"look","op":"lands","reader":1}
-{"out":"moved"}
-{"step":"stage","op":"add_land","code":"RM","name":"Rome","calendar":"julian",
+> {"step":"look","op":"lands","reader":1}
+< {"out":"moved"}
+> {"step":"stage","op":"add_land","code":"RM","name":"Rome","calendar":"julian",
   "style":"january","rule":"julian"}
-{"ok":"staged","pending":1}
-{"step":"publish"}
-{"edition":1,"ok":"published"}
-{"step":"claim"}
-{"out":"moved"}
-{"step":"absorb"}
-{"out":"moved"}
-{"step":"absorb"}
-{"out":"ready"}
-{"step":"stage","op":"add_land","code":"GB","name":"Great Britain","calendar":"julian",
+< {"ok":"staged","pending":1}
+> {"step":"publish"}
+< {"edition":1,"ok":"published"}
+> {"step":"claim"}
+< {"out":"moved"}
+> {"step":"absorb"}
+< {"out":"moved"}
+> {"step":"absorb"}
+< {"out":"ready"}
+> {"step":"stage","op":"add_land","code":"GB","name":"Great Britain","calendar":"julian",
   "style":"january","rule":"julian"}
-{"ok":"staged","pending":1}
-{"step":"publish"}
-{"edition":2,"ok":"published"}
-{"step":"pin","reader":1}
-{"out":"moved"}
-{"step":"check","reader":1}
-{"out":"entered"}
-{"step":"claim"}
-{"out":"moved"}
-{"step":"answer","reader":1}
-{"answer":{"lands":[{"code":"RM","name":"Rome"},{"code":"GB","name":"Great Britain"}]},
+< {"ok":"staged","pending":1}
+> {"step":"publish"}
+< {"edition":2,"ok":"published"}
+> {"step":"pin","reader":1}
+< {"out":"moved"}
+> {"step":"check","reader":1}
+< {"out":"entered"}
+> {"step":"claim"}
+< {"out":"moved"}
+> {"step":"answer","reader":1}
+< {"answer":{"lands":[{"code":"RM","name":"Rome"},{"code":"GB","name":"Great Britain"}]},
   "edition":2,"reader":1}
 "#;
 
 /// Two readers, one in each side. There is no reader 3.
 const TWO: &str = r#"
-{"step":"look","op":"lands","reader":1}
-{"out":"moved"}
-{"step":"pin","reader":1}
-{"out":"moved"}
-{"step":"check","reader":1}
-{"out":"entered"}
-{"step":"stage","op":"add_land","code":"RM","name":"Rome","calendar":"julian",
+> {"step":"look","op":"lands","reader":1}
+< {"out":"moved"}
+> {"step":"pin","reader":1}
+< {"out":"moved"}
+> {"step":"check","reader":1}
+< {"out":"entered"}
+> {"step":"stage","op":"add_land","code":"RM","name":"Rome","calendar":"julian",
   "style":"january","rule":"julian"}
-{"ok":"staged","pending":1}
-{"step":"publish"}
-{"edition":1,"ok":"published"}
-{"step":"look","op":"lands","reader":2}
-{"out":"moved"}
-{"step":"pin","reader":2}
-{"out":"moved"}
-{"step":"check","reader":2}
-{"out":"entered"}
-{"step":"answer","reader":2}
-{"answer":{"lands":[{"code":"RM","name":"Rome"}]},"edition":1,"reader":2}
-{"step":"answer","reader":1}
-{"answer":{"lands":[]},"edition":0,"reader":1}
-{"step":"claim"}
-{"out":"not_now"}
-{"step":"leave","reader":2}
-{"out":"moved"}
-{"step":"claim"}
-{"out":"not_now"}
-{"step":"leave","reader":1}
-{"out":"moved"}
-{"step":"claim"}
-{"out":"moved"}
-{"step":"publish"}
-{"out":"not_now"}
-{"step":"absorb"}
-{"out":"moved"}
-{"step":"absorb"}
-{"out":"ready"}
-{"step":"claim"}
-{"out":"not_now"}
-{"step":"absorb"}
-{"out":"not_now"}
-{"step":"pin","reader":3}
-{"out":"not_now"}
+< {"ok":"staged","pending":1}
+> {"step":"publish"}
+< {"edition":1,"ok":"published"}
+> {"step":"look","op":"lands","reader":2}
+< {"out":"moved"}
+> {"step":"pin","reader":2}
+< {"out":"moved"}
+> {"step":"check","reader":2}
+< {"out":"entered"}
+> {"step":"answer","reader":2}
+< {"answer":{"lands":[{"code":"RM","name":"Rome"}]},"edition":1,"reader":2}
+> {"step":"answer","reader":1}
+< {"answer":{"lands":[]},"edition":0,"reader":1}
+> {"step":"claim"}
+< {"out":"not_now"}
+> {"step":"leave","reader":2}
+< {"out":"moved"}
+> {"step":"claim"}
+< {"out":"not_now"}
+> {"step":"leave","reader":1}
+< {"out":"moved"}
+> {"step":"claim"}
+< {"out":"moved"}
+> {"step":"publish"}
+< {"out":"not_now"}
+> {"step":"absorb"}
+< {"out":"moved"}
+> {"step":"absorb"}
+< {"out":"ready"}
+> {"step":"claim"}
+< {"out":"not_now"}
+> {"step":"absorb"}
+< {"out":"not_now"}
+> {"step":"pin","reader":3}
+< {"out":"not_now"}
 "#;
 
 /// Steps of one reader out of turn, and a query that is refused.
 const OUT_OF_TURN: &str = r#"
-{"step":"pin","reader":1}
-{"out":"not_now"}
-{"step":"check","reader":1}
-{"out":"not_now"}
-{"step":"answer","reader":1}
-{"out":"not_now"}
-{"step":"leave","reader":1}
-{"out":"not_now"}
-{"step":"claim"}
-{"out":"not_now"}
-{"step":"absorb"}
-{"out":"not_now"}
-{"step":"look","op":"lands","reader":2}
-{"out":"not_now"}
-{"step":"look","op":"read","reader":1,"code":"rm","year":1,"month":1,"day":1}
-{"out":"moved"}
-{"step":"look","op":"lands","reader":1}
-{"out":"not_now"}
-{"step":"pin","reader":1}
-{"out":"moved"}
-{"step":"pin","reader":1}
-{"out":"not_now"}
-{"step":"check","reader":1}
-{"out":"entered"}
-{"step":"check","reader":1}
-{"out":"not_now"}
-{"step":"leave","reader":1}
-{"out":"not_now"}
-{"step":"answer","reader":1}
-{"edition":0,"fault":1,"name":"BadCode","reader":1}
-{"step":"look","op":"lands","reader":1}
-{"out":"not_now"}
-{"step":"leave","reader":1}
-{"out":"moved"}
-{"step":"leave","reader":1}
-{"out":"not_now"}
+> {"step":"pin","reader":1}
+< {"out":"not_now"}
+> {"step":"check","reader":1}
+< {"out":"not_now"}
+> {"step":"answer","reader":1}
+< {"out":"not_now"}
+> {"step":"leave","reader":1}
+< {"out":"not_now"}
+> {"step":"claim"}
+< {"out":"not_now"}
+> {"step":"absorb"}
+< {"out":"not_now"}
+> {"step":"look","op":"lands","reader":2}
+< {"out":"not_now"}
+> {"step":"look","op":"read","reader":1,"code":"rm","year":1,"month":1,"day":1}
+< {"out":"moved"}
+> {"step":"look","op":"lands","reader":1}
+< {"out":"not_now"}
+> {"step":"pin","reader":1}
+< {"out":"moved"}
+> {"step":"pin","reader":1}
+< {"out":"not_now"}
+> {"step":"check","reader":1}
+< {"out":"entered"}
+> {"step":"check","reader":1}
+< {"out":"not_now"}
+> {"step":"leave","reader":1}
+< {"out":"not_now"}
+> {"step":"answer","reader":1}
+< {"edition":0,"fault":1,"name":"BadCode","reader":1}
+> {"step":"look","op":"lands","reader":1}
+< {"out":"not_now"}
+> {"step":"leave","reader":1}
+< {"out":"moved"}
+> {"step":"leave","reader":1}
+< {"out":"not_now"}
 "#;
 
 /// The steps of a schedule, whose readers may be any.

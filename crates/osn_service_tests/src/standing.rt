@@ -1,8 +1,8 @@
 //! The service from an object that stands already, and where the object stands after a write that
 //! failed.
-use crate::compare::same;
-use crate::session::are_replies;
-use crate::streams::sink_that_fails;
+use crate::support::compare::same;
+use crate::support::session::are_replies;
+use crate::support::streams::sink_that_fails;
 use osn_core::Object;
 use osn_lines::{Interrupted, Plain, Sink};
 use osn_register::Limits;
@@ -15,29 +15,31 @@ use std::test::Fail;
 /// Two streams in turn. At the end of the first an edition stands, and an edit is pending.
 const STREAMS: [&str; 2] = [
     r#"
-{"op":"add_land","code":"RM","name":"Rome","calendar":"julian","style":"january","rule":"julian"}
-{"ok":"staged","pending":1}
-{"op":"publish"}
-{"edition":1,"ok":"published"}
-{"op":"add_land","code":"FR","name":"France","calendar":"julian","style":"january","rule":"julian"}
-{"ok":"staged","pending":1}
+> {"op":"add_land","code":"RM","name":"Rome","calendar":"julian","style":"january","rule":"julian"}
+< {"ok":"staged","pending":1}
+> {"op":"publish"}
+< {"edition":1,"ok":"published"}
+> {"op":"add_land","code":"FR","name":"France","calendar":"julian","style":"january",
+  "rule":"julian"}
+< {"ok":"staged","pending":1}
 "#,
     r#"
-{"op":"lands","reader":1}
-{"answer":{"lands":[{"code":"RM","name":"Rome"}]},"edition":1,"reader":1}
-{"op":"add_land","code":"FR","name":"France","calendar":"julian","style":"january","rule":"julian"}
-{"fault":4,"name":"LandExists"}
-{"op":"drop_change","code":"FR","day":577736}
-{"fault":7,"name":"NoSuchChange"}
-{"op":"add_exception","code":"FR","year":1582,"day":577544}
-{"ok":"staged","pending":2}
-{"op":"publish"}
-{"edition":2,"ok":"published"}
-{"op":"lands","reader":8}
-{"answer":{"lands":[{"code":"RM","name":"Rome"},{"code":"FR","name":"France"}]},"edition":2,
+> {"op":"lands","reader":1}
+< {"answer":{"lands":[{"code":"RM","name":"Rome"}]},"edition":1,"reader":1}
+> {"op":"add_land","code":"FR","name":"France","calendar":"julian","style":"january",
+  "rule":"julian"}
+< {"fault":4,"name":"LandExists"}
+> {"op":"drop_change","code":"FR","day":577736}
+< {"fault":7,"name":"NoSuchChange"}
+> {"op":"add_exception","code":"FR","year":1582,"day":577544}
+< {"ok":"staged","pending":2}
+> {"op":"publish"}
+< {"edition":2,"ok":"published"}
+> {"op":"lands","reader":8}
+< {"answer":{"lands":[{"code":"RM","name":"Rome"},{"code":"FR","name":"France"}]},"edition":2,
   "reader":8}
-{"op":"publish"}
-{"fault":15,"name":"NothingPending"}
+> {"op":"publish"}
+< {"fault":15,"name":"NothingPending"}
 "#,
 ];
 
@@ -81,16 +83,16 @@ fn an_object_that_stands_goes_on(rt: HostRuntime) -> Result<(), Fail> {
 
 /// Queries before and after an edit and a publish.
 const MIXED: &str = r#"
-{"op":"lands","reader":1}
-{"answer":{"lands":[]},"edition":0,"reader":1}
-{"op":"add_land","code":"RM","name":"Rome","calendar":"julian","style":"january","rule":"julian"}
-{"ok":"staged","pending":1}
-{"op":"lands","reader":1}
-{"answer":{"lands":[]},"edition":0,"reader":1}
-{"op":"publish"}
-{"edition":1,"ok":"published"}
-{"op":"lands","reader":1}
-{"answer":{"lands":[{"code":"RM","name":"Rome"}]},"edition":1,"reader":1}
+> {"op":"lands","reader":1}
+< {"answer":{"lands":[]},"edition":0,"reader":1}
+> {"op":"add_land","code":"RM","name":"Rome","calendar":"julian","style":"january","rule":"julian"}
+< {"ok":"staged","pending":1}
+> {"op":"lands","reader":1}
+< {"answer":{"lands":[]},"edition":0,"reader":1}
+> {"op":"publish"}
+< {"edition":1,"ok":"published"}
+> {"op":"lands","reader":1}
+< {"answer":{"lands":[{"code":"RM","name":"Rome"}]},"edition":1,"reader":1}
 "#;
 
 /// Where writing fails, how many lines were answered whole then, and the pending edits and the

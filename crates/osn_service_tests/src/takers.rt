@@ -1,7 +1,7 @@
 //! The loop over lines, with a taker of its own that stops.
 ghost use Rattle.std.specs.Prelude.{⊤};
 
-use crate::compare::same;
+use crate::support::compare::same;
 use osn_lines::{
     Interrupted, LONGEST_LINE, Line, LineTaker, Plain, TakeFault, read_buffer, take_lines,
 };

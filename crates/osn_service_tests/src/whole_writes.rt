@@ -1,6 +1,6 @@
 //! `write_all` over sinks that take few bytes a write, or fail.
-use crate::compare::same;
-use crate::streams::sink_that_fails;
+use crate::support::compare::same;
+use crate::support::streams::sink_that_fails;
 use osn_lines::{Sink, write_all};
 use std::alloc::{AllocError, Global};
 use std::process::Abort;

@@ -33,29 +33,27 @@ fn add_line(text: &mut String, line: &str) -> Result<(), AllocError> {
     text.push('\n')
 }
 
-/// Adds the lines of a session to its requests and its replies in turn.
+/// Adds the lines of a session to its requests and its replies. A line that lacks its mark counts as
+/// a reply that is wanted, so that the test fails.
 fn take_apart(
     session: &str,
     requests: &mut String,
     replies: &mut String,
 ) -> Result<(), AllocError> {
-    let mut is_reply = false;
     for line in session.lines() {
-        if line.is_empty() || line.starts_with('#') {
-            continue;
-        }
-        if is_reply {
+        if let Some(request) = line.strip_prefix("> ") {
+            add_line(requests, request)?;
+        } else if let Some(reply) = line.strip_prefix("< ") {
+            add_line(replies, reply)?;
+        } else if !line.is_empty() && !line.starts_with('#') {
             add_line(replies, line)?;
-        } else {
-            add_line(requests, line)?;
         }
-        is_reply = !is_reply;
     }
     Ok(())
 }
 
-/// A session's requests and replies apart, a line feed after each. Every second line of a session
-/// is a reply. Empty lines, and lines that begin with a number sign, are passed over.
+/// A session's requests and replies apart, a line feed after each. A request stands after `> ` and
+/// a reply after `< `. Empty lines, and lines that begin with a number sign, are passed over.
 ///
 /// # Errors
 ///

@@ -1,4 +1,4 @@
-use Rattle.std.proofs.Common.{sym, inl, inr, ap, length, refl}
+use Rattle.std.proofs.Common.{sym, inl, inr, ap, length}
 use Rattle.osn_lines.specs.Streams.{input_of, output_of}
 use Rattle.osn_page_commands.specs.Letters.{asked_of}
 use Rattle.osn_page_commands.proofs.LettersLemmas.{ended_table, whole_table}

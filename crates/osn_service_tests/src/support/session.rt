@@ -1,5 +1,5 @@
 //! Sessions of the service over memory, each written as its input and its output.
-use crate::compare::same;
+use crate::support::compare::same;
 use osn_lines::Plain;
 use osn_register::Limits;
 use osn_service::serve;

@@ -1,0 +1,6 @@
+//! What the tests share: values compared, lines read and written, sessions, and streams that fail.
+pub mod compare;
+pub mod failing;
+pub mod register_lines;
+pub mod session;
+pub mod streams;

@@ -1,0 +1,117 @@
+"""The command lines of scripts: options of one form, and what is wrong told in a line or two."""
+import argparse
+import os
+import re
+import shlex
+import shutil
+import subprocess
+import sys
+
+TOP = os.path.dirname(os.path.dirname(os.path.abspath(__file__)))
+BUILT = os.path.join(TOP, "crates", "oldstyle", "out", "oldstyle")
+SCRIPT = os.path.basename(sys.argv[0])
+# Crates that the program does not stand on.
+NO_PART = re.compile(r"_tests?[_/]|osn_wire/")
+
+
+class CommandLine(argparse.ArgumentParser):
+    """The words that a script takes. Its help says what the script's document says."""
+
+    def __init__(self, document):
+        super().__init__(description=document.strip(), allow_abbrev=False,
+                         formatter_class=argparse.RawDescriptionHelpFormatter)
+        self.programs = []
+
+    def error(self, message):
+        self.exit(2, f"{SCRIPT}: {message.removeprefix('argument ')}\n{self.format_usage()}"
+                     f"{SCRIPT} --help says more\n")
+
+    def add_number(self, name, default, what, least=1):
+        """An option that takes a whole number."""
+        beside = "" if default is None else f"; {default} where none is given"
+        self.add_argument(name, type=lambda text: whole(text, least), default=default, metavar="N",
+                          help=what + beside)
+
+    def add_count(self, default, what):
+        self.add_number("--count", default, what)
+
+    def add_seed(self):
+        self.add_number("--seed", 1, "what the random choices begin with", 0)
+
+    def add_program(self):
+        self.programs.append("program")
+        self.add_argument("--program", default=BUILT, metavar="PATH",
+                          help="the program; this tree's where none is given")
+
+    def add_older(self, what, required=False):
+        self.programs.append("older")
+        self.add_argument("--older", metavar="PATH", required=required, help=what)
+
+    def read(self):
+        """The options that were given, with programs that are there."""
+        options = self.parse_args()
+        self.find_programs(options)
+        return options
+
+    def find_programs(self, options):
+        """Puts the absolute path of each program in its place. An old one is told, and taken."""
+        for name in self.programs:
+            if (path := getattr(options, name)) is not None:
+                setattr(options, name, self.program_at(name, path))
+        if options.program == BUILT and (source := newer_source()):
+            print(f"{SCRIPT}: the program is older than {source}: ./oldstyle --prove builds it "
+                  "anew", file=sys.stderr)
+
+    def program_at(self, name, path):
+        """The absolute path of a program. One that is named without a folder is on the PATH."""
+        if found := shutil.which(path):
+            return os.path.abspath(found)
+        if path == BUILT:
+            self.error("this tree's program is not built: build it by ./oldstyle --prove, or name "
+                       "another by --program PATH")
+        return self.error(f"--{name}: {path} is no program: name one that is built")
+
+
+def whole(text, least):
+    """The number of a text, which is that or a larger one."""
+    if not (text.isascii() and text.isdigit() and int(text) >= least):
+        raise argparse.ArgumentTypeError(f"{text} is no whole number from {least} on")
+    return int(text)
+
+
+def file_at(path):
+    """The path of a file, where one is there."""
+    if not os.path.isfile(path):
+        raise argparse.ArgumentTypeError(f"{path}: no such file: name one that is there")
+    return path
+
+
+def newer_source():
+    """A source that was changed after this tree's program was built, if there is one."""
+    built = os.path.getmtime(BUILT)
+    for folder, _, names in os.walk(os.path.join(TOP, "crates")):
+        for path in (os.path.join(folder, name) for name in names if name.endswith(".rt")):
+            if not NO_PART.search(path) and os.path.getmtime(path) > built:
+                return os.path.relpath(path)
+    return None
+
+
+def need(command, package):
+    """Ends the script where a command that it runs is missing."""
+    if shutil.which(command) is None:
+        sys.exit(f"{SCRIPT}: the command {command} is missing: install {package}")
+
+
+def end(main):
+    """Ends the script with the status of its main function. What the system or a command refuses
+    is told in a line."""
+    try:
+        sys.exit(main())
+    except KeyboardInterrupt:
+        sys.exit(130)
+    except subprocess.CalledProcessError as why:
+        told = why.stderr or ""
+        told = told if isinstance(told, str) else told.decode(errors="replace")
+        sys.exit(f"{SCRIPT}: {shlex.join(map(str, why.cmd))}: status {why.returncode} {told}")
+    except OSError as why:
+        sys.exit(f"{SCRIPT}: {why.filename or 'the system'}: {why.strerror}")

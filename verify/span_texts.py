@@ -1,0 +1,111 @@
+"""The spans that texts mean: what reference.py reads of docs/DATES.md, and all that spans.py draws.
+
+What is said beside a date stands at the ends of the text. Each other text is Unread.
+"""
+import re
+
+from spans import NAMES, Simple, Span
+
+MONTHS = {name.lower(): month for names in NAMES for month, name in enumerate(names, 1)}
+
+YEARS = r"(?P<year>\d{3,5})(?:/(?P<later>\d{1,5}))?"
+NAME, DAY = f"(?P<name>{'|'.join(map(re.escape, MONTHS))})", r"(?P<day>\d{1,2})"
+DATES = [YEARS, f"anno {YEARS}", f"{YEARS}-XX-XX", f"{NAME},? {YEARS}", f"{YEARS} {NAME}",
+         rf"{YEARS}-(?P<month>\d\d)", rf"{YEARS}-(?P<month>\d\d)-(?P<day>\d\d)",
+         f"{DAY} {NAME} {YEARS}", f"the {DAY} of {NAME}, {YEARS}", f"{NAME} {DAY}, {YEARS}",
+         rf"{DAY}\.(?P<month>\d{{1,2}})\.{YEARS}"]
+# What the first date of a range may be, where the last one has the rest.
+FRONTS = [DAY, f"{DAY} {NAME}", NAME]
+# With a dash after it a double year alone is no first date.
+RANGES = [r"from (.+) to (.+)", r"between (.+) and (.+)", r"(.+) to (.+)",
+          r"(?!\d+/\d+ ?[-\u2013])([^-]+?) ?[-\u2013] ?(.+)"]
+BOUND = r"(before|not after|by|after|not before) (.+)"
+
+# Texts of no date, and why they are none.
+NONE = {r" *|n\.d\.|s\.d\.|undated|no date": "no date",
+        r"\d{1,2}([/-])\d{1,2}\1\d{3,4}": "open between day and month"}
+
+SUPPLIED = r"\[(.*)\]"
+UNCERTAIN = r"(?:probably|perhaps) (.*)|(.*?) ?(?:\?|\(\?\))"
+RECKONING = r"(.*?),? \(?(O\.?S\.?|old style|N\.?S\.?|new style)\)?"
+APPROXIMATE = r"(?:about|c\.|ca\.|circa) (.*)"
+
+
+def matched(forms, text):
+    """The parts of the first form that a text has, or None."""
+    tried = (re.fullmatch(form, text, re.I) for form in forms)
+    return next((found.groupdict() for found in tried if found), None)
+
+
+def month_of(parts):
+    """The month of the parts, None where they have none."""
+    if name := parts.get("name"):
+        return MONTHS[name.lower()]
+    return int(parts["month"]) if "month" in parts else None
+
+
+def simple_of(parts, text):
+    year, later = int(parts["year"]), parts["later"]
+    day = int(parts["day"]) if "day" in parts else None
+    date = Simple(year, later is not None, month_of(parts), day)
+    is_later = later is None or str(year + 1).zfill(len(later)).endswith(later)
+    if not is_later or year > 10_000 or date.month not in (None, *range(1, 13)):
+        raise Unread(text)
+    if day not in (None, *range(1, 32)):
+        raise Unread(text)
+    return date
+
+
+def date_of(text):
+    if parts := matched(DATES, text):
+        return simple_of(parts, text)
+    raise Unread(text)
+
+
+def front_of(text, last):
+    """The first date of a range: what it lacks it gets from the last one."""
+    if not (parts := matched(FRONTS, text)):
+        return date_of(text)
+    month = month_of(parts) or last.month
+    day = int(parts["day"]) if "day" in parts else None
+    return last._replace(month=month, day=day)
+
+
+def extent_of(text):
+    """One date, a range or a bound."""
+    if parts := matched(DATES, text):
+        return Span("on", simple_of(parts, text))
+    if found := re.fullmatch(BOUND, text, re.I):
+        word = found[1].lower()
+        return Span("not after" if word == "by" else word, date_of(found[2]))
+    for form in RANGES:
+        if found := re.fullmatch(form, text, re.I):
+            last = date_of(found[2])
+            return Span("range", front_of(found[1], last), last)
+    raise Unread(text)
+
+
+class Unread(Exception):
+    """A text that may be a date, and that is in no form which is read here."""
+
+
+def why_none(text):
+    """Why a text is no date, None where it may be one."""
+    return next((why for form, why in NONE.items() if re.fullmatch(form, text, re.I)), None)
+
+
+def without(form, text):
+    """What is left of a text beside a form, and whether it has that."""
+    found = re.fullmatch(form, text, re.I)
+    return (next(filter(None, found.groups()), ""), True) if found else (text, False)
+
+
+def span_of(text):
+    """The span that a text means."""
+    rest, supplied = without(SUPPLIED, text)
+    rest, uncertain = without(UNCERTAIN, rest)
+    named = re.fullmatch(RECKONING, rest, re.I)
+    reckoning = ("old" if named[2].lower().startswith("o") else "new") if named else None
+    rest, approximate = without(APPROXIMATE, named[1] if named else rest)
+    return extent_of(rest)._replace(reckoning=reckoning, approximate=approximate,
+                                    uncertain=uncertain, supplied=supplied)
