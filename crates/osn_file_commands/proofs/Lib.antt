@@ -1,2 +1,3 @@
 pub mod AuditLemmas
+pub mod DeskLemmas
 pub mod LineLemmas

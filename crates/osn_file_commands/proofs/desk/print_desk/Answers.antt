@@ -18,4 +18,4 @@ returns-in-Ok g c =
 
 pub returns-in-Err : goal.returns-in-Err
 returns-in-Err g c =
-    inr (c.in-Err.fault, c.in-Err.ensures.fault, (refl, c.report_desk.ensures))
+    inr (c.in-Err.fault, c.in-Err.ensures.fault, refl, c.report_desk.ensures)

@@ -1,0 +1,16 @@
+-- The message about a fault of a desk is what its contract says.
+use Rattle.std.proofs.Common.{◌≡◌, refl}
+use Rattle.osn_lines.specs.Streams.{Output}
+use Rattle.osn_live.specs.declared.faults.DeskFault.{DeskFault}
+use Rattle.osn_live.specs.declared.faults.DeskFault.TheVariants as desk_faults
+use Rattle.osn_report.specs.Told.{TellsIfMade}
+use Rattle.osn_report.specs.declared.status.Status.{Status}
+use Rattle.osn_report.specs.declared.status.Status.TheVariants.{Refused}
+use Rattle.osn_file_commands.specs.DeskFault.{TellsDesk, desk_line}
+
+-- any fault but want of memory was told by its line
+pub other_told : (e : Output) (fault : DeskFault) (status : Status)
+    → (fault ≡ desk_faults.NoMemory → ⊥) → TellsIfMade e Refused (desk_line fault) status
+    → TellsDesk e fault status
+other_told e desk_faults.NoMemory status other h = absurd (other refl)
+other_told e fault status other h = h
