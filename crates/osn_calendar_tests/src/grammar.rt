@@ -303,7 +303,7 @@ const FAULTS: [(&str, &str); 35] = [
     ("1731-02-32", "Day"),
     ("0 February 1731", "Day"),
     ("1731/3", "LaterYear"),
-    ("11 February 1731/2/3", "Malformed"),
+    ("11 February 1731/2/3", "ShortYear"),
     ("1640/1645", "LaterYear"),
     ("11 February", "Malformed"),
     ("Monday", "Malformed"),
