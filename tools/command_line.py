@@ -11,7 +11,7 @@ TOP = os.path.dirname(os.path.dirname(os.path.abspath(__file__)))
 BUILT = os.path.join(TOP, "crates", "oldstyle", "out", "oldstyle")
 SCRIPT = os.path.basename(sys.argv[0])
 # Crates that the program does not stand on.
-NO_PART = re.compile(r"_tests?[_/]|osn_wire/")
+NO_PART = re.compile(r"_tests?[_/]|osn_wire/|/out/")
 
 
 class CommandLine(argparse.ArgumentParser):
