@@ -5,10 +5,10 @@ The conditions are: standard output that is full, closed or a pipe that nobody r
 error full as well; standard input that is closed or a folder; a folder in the place of each file
 that is read or saved; a file that grows shorter while it is read; a full disk under `--save`, and
 a limit on the length of files; and 6 MB of addresses. Under each one every command that it concerns
-is run. Held against what docs/PAGES.md and docs/SERVING.md say are the status, what is written, and that the files
-of the folder are as they were, their permissions too, with none beside them; and once the condition
-is over, the same command saves what it should. A row is written for each condition. What went
-otherwise is told above the rows; what could not be tried is told as well.
+is run. Held against what docs/PAGES.md and docs/SERVING.md say are the status and what is written.
+The files of the folder have to be as they were, their permissions too, with none beside them. Once
+the condition is over, the same command has to save what it should. A row is written for each
+condition. What went otherwise is told above the rows; what could not be tried is told as well.
 
 A disk that is full is one in memory, which only root may mount.
 """

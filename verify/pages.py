@@ -3,10 +3,11 @@
 
 Random territories are put into a journal, with their changes near one another, listed Easters and
 edits that wait. Of each date the page of `read` is held against the one of `page_texts.py`, which
-asks every day of the line that has the month and day. So are those of months, years, ranges and
-bounds in random forms, by `spans.py`, with the answer of the query `written`, and the pages of days
-about the changes, of the date's month, of conversions, and of the territories. Words that are
-wrong, codes that are unknown and files that are not there have to be told as docs/PAGES.md says.
+asks every day of the line that has the month and day. So are those of months, years, ranges,
+bounds and sets in random forms, by `spans.py`, with the answer of the query `written`, and the
+pages of days about the changes, of the date's month, of conversions, and of the territories. Words
+that are wrong, codes that are unknown and files that are not there have to be told as docs/PAGES.md
+says.
 """
 import os
 import random
@@ -29,7 +30,7 @@ WRONG_WORDS = {
     "later year": "after the / stands the year that follows, in full or its last digits, "
                   "as 1731/2, 1731/32 or 1731/1732",
     "year": "a year is 0 to 10000",
-    "month": "a month is 1 to 12",
+    "month": "a month is 1 to 12: of a range of years write the later year in full, as 1640-1645",
     "day": "a day of a month is 1 to 31",
 }
 WEEKDAY = "a weekday is written by its English name, as Friday"
@@ -117,7 +118,7 @@ class Asked:
         yield from self.page(["read", "XX", text, *words], reading_page(self.place, date, given))
 
     def span(self, label):
-        """A month, a year, a range or a bound."""
+        """A month, a year, a range, a bound or a set."""
         other = label_near(self.chance, self.territory, self.middle)
         span = span_near(self.chance, label, other)
         text = text_of(self.chance, span)

@@ -26,6 +26,9 @@ NONE = {r" *|n\.d\.|s\.d\.|undated|no date": "no date",
         r"\d{1,2}([/-])\d{1,2}\1\d{3,4}": "open between day and month"}
 
 SUPPLIED = r"\[(.*)\]"
+SET_DAY = r"\d{3,5}-\d\d-\d\d[?~%]?"
+SET_MEMBER = rf"{SET_DAY}(?:\.\.{SET_DAY})?"
+SET = rf"\[{SET_DAY}\.\.{SET_DAY}\]|\[{SET_MEMBER}(?:,{SET_MEMBER})+\]"
 UNCERTAIN = r"(?:probably|perhaps) (.*)|(.*?) ?(?:\?|\(\?\))"
 RECKONING = r"(.*?),? \(?(O\.?S\.?|old style|N\.?S\.?|new style)\)?"
 APPROXIMATE = r"(?:about|c\.|ca\.|circa) (.*)"
@@ -100,8 +103,22 @@ def without(form, text):
     return (next(filter(None, found.groups()), ""), True) if found else (text, False)
 
 
+def set_of(text):
+    """The set that a text is, None where it is none. Its days have one sign, or none."""
+    if not re.fullmatch(SET, text):
+        return None
+    members = []
+    for member in text[1:-1].split(","):
+        days = [date_of(day.rstrip("?~%")) for day in member.split("..")]
+        members.append(Span("on", *days) if len(days) == 1 else Span("range", *days))
+    approximate, uncertain = (re.search(signs, text) is not None for signs in ("[~%]", "[?%]"))
+    return Span("set", members[0].first, None, None, approximate, uncertain, False, tuple(members))
+
+
 def span_of(text):
     """The span that a text means."""
+    if found := set_of(text):
+        return found
     rest, supplied = without(SUPPLIED, text)
     rest, uncertain = without(UNCERTAIN, rest)
     named = re.fullmatch(RECKONING, rest, re.I)

@@ -1,4 +1,4 @@
-"""Months, years, ranges and bounds as people write them, and the days that they may mean.
+"""Months, years, ranges, bounds and sets as people write them, and the days that they may mean.
 
 Written from docs/DATES.md and docs/PAGES.md alone, over written.py, for pages.py and
 reference.py. Texts are drawn in random forms; their days are found by a search through every day
@@ -34,6 +34,10 @@ class Simple(NamedTuple):
     def first_day(self):
         return Written(self.year, self.month or 1, self.day or 1, self.is_double)
 
+    def digits(self):
+        """As a set has it."""
+        return f"{self.year:04}-{self.month:02}-{self.day:02}"
+
     def years(self):
         first = f"{self.year:03}"
         if not self.is_double:
@@ -62,7 +66,8 @@ class Simple(NamedTuple):
 
 
 class Span(NamedTuple):
-    """One date, a range or a bound, with what is said beside it."""
+    """One date, a range, a bound or a set, with what is said beside it. Of a set the first date is
+    that of its first member."""
 
     kind: str
     first: Simple
@@ -71,9 +76,21 @@ class Span(NamedTuple):
     approximate: bool = False
     uncertain: bool = False
     supplied: bool = False
+    members: tuple = ()
+
+    def sign(self):
+        return "%" if self.approximate and self.uncertain else (
+            "~" if self.approximate else "?" if self.uncertain else "")
+
+    def in_set(self, sign):
+        """As a member of a set, with a sign after each day."""
+        days = [self.first] if self.kind == "on" else [self.first, self.last]
+        return "..".join(day.digits() + sign for day in days)
 
     def words(self):
         """As the heading of a page has it."""
+        if self.kind == "set":
+            return f"[{','.join(member.in_set(self.sign()) for member in self.members)}]"
         text = self.first.words()
         if self.kind == "range":
             text += f" to {self.last.words()}"
@@ -113,8 +130,30 @@ def runs_of(days):
     return runs
 
 
+def found_of_set(parts):
+    """The runs of all members, or the first reason why one has no day."""
+    for part in parts:
+        if isinstance(part, str):
+            return part
+    runs = []
+    for first, last in sorted(tuple(run) for part in parts for run in part):
+        if runs and first <= runs[-1][1] + 1:
+            runs[-1][1] = max(last, runs[-1][1])
+        else:
+            runs.append([first, last])
+    return runs
+
+
+def without_day(territory, span):
+    """The span, or of a set its first member that has no day."""
+    return next((member for member in span.members if isinstance(found(territory, member), str)),
+                span)
+
+
 def found(territory, span):
     """The runs of a span, or which of its dates has no day, or what else keeps it from a span."""
+    if span.kind == "set":
+        return found_of_set([found(territory, member) for member in span.members])
     first = span.first.days(territory)
     if not first:
         return "first"
@@ -148,6 +187,7 @@ def run_lines(territory, span, run):
 
 def none_lines(territory, span, why):
     """Why a span has no day."""
+    span = without_day(territory, span)
     if why == "first":
         return why_lines(territory, span.first.first_day())
     if why == "last":
@@ -186,6 +226,8 @@ def span_page(place, span, weekday=None):
 
 
 def kind_of(span):
+    if span.kind == "set":
+        return "set"
     if span.kind == "on":
         return "day" if span.first.day else "month" if span.first.month else "year"
     return {"range": "range", "before": "before", "not after": "before"}.get(span.kind, "after")
@@ -193,6 +235,7 @@ def kind_of(span):
 
 def reason_of(territory, span, why):
     """Why a span has no day."""
+    span = without_day(territory, span)
     if why == "first":
         return territory.absence(span.first.first_day())
     if why == "last":
@@ -276,6 +319,8 @@ def range_text(chance, first, last):
 
 def text_of(chance, span):
     """A span in one of its forms, with what is said beside it."""
+    if span.kind == "set":
+        return span.words()
     if span.kind == "range":
         text = range_text(chance, span.first, span.last)
     elif span.kind == "on":
@@ -302,9 +347,24 @@ def simple_near(chance, label, days=True):
     return Simple(year, is_double, month, day if which == 2 else None)
 
 
+def set_near(chance, labels):
+    """Two to five days or ranges with one of these labels, or a little later."""
+    members = []
+    for _ in range(chance.randint(2, 5)):
+        year, month, day = chance.choice(labels)
+        first = Simple(year, False, month, min(31, day + chance.choice([0, 0, 1, 2, 9])))
+        last = first._replace(day=min(31, first.day + chance.randint(0, 5)))
+        members.append(Span(*chance.choice([("on", first), ("range", first, last)])))
+    rarely = [chance.random() < 0.15 for _ in range(2)]
+    return Span("set", members[0].first, None, None, *rarely, False, tuple(members))
+
+
 def span_near(chance, label, other):
-    """A month, a year, a range or a bound about a label; a range goes to the other one."""
-    kind = chance.choice(["on", "on", "range", "before", "not after", "after", "not before"])
+    """A month, a year, a range, a bound or a set about a label; a range goes to the other one."""
+    kinds = ["on", "on", "range", "before", "not after", "after", "not before", "set"]
+    kind = chance.choice(kinds)
+    if kind == "set":
+        return set_near(chance, [label, other])
     first = simple_near(chance, label, kind != "on")
     last = simple_near(chance, other) if kind == "range" else None
     rarely = [chance.random() < 0.15 for _ in range(3)]

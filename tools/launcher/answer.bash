@@ -18,7 +18,7 @@ why_no_answer() {
     local file
     if ! only_reads "$@"; then
         echo "one is given to read, convert, day, month, territory, almanac, letters, audit," \
-            "replay, completions, and serve without --save and --keep"
+            "replay, completions, and serve without --save, --keep and --follow"
     elif takes_input "$@" && [ -t 0 ]; then
         echo "the input is a terminal; give it as < FILE, or by a pipe"
     elif [ -n "$closed" ]; then
@@ -38,7 +38,7 @@ why_no_answer() {
 only_reads() {
     local word
     for word in "$@"; do
-        [[ ! $word =~ ^--(save|keep)(=|$) ]] || return 1
+        [[ ! $word =~ ^--(save|keep|follow)(=|$) ]] || return 1
     done
     case ${1:-} in
         "" | read | convert | day | month | territory | almanac) ;;

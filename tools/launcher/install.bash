@@ -27,10 +27,10 @@ put_under() {
         put_completions bash "$1/share/bash-completion/completions/oldstyle" &&
         put_completions zsh "$1/share/zsh/site-functions/_oldstyle" &&
         put_completions fish "$1/share/fish/vendor_completions.d/oldstyle.fish" || return
-    for sample in examples/*; do
+    while read -r -d '' sample; do
         mode=644
         [ ! -x "$sample" ] || mode=755
-        install -D -m $mode -t "$1/share/oldstyle/examples" "$sample" || return
-    done
+        install -D -m $mode "$sample" "$1/share/oldstyle/$sample" || return
+    done < <(find examples -name __pycache__ -prune -o -type f -print0)
     ln -sfn ../../bin/oldstyle "$1/share/oldstyle/oldstyle"
 }

@@ -281,7 +281,8 @@ ends-change dual day calendar style rule =
     (line-append (codes " style, ") (rule ++ e)
     (line-append rule e refl)))))))))
 
-trimmed-change_of : (p : Profile) (year : ℤ) (period : Period) → AreTrimmed (change_of p year period)
+trimmed-change_of : (p : Profile) (year : ℤ) (period : Period)
+    → AreTrimmed (change_of p year period)
 unfolding change_of change_line
 trimmed-change_of p year period =
     elim (is_change_in year period) as (λ b. AreTrimmed
@@ -296,7 +297,8 @@ trimmed-changes p year (answers.Periods periods) =
 trimmed-changes p year (answers.Reading found skipped) = tt
 trimmed-changes p year (answers.OnDay found period) = tt
 trimmed-changes p year (answers.Easters found is_listed) = tt
-trimmed-changes p year (answers.Figures y golden indiction jepact gepact jletters gletters je ge) = tt
+trimmed-changes p year (answers.Figures y golden indiction jepact gepact jletters gletters je ge) =
+    tt
 trimmed-changes p year (answers.Lands lands) = tt
 trimmed-changes p year (answers.Written w) = tt
 trimmed-changes p year (answers.Refused f) = tt

@@ -46,8 +46,8 @@ batches_lawful s own given sound same are =
 
 -- a place where no reply was given
 pub IsPlace-first : (limits given : Limits) (batches : List (List Edit)) (p : Place)
-    → given ≡ limits → p.last ≡ 0 → p.own.edition ≡ 0 → p.own.register ≡ folded newest_rules given []
-    → IsPlace limits batches p
+    → given ≡ limits → p.last ≡ 0 → p.own.edition ≡ 0
+    → p.own.register ≡ folded newest_rules given [] → IsPlace limits batches p
 IsPlace-first limits given batches p same last edition register = record {
   there = omega (arith, last);
   at = IsAt-first limits given batches p.own same edition register;
@@ -96,7 +96,8 @@ reply_set s o ps i last edition q p a same is within known answered =
     let set_is : get_or (map (λ (r : Place). r.last) (set ps i p)) i 0 ≡ edition =
     ap (λ l. get_or l i 0) (map-set (λ (r : Place). r.last) ps i p)
     ∙ (get_or-set_same lasts i p.last 0 count ∙ is) in
-    ap₂ reply (sym (length-take-le edition s.batches (there_by (length s.batches) edition _ _ refl known)))
+    let there = there_by (length s.batches) edition _ _ refl known in
+    ap₂ reply (sym (length-take-le edition s.batches there))
     (answered
     ∙ (ap (λ n. (reply_at newest_rules o.limits (take n o.batches) q).answer) set_is
     ∙ ap (λ t. (reply_at newest_rules t.limits (take edition t.batches) q).answer) same))

@@ -4,9 +4,9 @@
 use crate::compare::same;
 use crate::gaps::{britain, france, sweden};
 use osn_days::{Calendar, Day, date_of};
-use osn_grammar::{DateOrder, Written, WrittenDate};
+use osn_grammar::{DateOrder, Written, WrittenDate, members_of};
 use osn_lands::{Run, Territory};
-use osn_written::{by_reckoning, find_runs, kind_of, read_date};
+use osn_written::{NoDay, by_reckoning, find_runs, find_set, kind_of, read_date};
 use std::alloc::{AllocError, Global};
 use std::fmt::Write;
 use std::process::Abort;
@@ -111,7 +111,7 @@ const SWEDISH: [(&str, &str); 6] = [
 ];
 
 /// The year began on Easter, up to 1566.
-const FRENCH: [(&str, &str); 6] = [
+const FRENCH: [(&str, &str); 7] = [
     ("1er avril 1543", "day: 1543-04-11 1544-04-11"),
     (
         "avril 1543",
@@ -121,6 +121,39 @@ const FRENCH: [(&str, &str); 6] = [
     ("1 April 1543/4", "day: 1544-04-11"),
     ("20 décembre 1582", "day: 1582-12-20"),
     ("mars - avril 1543", "range: 1543-04-04..1544-04-22"),
+    (
+        "[1543-04-01,1543-04-25]",
+        "set: 1543-04-11 1543-05-05 1544-04-11",
+    ),
+];
+
+/// In Great Britain: members that overlap, that touch, that stand in any order or mean no day.
+const SETS: [(&str, &str); 10] = [
+    ("[1731-03-20,1731-03-26]", "set: 1731-04-06 1732-03-31"),
+    ("[1731-03-26?,1731-03-20?]", "set: 1731-04-06 1732-03-31"),
+    (
+        "[1640-05-03..1640-05-10,1640-05-08..1640-05-12]",
+        "set: 1640-05-13..1640-05-22",
+    ),
+    (
+        "[1640-05-11,1640-05-03..1640-05-10]",
+        "set: 1640-05-13..1640-05-21",
+    ),
+    (
+        "[1640-05-03..1640-05-10,1640-05-05]",
+        "set: 1640-05-13..1640-05-20",
+    ),
+    ("[1752-09-02,1752-09-14]", "set: 1752-09-13..1752-09-14"),
+    ("[1640-05-03,1752-09-05,1700-04-31]", "set: skipped"),
+    (
+        "[1640-05-10..1640-05-03,1752-09-05]",
+        "set: first date after the last",
+    ),
+    (
+        "[1640-05-03,1640-05-10..1752-09-05]",
+        "set: last date: skipped",
+    ),
+    ("[1640-05-03,1640-05-10 O.S.]", "year of one or two digits"),
 ];
 
 /// Appends the Gregorian date of a day.
@@ -140,6 +173,19 @@ fn push_run(out: &mut String, run: &Run) -> Result<(), AllocError> {
     push_day(out, run.last)
 }
 
+/// Appends runs, or why there are none.
+fn push_found(out: &mut String, found: Result<&[Run], NoDay>) -> Result<(), AllocError> {
+    match found {
+        Ok(runs) => {
+            for run in runs {
+                push_run(out, run)?;
+            }
+            Ok(())
+        }
+        Err(reason) => write!(out, " {}", reason.words()),
+    }
+}
+
 /// Appends the kind of a date, and the runs that it means in a territory, or why it means none.
 fn push_runs(
     alloc: Global,
@@ -149,13 +195,23 @@ fn push_runs(
 ) -> Result<(), AllocError> {
     write!(out, "{}:", kind_of(date.extent).word())?;
     match find_runs(alloc, territory, date.extent)? {
-        Ok(runs) => {
-            for run in &runs {
-                push_run(out, run)?;
-            }
-            Ok(())
-        }
-        Err(reason) => write!(out, " {}", reason.words()),
+        Ok(runs) => push_found(out, Ok(runs.as_slice())),
+        Err(reason) => push_found(out, Err(reason)),
+    }
+}
+
+/// The same of the set that a text is.
+fn push_set(
+    alloc: Global,
+    out: &mut String,
+    territory: &Territory,
+    text: &str,
+) -> Result<(), AllocError> {
+    let members = members_of(alloc, text)?;
+    out.push_str("set:")?;
+    match find_set(alloc, territory, members.as_slice())? {
+        Ok(runs) => push_found(out, Ok(runs.as_slice())),
+        Err(absent) => push_found(out, Err(absent.reason)),
     }
 }
 
@@ -170,6 +226,7 @@ fn found(alloc: Global, territory: &Territory, text: &str) -> Result<String, All
                 push_runs(alloc, &mut out, &reckoned, date)?;
             }
         },
+        Ok(Written::Set) => push_set(alloc, &mut out, territory, text)?,
         Ok(Written::NoDate) => out.push_str("no date")?,
         Err(fault) => out.push_str(fault.words())?,
     }
@@ -196,5 +253,6 @@ fn dates_of_all_forms_mean_days(rt: HostRuntime) -> Result<(), Fail> {
     mean(&rt, alloc, &britain(alloc)?, &BRITISH)?;
     mean(&rt, alloc, &sweden(alloc)?, &SWEDISH)?;
     mean(&rt, alloc, &france(alloc)?, &FRENCH)?;
+    mean(&rt, alloc, &britain(alloc)?, &SETS)?;
     Ok(())
 }

@@ -1,7 +1,9 @@
 //! Dates as people write them. Each row is a text and what it says, in a short notation. It has the
 //! numbers of year, month and day, `+` after a double year, and then what is said beside the day.
 use crate::compare::same;
-use osn_grammar::{DateFault, DateOrder, Extent, SimpleDate, Written, WrittenDate, Year, parse};
+use osn_grammar::{
+    DateFault, DateOrder, Extent, SimpleDate, Written, WrittenDate, Year, members_of, parse,
+};
 use std::alloc::Global;
 use std::fmt::{self, Display, Formatter, Write};
 use std::process::Abort;
@@ -86,11 +88,13 @@ impl Display for Shown {
         match self.0 {
             Ok(Written::NoDate) => f.write_str("no date"),
             Ok(Written::Date(date)) => write!(f, "{}", ShownWritten(date)),
+            Ok(Written::Set) => f.write_str("set"),
             Err(fault) => write!(f, "{fault:?}"),
         }
     }
 }
 
+/// Checks that texts are read so. After a set stand its dates.
 fn are_read(
     rt: &impl Abort,
     alloc: Global,
@@ -99,7 +103,12 @@ fn are_read(
 ) -> Result<(), Fail> {
     for (text, wanted) in rows {
         let read = parse(alloc, text, order)?;
-        let shown = format!(in alloc; "{}", Shown(read))?;
+        let mut shown = format!(in alloc; "{}", Shown(read))?;
+        if let Ok(Written::Set) = read {
+            for date in &members_of(alloc, text)? {
+                write!(shown, "; {}", ShownWritten(*date))?;
+            }
+        }
         same(rt, (*text, shown.as_str()), (*text, *wanted));
     }
     Ok(())
@@ -288,12 +297,41 @@ fn nothing(rt: HostRuntime) -> Result<(), Fail> {
     are_read(&rt, rt.alloc(), DateOrder::Unknown, &NOTHING)
 }
 
-const FAULTS: [(&str, &str); 35] = [
+const SETS: [(&str, &str); 14] = [
+    ("[1543-04-11,1544-04-11]", "set; 1543 4 11; 1544 4 11"),
+    (
+        "[1731-04-05..1731-04-11,1732-03-12..1732-04-04]",
+        "set; 1731 4 5 to 1731 4 11; 1732 3 12 to 1732 4 4",
+    ),
+    (
+        "[1543-04-11?, 1544-04-11~ ,1545-04-11%]",
+        "set; 1543 4 11, in doubt; 1544 4 11, about; 1545 4 11, about, in doubt",
+    ),
+    ("[1640-05-03..1640-05-10]", "set; 1640 5 3 to 1640 5 10"),
+    ("[1640-05-03]", "1640 5 3, supplied"),
+    ("[1640, 05, 03]", "1640 5 3, supplied"),
+    ("[from 1640, to 1645]", "1640 to 1645, supplied"),
+    ("1543-04-11,1544-04-11", "ShortYear"),
+    ("[1543-04-11 1544-04-11]", "ShortYear"),
+    ("[1543-04-11,1544-04]", "ShortYear"),
+    ("[1543-04-11,1544-04-32]", "ShortYear"),
+    ("[1543-04-11,,1544-04-11]", "ShortYear"),
+    ("[1543-04-11,1544-04-11] N.S.", "ShortYear"),
+    ("[[1543-04-11,1544-04-11]]", "ShortYear"),
+];
+
+#[test]
+fn sets(rt: HostRuntime) -> Result<(), Fail> {
+    are_read(&rt, rt.alloc(), DateOrder::Unknown, &SETS)
+}
+
+const FAULTS: [(&str, &str); 36] = [
     ("11/2/1731", "DayOrMonth"),
     ("2/11/1731", "DayOrMonth"),
     ("11-2-1731", "DayOrMonth"),
     ("11/22 February 1731", "TwoDays"),
     ("11/22 February 1731/2", "TwoDays"),
+    ("24 Dec. 1640/3 Jan. 1641", "TwoDays"),
     ("11 February 31", "ShortYear"),
     ("45-05-11", "ShortYear"),
     ("1731-2", "ShortYear"),
@@ -303,7 +341,7 @@ const FAULTS: [(&str, &str); 35] = [
     ("1731-02-32", "Day"),
     ("0 February 1731", "Day"),
     ("1731/3", "LaterYear"),
-    ("11 February 1731/2/3", "ShortYear"),
+    ("11 February 1731/2/3", "Malformed"),
     ("1640/1645", "LaterYear"),
     ("11 February", "Malformed"),
     ("Monday", "Malformed"),

@@ -1,5 +1,5 @@
-//! The pages of dates that are no one day, or of which more is said. Their texts were written apart,
-//! by counts of days.
+//! The pages of dates that are no one day, or of which more is said. Their texts were written
+//! apart, by counts of days.
 use crate::readings::{Row, are_pages};
 use osn_days::Weekday;
 use std::test::Fail;

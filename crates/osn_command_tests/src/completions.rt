@@ -71,6 +71,7 @@ _oldstyle_row serve
 _oldstyle_row serve --journal FILE
 _oldstyle_row serve --save FILE
 _oldstyle_row serve --keep FILE
+_oldstyle_row serve --follow FILE
 _oldstyle_row serve --readers TEXT
 _oldstyle_row serve --read-only
 _oldstyle_row serve --stop-at-refusal

@@ -2,7 +2,7 @@
 //! date, and how they end where a date means no day.
 use crate::commands::RunRow;
 use crate::journals::EUROPE;
-use crate::misuses::{Misused, are_misused, are_run, are_run_over};
+use crate::word_runs::{Misused, are_misused, are_run, are_run_over};
 use std::test::Fail;
 
 /// Dates that are taken.
@@ -70,7 +70,7 @@ always: julian calendar, january style (years from 1 January), julian rule
 ];
 
 /// Texts that are no date, or no one day where a day is asked for.
-const OTHER_DATES: [Misused; 11] = [
+const OTHER_DATES: [Misused; 15] = [
     (
         "oldstyle|read|a.journal|RM|n.d.",
         "oldstyle: n.d.: it says no date: write a day, as \"11 February 1731\"\n",
@@ -84,6 +84,21 @@ const OTHER_DATES: [Misused; 11] = [
         "oldstyle|day|a.journal|RM|3 to 10 May 1640",
         "oldstyle: 3 to 10 May 1640: a month, a year or a range is not one day: write the day, as \
 \"11 February 1731\"\n",
+    ),
+    (
+        "oldstyle|day|a.journal|RM|[1543-04-11,1544-04-11]",
+        "oldstyle: [1543-04-11,1544-04-11]: a month, a year or a range is not one day: write the \
+day, as \"11 February 1731\"\n",
+    ),
+    (
+        "oldstyle|convert|julian|[1543-04-11,1544-04-11]",
+        "oldstyle: [1543-04-11,1544-04-11]: a month, a year or a range is not one day: write the \
+day, as \"11 February 1731\"\n",
+    ),
+    (
+        "oldstyle|read|a.journal|RM|1640-45",
+        "oldstyle: 1640-45: a month is 1 to 12: of a range of years write the later year in full, \
+as 1640-1645\n",
     ),
     (
         "oldstyle|convert|julian|11 February 1731?",
@@ -114,6 +129,11 @@ name, or say --order dmy or mdy\n",
 by one of them\n",
     ),
     (
+        "oldstyle|read|a.journal|RM|24 Dec. 1640/3 Jan. 1641",
+        "oldstyle: 24 Dec. 1640/3 Jan. 1641: 11/22 February 1731 is a day by two calendars: write \
+it by one of them\n",
+    ),
+    (
         "oldstyle|read|a.journal|RM|Easter 1640",
         "oldstyle: Easter 1640: a feast is not read: write its day\n",
     ),
@@ -130,7 +150,37 @@ skipped: Wednesday 2 September 1752 was followed by Thursday 14 September 1752 (
 
 /// Dates with `--strict` and without it. That option changes the status alone, which then says that
 /// the date means no day.
-const STRICT: [RunRow; 4] = [
+const STRICT: [RunRow; 6] = [
+    (
+        "oldstyle|read|e.journal|GB|[1752-09-14?,1752-09-01?..1752-09-02?]|--weekday|Monday",
+        "",
+        (
+            0,
+            "[1752-09-14?,1752-09-01?..1752-09-02?] in Great Britain (GB), edition 2
+from Tuesday 1 September 1752    12 September 1752 Gregorian    1 September 1752 Julian
+      day 639795    JDN 2361220
+to   Thursday 14 September 1752    14 September 1752 Gregorian    3 September 1752 Julian
+      day 639797    JDN 2361222
+3 days
+in doubt
+Monday is not looked for: that is done for one day alone
+2 edits are not published yet
+",
+            "",
+        ),
+    ),
+    (
+        "oldstyle|read|e.journal|GB|[1752-09-14,1752-09-03]|--strict",
+        "",
+        (
+            1,
+            "[1752-09-14,1752-09-03] in Great Britain (GB), edition 2
+skipped: Wednesday 2 September 1752 was followed by Thursday 14 September 1752 (day 639797)
+2 edits are not published yet
+",
+            "",
+        ),
+    ),
     (
         "oldstyle|read|e.journal|GB|3 September 1752",
         "",

@@ -67,7 +67,8 @@ Examples:
 A date is written 1731-02-11, \"11 February 1731\" or \"11 February 1731/2\", with a weekday before
 it or without, or in another form, as \"11 Feb. 1731/32\". Its year is the one that the document
 has, or both years are given. It may be a month, a year, a range or a bound, as \"March 1731\",
-\"3-10 May 1640\" or \"before 1640\", and say more, as \"[about 1640?]\" or \"11 February 1731 N.S.\".
+\"3-10 May 1640\" or \"before 1640\", and say more, as \"[about 1640?]\" or \"11 February 1731 \
+N.S.\".
 Where a date means several days, those of the weekday come first.
 ";
 
@@ -159,10 +160,10 @@ Options:
       --year <NAME>       In place of --date, the name of the column of years alone
       --month <NAME>      Beside --year, the name of the column of months
       --day <NAME>        Beside --month, the name of the column of days
-      --weekday <NAME>    The name of the column of weekdays [default: weekday, which the table may \
-lack]
-      --places <FILE>     A table in CSV that says by its columns place and code which code a place \
-has
+      --weekday <NAME>    The name of the column of weekdays [default: weekday, which the table \
+may lack]
+      --places <FILE>     A table in CSV that says by its columns place and code which code a \
+place has
       --separator <NAME>  What stands between two fields: comma, semicolon or tab [default: by the \
 header]
       --order <ORDER>     How a date of three numbers, as 11/2/1731, is read: dmy or mdy
@@ -192,6 +193,8 @@ Options:
 ended the run
       --keep <FILE>         The journal to begin with, to which each change is appended while the \
 service runs
+      --follow <FILE>       The journal that another run keeps: each line is answered from its \
+newest edition
       --readers <N>         How many readers ask, 1 to 64 [default: 8]
       --read-only...        Refuses each edit and each publish by 45 ReadOnly
       --stop-at-refusal...  Ends after the first line that is refused, and saves nothing then
@@ -202,8 +205,9 @@ Example:
   ./oldstyle serve --journal examples/samples.journal --save new.journal < examples/added.jsonl
 
 Requests and replies are JSON lines. With --save, the journal is saved only if all lines were
-answered. With --keep, each change is in the journal before its reply is written. With
---stop-at-refusal, a batch of edits is published whole or not at all.
+answered. With --keep, each change is in the journal before its reply is written. With --follow,
+edits are refused, and FILE need not be there yet. With --stop-at-refusal, a batch of edits is
+published whole or not at all.
 ";
 
 const REPLAY: &str = "Takes the steps of one editor and of readers, and prints what each gives

@@ -199,6 +199,49 @@ const MORE_DAYS: [Row; 9] = [
     ),
 ];
 
+const SETS: [Row; 4] = [
+    (
+        "GB",
+        "[1731-03-26?,1731-03-20?]",
+        Some("Friday"),
+        "",
+        (
+            "1731-04-06",
+            "1732-03-31",
+            "set",
+            "[1731-04-06?,1732-03-31?]",
+            "weekday not looked for",
+        ),
+    ),
+    (
+        "GB",
+        "[1640-05-11,1640-05-03..1640-05-10]",
+        None,
+        "",
+        (
+            "1640-05-13",
+            "1640-05-21",
+            "set",
+            "1640-05-13/1640-05-21",
+            "",
+        ),
+    ),
+    (
+        "GB",
+        "[1640-05-03,1640-04-31]",
+        None,
+        "",
+        ("", "", "set", "", "no date of its calendar"),
+    ),
+    (
+        "IE",
+        "[1640-05-03,1640-05-10]",
+        Some("Freitag"),
+        "",
+        ("", "", "set", "", "unknown place; malformed weekday"),
+    ),
+];
+
 const NO_DATE: [Row; 3] = [
     ("GB", "n.d.", None, "", ("", "", "", "", "no date")),
     (
@@ -276,6 +319,11 @@ fn what_is_said_beside_a_day_is_told(rt: HostRuntime) -> Result<(), Fail> {
 #[test]
 fn months_ranges_and_bounds_are_told(rt: HostRuntime) -> Result<(), Fail> {
     are_told(&rt, rt.alloc(), DateOrder::Unknown, &MORE_DAYS)
+}
+
+#[test]
+fn sets_are_told(rt: HostRuntime) -> Result<(), Fail> {
+    are_told(&rt, rt.alloc(), DateOrder::Unknown, &SETS)
 }
 
 #[test]

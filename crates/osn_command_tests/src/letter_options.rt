@@ -3,7 +3,7 @@
 use crate::commands::RunRow;
 use crate::files::{File, PUBLISHED};
 use crate::journals::EUROPE;
-use crate::misuses::{Misused, are_misused, are_run, are_run_over};
+use crate::word_runs::{Misused, are_misused, are_run, are_run_over};
 use std::test::Fail;
 
 const PLACES: &str = "code;place;note\nGB; England ;and Wales\nGB;England;\nFR;Paris;\n";

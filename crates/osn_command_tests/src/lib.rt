@@ -19,6 +19,8 @@ mod edge;
 #[cfg(test)]
 mod files;
 #[cfg(test)]
+mod following;
+#[cfg(test)]
 mod help;
 #[cfg(test)]
 mod journals;
@@ -29,9 +31,13 @@ mod kept;
 #[cfg(test)]
 mod letter_dates;
 #[cfg(test)]
+mod letter_faults;
+#[cfg(test)]
 mod letter_options;
 #[cfg(test)]
 mod letter_remarks;
+#[cfg(test)]
+mod letter_tables;
 #[cfg(test)]
 mod letters;
 #[cfg(test)]
@@ -45,6 +51,8 @@ mod mistakes;
 #[cfg(test)]
 mod misuses;
 #[cfg(test)]
+mod openings;
+#[cfg(test)]
 mod places;
 #[cfg(test)]
 mod printed;
@@ -53,6 +61,12 @@ mod readings;
 #[cfg(test)]
 mod refusals;
 #[cfg(test)]
+mod taken_words;
+#[cfg(test)]
 mod territory_pages;
+#[cfg(test)]
+mod word_refusals;
+#[cfg(test)]
+mod word_runs;
 #[cfg(test)]
 mod written_dates;

@@ -1,7 +1,7 @@
 //! Tables of letters whose places are told by their codes, by their names or by a table of places.
 use crate::compare::same;
 use crate::journals::europe;
-use crate::letters::BytesRead;
+use crate::letter_tables::BytesRead;
 use osn_grammar::DateOrder;
 use osn_letters::{
     ColumnNames, DateNames, Places, TableSettings, WeekdayName, read_places, write_letters,
@@ -29,7 +29,8 @@ great britain,1752-09-14
 Paris,1752-09-14
 ";
 
-/// London has the code of a territory. Another code is none, and nor is a name in a code's stead.
+/// London has the code of a territory. Another place has an unknown code, and a third one a name
+/// in its stead.
 const WRITTEN: &str = "place,date,days,gregorian,julian,dual,weekday_found,jdn,earliest,latest,kind,
   edtf,edition,remark
 GB,1752-09-14,639797,1752-09-14,1752-09-03,14 September 1752,Thursday,2361222,

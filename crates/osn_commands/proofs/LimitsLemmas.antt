@@ -84,7 +84,7 @@ pub first_set : (limits set : Limits) (text first further : List ℕ)
     → with_settings limits (settings text) ≡ with_settings set (settings further)
 first_set limits set text first further cut is = rw (settings_cut text, cut, is) refl
 
--- where it sets nothing, there are no limits
+-- where it sets nothing, the text has no limits
 pub none_set : (limits : Limits) (text first further : List ℕ)
     → parts_at 44 text ≡ Some (first, further) → with_setting limits first ≡ None
     → with_settings limits (settings text) ≡ None

@@ -13,6 +13,6 @@ abbrev pub PrintsFor : Option Shell → List ℕ → Output → Output → Statu
 PrintsFor (Some shell) word o e status = PrintsIfMade (completions shell) o e status
 PrintsFor None word o e status = (o.new ≡ o.old) × TellsMisuse e misuses.Shell word status
 
--- how the command ends: it printed the text of the shell of this word, or told that there is none
+-- how the command ends: it printed the text of the shell of this word, or told that no shell has it
 abbrev pub PrintsCompletions : List ℕ → Output → Output → Status → Type 0
 PrintsCompletions word o e status = PrintsFor (shell_named word) word o e status

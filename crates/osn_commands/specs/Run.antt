@@ -37,7 +37,7 @@ use Rattle.osn_commands.specs.Unopened.{named_file}
 -- the paths of the files that are opened before anything else, in the order of the arguments. What
 -- becomes of a table of places, which is opened after its journal, the command says
 abbrev pub files_of : CommandModel → List Text
-files_of (serving journal save kept service) = opened_by journal kept
+files_of (serving journal save kept followed service) = opened_by journal kept followed
 files_of (replaying readers schedule) = schedule ∷ []
 files_of (working script questions) = script ∷ questions ∷ []
 files_of (printing journal page) = journal ∷ []
@@ -46,12 +46,12 @@ files_of (converting calendar date) = []
 files_of (completing shell) = []
 files_of (reading_letters journal asked) = journal ∷ []
 
--- the command that is asked for was run under these limits, with the files that the arguments name,
--- and ended so: what it wrote to standard output, and what standard error was told
+-- the command that is asked for was run under these limits, with the files that the arguments name.
+-- This is what it wrote to standard output, what standard error was told, and its status
 abbrev pub Runs : Limits → CommandModel → (Bool → Type 0) → Folders → Input → Output → Output
     → Status → Type 0
-Runs limits (serving journal save keep service) CanFail d i o e status =
-    RunsServing limits journal save keep service CanFail d i o e status
+Runs limits (serving journal save keep follow service) CanFail d i o e status =
+    RunsServing limits journal save keep follow service CanFail d i o e status
 Runs limits (replaying readers schedule) CanFail d i o e status = ReadsOne schedule CanFail d
     (λ file. PrintsReplay limits readers file o e status)
 Runs limits (working script questions) CanFail d i o e status = ReadsTwo script questions CanFail d
@@ -113,8 +113,8 @@ RunsAsked asked CanFail d i o e status = MatchResult (limits_asked asked.limits)
     (λ misuse. (d.after ≡ d.before) × (o.new ≡ o.old)
     × TellsMisuse e misuse (unwrap_or asked.limits []) status)
 
--- what a run does with these arguments: what they ask for, where the grammar takes them; else what
--- is wrong, or help, is shown, by a kind that the grammar gives
+-- what a run does with these arguments. Where the grammar takes them it does what they ask for.
+-- Else it shows what is wrong, or help, by a kind that the grammar gives
 abbrev pub RunsArgs : List (List ℕ) → (Bool → Type 0) → Folders → Input → Output → Output → Status
     → Type 0
 RunsArgs args CanFail d i o e status =

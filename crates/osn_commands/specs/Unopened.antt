@@ -10,7 +10,7 @@ abbrev pub named_file : CommandModel → Option (List ℕ)
 named_file (printing journal (almanac_words code year)) = None
 named_file (printing journal page) = Some journal
 named_file (reading_letters journal asked) = Some journal
-named_file (serving journal save kept readers) = None
+named_file (serving journal save kept followed service) = None
 named_file (replaying readers schedule) = None
 named_file (working script questions) = None
 named_file (auditing journal transcript) = None

@@ -27,8 +27,8 @@ takes_value other = false
 -- the arguments whose value is the path of a file
 abbrev pub is_file : Text → Bool
 is_file id = list_any (bytes_eq id)
-    (codes "journal" ∷ codes "save" ∷ codes "keep" ∷ codes "schedule" ∷ codes "script"
-    ∷ codes "questions" ∷ codes "transcript" ∷ codes "places" ∷ [])
+    (codes "journal" ∷ codes "save" ∷ codes "keep" ∷ codes "follow" ∷ codes "schedule"
+    ∷ codes "script" ∷ codes "questions" ∷ codes "transcript" ∷ codes "places" ∷ [])
 
 -- what the value of the argument of this name may be: FILE is the path of a file, TEXT any text,
 -- and else it is one of these words

@@ -33,6 +33,7 @@ fn values_named(id: &str) -> &'static str
         "journal"
         | "save"
         | "keep"
+        | "follow"
         | "schedule"
         | "script"
         | "questions"

@@ -1,5 +1,5 @@
--- The draft of an object: what refuses an edit or an edition of it, what it is with one edit more, and
--- once the pending ones are published.
+-- The draft of an object: what refuses an edit or an edition of it, what it is with one edit more,
+-- and once the pending ones are published.
 use Rattle.std.proofs.Common.{◌≡◌, ◌+◌, ◌==◌, [], ◌∷◌, ◌++◌, length, Option, Some, None, is_some}
 use Rattle.std.proofs.Common.{cond, nat_lt, refl, Bool, true, false, ◌<◌}
 use Rattle.std.proofs.Common.{sym, ap, ◌∙◌, List, arith, append_assoc, append-nil, length-append}

@@ -39,8 +39,8 @@ AreLawful-front p limits lands (e ∷ es) fs lawful =
     (lawful.0, AreLawful-front p limits (effect lands e) es fs lawful.1)
 
 -- and so are those after them
-pub AreLawful-behind : (p : Profile) (limits : Limits) (lands : List LandModel) (es fs : List Edit) →
-    AreLawful p limits lands (es ++ fs) → AreLawful p limits (applied_all p limits lands es) fs
+pub AreLawful-behind : (p : Profile) (limits : Limits) (lands : List LandModel) (es fs : List Edit)
+    → AreLawful p limits lands (es ++ fs) → AreLawful p limits (applied_all p limits lands es) fs
 AreLawful-behind p limits lands [] fs lawful = lawful
 AreLawful-behind p limits lands (e ∷ es) fs lawful =
     AreLawful-behind p limits (applied p limits lands e) es fs

@@ -28,8 +28,8 @@ copies_in c = record { object = object_of c.draft c.batches.items; lag = c.lag }
 
 -- the draft is that of the object. The other register has the batches but for the edits that the
 -- standby lacks, and where any edit is pending the standby lacks no edit
-pub record AreInStep (d : DraftState) (batches : List (List Edit)) (lag : ℕ) (other : RegisterModel) :
-    Type 0 where
+pub record AreInStep (d : DraftState) (batches : List (List Edit)) (lag : ℕ) (other : RegisterModel)
+    : Type 0 where
   pub draft : IsDraftOf d batches
   pub other_is : other ≡
       record {

@@ -68,7 +68,8 @@ next_real c d s =
       day_low = omega arith;
       day_high = omega arith;
     })
-    (λ _ lt. let month = ltb-true _ _ lt in let bound = month_length_bounds c d.year (d.month + 1) in
+    (λ _ lt. let month = ltb-true _ _ lt in
+    let bound = month_length_bounds c d.year (d.month + 1) in
     record {
       year_low = s.year_low;
       month_low = omega arith;

@@ -4,33 +4,8 @@ use Rattle.std.proofs.Common.{◌∷◌, ◌++◌, length, take, drop, refl, sym
 use Rattle.std.proofs.Common.{zero-le, take_all}
 use Rattle.std.proofs.lemmas.List.{drop-append-le, length-drop}
 use Rattle.std.proofs.Math.Seq.{drop-append-add}
-use Rattle.osn_files.specs.WholePart.{with_byte, ended_length, unended_bytes}
-
--- bytes with no line feed that come last leave the ended lines as they were
-ended-before : (xs ys : List ℕ) → ended_length ys ≡ 0
-    → ended_length (xs ++ ys) ≡ ended_length xs
-ended-before [] ys none = none
-ended-before (x ∷ xs) ys none = ap (with_byte x) (ended-before xs ys none)
-
--- where those bytes have a line feed, the ended lines reach into them
-ended-within : (xs ys : List ℕ) (k : ℕ) → ended_length ys ≡ suc k
-    → ended_length (xs ++ ys) ≡ suc (length xs + k)
-ended-within [] ys k some = omega (arith, some)
-ended-within (x ∷ xs) ys k some = ap (with_byte x) (ended-within xs ys k some) ∙ omega arith
-
--- a byte more has one more at most
-with_byte-le : (b n m : ℕ) → n ≤ m → with_byte b n ≤ suc m
-with_byte-le b zero m low =
-    elim (b == 10) as (λ (t : Bool). cond t 1 0 ≤ suc m) [
-      | true ↦ omega arith
-      | false ↦ omega arith
-    ]
-with_byte-le b (suc n) m low = omega (arith, low)
-
--- they are no longer than all bytes
-ended-le : (xs : List ℕ) → ended_length xs ≤ length xs
-ended-le [] = zero-le
-ended-le (x ∷ xs) = with_byte-le x (ended_length xs) (length xs) (ended-le xs)
+use Rattle.osn_lines.specs.Ended.{ended_length, unended_bytes}
+use Rattle.osn_lines.proofs.EndedLemmas.{ended-before, ended-within, ended-le}
 
 -- a piece with no line feed goes after what stood after the last line feed
 pub piece_behind : (before piece : List ℕ) → ended_length (before ++ piece) ≤ length before

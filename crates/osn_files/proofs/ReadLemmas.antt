@@ -268,6 +268,19 @@ said_first step state begun now input n version known h none =
     subst (IsKnownOf h.taken) known ((h.takes begun [] (begun_so step state begun)).1 none) in
     if_some input (λ bytes all. subst (IsOfVersion version) (sym all) said) h.all
 
+-- the version that was given stays
+pub said_same : {S A : Type 0} (step : Rule S A) (state : S → A) (begun now : Reading S)
+    (input : Option (List ℕ)) (n : ℕ) (version : Version) → now.version ≡ Some version
+    → TakesAll (Reads step state) begun now input n
+    → IfSome begun.version (λ known. version ≡ known)
+said_same step state begun now input n version is h =
+    same begun.version now.version is (h.takes begun [] (begun_so step state begun)).2
+  where
+    same : (old new : Option Version) → new ≡ Some version → StaysKnown old new
+        → IfSome old (λ known. version ≡ known)
+    same None new is stays = tt
+    same (Some known) new is stays = ap (λ o. unwrap_or o known) (sym is ∙ stays)
+
 -- they were counted
 pub counted : {S A : Type 0} (step : Rule S A) (state : S → A) (begun now : Reading S)
     (input : Option (List ℕ)) (n : ℕ) → TakesAll (Reads step state) begun now input n

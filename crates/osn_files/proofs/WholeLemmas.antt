@@ -5,7 +5,8 @@ use Rattle.std.proofs.Common.{sym, ap, subst, ◌∙◌, append_assoc, add-one, 
 use Rattle.std.proofs.Common.{take-suc, eq-eqb, ne_eqb, append-nil}
 use Rattle.std.proofs.lemmas.List.Sums.{fold-append}
 use Rattle.std.specs.Io.KnownBytes.{Consumes, IsAtEnd}
-use Rattle.osn_files.specs.WholePart.{with_byte, ended_length, ended_count}
+use Rattle.osn_lines.specs.Ended.{with_byte, ended_length}
+use Rattle.osn_files.specs.WholePart.{ended_count}
 use Rattle.osn_files.specs.LastLineInside.{IsFrontOf}
 use Rattle.osn_files.specs.WholePartInside.{IsCountOf, IsMeasureOf}
 use Rattle.osn_files.specs.declared.last_line.LineFront.{LineFront}

@@ -1,7 +1,7 @@
 -- How much of a file counts: the lines that a line feed ends, and a last one that lacks it, unless
 -- that was not finished.
-use Rattle.std.specs.Prelude.{◌≡◌, ◌==◌, ◌+◌, ℕ, zero, suc, List, [], ◌∷◌, length, take, drop}
-use Rattle.std.specs.Prelude.{count_by, if◌then◌else◌}
+use Rattle.std.specs.Prelude.{◌≡◌, ◌==◌, ◌+◌, ℕ, List, length, take, count_by}
+use Rattle.osn_lines.specs.Ended.{ended_length, unended_bytes}
 use Rattle.osn_files.specs.LastLine.{last_line}
 use Rattle.osn_files.specs.declared.last_line.LastLine.{LastLine}
 use Rattle.osn_files.specs.declared.last_line.LastLine.TheVariants.{Ended, LacksFeed, Unfinished}
@@ -9,24 +9,9 @@ use Rattle.osn_files.specs.declared.whole_lines.WholePart.{WholePart}
 
 -- ---- the lines that a line feed ends
 
--- a byte before this many bytes of such lines: it is one of them, but where there are none it has
--- to be a line feed
-abbrev pub with_byte : ℕ → ℕ → ℕ
-with_byte b zero = if b == 10 then 1 else 0
-with_byte b (suc n) = suc (suc n)
-
--- how many bytes they have
-abbrev pub ended_length : List ℕ → ℕ
-ended_length [] = 0
-ended_length (b ∷ bs) = with_byte b (ended_length bs)
-
 -- how many there are: each line feed ends one
 abbrev pub ended_count : List ℕ → ℕ
 ended_count = count_by (λ b. b == 10)
-
--- what stands after the last line feed
-abbrev pub unended_bytes : List ℕ → List ℕ
-unended_bytes input = drop (ended_length input) input
 
 -- ---- the lines that count
 

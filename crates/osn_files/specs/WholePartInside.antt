@@ -1,7 +1,8 @@
 -- What was measured of a file so far.
 use Rattle.std.specs.Prelude.{◌≡◌, ℕ, List, length}
 use Rattle.osn_files.specs.LastLineInside.{IsFrontOf}
-use Rattle.osn_files.specs.WholePart.{ended_length, ended_count, unended_bytes}
+use Rattle.osn_lines.specs.Ended.{ended_length, unended_bytes}
+use Rattle.osn_files.specs.WholePart.{ended_count}
 use Rattle.osn_files.specs.declared.whole_lines.Count.{Count}
 use Rattle.osn_files.specs.declared.whole_lines.Measure.{Measure}
 

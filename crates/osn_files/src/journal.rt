@@ -1,12 +1,13 @@
 //! Loads a journal.
-ghost use Rattle.std.specs.Prelude.{ℕ, List, IfOk, IfSome};
+ghost use Rattle.std.specs.Prelude.{◌≡◌, ℕ, List, IfOk, IfSome, None, length};
 ghost use Rattle.osn_days.specs.Profile.{newest_rules};
 ghost use Rattle.osn_lines.specs.Lines.{lines};
 ghost use Rattle.osn_files.specs.Files.{ReadsFile};
 ghost use Rattle.osn_files.specs.GreaterLimits.{LoadsUnderGreater};
-ghost use Rattle.osn_files.specs.Journal.{load};
+ghost use Rattle.osn_files.specs.Journal.{after_object, load};
 ghost use Rattle.osn_files.specs.Kept.{KeepsEditions};
 ghost use Rattle.osn_files.specs.Loaded.{IsOfVersion};
+ghost use Rattle.osn_files.specs.Turns.{in_turn};
 ghost use Rattle.osn_files.specs.declared.fault.Role.TheVariants.{Journal};
 
 use crate::fault::{FileFault, Role};
@@ -64,7 +65,45 @@ pub fn load_with_version<R: Source>(
     ensures version { IfOk result (λ read. IfSome (R.remaining source.old) (λ input.
         IsOfVersion read.1 (lines input))) }
 {
-    let none = Object::new(alloc, limits);
-    let read = read_file(alloc, Role::Journal, None, none, source)?;
-    Ok((read.made, read.version))
+    let part = load_part(alloc, None, Object::new(alloc, limits), source)?;
+    Ok((part.object, part.version))
+}
+
+/// What the lines of a part of a journal made.
+#[derive(Drop)]
+pub struct JournalPart {
+    /// The object after them.
+    pub object: Object,
+    /// The version by whose words they were read.
+    pub version: Version,
+    /// How many lines the part has.
+    pub lines: u64,
+}
+
+/// The object that further lines of a journal make of this one. Where no version is given, the
+/// first of them is the head.
+///
+/// # Errors
+///
+/// As for `load_journal`. Lines are counted from 1, the first of the part.
+pub fn load_part<R: Source>(
+    alloc: Global,
+    version: Option<Version>,
+    object: Object,
+    source: &mut R,
+) -> Result<JournalPart, FileFault>
+    ensures file { ReadsFile Journal (in_turn (after_object newest_rules) 1 version object)
+        (λ part. part.object) result R.remaining R.has_failed source.old source.new }
+    ensures count { IfOk result (λ part. IfSome (R.remaining source.old) (λ input.
+        part.lines ≡ length (lines input))) }
+    ensures head { IfOk result (λ part. version ≡ None →
+        IfSome (R.remaining source.old) (λ input. IsOfVersion part.version (lines input))) }
+    ensures same { IfOk result (λ part. IfSome version (λ known. part.version ≡ known)) }
+{
+    let read = read_file(alloc, Role::Journal, version, object, source)?;
+    Ok(JournalPart {
+        object: read.made,
+        version: read.version,
+        lines: read.lines,
+    })
 }

@@ -24,7 +24,7 @@ mod whole_lines;
 mod written;
 
 pub use fault::{FileFault, LineFault, Role};
-pub use journal::{load_journal, load_with_version};
+pub use journal::{JournalPart, load_journal, load_part, load_with_version};
 pub use last_line::LastLine;
 pub use question_line::{borrowed_question_in, question_in};
 pub use questions::read_questions;

@@ -244,6 +244,7 @@ pub(crate) fn read_file<F: LineFold + Drop, R: Source>(
         read.lines ≡ length (lines input))) }
     ensures version { IfOk result (λ read. version ≡ None →
         IfSome (R.remaining source.old) (λ input. IsOfVersion read.version (lines input))) }
+    ensures same { IfOk result (λ read. IfSome version (λ known. read.version ≡ known)) }
 {
     let mut reading = Reading {
         alloc,

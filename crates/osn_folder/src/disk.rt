@@ -6,8 +6,9 @@ use crate::disk_lock::{DiskLock, holds_bytes, lock_file, move_locked};
 use crate::disk_names::{sync_name, write_new};
 use crate::fault::{ChangeFailed, KeepFault, MoveFault, OpenFailed, SaveFault};
 use crate::folder::Folder;
+use crate::followed_disk_file::FollowedDiskFile;
 use osn_lines::Plain;
-use std::alloc::Global;
+use std::alloc::{AllocError, Global};
 use std::fs::File;
 use std::io::ErrorKind;
 use std::rt::Files;
@@ -33,6 +34,8 @@ impl<'a, R: Files<File = File> + AllocGlobal> Folder for Disk<'a, R> {
 
     type Lock = DiskLock;
 
+    type Followed = FollowedDiskFile<'a, R>;
+
     ghost known = { λ _. None };
 
     fn open(&mut self, path: &str) -> Result<Plain<File>, OpenFailed> {
@@ -48,6 +51,11 @@ impl<'a, R: Files<File = File> + AllocGlobal> Folder for Disk<'a, R> {
 
     // The lock goes with the file.
     fn release(&mut self, _path: &str, _kept: DiskFile<'a, R>) {}
+
+    fn follow(&mut self, alloc: Global, path: &str) -> Result<FollowedDiskFile<'a, R>, AllocError> {
+        let path = String::from_str(alloc, path)?;
+        Ok(FollowedDiskFile::new(self.files, path))
+    }
 
     fn lock_to_save(&mut self, path: &str) -> Result<DiskLock, KeepFault> {
         lock_file(self.files, path)

@@ -1,5 +1,6 @@
 //! Why a file was not opened, changed or saved.
 ghost use Rattle.std.specs.Prelude.{◌≡◌};
+ghost use Rattle.osn_folder.specs.declared.fault.FollowFault.{FollowFault};
 ghost use Rattle.osn_folder.specs.declared.fault.MoveFault.{MoveFault};
 ghost use Rattle.osn_folder.specs.declared.fault.SaveFault.{SaveFault};
 
@@ -35,6 +36,19 @@ pub enum KeptFileFault {
     /// A write, a cut or a sync failed.
     ChangeFailed,
     /// Its path names another file now, or none, or someone else has cut it or added to it.
+    Replaced,
+}
+
+/// Why it isn't known what a file has gained that is followed.
+#[derive(Clone, Copy, Debug, PartialEq, Eq)]
+pub enum FollowFault {
+    /// Memory ran out.
+    NoMemory,
+    /// It can't be opened or read, or is no file, as a folder or a pipe.
+    NotRead,
+    /// It has fewer bytes than the lines have that were read of it.
+    Shorter,
+    /// Its path names another file now, or none.
     Replaced,
 }
 
@@ -83,5 +97,13 @@ impl From<AllocError> for SaveFault {
 
     fn from(_error: AllocError) -> SaveFault {
         SaveFault::NoMemory
+    }
+}
+
+impl From<AllocError> for FollowFault {
+    ghost from_gives = { λ _ given. given ≡ FollowFault.NoMemory };
+
+    fn from(_error: AllocError) -> FollowFault {
+        FollowFault::NoMemory
     }
 }

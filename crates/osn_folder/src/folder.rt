@@ -9,9 +9,10 @@ ghost use Rattle.osn_folder.specs.Folder.{Locks, CannotLock, IsPlaceOf, LeavesAl
 ghost use Rattle.osn_folder.specs.Folder.{Compares, Moves, CannotMove, Spoils};
 
 use crate::fault::{ChangeFailed, KeepFault, MoveFault, OpenFailed, SaveFault};
+use crate::followed_file::FollowedFile;
 use crate::kept_file::KeptFile;
 use osn_lines::Source;
-use std::alloc::Global;
+use std::alloc::{AllocError, Global};
 
 /// Where files are found by their paths.
 pub trait Folder {
@@ -24,6 +25,9 @@ pub trait Folder {
     /// The lock of a file that a text will be saved to. No other run keeps the file or saves to it
     /// before the lock is dropped.
     type Lock: Drop;
+
+    /// A file that another run appends to.
+    type Followed: FollowedFile + Drop;
 
     // What its files hold, and which were opened, where that is known.
     ghost known: { Self → Option Known };
@@ -62,6 +66,14 @@ pub trait Folder {
     fn release(&mut self, path: &str, kept: Self::Kept)
         ensures { Changes (Leaves path.now (Self.Kept.contents kept))
             (known self.old) (known self.new) };
+
+    /// The file of a path, to be read while another run appends to it. It need not be there yet.
+    ///
+    /// # Errors
+    ///
+    /// Want of memory, and nothing else.
+    fn follow(&mut self, alloc: Global, path: &str) -> Result<Self::Followed, AllocError>
+        ensures { Changes Stays (known self.old) (known self.new) };
 
     /// Locks the file of a path, through links, to save a text to it later. Where nothing is there,
     /// the lock notes that. What is no file, as a pipe, takes no lock.

@@ -2,7 +2,8 @@
 //! and those that are kept. What the crate promises to those above, of a folder that is known:
 //! `open_file`, `open_both` and `open_if` open the files that are named and no others. `save_file`
 //! puts a text in the place of a file that was locked, whole or not at all, and of none that anyone
-//! else has changed. A file may also be kept, to be appended to while a program runs.
+//! else has changed. A file may also be kept, to be appended to while a program runs, or followed,
+//! to be read while another run appends to it.
 #![tactic(auto)]
 
 mod disk;
@@ -11,6 +12,8 @@ mod disk_lock;
 mod disk_names;
 mod fault;
 mod folder;
+mod followed_disk_file;
+mod followed_file;
 mod kept_file;
 mod opening;
 mod saving;
@@ -18,8 +21,12 @@ mod saving;
 pub use disk::Disk;
 pub use disk_file::DiskFile;
 pub use disk_lock::DiskLock;
-pub use fault::{ChangeFailed, KeepFault, KeptFileFault, MoveFault, OpenFailed, SaveFault};
+pub use fault::{
+    ChangeFailed, FollowFault, KeepFault, KeptFileFault, MoveFault, OpenFailed, SaveFault,
+};
 pub use folder::Folder;
+pub use followed_disk_file::FollowedDiskFile;
+pub use followed_file::FollowedFile;
 pub use kept_file::KeptFile;
 pub use opening::{open_both, open_file, open_if};
 pub use saving::save_file;

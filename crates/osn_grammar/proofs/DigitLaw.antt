@@ -22,7 +22,7 @@ use Rattle.osn_grammar.specs.declared.written.SimpleDate.{SimpleDate}
 use Rattle.osn_grammar.specs.declared.written.SimpleDate.TheVariants as date
 use Rattle.osn_grammar.specs.Extent.{extent_of}
 use Rattle.osn_grammar.specs.InDigits.{AreDigitsRead, HasFourDigits, sign}
-use Rattle.osn_grammar.proofs.SaidFacts.{Say, IsSaid, nothing_said, part_said, text_read}
+use Rattle.osn_grammar.proofs.PartFacts.{Say, TextSays, nothing_says, part_adds, text_read}
 use Rattle.osn_grammar.proofs.TextFacts.{Reads, Begins, Closes, dash, slash, doubt, about}
 use Rattle.osn_grammar.proofs.TextFacts.{about_and_doubt, digits_read, joined_reads, marked_begins}
 use Rattle.osn_grammar.proofs.TextFacts.{begins_reads, reads_begun, closed_scans, reads_scan}
@@ -39,19 +39,23 @@ zeros_value : (k : ℕ) (ds : List ℕ)
 zeros_value zero ds = refl
 zeros_value (suc k) ds = zeros_value k ds
 
+pub padded_digits : (w n : ℕ) → n < 10 ^ 9 → all_ascii_digits (at_least w n) ≡ true
+padded_digits w n small =
+    let own = numerals_by_value (λ ds. all_ascii_digits ds ≡ true) tells_all_ascii_digits in
+    let numeral = decimal_is_IsNumeral n (omega (arith, small)) in
+    zeros_digits (w - length (decimal n)) (decimal n) (own.from (decimal n) numeral.0.1)
+
 -- a number in a count of digits
 padded_reads : (w n : ℕ) → n < 10 ^ 9 → length (at_least w n) ≡ w → 1 ≤ w → w ≤ 9
     → Reads (at_least w n) (Number (record { value = n; digits = w }) ∷ [])
 padded_reads w n small count some few =
-    let own = numerals_by_value (λ ds. all_ascii_digits ds ≡ true) tells_all_ascii_digits in
     let numeral = decimal_is_IsNumeral n (omega (arith, small)) in
-    digits_read (at_least w n) n w
-    (zeros_digits (w - length (decimal n)) (decimal n) (own.from (decimal n) numeral.0.1))
+    digits_read (at_least w n) n w (padded_digits w n small)
     (zeros_value (w - length (decimal n)) (decimal n) ∙ numeral.1) count some few
 
 -- ---- a date
 
-abbrev parts_of : ℕ → ℕ → ℕ → List Part
+abbrev pub parts_of : ℕ → ℕ → ℕ → List Part
 parts_of y m d =
     Number (record { value = y; digits = 4 }) ∷ Dash ∷ Number (record { value = m; digits = 2 })
     ∷ Dash ∷ Number (record { value = d; digits = 2 }) ∷ []
@@ -69,12 +73,12 @@ date_reads y m d hy hm hd =
     (omega arith)))
 
 -- these are the numbers of a date
-record IsDay (y m d : ℕ) : Type 0 where
-  year_high : nat_lt 10000 y ≡ false
-  month_low : nat_le 1 m ≡ true
-  month_high : nat_le m 12 ≡ true
-  day_low : nat_le 1 d ≡ true
-  day_high : nat_le d 31 ≡ true
+pub record IsDay (y m d : ℕ) : Type 0 where
+  pub year_high : nat_lt 10000 y ≡ false
+  pub month_low : nat_le 1 m ≡ true
+  pub month_high : nat_le m 12 ≡ true
+  pub day_low : nat_le 1 d ≡ true
+  pub day_high : nat_le d 31 ≡ true
 
 abbrev day : ℕ → ℕ → ℕ → SimpleDate
 day y m d = date.Day (record { first = y; is_double = false }) m d
@@ -100,13 +104,13 @@ not_before_read o y m d h = rw (h.year_high, h.month_low, h.month_high, h.day_lo
 
 -- ---- signs
 
-abbrev sign_parts : Bool → Bool → List Part
+abbrev pub sign_parts : Bool → Bool → List Part
 sign_parts false false = []
 sign_parts false true = Doubt ∷ []
 sign_parts true false = About ∷ []
 sign_parts true true = AboutAndDoubt ∷ []
 
-signed_reads : {x : List ℕ} {ps : List Part} (a u : Bool) → Reads x ps
+pub signed_reads : {x : List ℕ} {ps : List Part} (a u : Bool) → Reads x ps
     → Reads (x ++ sign a u) (ps ++ sign_parts a u)
 signed_reads {x} {ps} false false read =
     subst₂ Reads (sym (append-nil x)) (sym (append-nil ps)) read
@@ -115,61 +119,61 @@ signed_reads true false read = reads_begun (marked_begins about read)
 signed_reads true true read = reads_begun (marked_begins about_and_doubt read)
 
 sign_says : (a u : Bool) → Say (sign_parts a u) [] None None a u false
-sign_says false false = nothing_said
-sign_says false true = part_said Doubt refl nothing_said
-sign_says true false = part_said About refl nothing_said
-sign_says true true = part_said AboutAndDoubt refl nothing_said
+sign_says false false = nothing_says
+sign_says false true = part_adds Doubt refl nothing_says
+sign_says true false = part_adds About refl nothing_says
+sign_says true true = part_adds AboutAndDoubt refl nothing_says
 
 -- a sign, where none came after it
 sign_before : {ps ts : List Part} (a u : Bool) → Say ps ts None None false false false
     → Say (sign_parts a u ++ ps) ts None None a u false
-sign_before false false said = said
-sign_before false true said = part_said Doubt refl said
-sign_before true false said = part_said About refl said
-sign_before true true said = part_said AboutAndDoubt refl said
+sign_before false false rest_says = rest_says
+sign_before false true rest_says = part_adds Doubt refl rest_says
+sign_before true false rest_says = part_adds About refl rest_says
+sign_before true true rest_says = part_adds AboutAndDoubt refl rest_says
 
 -- the same sign again says no more
 sign_added : {ps ts : List Part} (a u : Bool) → Say ps ts None None a u false
     → Say (sign_parts a u ++ ps) ts None None a u false
-sign_added false false said = said
-sign_added false true said = part_said Doubt refl said
-sign_added true false said = part_said About refl said
-sign_added true true said = part_said AboutAndDoubt refl said
+sign_added false false rest_says = rest_says
+sign_added false true rest_says = part_adds Doubt refl rest_says
+sign_added true false rest_says = part_adds About refl rest_says
+sign_added true true rest_says = part_adds AboutAndDoubt refl rest_says
 
 date_added : {ps ts : List Part} {a u : Bool} (y m d : ℕ) → Say ps ts None None a u false
     → Say (parts_of y m d ++ ps) (parts_of y m d ++ ts) None None a u false
-date_added y m d said =
-    part_said (Number (record { value = y; digits = 4 })) refl
-    (part_said Dash refl
-    (part_said (Number (record { value = m; digits = 2 })) refl
-    (part_said Dash refl
-    (part_said (Number (record { value = d; digits = 2 })) refl said))))
+date_added y m d rest_says =
+    part_adds (Number (record { value = y; digits = 4 })) refl
+    (part_adds Dash refl
+    (part_adds (Number (record { value = m; digits = 2 })) refl
+    (part_adds Dash refl
+    (part_adds (Number (record { value = d; digits = 2 })) refl rest_says))))
 
 -- ---- the law
 
 -- the text of numbers that are a date's
-record IsDateText (text : List ℕ) (y m d : ℕ) : Type 0 where
-  reads : Reads text (parts_of y m d)
-  is : IsDay y m d
+pub record IsDateText (text : List ℕ) (y m d : ℕ) : Type 0 where
+  pub reads : Reads text (parts_of y m d)
+  pub is : IsDay y m d
 
-day_said : {x : List ℕ} (y m d : ℕ) (a u : Bool) → IsDateText x y m d
-    → IsSaid (x ++ sign a u) (parts_of y m d) None None a u false
-day_said y m d a u text = record {
+day_says : {x : List ℕ} (y m d : ℕ) (a u : Bool) → IsDateText x y m d
+    → TextSays (x ++ sign a u) (parts_of y m d) None None a u false
+day_says y m d a u text = record {
   parts = parts_of y m d ++ sign_parts a u;
   scans = reads_scan (signed_reads a u text.reads);
   says = date_added y m d (sign_says a u);
 }
 
-range_said : {x z : List ℕ} (y m d v n e : ℕ) (a u : Bool) → IsDateText x y m d
+range_says : {x z : List ℕ} (y m d v n e : ℕ) (a u : Bool) → IsDateText x y m d
     → IsDateText z v n e
-    → IsSaid ((x ++ sign a u) ++ 47 ∷ (z ++ sign a u)) (parts_of y m d ++ Slash ∷ parts_of v n e)
+    → TextSays ((x ++ sign a u) ++ 47 ∷ (z ++ sign a u)) (parts_of y m d ++ Slash ∷ parts_of v n e)
     None None a u false
-range_said y m d v n e a u first last = record {
+range_says y m d v n e a u first last = record {
   parts = (parts_of y m d ++ sign_parts a u) ++ Slash ∷ (parts_of v n e ++ sign_parts a u);
   scans = reads_scan
       (joined_reads slash (signed_reads a u first.reads) (signed_reads a u last.reads));
   says = date_added y m d (sign_added a u
-      (part_said Slash refl (date_added v n e (sign_says a u))));
+      (part_adds Slash refl (date_added v n e (sign_says a u))));
 }
 
 open_begins : Begins (codes "../") (Open ∷ Slash ∷ [])
@@ -184,29 +188,29 @@ open_closes = record {
   is = refl;
 }
 
-not_after_said : {x : List ℕ} (y m d : ℕ) (a u : Bool) → IsDateText x y m d
-    → IsSaid (codes "../" ++ (x ++ sign a u)) (Open ∷ Slash ∷ parts_of y m d) None None a u false
-not_after_said y m d a u text = record {
+not_after_says : {x : List ℕ} (y m d : ℕ) (a u : Bool) → IsDateText x y m d
+    → TextSays (codes "../" ++ (x ++ sign a u)) (Open ∷ Slash ∷ parts_of y m d) None None a u false
+not_after_says y m d a u text = record {
   parts = Open ∷ Slash ∷ (parts_of y m d ++ sign_parts a u);
   scans = reads_scan (begins_reads open_begins (signed_reads a u text.reads));
-  says = part_said Open refl (part_said Slash refl (date_added y m d (sign_says a u)));
+  says = part_adds Open refl (part_adds Slash refl (date_added y m d (sign_says a u)));
 }
 
-not_before_said : {x : List ℕ} (y m d : ℕ) (a u : Bool) → IsDateText x y m d
-    → IsSaid ((x ++ sign a u) ++ codes "/..") (parts_of y m d ++ Slash ∷ Open ∷ []) None None a u
+not_before_says : {x : List ℕ} (y m d : ℕ) (a u : Bool) → IsDateText x y m d
+    → TextSays ((x ++ sign a u) ++ codes "/..") (parts_of y m d ++ Slash ∷ Open ∷ []) None None a u
     false
-not_before_said y m d a u text = record {
+not_before_says y m d a u text = record {
   parts = (parts_of y m d ++ sign_parts a u) ++ Slash ∷ Open ∷ [];
   scans = closed_scans (signed_reads a u text.reads) open_closes;
   says = date_added y m d (sign_before a u
-      (part_said Slash refl (part_said Open refl nothing_said)));
+      (part_adds Slash refl (part_adds Open refl nothing_says)));
 }
 
-year_small : (y : ℤ) → pos 1 ≤ℤ y → y ≤ℤ pos 9999 → unsigned_abs y ≤ 9999
+pub year_small : (y : ℤ) → pos 1 ≤ℤ y → y ≤ℤ pos 9999 → unsigned_abs y ≤ 9999
 year_small (pos n) low high = omega (arith, ints, high)
 year_small (negsuc n) low high = absurd (omega (arith, ints, low))
 
-text_is : (d : Date) → HasFourDigits d
+pub text_is : (d : Date) → HasFourDigits d
     → IsDateText (text_of_date d) (unsigned_abs d.year) d.month d.day
 unfolding date_text
 text_is d h =
@@ -232,15 +236,15 @@ digits_law o a b approximate uncertain first last =
     let v = unsigned_abs b.year in
     record {
       day = text_read o (extent.On (day y a.month a.day))
-          (day_said y a.month a.day approximate uncertain x) refl
+          (day_says y a.month a.day approximate uncertain x) refl
           (on_read o y a.month a.day x.is);
       range = text_read o (extent.FromTo (day y a.month a.day) (day v b.month b.day))
-          (range_said y a.month a.day v b.month b.day approximate uncertain x z) refl
+          (range_says y a.month a.day v b.month b.day approximate uncertain x z) refl
           (range_read o y a.month a.day v b.month b.day x.is z.is);
       not_after = text_read o (extent.NotAfter (day v b.month b.day))
-          (not_after_said v b.month b.day approximate uncertain z) refl
+          (not_after_says v b.month b.day approximate uncertain z) refl
           (not_after_read o v b.month b.day z.is);
       not_before = text_read o (extent.NotBefore (day y a.month a.day))
-          (not_before_said y a.month a.day approximate uncertain x) refl
+          (not_before_says y a.month a.day approximate uncertain x) refl
           (not_before_read o y a.month a.day x.is);
     }

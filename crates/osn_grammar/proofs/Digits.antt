@@ -1,5 +1,6 @@
 -- What the digits of a word are, in the words of the calls that read them.
-use Rattle.std.proofs.Common.{◌≡◌, ◌≤◌, ◌<◌, ◌^◌, ℕ, true, List, length, Option, Some, arith, Result, Ok, refl, subst, sym, IfSome}
+use Rattle.std.proofs.Common.{◌≡◌, ◌≤◌, ◌<◌, ◌^◌, ℕ, true, List, length, Option, Some, arith}
+use Rattle.std.proofs.Common.{Result, Ok, refl, subst, sym, IfSome}
 use Rattle.std.proofs.lemmas.Bool.{le-leb}
 use Rattle.std.specs.Str.{all_ascii_digits}
 use Rattle.std.specs.Str.Parse.{ParsesUnsigned, digits_value}

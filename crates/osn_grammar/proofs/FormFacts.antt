@@ -1,20 +1,24 @@
 -- The parts of a date in words are read as that date, by themselves and in a range.
-use Rattle.std.proofs.Common.{◌≡◌, ℕ, true, false, List, [], ◌∷◌, ◌++◌, Option, Some, None, Ok}
+use Rattle.std.proofs.Common.{◌≡◌, ℕ, true, false, List, [], ◌∷◌, ◌++◌, Option, Some, None}
+use Rattle.std.proofs.Common.{Result, Ok, Err}
 use Rattle.std.proofs.Common.{refl, sym, subst, subst₂, append_assoc, append-nil}
 use Rattle.osn_grammar.specs.declared.part.Numeral.{Numeral}
 use Rattle.osn_grammar.specs.declared.part.Part.{Part}
 use Rattle.osn_grammar.specs.declared.part.Part.TheVariants.{Number, Month, Slash, To, Before}
 use Rattle.osn_grammar.specs.declared.part.Part.TheVariants.{After, Not}
+use Rattle.osn_grammar.specs.declared.written.DateFault.{DateFault}
+use Rattle.osn_grammar.specs.declared.written.DateFault.TheVariants as faults
 use Rattle.osn_grammar.specs.declared.written.DateOrder.{DateOrder}
 use Rattle.osn_grammar.specs.declared.written.Extent.{Extent}
 use Rattle.osn_grammar.specs.declared.written.Extent.TheVariants as extent
 use Rattle.osn_grammar.specs.declared.written.SimpleDate.{SimpleDate}
 use Rattle.osn_grammar.specs.declared.written.SimpleDate.TheVariants as date
 use Rattle.osn_grammar.specs.declared.written.Year.{Year}
-use Rattle.osn_grammar.specs.Extent.{extent_of}
+use Rattle.osn_grammar.specs.Extent.{extent_of, first_read}
 use Rattle.osn_grammar.specs.Reading.{is_undated}
-use Rattle.osn_grammar.specs.Simple.{simple_date, is_long, year_of, month_in, day_in}
-use Rattle.osn_grammar.proofs.SaidFacts.{Say, Adds, part_said}
+use Rattle.osn_grammar.specs.Simple.{◌>>=◌, date_in_digits, simple_date, is_long, year_of}
+use Rattle.osn_grammar.specs.Simple.{month_in, day_in}
+use Rattle.osn_grammar.proofs.PartFacts.{Say, Adds, part_adds}
 
 -- the parts of a year's numbers
 abbrev pub later_parts : Option Numeral → List Part
@@ -41,19 +45,19 @@ pub record IsDate (parts : List Part) (d : SimpleDate) : Type 0 where
 -- ---- what the parts add
 
 year_adds : (first : Numeral) (later : Option Numeral) → Adds (year_parts first later)
-year_adds first None rest ts w r a u s said = part_said (Number first) refl said
-year_adds first (Some later) rest ts w r a u s said =
-    part_said (Number first) refl (part_said Slash refl (part_said (Number later) refl said))
+year_adds first None rest ts w r a u s rest_says = part_adds (Number first) refl rest_says
+year_adds first (Some later) rest ts w r a u s rest_says =
+    part_adds (Number first) refl (part_adds Slash refl (part_adds (Number later) refl rest_says))
 
 month_adds : (month : ℕ) (first : Numeral) (later : Option Numeral)
     → Adds (Month month ∷ year_parts first later)
-month_adds month first later rest ts w r a u s said =
-    part_said (Month month) refl (year_adds first later rest ts w r a u s said)
+month_adds month first later rest ts w r a u s rest_says =
+    part_adds (Month month) refl (year_adds first later rest ts w r a u s rest_says)
 
 day_adds : (day : Numeral) (month : ℕ) (first : Numeral) (later : Option Numeral)
     → Adds (Number day ∷ Month month ∷ year_parts first later)
-day_adds day month first later rest ts w r a u s said =
-    part_said (Number day) refl (month_adds month first later rest ts w r a u s said)
+day_adds day month first later rest ts w r a u s rest_says =
+    part_adds (Number day) refl (month_adds month first later rest ts w r a u s rest_says)
 
 -- ---- a day
 
@@ -101,6 +105,13 @@ month_is month first (Some later) year read is = record {
 
 -- ---- a year
 
+-- where the last date is not in digits, the reading that comes next counts, whatever the first is
+after_digits : (first : Result SimpleDate DateFault) (e : Extent)
+    → first_read (Err faults.Malformed)
+    (first_read (first >>= λ start. Err faults.Malformed) (Ok e)) ≡ Ok e
+after_digits (Ok d) e = refl
+after_digits (Err f) e = refl
+
 pub year_is : (first : Numeral) (later : Option Numeral) (year : Year) → IsYear first later year
     → IsDate (year_parts first later) (date.Year year)
 year_is first None year read = record {
@@ -115,7 +126,8 @@ year_is first (Some later) year read = record {
   alone = λ o. rw read.is refl;
   dated = λ last. refl;
   adds = year_adds first (Some later);
-  first = λ o last b after. rw (after, read.is) refl;
+  first = λ o last b after. rw (after, read.is)
+      (after_digits (date_in_digits (Number first ∷ [])) (extent.FromTo (date.Year year) b));
 }
 
 -- ---- extents
@@ -134,10 +146,10 @@ on_is {ps} read = record {
 }
 
 both_add : (ps qs : List Part) → Adds ps → Adds qs → Adds (ps ++ qs)
-both_add ps qs first last rest ts w r a u s said =
+both_add ps qs first last rest ts w r a u s rest_says =
     subst₂ (λ parts timed. Say parts timed w r a u s) (sym (append_assoc ps qs rest))
     (sym (append_assoc ps qs ts))
-    (first (qs ++ rest) (qs ++ ts) w r a u s (last rest ts w r a u s said))
+    (first (qs ++ rest) (qs ++ ts) w r a u s (last rest ts w r a u s rest_says))
 
 pub from_to_is : {ps qs : List Part} {a b : SimpleDate} → IsDate ps a → IsDate qs b
     → IsExtent (ps ++ To ∷ qs) (extent.FromTo a b)
@@ -145,8 +157,8 @@ from_to_is {ps} {qs} {a} {b} first last = record {
   is = λ o. first.first o qs b (last.is o);
   dated = first.dated (To ∷ qs);
   adds = both_add ps (To ∷ qs) first.adds
-      (λ rest ts w r about doubt bracket said.
-      part_said To refl (last.adds rest ts w r about doubt bracket said));
+      (λ rest ts w r about doubt bracket rest_says.
+      part_adds To refl (last.adds rest ts w r about doubt bracket rest_says));
 }
 
 pub before_is : {ps : List Part} {d : SimpleDate} → IsDate ps d
@@ -154,7 +166,8 @@ pub before_is : {ps : List Part} {d : SimpleDate} → IsDate ps d
 before_is read = record {
   is = λ o. rw (read.is o) refl;
   dated = refl;
-  adds = λ rest ts w r a u s said. part_said Before refl (read.adds rest ts w r a u s said);
+  adds = λ rest ts w r a u s rest_says.
+      part_adds Before refl (read.adds rest ts w r a u s rest_says);
 }
 
 pub after_is : {ps : List Part} {d : SimpleDate} → IsDate ps d
@@ -162,7 +175,8 @@ pub after_is : {ps : List Part} {d : SimpleDate} → IsDate ps d
 after_is read = record {
   is = λ o. rw (read.is o) refl;
   dated = refl;
-  adds = λ rest ts w r a u s said. part_said After refl (read.adds rest ts w r a u s said);
+  adds = λ rest ts w r a u s rest_says.
+      part_adds After refl (read.adds rest ts w r a u s rest_says);
 }
 
 pub not_before_is : {ps : List Part} {d : SimpleDate} → IsDate ps d
@@ -170,8 +184,8 @@ pub not_before_is : {ps : List Part} {d : SimpleDate} → IsDate ps d
 not_before_is read = record {
   is = λ o. rw (read.is o) refl;
   dated = refl;
-  adds = λ rest ts w r a u s said.
-      part_said Not refl (part_said Before refl (read.adds rest ts w r a u s said));
+  adds = λ rest ts w r a u s rest_says.
+      part_adds Not refl (part_adds Before refl (read.adds rest ts w r a u s rest_says));
 }
 
 pub not_after_is : {ps : List Part} {d : SimpleDate} → IsDate ps d
@@ -179,6 +193,6 @@ pub not_after_is : {ps : List Part} {d : SimpleDate} → IsDate ps d
 not_after_is read = record {
   is = λ o. rw (read.is o) refl;
   dated = refl;
-  adds = λ rest ts w r a u s said.
-      part_said Not refl (part_said After refl (read.adds rest ts w r a u s said));
+  adds = λ rest ts w r a u s rest_says.
+      part_adds Not refl (part_adds After refl (read.adds rest ts w r a u s rest_says));
 }

@@ -3,7 +3,10 @@ mod LanguageFacts
 mod NameFacts
 mod Scanned
 pub mod TextFacts
-pub mod SaidFacts
+pub mod PartFacts
 pub mod FormFacts
 pub mod WordFacts
 mod DigitLaw
+mod SetFacts
+mod RefusedFacts
+pub mod SetLaw

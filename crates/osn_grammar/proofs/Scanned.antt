@@ -1,6 +1,7 @@
 -- One more character of a text, taken where the parts so far are known.
 use Rattle.std.proofs.Common.{◌≡◌, ◌<◌, ℕ, suc, ◌+◌, ◌-◌, List, ◌∷◌, ◌++◌, Result, Ok, Err, OnOk}
-use Rattle.std.proofs.Common.{length, get_or, take, drop, refl, ap, ◌∙◌, sym, arith, append_assoc, drop-cons}
+use Rattle.std.proofs.Common.{length, get_or, take, drop}
+use Rattle.std.proofs.Common.{refl, ap, ◌∙◌, sym, arith, append_assoc, drop-cons}
 use Rattle.std.proofs.Math.Seq.{take-length}
 use Rattle.std.proofs.lemmas.List.{length-drop}
 use Rattle.osn_grammar.specs.declared.part.Part.{Part}
@@ -9,10 +10,10 @@ use Rattle.osn_grammar.specs.Scan.{parts_after, parts_ended, word_after, first_o
 one_before : (rest : List ℕ) (c : ℕ) (before now : List Part) (word word_now : List ℕ)
     → now ≡ before ++ parts_ended word c rest → word_now ≡ word_after word c (first_of rest)
     → now ++ parts_after word_now rest ≡ before ++ parts_after word (c ∷ rest)
-one_before rest c before now word word_now ended kept =
+one_before rest c before now word word_now ended word_is =
     ap (λ p. p ++ parts_after word_now rest) ended
     ∙ append_assoc before (parts_ended word c rest) (parts_after word_now rest)
-    ∙ ap (λ w. before ++ (parts_ended word c rest ++ parts_after w rest)) kept
+    ∙ ap (λ w. before ++ (parts_ended word c rest ++ parts_after w rest)) word_is
 
 from_here : (s : List ℕ) (k c : ℕ) → k < length s → c ≡ get_or s k c
     → c ∷ drop (k + 1) s ≡ drop k s
@@ -24,15 +25,16 @@ from_here s k c low is =
 pub slice_left : (s : List ℕ) (j : ℕ) → take (length s - j) (drop j s) ≡ drop j s
 slice_left s j = ap (λ n. take n (drop j s)) (sym (length-drop j s)) ∙ take-length (drop j s)
 
--- where the character at a place was taken, the parts so far and those of what is left are as before
+-- where the character at a place was taken, the parts so far and those of what is left are as
+-- before
 pub one_taken : {T E : Type 0} (r : Result T E) (s rest : List ℕ) (k c : ℕ)
     (before now : List Part) (word word_now : List ℕ) → k < length s → c ≡ get_or s k c
     → rest ≡ drop (k + 1) s → OnOk r (now ≡ before ++ parts_ended word c rest)
     → OnOk r (word_now ≡ word_after word c (first_of rest))
     → OnOk r (now ++ parts_after word_now (drop (k + 1) s) ≡ before ++ parts_after word (drop k s))
-one_taken (Ok x) s rest k c before now word word_now low is ahead ended kept =
+one_taken (Ok x) s rest k c before now word word_now low is ahead ended word_is =
     ap (λ left. now ++ parts_after word_now left) (sym ahead)
-    ∙ one_before rest c before now word word_now ended kept
+    ∙ one_before rest c before now word word_now ended word_is
     ∙ ap (λ left. before ++ parts_after word left)
     (ap (λ left. c ∷ left) ahead ∙ from_here s k c low is)
-one_taken (Err e) s rest k c before now word word_now low is ahead ended kept = tt
+one_taken (Err e) s rest k c before now word word_now low is ahead ended word_is = tt

@@ -264,9 +264,9 @@ parts_scanned {text} read =
 -- ---- numbers
 
 -- a digit belongs to the word so far
-digit_kept : (c : ℕ) (word rest : List ℕ) → 48 ≤ c → c ≤ 57
+digit_joins_word : (c : ℕ) (word rest : List ℕ) → 48 ≤ c → c ≤ 57
     → parts_after word (c ∷ rest) ≡ parts_after (word ++ c ∷ []) rest
-digit_kept c word rest low high =
+digit_joins_word c word rest low high =
     rw (
       lt-leb 65 c (omega (arith, high)),
       lt-leb 97 c (omega (arith, high)),
@@ -277,13 +277,13 @@ digit_kept c word rest low high =
       encode_ascii c (omega (arith, high)),
     ) refl
 
-digits_kept : (ds word rest : List ℕ) → all_ascii_digits ds ≡ true
+digits_join_word : (ds word rest : List ℕ) → all_ascii_digits ds ≡ true
     → parts_after word (ds ++ rest) ≡ parts_after (word ++ ds) rest
-digits_kept [] word rest digits = ap (λ w. parts_after w rest) (sym (append-nil word))
-digits_kept (d ∷ ds) word rest digits =
+digits_join_word [] word rest digits = ap (λ w. parts_after w rest) (sym (append-nil word))
+digits_join_word (d ∷ ds) word rest digits =
     let parts = tells_all_ascii_digits.parts d ds digits in
-    digit_kept d word (ds ++ rest) parts.0.0 parts.0.1
-    ∙ digits_kept ds (word ++ d ∷ []) rest parts.1
+    digit_joins_word d word (ds ++ rest) parts.0.0 parts.0.1
+    ∙ digits_join_word ds (word ++ d ∷ []) rest parts.1
     ∙ ap (λ w. parts_after w rest) (append_assoc word (d ∷ []) ds)
 
 -- digits of this value and count are a number
@@ -298,7 +298,7 @@ digits_read ds n k digits value count some few =
     ≡ Some (part.Number (record { value = digits_value 10 ds; digits = length ds })) =
     rw (ne_eqb (length ds) 0 apart, value_is ds some_digits few_digits digits) refl in
     word_reads ds ds (part.Number (record { value = n; digits = k })) (low_digits ds digits)
-    (λ rest. digits_kept ds [] rest digits)
+    (λ rest. digits_join_word ds [] rest digits)
     (found
     ∙ ap (λ v. Some (part.Number (record { value = v; digits = length ds }))) value
     ∙ ap (λ c. Some (part.Number (record { value = n; digits = c }))) count)

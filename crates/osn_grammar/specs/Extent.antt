@@ -1,12 +1,14 @@
 -- From when to when a date may be: one date, a range of two, or a bound. This project's profile.
-use Rattle.std.specs.Prelude.{ℕ, Bool, true, false, if◌then◌else◌, List, [], ◌∷◌, ◌++◌, Result, Ok, Err}
+use Rattle.std.specs.Prelude.{ℕ, Bool, true, false, if◌then◌else◌, List, [], ◌∷◌, ◌++◌}
+use Rattle.std.specs.Prelude.{Result, Ok, Err}
 use Rattle.osn_grammar.specs.declared.extent.Beginning.{Beginning}
 use Rattle.osn_grammar.specs.declared.extent.Beginning.TheVariants as begins
 use Rattle.osn_grammar.specs.declared.extent.Joining.{Joining}
 use Rattle.osn_grammar.specs.declared.extent.Joining.TheVariants as joins
 use Rattle.osn_grammar.specs.declared.part.Numeral.{Numeral}
 use Rattle.osn_grammar.specs.declared.part.Part.{Part}
-use Rattle.osn_grammar.specs.declared.part.Part.TheVariants.{Number, Month, Dash, Slash, Dot, Open, To}
+use Rattle.osn_grammar.specs.declared.part.Part.TheVariants.{Number, Month, Dash, Slash}
+use Rattle.osn_grammar.specs.declared.part.Part.TheVariants.{Dot, Open, To}
 use Rattle.osn_grammar.specs.declared.part.Part.TheVariants.{Or, And, Between, From, Before, After}
 use Rattle.osn_grammar.specs.declared.part.Part.TheVariants.{Not, By}
 use Rattle.osn_grammar.specs.declared.written.DateFault.{DateFault}
@@ -20,8 +22,8 @@ use Rattle.osn_grammar.specs.Simple.{◌>>=◌, is_long, month_in, day_in, date_
 
 -- ---- ranges
 
--- what the first date of a range says by itself: `3`, `28 February`, `February 28`, `28.2`, `March`,
--- and else a whole date
+-- what the first date of a range says by itself: `3`, `28 February`, `February 28`, `28.2`,
+-- `March`, and else a whole date
 abbrev pub lone_day : Numeral → Beginning
 lone_day d = if is_long d then begins.Whole else begins.Day d.value
 
@@ -36,8 +38,8 @@ beginning_of (Number d ∷ Dot ∷ Number m ∷ []) = day_of_month m.value d
 beginning_of (Month m ∷ []) = begins.Month m
 beginning_of _ = begins.Whole
 
--- the first date of a range gets from the last one what it lacks: a day before a day its month and
--- year, a day of a month its year, and a month before a month its year
+-- the first date of a range gets from the last one what it lacks. A day before a day gets its month
+-- and year, a day of a month its year, and a month before a month its year
 abbrev pub first_date : Result SimpleDate DateFault → Beginning → SimpleDate
     → Result SimpleDate DateFault
 first_date whole (begins.Day d) (date.Day year month day) = day_in year month d
@@ -69,8 +71,8 @@ not_before o first = do
 
 abbrev pub range_in_digits : List Part → List Part → Result Extent DateFault
 range_in_digits first last = do
-  end ← date_in_digits last
   start ← date_in_digits first
+  end ← date_in_digits last
   Ok (extent.FromTo start end)
 
 abbrev pub slashed_range : DateOrder → List Part → List Part → Result Extent DateFault

@@ -185,5 +185,5 @@ pub record AreOtherLanguagesKnown : Type 0 where
 -- as a law: all these words are known
 unfoldable pub AreWordsKnown : Type 0
 AreWordsKnown =
-    AreMonthsKnown × AreWeekdaysKnown × AreOtherWeekdaysKnown × AreOrdinalsKnown × AreOtherWordsKnown
-    × AreOtherLanguagesKnown
+    AreMonthsKnown × AreWeekdaysKnown × AreOtherWeekdaysKnown × AreOrdinalsKnown
+    × AreOtherWordsKnown × AreOtherLanguagesKnown

@@ -30,5 +30,6 @@ unfoldable pub AreCountedNamesKnown : Type 0
 AreCountedNamesKnown =
     (parts_named (codes "7ber" ∷ codes "8ber" ∷ codes "9ber" ∷ codes "Xber" ∷ codes "10ber" ∷ [])
     ≡ months_by_count)
-    × (parts_named (codes "7bris" ∷ codes "8bris" ∷ codes "9bris" ∷ codes "Xbris" ∷ codes "10bris" ∷ [])
+    × (parts_named
+    (codes "7bris" ∷ codes "8bris" ∷ codes "9bris" ∷ codes "Xbris" ∷ codes "10bris" ∷ [])
     ≡ months_by_count)

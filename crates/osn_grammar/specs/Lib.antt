@@ -3,7 +3,9 @@ pub mod Parts
 pub mod Scan
 pub mod Simple
 pub mod Extent
+pub mod Sets
 pub mod Reading
 pub mod Laws
 pub mod Languages
 pub mod InDigits
+pub mod SetsInDigits

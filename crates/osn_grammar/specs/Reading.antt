@@ -1,13 +1,16 @@
 -- What a text says of a date, and why a text is no date. This project's profile.
-use Rattle.std.specs.Prelude.{ℕ, Bool, true, false, ◌||◌, ◌==◌, if◌then◌else◌, List, [], ◌∷◌, length}
-use Rattle.std.specs.Prelude.{filter, Option, Some, None, Result, Ok, Err}
+use Rattle.std.specs.Prelude.{ℕ, Bool, true, false, not, ◌||◌, ◌==◌, if◌then◌else◌, List, [], ◌∷◌}
+use Rattle.std.specs.Prelude.{length, filter, Option, Some, None, option_map, Result, Ok, Err}
 use Rattle.std.specs.List.{list_any}
+use Rattle.std.specs.Option.{option_and_then, unwrap_or}
+use Rattle.std.specs.Result.{result_ok}
 use Rattle.osn_days.specs.declared.weekday.Weekday.{Weekday}
 use Rattle.osn_grammar.specs.declared.part.Part.{Part}
 use Rattle.osn_grammar.specs.declared.part.Part.TheVariants as part
 use Rattle.osn_grammar.specs.declared.written.DateFault.{DateFault}
 use Rattle.osn_grammar.specs.declared.written.DateFault.TheVariants as faults
 use Rattle.osn_grammar.specs.declared.written.DateOrder.{DateOrder}
+use Rattle.osn_grammar.specs.declared.written.Extent.{Extent}
 use Rattle.osn_grammar.specs.declared.written.Reckoning.{Reckoning}
 use Rattle.osn_grammar.specs.declared.written.Written.{Written}
 use Rattle.osn_grammar.specs.declared.written.Written.TheVariants as say
@@ -15,6 +18,7 @@ use Rattle.osn_grammar.specs.declared.written.WrittenDate.{WrittenDate}
 use Rattle.osn_grammar.specs.Extent.{extent_of}
 use Rattle.osn_grammar.specs.Parts.{tells_time}
 use Rattle.osn_grammar.specs.Scan.{parts_in}
+use Rattle.osn_grammar.specs.Sets.{inside_brackets, between_commas, is_sign, days_in_digits}
 use Rattle.osn_grammar.specs.Simple.{◌>>=◌}
 
 -- the weekday so far, with that of one more part. No two may be named
@@ -98,12 +102,51 @@ date_unless o parts timed None = do
   w ← date_of o parts timed
   Ok (say.Date w)
 
--- a text of no parts, and one that says that there is no date, say so
-abbrev pub said : DateOrder → List Part → List Part → Result Written DateFault
-said o parts timed =
+-- a text of no parts has no date, and neither has one that is undated
+abbrev pub reading_of_parts : DateOrder → List Part → List Part → Result Written DateFault
+reading_of_parts o parts timed =
     if length parts == 0 || is_undated timed then Ok say.NoDate
     else date_unless o parts timed (unread parts)
 
+-- ---- a set of dates
+
+-- a member of a set, with its signs
+abbrev pub with_signs : List Part → Extent → WrittenDate
+with_signs parts e = record {
+  extent = e;
+  weekday = None;
+  reckoning = None;
+  is_approximate = list_any is_about parts;
+  is_uncertain = list_any is_doubt parts;
+  is_supplied = false;
+}
+
+-- the member that parts are, if they are one
+abbrev pub member_of : List Part → Option WrittenDate
+member_of parts = option_map (with_signs parts)
+    (result_ok (days_in_digits (filter (λ p. not (is_sign p)) parts)))
+
+abbrev pub member_in : List ℕ → Option WrittenDate
+member_in text = member_of (parts_in text)
+
+-- the members that texts are, if each is one
+abbrev pub all_members : List (List ℕ) → Option (List WrittenDate)
+all_members [] = Some []
+all_members (text ∷ texts) =
+    option_and_then (λ w. option_map (λ ws. w ∷ ws) (all_members texts)) (member_in text)
+
+-- the members of the set that a text is: none where it is no set
+unfoldable pub members : List ℕ → List WrittenDate
+members text = unwrap_or
+    (option_and_then (λ inside. all_members (between_commas inside)) (inside_brackets text)) []
+
+-- a text that says nothing else of a date may be a set
+abbrev pub or_set : List WrittenDate → Result Written DateFault → Result Written DateFault
+or_set set (Ok w) = Ok w
+or_set [] (Err fault) = Err fault
+or_set (w ∷ ws) (Err fault) = Ok say.Set
+
 -- what a text says of a date, or why it is none
 abbrev pub written : DateOrder → List ℕ → Result Written DateFault
-written o text = said o (parts_in text) (filter tells_time (parts_in text))
+written o text =
+    or_set (members text) (reading_of_parts o (parts_in text) (filter tells_time (parts_in text)))

@@ -58,7 +58,7 @@ abbrev pub are_digits_alone : List ℕ → Bool
 are_digits_alone [] = true
 are_digits_alone (c ∷ rest) = if is_digit c then are_digits_alone rest else not (is_letter c)
 
--- a number comes next, after any blanks: `8bris` is none
+-- a number comes next, after any blanks: `8bris` is no number
 abbrev pub is_number_next : List ℕ → Bool
 is_number_next [] = false
 is_number_next (c ∷ rest) =

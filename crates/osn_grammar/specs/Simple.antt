@@ -113,7 +113,7 @@ with_dashes order a b c =
 abbrev pub is_either_month : ℕ → ℕ → Bool
 is_either_month a b = is_between 1 12 a && (is_between 1 12 b && not (a == b))
 
--- the order of two numbers is known where only one of them may be the month: 25/12/1640
+-- the order of two numbers is found, unless each of them may be the month: 25/12/1640
 abbrev pub order_of : DateOrder → ℕ → ℕ → DateOrder
 order_of order.Unknown a b =
     if is_either_month a b then order.Unknown
@@ -124,7 +124,7 @@ order_of order a b = order
 abbrev pub three_numbers : DateOrder → Numeral → Numeral → Numeral → Result SimpleDate DateFault
 three_numbers order a b c = with_dashes (order_of order a.value b.value) a b c
 
--- `11/2 1731` ends with its year, `1731/2 11` is none
+-- `11/2 1731` ends with its year, and `1731/2 11` is no date
 abbrev pub year_last : DateOrder → Numeral → Numeral → Numeral → Result SimpleDate DateFault
 year_last order a b year =
     if is_long year && not (is_long a) then three_numbers order a b year else Err faults.Malformed
@@ -156,8 +156,8 @@ double_year_or_days a b month c =
 
 -- ---- the forms
 
--- a day in numbers: 1731-02-11, 1731/2-02-11, 11.2.1731, 11.2.1731/2, 11/2/1731, 11/2 1731, 11 2 1731.
--- With full stops the day is before the month
+-- a day in numbers: 1731-02-11, 1731/2-02-11, 11.2.1731, 11.2.1731/2, 11/2/1731, 11/2 1731,
+-- 11 2 1731. With full stops the day is before the month
 abbrev pub day_in_numbers : DateOrder → List Part → Result SimpleDate DateFault
 day_in_numbers o (Number a ∷ Dash ∷ Number b ∷ Dash ∷ Number c ∷ []) = with_dashes o a b c
 day_in_numbers o (Number a ∷ Slash ∷ Number b ∷ Slash ∷ Number c ∷ []) = three_numbers o a b c
@@ -172,13 +172,16 @@ day_in_numbers o (Number d ∷ Dot ∷ Number m ∷ Dot ∷ Number y ∷ Slash �
 day_in_numbers o _ = Err faults.Malformed
 
 -- a day with its month's name: 11 February 1731, 11-Feb-1731, 1731 February 11, 1731 11 February,
--- February 11 1731, February 11. 1731, and with 1731/2
+-- February 11 1731, February 11. 1731, and with 1731/2. 24 Dec 1640/3 Jan 1641 is the day by both
+-- calendars
 abbrev pub day_in_words : List Part → Result SimpleDate DateFault
 day_in_words (Number a ∷ Month m ∷ Number b ∷ []) = around_month a m b
 day_in_words (Number a ∷ Dash ∷ Month m ∷ Dash ∷ Number b ∷ []) = around_month a m b
 day_in_words (Number d ∷ Month m ∷ Number y ∷ Slash ∷ Number l ∷ []) = day_of (two y l) m d.value
 day_in_words (Number a ∷ Slash ∷ Number b ∷ Month m ∷ Number c ∷ []) = double_year_or_days a b m c
 day_in_words (Number a ∷ Slash ∷ Number b ∷ Month m ∷ Number y ∷ Slash ∷ Number l ∷ []) =
+    Err faults.TwoDays
+day_in_words (Number d ∷ Month m ∷ Number y ∷ Slash ∷ Number e ∷ Month n ∷ Number v ∷ []) =
     Err faults.TwoDays
 day_in_words (Number y ∷ Number d ∷ Month m ∷ []) = year_and_day y d m
 day_in_words (Month m ∷ Number d ∷ Number y ∷ []) = day_of (one y) m d.value

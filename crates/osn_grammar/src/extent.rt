@@ -125,8 +125,8 @@ fn not_before(order: DateOrder, first: &[Part]) -> Result<Extent, DateFault>
 fn range_in_digits(first: &[Part], last: &[Part]) -> Result<Extent, DateFault>
     ensures { result ≡ spec.range_in_digits first.now last.now }
 {
-    let last = date_in_digits(last)?;
-    Ok(Extent::FromTo(date_in_digits(first)?, last))
+    let first = date_in_digits(first)?;
+    Ok(Extent::FromTo(first, date_in_digits(last)?))
 }
 
 /// The range of two dates with a `/` between them. Either end may be open.

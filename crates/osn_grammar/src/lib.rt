@@ -8,10 +8,12 @@ mod order;
 mod part;
 mod reading;
 mod scan;
+mod set;
 mod simple;
 mod written;
 
 pub use reading::parse;
+pub use set::members_of;
 pub use written::{
     DateFault, DateOrder, Extent, Reckoning, SimpleDate, Written, WrittenDate, Year,
 };

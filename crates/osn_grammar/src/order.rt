@@ -18,7 +18,7 @@ fn is_either_month(first: u32, second: u32) -> bool
     is_month(first) && is_month(second) && first != second
 }
 
-/// The order of two numbers, which is known where only one of them may be the month.
+/// The order of two numbers, which is found unless each of them may be the month.
 pub fn order_of(order: DateOrder, first: u32, second: u32) -> DateOrder
     ensures { result ≡ spec.order_of order first second }
 {

@@ -1,15 +1,17 @@
 //! A text is read: what it says of a date, or why it is none.
-ghost use Rattle.std.specs.Prelude.{◌≡◌, None, IfOk};
+ghost use Rattle.std.specs.Prelude.{◌≡◌, None, Err, IfOk};
 ghost use Rattle.std.specs.List.{list_any};
 ghost use Rattle.osn_grammar.specs.InDigits.{AreDigitsRead};
 ghost use Rattle.osn_grammar.specs.Languages.{AreWordsKnown};
 ghost use Rattle.osn_grammar.specs.Laws.{AreCountedNamesKnown, AreEnglishNamesKnown};
 ghost use Rattle.osn_grammar.specs.Names.{AreNamesDistinct};
 ghost use Rattle.osn_grammar.specs.Reading as spec;
+ghost use Rattle.osn_grammar.specs.SetsInDigits.{AreSetsRead};
 
 use crate::extent::extent_of;
 use crate::part::Part;
 use crate::scan::parts_in;
+use crate::set::members_of;
 use crate::written::{DateFault, DateOrder, Reckoning, Written, WrittenDate};
 use osn_days::Weekday;
 use std::alloc::{AllocError, Global};
@@ -59,7 +61,7 @@ fn reckoning_of(parts: &[Part]) -> Result<Option<Reckoning>, DateFault>
 }
 
 /// Whether a part says that a date is approximate.
-fn is_approximate(parts: &[Part]) -> bool
+pub fn is_approximate(parts: &[Part]) -> bool
     ensures { result ≡ list_any spec.is_about parts.now }
 {
     parts
@@ -68,7 +70,7 @@ fn is_approximate(parts: &[Part]) -> bool
 }
 
 /// Whether a part says that a date is in doubt.
-fn is_uncertain(parts: &[Part]) -> bool
+pub fn is_uncertain(parts: &[Part]) -> bool
     ensures { result ≡ list_any spec.is_doubt parts.now }
 {
     parts
@@ -127,7 +129,7 @@ fn date_of(order: DateOrder, parts: &[Part], timed: &[Part]) -> Result<WrittenDa
     })
 }
 
-/// Whether parts say that there is no date.
+/// Whether parts say that a text is undated, as `n.d.` does.
 fn is_undated(timed: &[Part]) -> bool
     ensures { result ≡ spec.is_undated timed.now }
 {
@@ -135,8 +137,8 @@ fn is_undated(timed: &[Part]) -> bool
 }
 
 /// What parts say, of which some tell the time.
-fn said(order: DateOrder, parts: &[Part], timed: &[Part]) -> Result<Written, DateFault>
-    ensures { result ≡ spec.said order parts.now timed.now }
+fn reading_of_parts(order: DateOrder, parts: &[Part], timed: &[Part]) -> Result<Written, DateFault>
+    ensures { result ≡ spec.reading_of_parts order parts.now timed.now }
 {
     if parts.is_empty() || is_undated(timed) {
         return Ok(Written::NoDate);
@@ -147,12 +149,27 @@ fn said(order: DateOrder, parts: &[Part], timed: &[Part]) -> Result<Written, Dat
     Ok(Written::Date(date_of(order, parts, timed)?))
 }
 
+/// That a text is a set of dates, or else this fault of it.
+fn or_set(
+    alloc: Global,
+    text: &str,
+    fault: DateFault,
+) -> Result<Result<Written, DateFault>, AllocError>
+    ensures { IfOk result (λ read. read ≡ spec.or_set (spec.members text.now) (Err fault)) }
+{
+    if members_of(alloc, text)?.is_empty() {
+        Ok(Err(fault))
+    } else {
+        Ok(Ok(Written::Set))
+    }
+}
+
 /// What a text says of a date, in one of the forms that `docs/DATES.md` tells.
 ///
 /// # Errors
 ///
 /// Want of memory. What is wrong with a text that is no date is the result within.
-#[tactic(auto, using(crate::proofs::NameFacts::name_laws, crate::proofs::DigitLaw::digits_law))]
+#[tactic(auto, using(crate::proofs::NameFacts::name_laws, crate::proofs::DigitLaw::digits_law, crate::proofs::SetLaw::sets_law))]
 pub fn parse(
     alloc: Global,
     text: &str,
@@ -170,6 +187,8 @@ pub fn parse(
     // as a law: a date in digits is read as its day, with `?`, `~` and `%` after it, in a range and
     // with an open end
     ensures digits { AreDigitsRead }
+    // as a law: a set of two or more such dates and ranges is read as that set
+    ensures sets { AreSetsRead }
 {
     let parts = parts_in(alloc, text)?;
     let timed: Vec<Part> = parts
@@ -177,5 +196,8 @@ pub fn parse(
         .copied()
         .filter(|part| part.tells_time())
         .collect(alloc)?;
-    Ok(said(order, parts.as_slice(), timed.as_slice()))
+    match reading_of_parts(order, parts.as_slice(), timed.as_slice()) {
+        Ok(written) => Ok(Ok(written)),
+        Err(fault) => or_set(alloc, text, fault),
+    }
 }

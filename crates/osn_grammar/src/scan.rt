@@ -1,5 +1,6 @@
 //! A text is cut into its parts.
-ghost use Rattle.std.specs.Prelude.{◌≡◌, ◌<◌, ◌+◌, ◌++◌, [], IfOk, OnOk, drop, length, string_bytes};
+ghost use Rattle.std.specs.Prelude.{◌≡◌, ◌<◌, ◌+◌, ◌++◌, []};
+ghost use Rattle.std.specs.Prelude.{IfOk, OnOk, drop, length, string_bytes};
 ghost use Rattle.std.specs.Option.{option_to_list};
 ghost use Rattle.osn_grammar.specs.Scan as spec;
 
@@ -197,7 +198,8 @@ fn take_at(
 ) -> Result<(), AllocError>
     requires { place < length characters.now }
     ensures { OnOk result
-        (parts.new.items ++ spec.parts_after (string_bytes word.new) (drop (place + 1) characters.now)
+        (parts.new.items
+        ++ spec.parts_after (string_bytes word.new) (drop (place + 1) characters.now)
         ≡ parts.old.items ++ spec.parts_after (string_bytes word.old) (drop place characters.now)) }
 {
     take(parts, word, characters[place], &characters[place + 1..])

@@ -9,13 +9,13 @@ use crate::written::{DateFault, DateOrder, SimpleDate, Year};
 
 /// The numbers of a year: its own, and what stands after a `/`.
 #[derive(Clone, Copy, Debug, PartialEq, Eq)]
-struct YearNumbers {
+pub struct YearNumbers {
     first: Numeral,
     later: Option<Numeral>,
 }
 
 /// A year of one number.
-fn one(first: Numeral) -> YearNumbers
+pub fn one(first: Numeral) -> YearNumbers
     ensures { result ≡ spec.one first }
 {
     YearNumbers { first, later: None }
@@ -139,7 +139,11 @@ fn month_in_digits(years: YearNumbers, month: Numeral) -> Result<SimpleDate, Dat
 }
 
 /// The day of two numbers in digits, where each has one or two of them.
-fn day_in_digits(years: YearNumbers, month: Numeral, day: Numeral) -> Result<SimpleDate, DateFault>
+pub fn day_in_digits(
+    years: YearNumbers,
+    month: Numeral,
+    day: Numeral,
+) -> Result<SimpleDate, DateFault>
     ensures { result ≡ spec.day_in_digits years month day }
 {
     if is_long(month) || is_long(day) {
@@ -324,6 +328,15 @@ fn day_in_words(parts: &[Part]) -> Result<SimpleDate, DateFault>
             Month(_),
             Number(_),
             Slash,
+            Number(_),
+        ]
+        | [
+            Number(_),
+            Month(_),
+            Number(_),
+            Slash,
+            Number(_),
+            Month(_),
             Number(_),
         ] => { Err(DateFault::TwoDays) }
         [Number(y), Number(d), Month(m)] => year_and_day(*y, *d, *m),

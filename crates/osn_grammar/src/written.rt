@@ -52,9 +52,11 @@ pub struct WrittenDate {
 /// What a text says.
 #[derive(Clone, Copy, Debug, PartialEq, Eq)]
 pub enum Written {
-    /// That there is no date, as `n.d.`, or nothing.
+    /// That it is undated, as `n.d.` does, or nothing.
     NoDate,
     Date(WrittenDate),
+    /// One of several dates, as `[1543-04-11,1544-04-11]`: those of `members_of`.
+    Set,
 }
 
 /// How a date of three numbers is read that may begin with its day or its month.
@@ -85,7 +87,8 @@ pub enum DateFault {
     ShortYear,
     /// `11/2/1731` may be 11 February or 2 November.
     DayOrMonth,
-    /// In `11/22 February 1731` the day is that of both calendars.
+    /// In `11/22 February 1731` the day is that of both calendars, as in
+    /// `24 Dec. 1640/3 Jan. 1641`.
     TwoDays,
     /// The text names a feast.
     Feast,

@@ -19,10 +19,11 @@ use Rattle.osn_invocation.specs.declared.invocation.PageWords.{PageWords}
 use Rattle.osn_invocation.specs.declared.invocation.ServeOptions.{ServeOptions}
 use Rattle.osn_invocation.specs.declared.invocation.PageWords.TheVariants as pages
 
--- a page of what a journal published: the almanac of a territory's code and a year; the reading of
--- a date by a code, the date, the weekday that it is said to be, the order of a date's three
--- numbers, and whether a date without a day is a refusal; a day by a code and a date or day number;
--- a month by a code, a year and the month; the periods of a code's territory, or all territories
+-- a page of what a journal published. An almanac is that of a territory's code and a year. The
+-- reading of a date is by a code, the date, the weekday that it is said to be, and the order of its
+-- three numbers. It says whether a date without a day is a refusal. A day is by a code and a date
+-- or day number, a month by a code, a year and the month. The periods are those of a code's
+-- territory, or the page lists all territories
 pub data PageWordsModel : Type 0 where
   almanac_words : Text → ℕ → PageWordsModel
   reading_words : Text → Text → Option Text → Option Text → Bool → PageWordsModel
@@ -30,8 +31,8 @@ pub data PageWordsModel : Type 0 where
   month_words : Text → Text → Text → PageWordsModel
   territory_words : Option Text → PageWordsModel
 
--- what the service is asked for beside files: how many readers ask, whether edits and publishes are
--- refused, and whether the first line that is refused is the last to be answered
+-- what the service is asked for beside files: how many readers ask, and whether edits and publishes
+-- are refused. It says whether the first line that is refused is the last to be answered
 pub record ServiceModel : Type 0 where
   pub readers : ℕ
   pub read_only : Bool
@@ -45,10 +46,10 @@ pub record DateModel : Type 0 where
   pub month : Option Text
   pub day : Option Text
 
--- what the letters of a table are asked for: the names of the columns of places and of the date,
--- and, if they are named, that of the weekdays, the file of the table of places, what separates the
--- fields, and the order of a date's three numbers; whether a remark is a refusal, and whether it is
--- told at the end how many rows have each
+-- what the letters of a table are asked for. There are the names of the columns of places and of
+-- the date, and that of the weekdays, if it is named. There are the file of the table of places,
+-- what separates the fields, and the order of a date's three numbers, where these are named. And it
+-- is said whether a remark is a refusal, and whether it is told at the end how many rows have each
 pub record LettersModel : Type 0 where
   pub place : Text
   pub date : DateModel
@@ -59,12 +60,13 @@ pub record LettersModel : Type 0 where
   pub strict : Bool
   pub summary : Bool
 
--- what a command is asked for: the service by a journal, where to save it, where to keep it, and
--- the rest; a replay by readers and a schedule; a desk by a script and questions; a page by a
--- journal and which page; an audit by a journal and a transcript; a conversion by a calendar and a
--- date; letters by a journal and the rest; completions by a shell. Files are named by their paths
+-- what a command is asked for. The service has a journal, where to save it, where to keep it, which
+-- one it follows, and the rest. A replay has readers and a schedule, a desk a script and questions.
+-- A page has a journal and says which page, and an audit has a journal and a transcript. A
+-- conversion has a calendar and a date, letters have a journal and the rest, and completions have a
+-- shell. Files are named by their paths
 pub data CommandModel : Type 0 where
-  serving : Option Text → Option Text → Option Text → ServiceModel → CommandModel
+  serving : Option Text → Option Text → Option Text → Option Text → ServiceModel → CommandModel
   replaying : ℕ → Text → CommandModel
   working : Text → Text → CommandModel
   printing : Text → PageWordsModel → CommandModel
@@ -105,7 +107,7 @@ is_given name given = nat_lt 0 (count_of name given)
 -- what each command asks for, by what was found for its arguments
 abbrev pub serve_command : List Row → CommandModel
 serve_command given = serving (first_of (codes "journal") given) (first_of (codes "save") given)
-    (first_of (codes "keep") given) (record {
+    (first_of (codes "keep") given) (first_of (codes "follow") given) (record {
       readers = number_of 8 (codes "readers") given;
       read_only = is_given (codes "read-only") given;
       stop_at_refusal = is_given (codes "stop-at-refusal") given;
@@ -214,7 +216,7 @@ abbrev pub invocation_in : List Text → InvocationModel
 invocation_in args =
     invocation_by (matches_of command_line args) (subcommand_of command_line args)
 
--- the same of what was read, by the texts behind its references
+-- the same of what was read, by the texts that its references point to
 abbrev pub page_words : PageWords → PageWordsModel
 page_words (pages.Almanac code year) = almanac_words code.now year
 page_words (pages.Read code date weekday order strict) = reading_words code.now date.now
@@ -253,7 +255,8 @@ letters_model given = record {
 abbrev pub command_model : CommandWords → CommandModel
 command_model (Serve given) =
     serving (option_map (λ path. path.now) given.journal) (option_map (λ path. path.now) given.save)
-    (option_map (λ path. path.now) given.keep) (service_model given)
+    (option_map (λ path. path.now) given.keep) (option_map (λ path. path.now) given.follow)
+    (service_model given)
 command_model (Replay readers schedule) = replaying readers schedule.now
 command_model (Desk script questions) = working script.now questions.now
 command_model (Page journal page) = printing journal.now (page_words page)

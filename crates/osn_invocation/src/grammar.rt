@@ -87,6 +87,9 @@ fn serve_grammar<'a>(alloc: Global) -> Result<Command<'a>, AllocError>
         .arg(option_arg(alloc, "keep", "FILE").help(
             "The journal to begin with, to which each change is appended while the service runs",
         ))?
+        .arg(option_arg(alloc, "follow", "FILE").help(
+            "The journal that another run keeps: each line is answered from its newest edition",
+        ))?
         .arg(readers_arg(alloc).help("How many readers ask, 1 to 64 [default: 8]"))?
         .arg(flag_arg(alloc, "read-only").help(
             "Refuses each edit and each publish by 45 ReadOnly",
@@ -100,8 +103,9 @@ const SERVE_EXAMPLE: &str = "Example:
   ./oldstyle serve --journal examples/samples.journal --save new.journal < examples/added.jsonl
 
 Requests and replies are JSON lines. With --save, the journal is saved only if all lines were
-answered. With --keep, each change is in the journal before its reply is written. With
---stop-at-refusal, a batch of edits is published whole or not at all.";
+answered. With --keep, each change is in the journal before its reply is written. With --follow,
+edits are refused, and FILE need not be there yet. With --stop-at-refusal, a batch of edits is
+published whole or not at all.";
 
 pub(crate) const ORDER_HELP: &str =
     "How a date of three numbers, as 11/2/1731, is read: dmy or mdy";
@@ -130,7 +134,8 @@ const READ_EXAMPLE: &str = "Examples:
 A date is written 1731-02-11, \"11 February 1731\" or \"11 February 1731/2\", with a weekday before
 it or without, or in another form, as \"11 Feb. 1731/32\". Its year is the one that the document
 has, or both years are given. It may be a month, a year, a range or a bound, as \"March 1731\",
-\"3-10 May 1640\" or \"before 1640\", and say more, as \"[about 1640?]\" or \"11 February 1731 N.S.\".
+\"3-10 May 1640\" or \"before 1640\", and say more, as \"[about 1640?]\" or \"11 February 1731 \
+N.S.\".
 Where a date means several days, those of the weekday come first.";
 
 /// The command `convert` and its arguments.

@@ -32,6 +32,8 @@ pub struct ServeOptions<'a> {
     pub save: Option<&'a str>,
     /// Where the journal is kept while the service runs, if anywhere.
     pub keep: Option<&'a str>,
+    /// The journal that another run keeps and this one follows, if any.
+    pub follow: Option<&'a str>,
     /// How many readers ask.
     pub readers: u32,
     /// Whether edits and publishes are refused.
@@ -225,6 +227,7 @@ fn serve_of<'a>(given: &ArgMatches<'a>) -> CommandWords<'a>
         journal: value_of(given, "journal"),
         save: value_of(given, "save"),
         keep: value_of(given, "keep"),
+        follow: value_of(given, "follow"),
         readers: number_of(given, "readers", READERS),
         read_only: is_given(given, "read-only"),
         stop_at_refusal: is_given(given, "stop-at-refusal"),

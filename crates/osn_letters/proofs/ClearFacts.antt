@@ -123,10 +123,10 @@ IsClear-moved r b s h clears = record {
   );
 }
 
-pub IsClear-behind : (r : Reading) (bytes : List ℕ) → IsClear r → IsClear (reading_after r bytes)
-IsClear-behind r [] h = h
-IsClear-behind r (b ∷ bytes) h =
-    IsClear-behind (after r b) bytes
+pub IsClear-after_all : (r : Reading) (bytes : List ℕ) → IsClear r → IsClear (reading_after r bytes)
+IsClear-after_all r [] h = h
+IsClear-after_all r (b ∷ bytes) h =
+    IsClear-after_all (after r b) bytes
     (IsClear-moved r b (read_byte r.separator r.state b) h (step_clears r.separator r.state b))
 
 -- after a carriage return a byte is read as at the beginning
@@ -182,7 +182,7 @@ between_clear st.InComment h = refl
 
 -- ---- the records of bytes and of more after them
 
-pick_behind : (full stray ends : Bool) (f g : LettersFault) (r : Reading) (x : PlacedRecord)
+pick_after : (full stray ends : Bool) (f g : LettersFault) (r : Reading) (x : PlacedRecord)
     (xs all ys : List PlacedRecord) → (AreSound xs → all ≡ xs ++ ys)
     → AreSound (if full then faulty r f ∷ [] else if stray then faulty r g ∷ []
     else if ends then x ∷ xs else xs)
@@ -190,23 +190,23 @@ pick_behind : (full stray ends : Bool) (f g : LettersFault) (r : Reading) (x : P
     else if ends then x ∷ all else all)
     ≡ (if full then faulty r f ∷ [] else if stray then faulty r g ∷ []
     else if ends then x ∷ xs else xs) ++ ys
-pick_behind true stray ends f g r x xs all ys same sound = absurd (cc sound.0)
-pick_behind false true ends f g r x xs all ys same sound = absurd (cc sound.0)
-pick_behind false false true f g r x xs all ys same sound = ap (λ l. x ∷ l) (same sound.1)
-pick_behind false false false f g r x xs all ys same sound = same sound
+pick_after true stray ends f g r x xs all ys same sound = absurd (cc sound.0)
+pick_after false true ends f g r x xs all ys same sound = absurd (cc sound.0)
+pick_after false false true f g r x xs all ys same sound = ap (λ l. x ∷ l) (same sound.1)
+pick_after false false false f g r x xs all ys same sound = same sound
 
 pub between_last : (r : Reading) → is_between r.state ≡ true → last_record r ≡ []
 between_last r between =
     rw (between_open r.state between) (rw (between_ends r.state ∙ ap not between) refl)
 
-pub records_behind : (r : Reading) (xs ys : List ℕ)
+pub records_after : (r : Reading) (xs ys : List ℕ)
     → is_between (reading_after r xs).state ≡ true → AreSound (records_from r xs)
     → records_from r (xs ++ ys) ≡ records_from r xs ++ records_from (reading_after r xs) ys
-records_behind r [] ys between sound =
+records_after r [] ys between sound =
     sym (ap (λ l. l ++ records_from r ys) (between_last r between))
-records_behind r (b ∷ xs) ys between sound =
+records_after r (b ∷ xs) ys between sound =
     let s = read_byte r.separator r.state b in
-    pick_behind (is_full r s.0) (is_stray r.state s.0) (is_end s.1) (TooLong r.first_line)
+    pick_after (is_full r s.0) (is_stray r.state s.0) (is_end s.1) (TooLong r.first_line)
     (TextAfterQuote r.first_line) r (ended r s.1) (records_from (after r b) xs)
     (records_from (after r b) (xs ++ ys)) (records_from (reading_after (after r b) xs) ys)
-    (λ k. records_behind (after r b) xs ys between k) sound
+    (λ k. records_after (after r b) xs ys between k) sound

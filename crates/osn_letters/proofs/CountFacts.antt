@@ -8,43 +8,43 @@ use Rattle.osn_lines.proofs.InputLemmas.{known_whole}
 use Rattle.osn_letters.specs.declared.letters.Letters.{Letters}
 use Rattle.osn_letters.specs.declared.start.Start.{Start}
 use Rattle.osn_letters.specs.declared.start.Start.TheVariants.{Past, TwoBytes}
-use Rattle.osn_letters.specs.LettersInside.{CountsBehind, CountsBytes, tally_behind}
+use Rattle.osn_letters.specs.LettersInside.{CountsAfter, CountsBytes, tally_after}
 use Rattle.osn_letters.specs.LettersInside.{tally_from}
 use Rattle.osn_letters.specs.Start.{held, unmarked, next_start}
 use Rattle.osn_letters.specs.Tally.{TallyModel}
 use Rattle.osn_letters.proofs.StartFacts.{marked, unmarked_held, unmarked_end}
 
 -- bytes after bytes, after the beginning
-pub behind_counted : (s t u : Letters) (xs ys : List ℕ) → CountsBehind s t xs → CountsBehind t u ys
-    → CountsBehind s u (xs ++ ys)
-behind_counted s t u xs ys x y more =
-    ap (tally_behind s) (append_assoc xs ys more) ∙ (x (ys ++ more) ∙ y more)
+pub after_counted : (s t u : Letters) (xs ys : List ℕ) → CountsAfter s t xs → CountsAfter t u ys
+    → CountsAfter s u (xs ++ ys)
+after_counted s t u xs ys x y more =
+    ap (tally_after s) (append_assoc xs ys more) ∙ (x (ys ++ more) ∙ y more)
 
 -- the bytes that were held back
 pub held_counted : (s t u : Letters) (start : Start) → start ≡ TwoBytes
-    → CountsBehind s t (0xEF ∷ []) → CountsBehind t u (0xBB ∷ []) → CountsBehind s u (held start)
+    → CountsAfter s t (0xEF ∷ []) → CountsAfter t u (0xBB ∷ []) → CountsAfter s u (held start)
 held_counted s t u start is x y =
-    subst (λ b. CountsBehind s u (held b)) (sym is)
-    (behind_counted s t u (0xEF ∷ []) (0xBB ∷ []) x y)
+    subst (λ b. CountsAfter s u (held b)) (sym is)
+    (after_counted s t u (0xEF ∷ []) (0xBB ∷ []) x y)
 
 -- a byte that goes on with the mark
 pub mark_counted : (s : Letters) (next : Start) (b : ℕ) → next_start s.start b ≡ Some next
     → CountsBytes s (record { start = next; parser = s.parser; table = s.table }) (b ∷ [])
-mark_counted s next b h more = ap (tally_behind s) (marked s.start next b h more)
+mark_counted s next b h more = ap (tally_after s) (marked s.start next b h more)
 
--- a byte that shows that there is no mark
+-- a byte that does not go on with the mark
 pub text_counted : (s u : Letters) (b : ℕ) → next_start s.start b ≡ None → u.start ≡ Past
-    → CountsBehind s u (held s.start ++ b ∷ []) → CountsBytes s u (b ∷ [])
+    → CountsAfter s u (held s.start ++ b ∷ []) → CountsBytes s u (b ∷ [])
 text_counted s u b h past x more =
-    ap (tally_behind s)
+    ap (tally_after s)
     (unmarked_held s.start b h more ∙ sym (append_assoc (held s.start) (b ∷ []) more))
-    ∙ (x more ∙ ap (λ start. tally_behind u (unmarked start more)) (sym past))
+    ∙ (x more ∙ ap (λ start. tally_after u (unmarked start more)) (sym past))
 
 -- at the end of the text
-pub end_counted : (s t : Letters) (tally : TallyModel) → CountsBehind s t (held s.start)
-    → tally_behind t [] ≡ tally → tally_from s [] ≡ tally
+pub end_counted : (s t : Letters) (tally : TallyModel) → CountsAfter s t (held s.start)
+    → tally_after t [] ≡ tally → tally_from s [] ≡ tally
 end_counted s t tally x y =
-    ap (tally_behind s) (unmarked_end s.start) ∙ (x [] ∙ y)
+    ap (tally_after s) (unmarked_end s.start) ∙ (x [] ∙ y)
 
 -- bytes after bytes
 pub bytes_counted : (s t u : Letters) (xs ys : List ℕ) → CountsBytes s t xs → CountsBytes t u ys

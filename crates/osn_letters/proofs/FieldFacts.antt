@@ -42,14 +42,14 @@ some_meant edition w day given reason beside (first ∷ rest) some = refl
 -- the fields of days that are those of a date
 pub meant_are : (p : Profile) (edition : ℕ) (t : TerritoryModel) (w : AnyDate) (day : WrittenDate)
     (given : Option Weekday) (beside on_days : List (Bool × Remark))
-    (days told shown : List DatedDay) → days ≡ meaning p t day given → (days ≡ [] → ⊥)
-    → told ≡ days → shown ≡ days → on_days ≡ remarks_on_days day given told
-    → fields_of_days edition w shown (on_days ++ beside)
+    (days told field_days : List DatedDay) → days ≡ meaning p t day given → (days ≡ [] → ⊥)
+    → told ≡ days → field_days ≡ days → on_days ≡ remarks_on_days day given told
+    → fields_of_days edition w field_days (on_days ++ beside)
     ≡ fields_of_one_day p edition t w day given beside
-meant_are p edition t w day given beside on_days days told shown days_are some told_are shown_are
-    on_are =
+meant_are p edition t w day given beside on_days days told field_days days_are some told_are
+    field_days_are on_are =
     let reason = Absent (absence p t day) in
-    ap (λ ds. fields_of_days edition w ds (on_days ++ beside)) shown_are
+    ap (λ ds. fields_of_days edition w ds (on_days ++ beside)) field_days_are
     ∙ (ap (λ r. fields_of_days edition w days (r ++ beside))
     (on_are ∙ ap (remarks_on_days day given) told_are)
     ∙ (some_meant edition w day given reason beside days some

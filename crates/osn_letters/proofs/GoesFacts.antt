@@ -11,7 +11,7 @@ use Rattle.osn_letters.specs.Columns.{columns_of}
 use Rattle.osn_letters.specs.Faults.{later_fault}
 use Rattle.osn_letters.specs.Law.{AreSound}
 use Rattle.osn_letters.specs.Records.{PlacedRecord}
-use Rattle.osn_letters.specs.Table.{TableBasis, Heading, Written, behind, ended_by, header_at}
+use Rattle.osn_letters.specs.Table.{TableBasis, Heading, Written, text_before, ended_by, header_at}
 use Rattle.osn_letters.specs.Table.{header_by, header_text, letter_text, row_by, rows_written}
 use Rattle.osn_letters.specs.Table.{table_written}
 use Rattle.osn_letters.proofs.LaterFacts.{later_fields, later_record}
@@ -23,13 +23,13 @@ with_text text fault = record { text = text; fault = fault }
 abbrev pub later : ℕ → Written → Written
 later n w = with_text w.text (option_map (later_fault n) w.fault)
 
-pub behind_behind : (xs ys : List ℕ) (w : Written)
-    → behind xs (behind ys w) ≡ behind (xs ++ ys) w
-behind_behind xs ys w = ap (λ l. with_text l w.fault) (sym (append_assoc xs ys w.text))
+pub text_before_twice : (xs ys : List ℕ) (w : Written)
+    → text_before xs (text_before ys w) ≡ text_before (xs ++ ys) w
+text_before_twice xs ys w = ap (λ l. with_text l w.fault) (sym (append_assoc xs ys w.text))
 
 row_later : (n line : ℕ) (text : List ℕ) (more : Written) (same : Bool)
-    → (if same then behind text (later n more) else ended_by (BadRecord (line + n)))
-    ≡ later n (if same then behind text more else ended_by (BadRecord line))
+    → (if same then text_before text (later n more) else ended_by (BadRecord (line + n)))
+    ≡ later n (if same then text_before text more else ended_by (BadRecord line))
 row_later n line text more true = refl
 row_later n line text more false = refl
 
@@ -52,14 +52,14 @@ rows_later s heading n (r ∷ rest) =
 
 -- a table goes on after one that has no fault
 abbrev GoesOn : Written → Written → Written → Type 0
-GoesOn first more all = first.fault ≡ None → all ≡ behind first.text more
+GoesOn first more all = first.fault ≡ None → all ≡ text_before first.text more
 
 row_goes : (line : ℕ) (text : List ℕ) (first more all : Written) (same : Bool)
     → GoesOn first more all
-    → GoesOn (if same then behind text first else ended_by (BadRecord line)) more
-    (if same then behind text all else ended_by (BadRecord line))
+    → GoesOn (if same then text_before text first else ended_by (BadRecord line)) more
+    (if same then text_before text all else ended_by (BadRecord line))
 row_goes line text first more all true goes whole =
-    ap (behind text) (goes whole) ∙ behind_behind text first.text more
+    ap (text_before text) (goes whole) ∙ text_before_twice text first.text more
 row_goes line text first more all false goes whole = absurd (cc whole)
 
 fields_go : (s : TableBasis) (heading : Heading) (line : ℕ)
@@ -80,7 +80,7 @@ rows_go s heading (r ∷ xs) ys whole =
     (rows_written s heading (xs ++ ys)) (rows_go s heading xs ys) whole
 
 row_sound : (line : ℕ) (text : List ℕ) (more : Written) (same : Bool)
-    → (if same then behind text more else ended_by (BadRecord line)).fault ≡ None
+    → (if same then text_before text more else ended_by (BadRecord line)).fault ≡ None
     → more.fault ≡ None
 row_sound line text more true whole = whole
 row_sound line text more false whole = absurd (cc whole)
@@ -109,7 +109,7 @@ pub record GoesBy (s : TableBasis) (written : List PlacedRecord → Written) (xs
     : Type 0 where
   pub heading : Heading
   pub goes : (ys : List PlacedRecord)
-      → written (xs ++ ys) ≡ behind (written xs).text (rows_written s heading ys)
+      → written (xs ++ ys) ≡ text_before (written xs).text (rows_written s heading ys)
   pub sound : AreSound xs
 
 columns_go : (s : TableBasis) (columns : Result Columns LettersFault) (separator : Separator)
@@ -126,8 +126,8 @@ columns_go s (Ok columns) separator header xs whole =
     record {
       heading = heading;
       goes = λ ys.
-          ap (behind (header_text separator header)) (rows_go s heading xs ys whole)
-          ∙ behind_behind (header_text separator header) (rows_written s heading xs).text
+          ap (text_before (header_text separator header)) (rows_go s heading xs ys whole)
+          ∙ text_before_twice (header_text separator header) (rows_written s heading xs).text
           (rows_written s heading ys);
       sound = rows_sound s heading xs whole;
     }

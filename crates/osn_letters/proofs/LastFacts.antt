@@ -6,7 +6,7 @@ use Rattle.osn_letters.specs.declared.letters.Letters.{Letters}
 use Rattle.osn_letters.specs.declared.parser.RecordParser.{RecordParser}
 use Rattle.osn_letters.specs.declared.separator.Separator.{Separator}
 use Rattle.osn_letters.specs.declared.table.Table.{Table}
-use Rattle.osn_letters.specs.LettersInside.{Stops, Wrote, text_behind}
+use Rattle.osn_letters.specs.LettersInside.{Stops, Wrote, text_after}
 use Rattle.osn_letters.specs.Records.{last_record}
 use Rattle.osn_letters.specs.RecordsInside.{reading_of, record_in, records_given}
 use Rattle.osn_letters.specs.Separators.{or_comma}
@@ -14,13 +14,13 @@ use Rattle.osn_letters.specs.TableInside.{RefusesRecord, TakesRecords, written_o
 use Rattle.osn_letters.specs.WriterInside.{waiting}
 use Rattle.osn_letters.proofs.LetterFacts.{stops_here, wrote_nothing}
 
--- there is none
+-- the end of the text ends no record
 pub none_last : (s : Letters) (q : RecordParser)
     → last_record (reading_of s.parser) ≡ records_given q None
-    → Wrote (waiting s.table.out) (waiting s.table.out) (text_behind s []) (written_of s.table [])
+    → Wrote (waiting s.table.out) (waiting s.table.out) (text_after s []) (written_of s.table [])
 none_last s q given =
-    subst (λ w. Wrote (waiting s.table.out) (waiting s.table.out) (text_behind s []) w)
-    (ap (written_of s.table) given) (wrote_nothing (waiting s.table.out) (text_behind s []))
+    subst (λ w. Wrote (waiting s.table.out) (waiting s.table.out) (text_after s []) w)
+    (ap (written_of s.table) given) (wrote_nothing (waiting s.table.out) (text_after s []))
 
 -- it was taken
 pub last_taken : (s : Letters) (table : Table) (q : RecordParser) (line : ℕ)
@@ -28,7 +28,7 @@ pub last_taken : (s : Letters) (table : Table) (q : RecordParser) (line : ℕ)
     → last_record (reading_of s.parser) ≡ records_given q (Some line)
     → TakesRecords s.table table
     (record { line = line; separator = separator; fields = Ok (fields_of q.fields) } ∷ [])
-    → Wrote (waiting s.table.out) (waiting table.out) (text_behind s []) (written_of table [])
+    → Wrote (waiting s.table.out) (waiting table.out) (text_after s []) (written_of table [])
 last_taken s table q line separator same given took =
     let takes : TakesRecords s.table table (record_in q line ∷ []) =
     subst (λ x. TakesRecords s.table table
@@ -45,12 +45,12 @@ pub last_refused : (s : Letters) (table : Table) (q : RecordParser) (line : ℕ)
     → last_record (reading_of s.parser) ≡ records_given q (Some line)
     → RefusesRecord s.table table
     (record { line = line; separator = separator; fields = Ok (fields_of q.fields) }) fault
-    → Stops (waiting s.table.out) (waiting table.out) (text_behind s []) fault
+    → Stops (waiting s.table.out) (waiting table.out) (text_after s []) fault
 last_refused s table q line separator fault same given refused =
     let refuses : RefusesRecord s.table table (record_in q line) fault =
     subst (λ x. RefusesRecord s.table table
     (record { line = line; separator = x; fields = Ok (fields_of q.fields) }) fault) same refused in
-    stops_here (waiting s.table.out) (waiting table.out) (text_behind s []) fault refuses.0
+    stops_here (waiting s.table.out) (waiting table.out) (text_after s []) fault refuses.0
     (λ other.
     let why = refuses.1 other in
     (why.0, ap (written_of s.table) given ∙ why.1 []))

@@ -86,11 +86,11 @@ IsLater-after n r q b h =
     subst (λ s. IsLater n (after r b) (moved q b s)) (sym (h.steps b))
     (IsLater-moved n r q b (read_byte r.separator r.state b) h)
 
-pub IsLater-behind : (n : ℕ) (r q : Reading) (bytes : List ℕ) → IsLater n r q
+pub IsLater-after_all : (n : ℕ) (r q : Reading) (bytes : List ℕ) → IsLater n r q
     → IsLater n (reading_after r bytes) (reading_after q bytes)
-IsLater-behind n r q [] h = h
-IsLater-behind n r q (b ∷ bytes) h =
-    IsLater-behind n (after r b) (after q b) bytes (IsLater-after n r q b h)
+IsLater-after_all n r q [] h = h
+IsLater-after_all n r q (b ∷ bytes) h =
+    IsLater-after_all n (after r b) (after q b) bytes (IsLater-after n r q b h)
 
 -- ---- their records
 

@@ -62,10 +62,10 @@ next_by c r b bytes s =
     if is_end s.1 then Some (fields_after s.1 r.fields r.field, s.0, bytes)
     else next_record c s.0 (fields_after s.1 r.fields r.field) (field_after s.1 b r.field) bytes
 
-next_behind : (c : Config) (r : Reading) (b : ℕ) (bytes : List ℕ)
+next_after : (c : Config) (r : Reading) (b : ℕ) (bytes : List ℕ)
     → next_record c r.state r.fields r.field (b ∷ bytes) ≡ next_by c r b bytes (step c r.state b)
 unfolding next_record
-next_behind c r b bytes = refl
+next_after c r b bytes = refl
 
 byte_read : (c : Config) (r : Reading) (b : ℕ) (bytes : List ℕ) (s : State) (a : Action)
     (full stray : Bool) (f g : LettersFault) (more : List PlacedRecord)
@@ -100,7 +100,7 @@ records_read final r (b ∷ bytes) is sound =
     settled r.separator r.state b final
     (λ x found. is ∙ ap or_comma (found_stays (after r b) bytes x found)) in
     subst (λ o. ReadsRows c o (all_fields (records_from r (b ∷ bytes))))
-    (sym (next_behind c r b bytes ∙ ap (next_by c r b bytes) (sym same)))
+    (sym (next_after c r b bytes ∙ ap (next_by c r b bytes) (sym same)))
     (byte_read c r b bytes s.0 s.1 (is_full r s.0) (is_stray r.state s.0) (TooLong r.first_line)
     (TextAfterQuote r.first_line) (records_from (after r b) bytes)
     (records_read final (after r b) bytes is) sound)

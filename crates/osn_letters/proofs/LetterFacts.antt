@@ -19,7 +19,7 @@ use Rattle.csv.specs.Records.{fields_of}
 use Rattle.osn_letters.specs.Separators.{or_comma}
 use Rattle.osn_letters.specs.LettersInside.{text_from, Wrote, Stops, TakesBytes, StopsAt}
 use Rattle.osn_letters.specs.LettersInside.{Waits, is_known}
-use Rattle.osn_letters.specs.LettersInside.{text_behind, TakesBehind, StopsBehind}
+use Rattle.osn_letters.specs.LettersInside.{text_after, TakesAfter, StopsAfter}
 use Rattle.osn_letters.specs.declared.start.Start.{Start}
 use Rattle.osn_letters.specs.declared.start.Start.TheVariants.{Past, TwoBytes}
 use Rattle.osn_letters.specs.Start.{held, unmarked, next_start}
@@ -30,7 +30,8 @@ use Rattle.osn_letters.specs.Records.{records_from, after}
 use Rattle.osn_letters.specs.RecordsInside.{reading_of, record_in, Takes, RefusesByte}
 use Rattle.osn_letters.specs.RecordsInside.{RefusesEnd}
 use Rattle.osn_letters.specs.Table.{EndsEarly, IsLong, IsWhole, whole}
-use Rattle.osn_letters.specs.Table.{TableBasis, Heading, Written, behind, ended_by, written_from}
+use Rattle.osn_letters.specs.Table.{TableBasis, Heading, Written, text_before, ended_by}
+use Rattle.osn_letters.specs.Table.{written_from}
 use Rattle.osn_letters.specs.Faults.{is_of_table, is_of_stream}
 use Rattle.osn_letters.specs.TableInside.{heading_of, written_of, RefusesRecord}
 use Rattle.osn_letters.specs.WriterInside.{waiting}
@@ -55,7 +56,7 @@ wrote_then {a = a} {u = u} x y = record {
   text = x.text ++ y.text;
   out = y.out ∙ ap (λ t. t ++ y.text) x.out ∙ append_assoc a x.text y.text;
   begins =
-      x.begins ∙ ap (behind x.text) y.begins
+      x.begins ∙ ap (text_before x.text) y.begins
       ∙ ap (λ t. record { text = t; fault = u.fault }) (sym (append_assoc x.text y.text u.text));
 }
 
@@ -82,10 +83,10 @@ fault_ends s (Some heading) r fault = refl
 -- a byte was not taken
 pub byte_refused : (s : Letters) (p : RecordParser) (b : ℕ) (fault : LettersFault)
     → RefusesByte s.parser b fault
-    → StopsBehind s (record { start = s.start; parser = p; table = s.table }) (b ∷ []) fault
+    → StopsAfter s (record { start = s.start; parser = p; table = s.table }) (b ∷ []) fault
 byte_refused s p b fault refuses more =
     let out = waiting s.table.out in
-    stops_here out out (text_behind s (b ∷ more)) fault refuses.0
+    stops_here out out (text_after s (b ∷ more)) fault refuses.0
     (λ other. (
       refl,
       ap (written_of s.table)
@@ -95,10 +96,10 @@ byte_refused s p b fault refuses more =
 
 -- the end of the text was not taken
 pub end_refused : (s : Letters) (fault : LettersFault) → RefusesEnd s.parser fault
-    → Stops (waiting s.table.out) (waiting s.table.out) (text_behind s []) fault
+    → Stops (waiting s.table.out) (waiting s.table.out) (text_after s []) fault
 end_refused s fault refuses =
     let out = waiting s.table.out in
-    stops_here out out (text_behind s []) fault refuses.0
+    stops_here out out (text_after s []) fault refuses.0
     (λ other. (
       refl,
       ap (written_of s.table) (refuses.1 other)
@@ -112,37 +113,37 @@ pub record_refused : (s : Letters) (table : Table) (q : RecordParser) (b line : 
     → RefusesRecord s.table table
     (record { line = line; separator = separator; fields = Ok (fields_of q.fields) }) fault
     → (more : List ℕ)
-    → Stops (waiting s.table.out) (waiting table.out) (text_behind s (b ∷ more)) fault
+    → Stops (waiting s.table.out) (waiting table.out) (text_after s (b ∷ more)) fault
 record_refused s table q b line separator fault same takes refused more =
     let refuses : RefusesRecord s.table table (record_in q line) fault =
     subst (λ x. RefusesRecord s.table table
     (record { line = line; separator = x; fields = Ok (fields_of q.fields) }) fault) same refused in
-    stops_here (waiting s.table.out) (waiting table.out) (text_behind s (b ∷ more)) fault refuses.0
+    stops_here (waiting s.table.out) (waiting table.out) (text_after s (b ∷ more)) fault refuses.0
     (λ other.
     let rest = records_from (after (reading_of s.parser) b) more in
     let why = refuses.1 other in
     (why.0, ap (written_of s.table) (takes.0 rest) ∙ why.1 rest))
 
 -- bytes after bytes, after the beginning
-pub behind_then : (s t u : Letters) (xs ys : List ℕ) → TakesBehind s t xs → TakesBehind t u ys
-    → TakesBehind s u (xs ++ ys)
-behind_then s t u xs ys x y more =
-    subst (λ bytes. Wrote (waiting s.table.out) (waiting u.table.out) (text_behind s bytes)
-    (text_behind u more)) (sym (append_assoc xs ys more))
+pub after_then : (s t u : Letters) (xs ys : List ℕ) → TakesAfter s t xs → TakesAfter t u ys
+    → TakesAfter s u (xs ++ ys)
+after_then s t u xs ys x y more =
+    subst (λ bytes. Wrote (waiting s.table.out) (waiting u.table.out) (text_after s bytes)
+    (text_after u more)) (sym (append_assoc xs ys more))
     (wrote_then (x (ys ++ more)) (y more))
 
-pub behind_stops : (s t u : Letters) (xs ys : List ℕ) (fault : LettersFault) → TakesBehind s t xs
-    → StopsBehind t u ys fault → StopsBehind s u (xs ++ ys) fault
-behind_stops s t u xs ys fault x y more =
-    subst (λ bytes. Stops (waiting s.table.out) (waiting u.table.out) (text_behind s bytes) fault)
+pub after_stops : (s t u : Letters) (xs ys : List ℕ) (fault : LettersFault) → TakesAfter s t xs
+    → StopsAfter t u ys fault → StopsAfter s u (xs ++ ys) fault
+after_stops s t u xs ys fault x y more =
+    subst (λ bytes. Stops (waiting s.table.out) (waiting u.table.out) (text_after s bytes) fault)
     (sym (append_assoc xs ys more))
     (wrote_stops (x (ys ++ more)) (y more))
 
 -- the first of some bytes were not taken, so all were not
 pub stops_first : (s u : Letters) (xs ys : List ℕ) (fault : LettersFault)
-    → StopsBehind s u xs fault → StopsBehind s u (xs ++ ys) fault
+    → StopsAfter s u xs fault → StopsAfter s u (xs ++ ys) fault
 stops_first s u xs ys fault x more =
-    subst (λ bytes. Stops (waiting s.table.out) (waiting u.table.out) (text_behind s bytes) fault)
+    subst (λ bytes. Stops (waiting s.table.out) (waiting u.table.out) (text_after s bytes) fault)
     (sym (append_assoc xs ys more)) (x (ys ++ more))
 
 -- a byte that goes on with the mark
@@ -151,46 +152,46 @@ pub mark_taken : (s : Letters) (next : Start) (b : ℕ) → next_start s.start b
 mark_taken s next b h more = record {
   text = [];
   out = sym (append-nil (waiting s.table.out));
-  begins = ap (text_behind s) (marked s.start next b h more);
+  begins = ap (text_after s) (marked s.start next b h more);
 }
 
--- a byte that shows that there is no mark
+-- a byte that does not go on with the mark
 pub text_taken : (s u : Letters) (b : ℕ) → next_start s.start b ≡ None → u.start ≡ Past
-    → TakesBehind s u (held s.start ++ b ∷ []) → TakesBytes s u (b ∷ [])
+    → TakesAfter s u (held s.start ++ b ∷ []) → TakesBytes s u (b ∷ [])
 text_taken s u b h past x more =
-    subst (λ bytes. Wrote (waiting s.table.out) (waiting u.table.out) (text_behind s bytes)
+    subst (λ bytes. Wrote (waiting s.table.out) (waiting u.table.out) (text_after s bytes)
     (text_from u more))
     (append_assoc (held s.start) (b ∷ []) more ∙ sym (unmarked_held s.start b h more))
     (subst (λ start. Wrote (waiting s.table.out) (waiting u.table.out)
-    (text_behind s ((held s.start ++ b ∷ []) ++ more)) (text_behind u (unmarked start more)))
+    (text_after s ((held s.start ++ b ∷ []) ++ more)) (text_after u (unmarked start more)))
     (sym past) (x more))
 
 pub text_stops : (s u : Letters) (b : ℕ) (fault : LettersFault) → next_start s.start b ≡ None
-    → StopsBehind s u (held s.start ++ b ∷ []) fault → StopsAt s u (b ∷ []) fault
+    → StopsAfter s u (held s.start ++ b ∷ []) fault → StopsAt s u (b ∷ []) fault
 text_stops s u b fault h x more =
-    subst (λ bytes. Stops (waiting s.table.out) (waiting u.table.out) (text_behind s bytes) fault)
+    subst (λ bytes. Stops (waiting s.table.out) (waiting u.table.out) (text_after s bytes) fault)
     (append_assoc (held s.start) (b ∷ []) more ∙ sym (unmarked_held s.start b h more)) (x more)
 
 -- at the end of the text
-pub end_taken : (s t : Letters) (c : List ℕ) (w : Written) → TakesBehind s t (held s.start)
-    → Wrote (waiting t.table.out) c (text_behind t []) w
+pub end_taken : (s t : Letters) (c : List ℕ) (w : Written) → TakesAfter s t (held s.start)
+    → Wrote (waiting t.table.out) c (text_after t []) w
     → Wrote (waiting s.table.out) c (text_from s []) w
 end_taken s t c w x y =
-    subst (λ bytes. Wrote (waiting s.table.out) c (text_behind s bytes) w)
+    subst (λ bytes. Wrote (waiting s.table.out) c (text_after s bytes) w)
     (sym (unmarked_end s.start)) (wrote_then (x []) y)
 
 pub end_stops : (s t : Letters) (c : List ℕ) (fault : LettersFault)
-    → TakesBehind s t (held s.start) → Stops (waiting t.table.out) c (text_behind t []) fault
+    → TakesAfter s t (held s.start) → Stops (waiting t.table.out) c (text_after t []) fault
     → Stops (waiting s.table.out) c (text_from s []) fault
 end_stops s t c fault x y =
-    subst (λ bytes. Stops (waiting s.table.out) c (text_behind s bytes) fault)
+    subst (λ bytes. Stops (waiting s.table.out) c (text_after s bytes) fault)
     (sym (unmarked_end s.start)) (wrote_stops (x []) y)
 
 pub end_stops_held : (s t : Letters) (fault : LettersFault)
-    → StopsBehind s t (held s.start) fault
+    → StopsAfter s t (held s.start) fault
     → Stops (waiting s.table.out) (waiting t.table.out) (text_from s []) fault
 end_stops_held s t fault x =
-    subst (λ bytes. Stops (waiting s.table.out) (waiting t.table.out) (text_behind s bytes) fault)
+    subst (λ bytes. Stops (waiting s.table.out) (waiting t.table.out) (text_after s bytes) fault)
     (sym (unmarked_end s.start)) (x [])
 
 -- bytes after bytes
@@ -292,7 +293,7 @@ part_early c d out n r fault w known appended other waits =
     record {
       text = take n out;
       appended = appended;
-      rest = behind (drop n out) rest;
+      rest = text_before (drop n out) rest;
       begins =
           wrote.begins
           ∙ ap (λ t. record { text = t ++ rest.text; fault = rest.fault })
@@ -331,7 +332,7 @@ passes_then {c = c} {d = d} {e = e} {u = u} x y = record {
   text = x.text ++ y.text;
   appended = Appends-then c d e x.text y.text x.appended y.appended;
   begins =
-      x.begins ∙ ap (behind x.text) y.begins
+      x.begins ∙ ap (text_before x.text) y.begins
       ∙ ap (λ t. record { text = t; fault = u.fault }) (sym (append_assoc x.text y.text u.text));
 }
 
@@ -369,20 +370,20 @@ passes_ends {v = v} fault other x = record {
 
 -- two bytes that were held back
 pub held_takes : (s t u : Letters) (start : Start) → start ≡ TwoBytes
-    → TakesBehind s t (0xEF ∷ []) → TakesBehind t u (0xBB ∷ []) → TakesBehind s u (held start)
+    → TakesAfter s t (0xEF ∷ []) → TakesAfter t u (0xBB ∷ []) → TakesAfter s u (held start)
 held_takes s t u start is x y =
-    subst (λ b. TakesBehind s u (held b)) (sym is)
-    (behind_then s t u (0xEF ∷ []) (0xBB ∷ []) x y)
+    subst (λ b. TakesAfter s u (held b)) (sym is)
+    (after_then s t u (0xEF ∷ []) (0xBB ∷ []) x y)
 
 pub held_stops : (s t u : Letters) (start : Start) (fault : LettersFault) → start ≡ TwoBytes
-    → TakesBehind s t (0xEF ∷ []) → StopsBehind t u (0xBB ∷ []) fault
-    → StopsBehind s u (held start) fault
+    → TakesAfter s t (0xEF ∷ []) → StopsAfter t u (0xBB ∷ []) fault
+    → StopsAfter s u (held start) fault
 held_stops s t u start fault is x y =
-    subst (λ b. StopsBehind s u (held b) fault) (sym is)
-    (behind_stops s t u (0xEF ∷ []) (0xBB ∷ []) fault x y)
+    subst (λ b. StopsAfter s u (held b) fault) (sym is)
+    (after_stops s t u (0xEF ∷ []) (0xBB ∷ []) fault x y)
 
 pub held_stops_first : (s u : Letters) (start : Start) (fault : LettersFault) → start ≡ TwoBytes
-    → StopsBehind s u (0xEF ∷ []) fault → StopsBehind s u (held start) fault
+    → StopsAfter s u (0xEF ∷ []) fault → StopsAfter s u (held start) fault
 held_stops_first s u start fault is x =
-    subst (λ b. StopsBehind s u (held b) fault) (sym is)
+    subst (λ b. StopsAfter s u (held b) fault) (sym is)
     (stops_first s u (0xEF ∷ []) (0xBB ∷ []) fault x)

@@ -25,3 +25,4 @@ pub mod SpanFacts
 pub mod StartFacts
 pub mod StreamFacts
 pub mod TableFacts
+mod EdtfFacts

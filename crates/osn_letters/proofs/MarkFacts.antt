@@ -59,16 +59,16 @@ no_second named x y z true false e k between =
     ap (λ t. (t && (y == 187)) && (z == 191)) e ∙ ap (λ t. t && (z == 191)) k
 no_second named x y z false u e k between = ap (λ t. (t && (y == 187)) && (z == 191)) e
 
-pub strip_behind : (named : Option Separator) (b : ℕ) (text more : List ℕ)
+pub strip_after : (named : Option Separator) (b : ℕ) (text more : List ℕ)
     → is_between (reading_after (at_start named) (strip_bom (b ∷ text))).state ≡ true
     → strip_bom ((b ∷ text) ++ more) ≡ strip_bom (b ∷ text) ++ more
 unfolding strip_bom
-strip_behind named x [] [] between = refl
-strip_behind named x [] (y ∷ []) between = refl
-strip_behind named x [] (y ∷ z ∷ more) between =
+strip_after named x [] [] between = refl
+strip_after named x [] (y ∷ []) between = refl
+strip_after named x [] (y ∷ z ∷ more) between =
     ap (λ t. if t then more else x ∷ y ∷ z ∷ more) (no_first named x y z (x == 239) refl between)
-strip_behind named x (y ∷ []) [] between = refl
-strip_behind named x (y ∷ []) (z ∷ more) between =
+strip_after named x (y ∷ []) [] between = refl
+strip_after named x (y ∷ []) (z ∷ more) between =
     ap (λ t. if t then more else x ∷ y ∷ z ∷ more)
     (no_second named x y z (x == 239) (y == 187) refl refl between)
-strip_behind named x (y ∷ z ∷ rest) more between = mark_within x y z (is_bom x y z) refl rest more
+strip_after named x (y ∷ z ∷ rest) more between = mark_within x y z (is_bom x y z) refl rest more

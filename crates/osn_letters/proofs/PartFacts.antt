@@ -12,18 +12,18 @@ use Rattle.osn_letters.specs.Faults.{later_fault}
 use Rattle.osn_letters.specs.Parts.{IsWholeTable, lines_in, rows_text, MayEachTableBeCut}
 use Rattle.osn_letters.specs.Records.{Reading, after, at_start, is_between}
 use Rattle.osn_letters.specs.Records.{reading_after, records_from, records_of}
-use Rattle.osn_letters.specs.Table.{TableBasis, Heading, Written, behind, letters_written}
+use Rattle.osn_letters.specs.Table.{TableBasis, Heading, Written, text_before, letters_written}
 use Rattle.osn_letters.specs.Table.{rows_written, table_written}
 use Rattle.osn_letters.specs.TableLaws.{AreTableLaws}
-use Rattle.osn_letters.proofs.ClearFacts.{clear_start, IsClear-behind, between_last}
-use Rattle.osn_letters.proofs.ClearFacts.{records_behind}
+use Rattle.osn_letters.proofs.ClearFacts.{clear_start, IsClear-after_all, between_last}
+use Rattle.osn_letters.proofs.ClearFacts.{records_after}
 use Rattle.osn_letters.proofs.FoundFacts.{record_found}
-use Rattle.osn_letters.proofs.GoesFacts.{behind_behind, later, rows_go, rows_later, rows_sound}
+use Rattle.osn_letters.proofs.GoesFacts.{text_before_twice, later, rows_go, rows_later, rows_sound}
 use Rattle.osn_letters.proofs.GoesFacts.{table_goes}
-use Rattle.osn_letters.proofs.LaterFacts.{IsLater, IsLater-behind, records_later}
+use Rattle.osn_letters.proofs.LaterFacts.{IsLater, IsLater-after_all, records_later}
 use Rattle.osn_letters.proofs.LawFacts.{kit_records}
-use Rattle.osn_letters.proofs.MarkFacts.{strip_behind}
-use Rattle.osn_letters.proofs.SeamFacts.{IsPast, IsPast-behind, IsPast-itself, Stands}
+use Rattle.osn_letters.proofs.MarkFacts.{strip_after}
+use Rattle.osn_letters.proofs.SeamFacts.{IsPast, IsPast-after_all, IsPast-itself, Stands}
 use Rattle.osn_letters.proofs.SeamFacts.{first_records, line_after, seam_later}
 use Rattle.osn_letters.proofs.SeparatorFacts.{found_stays}
 
@@ -34,7 +34,7 @@ no_text s whole = absurd (cc whole)
 whole_strip : (s : TableBasis) (text more : List ℕ) → IsWholeTable s text
     → strip_bom (text ++ more) ≡ strip_bom text ++ more
 whole_strip s [] more h = absurd (no_text s h.whole)
-whole_strip s (b ∷ text) more h = strip_behind s.separator b text more h.ends
+whole_strip s (b ∷ text) more h = strip_after s.separator b text more h.ends
 
 -- ---- the parts after a header
 
@@ -45,7 +45,8 @@ record Heads (s : TableBasis) (header : List ℕ) : Type 0 where
   separator : Separator
   between : Stands separator reading
   goes : (part : List ℕ) → letters_written s (header ++ part)
-      ≡ behind (letters_written s header).text (rows_written s heading (records_from reading part))
+      ≡ text_before (letters_written s header).text
+      (rows_written s heading (records_from reading part))
   stands : (part : List ℕ) → reading_after (at_start s.separator) (strip_bom (header ++ part))
       ≡ reading_after reading part
 
@@ -63,14 +64,14 @@ header_heads s header h =
       separator = found.0;
       between =
           record {
-            clear = IsClear-behind start (strip_bom header) (clear_start s.separator);
+            clear = IsClear-after_all start (strip_bom header) (clear_start s.separator);
             between = h.ends;
             found = found.1;
           };
       goes = λ part.
           ap (table_written s)
           (ap (records_from start) (whole_strip s header part h)
-          ∙ records_behind start (strip_bom header) part h.ends table.sound)
+          ∙ records_after start (strip_bom header) part h.ends table.sound)
           ∙ table.goes (records_from reading part);
       stands = λ part.
           ap (reading_after start) (whole_strip s header part h)
@@ -97,7 +98,7 @@ header_part s header part h k = record {
 part_goes : (s : TableBasis) (heading : Heading) (r q : Reading) (n : ℕ) (part more : List ℕ)
     → IsLater n r q → IsPart s heading r part
     → part_written s heading q (part ++ more)
-    ≡ behind (part_written s heading r part).text
+    ≡ text_before (part_written s heading r part).text
     (part_written s heading (reading_after q part) more)
 part_goes s heading r q n part more h k =
     let written : part_written s heading q part ≡ later n (part_written s heading r part) =
@@ -105,12 +106,12 @@ part_goes s heading r q n part more h k =
     ∙ rows_later s heading n (records_from r part) in
     let whole : (part_written s heading q part).fault ≡ None =
     ap (λ w. w.fault) written ∙ ap (option_map (later_fault n)) k.whole in
-    let ends = IsLater-behind n r q part h in
+    let ends = IsLater-after_all n r q part h in
     ap (rows_written s heading)
-    (records_behind q part more (ends.between ∙ k.between)
+    (records_after q part more (ends.between ∙ k.between)
     (rows_sound s heading (records_from q part) whole))
     ∙ (rows_go s heading (records_from q part) (records_from (reading_after q part) more) whole
-    ∙ ap (λ w. behind w.text (part_written s heading (reading_after q part) more)) written)
+    ∙ ap (λ w. text_before w.text (part_written s heading (reading_after q part) more)) written)
 
 -- the first byte of a part ends no record
 first_written : (s : TableBasis) (heading : Heading) (x : Separator) (r : Reading) (b : ℕ)
@@ -123,10 +124,10 @@ first_written s heading x r b bytes h =
 seam_goes : (s : TableBasis) (heading : Heading) (x : Separator) (r q : Reading)
     (part more : List ℕ) → Stands x r → Stands x q → IsPast r q → IsPart s heading r part
     → part_written s heading q (part ++ more)
-    ≡ behind (part_written s heading r part).text
+    ≡ text_before (part_written s heading r part).text
     (part_written s heading (reading_after q part) more)
 seam_goes s heading x r q [] more h k past part =
-    ap (λ l. behind (rows_written s heading l).text (part_written s heading q more))
+    ap (λ l. text_before (rows_written s heading l).text (part_written s heading q more))
     (sym (between_last r h.between))
 seam_goes s heading x r q (b ∷ bytes) more h k past part =
     let first = first_written s heading x r b bytes h in
@@ -135,7 +136,7 @@ seam_goes s heading x r q (b ∷ bytes) more h k past part =
     record { between = part.between; whole = sym (ap (λ w. w.fault) first) ∙ part.whole } in
     first_written s heading x q b (bytes ++ more) k
     ∙ (part_goes s heading (after r b) (after q b) on.more bytes more on.later next
-    ∙ ap (λ w. behind w.text (part_written s heading (reading_after q (b ∷ bytes)) more))
+    ∙ ap (λ w. text_before w.text (part_written s heading (reading_after q (b ∷ bytes)) more))
     (sym first))
 
 seam_between : (x : Separator) (r q : Reading) (part : List ℕ) → Stands x r → Stands x q
@@ -144,7 +145,7 @@ seam_between : (x : Separator) (r q : Reading) (part : List ℕ) → Stands x r 
 seam_between x r q [] h k past ends = k.between
 seam_between x r q (b ∷ bytes) h k past ends =
     let on = seam_later x r q b h k past in
-    (IsLater-behind on.more (after r b) (after q b) bytes on.later).between ∙ ends
+    (IsLater-after_all on.more (after r b) (after q b) bytes on.later).between ∙ ends
 
 -- what is written of bytes that stand as many lines further on in a whole
 record IsWrittenLater (s : TableBasis) (heading : Heading) (r q : Reading) (text : List ℕ)
@@ -152,7 +153,7 @@ record IsWrittenLater (s : TableBasis) (heading : Heading) (r q : Reading) (text
   more : ℕ
   lines : (reading_after q all).line ≡ (reading_after r last).line + more
   written : part_written s heading q all
-      ≡ behind text (later more (part_written s heading r last))
+      ≡ text_before text (later more (part_written s heading r last))
 
 last_goes : (s : TableBasis) (heading : Heading) (x : Separator) (r q : Reading)
     (last : List ℕ) → Stands x r → Stands x q → IsPast r q
@@ -169,7 +170,7 @@ last_goes s heading x r q (b ∷ bytes) h k past =
     let on = seam_later x r q b h k past in
     record {
       more = on.more;
-      lines = (IsLater-behind on.more (after r b) (after q b) bytes on.later).line;
+      lines = (IsLater-after_all on.more (after r b) (after q b) bytes on.later).line;
       written =
           first_written s heading x q b bytes k
           ∙ ap (rows_written s heading)
@@ -189,11 +190,11 @@ parts_go s heading x r q (part ∷ parts) last h k past each =
     let first = All-head (IsPart s heading r) part parts each in
     let next = reading_after q part in
     let stands : Stands x next = record {
-      clear = IsClear-behind q part k.clear;
+      clear = IsClear-after_all q part k.clear;
       between = seam_between x r q part h k past first.between;
       found = found_stays q part x k.found;
     } in
-    let rest = parts_go s heading x r next parts last h stands (IsPast-behind r q part past)
+    let rest = parts_go s heading x r next parts last h stands (IsPast-after_all r q part past)
     (All-tail (IsPart s heading r) part parts each) in
     let text = (part_written s heading r part).text in
     let texts = flat_map (λ p. (part_written s heading r p).text) parts in
@@ -206,8 +207,8 @@ parts_go s heading x r q (part ∷ parts) last h k past each =
       written =
           ap (part_written s heading q) (append_assoc part (concat parts) last)
           ∙ (seam_goes s heading x r q part (concat parts ++ last) h k past first
-          ∙ (ap (behind text) rest.written
-          ∙ behind_behind text texts (later rest.more (part_written s heading r last))));
+          ∙ (ap (text_before text) rest.written
+          ∙ text_before_twice text texts (later rest.more (part_written s heading r last))));
     }
 
 all_parts : (s : TableBasis) (header : List ℕ) (h : Heads s header) (parts : List (List ℕ))
@@ -242,9 +243,9 @@ table_cut s header parts last whole each =
     let texts = flat_map (λ p. (part_written s h.heading h.reading p).text) parts in
     let rest = parts_go s h.heading h.separator h.reading h.reading parts last h.between h.between
     (IsPast-itself h.reading) (all_parts s header h parts each) in
-    let written : letters_written s (header ++ all) ≡ behind head
-    (behind texts (later rest.more (part_written s h.heading h.reading last))) =
-    h.goes all ∙ ap (behind head) rest.written in
+    let written : letters_written s (header ++ all) ≡ text_before head
+    (text_before texts (later rest.more (part_written s h.heading h.reading last))) =
+    h.goes all ∙ ap (text_before head) rest.written in
     record {
       more = rest.more;
       lines =

@@ -17,7 +17,7 @@ use Rattle.osn_letters.specs.LettersInside.{text_from}
 use Rattle.osn_letters.specs.Records.{records_from}
 use Rattle.osn_letters.specs.RecordsInside.{reading_of}
 use Rattle.osn_letters.specs.Start.{unmarked}
-use Rattle.osn_letters.specs.Table.{Written, behind, ended_by, written_from}
+use Rattle.osn_letters.specs.Table.{Written, text_before, ended_by, written_from}
 use Rattle.osn_letters.specs.TableInside.{heading_by, source_of}
 use Rattle.osn_letters.specs.WriterInside.{waiting}
 
@@ -43,7 +43,7 @@ passes_written c d s t out bytes taken none takes all more =
       text = wrote.text;
       appended =
           subst (Appends c d) (wrote.out ∙ ap (λ l. l ++ wrote.text) none) all.appended;
-      begins = wrote.begins ∙ ap (behind wrote.text) same;
+      begins = wrote.begins ∙ ap (text_before wrote.text) same;
     }
 
 table_inner : (fault : LettersFault) → is_of_table fault ≡ true → is_of_stream fault ≡ false

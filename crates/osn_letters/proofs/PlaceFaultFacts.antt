@@ -105,22 +105,22 @@ unread_all es (r ∷ rest) =
     unread_then (columns_in r.line header) (λ columns. entries_after columns es rest)
     (unread_columns r.line header) (λ columns. unread_after columns es rest))
 
--- so is none by which a reading of the text ends
+-- no fault of a text of places is one of reading
 pub unread_fault : (text : List ℕ) (fault : PlacesFault)
     → ((fault ≢ faults.NoMemory) → places_in text ≡ Err fault) → is_read_fault fault ≡ false
-unread_fault text faults.ReadFault said =
-    let is = said (λ e. absurd (cc e)) in
+unread_fault text faults.ReadFault unless_unmade =
+    let is = unless_unmade (λ e. absurd (cc e)) in
     subst (λ r. IfErr r (λ fault. is_read_fault fault ≡ false)) is
     (unread_all [] (records_of None text)).other
-unread_fault text faults.NoHeader said = refl
-unread_fault text (faults.LacksColumn column line found) said = refl
-unread_fault text (faults.BadRecord line) said = refl
-unread_fault text (faults.TooLong line) said = refl
-unread_fault text (faults.OpenQuote line) said = refl
-unread_fault text (faults.TextAfterQuote line) said = refl
-unread_fault text (faults.NotUtf8 line) said = refl
-unread_fault text (faults.TwoCodes line place) said = refl
-unread_fault text faults.NoMemory said = refl
+unread_fault text faults.NoHeader unless_unmade = refl
+unread_fault text (faults.LacksColumn column line found) unless_unmade = refl
+unread_fault text (faults.BadRecord line) unless_unmade = refl
+unread_fault text (faults.TooLong line) unless_unmade = refl
+unread_fault text (faults.OpenQuote line) unless_unmade = refl
+unread_fault text (faults.TextAfterQuote line) unless_unmade = refl
+unread_fault text (faults.NotUtf8 line) unless_unmade = refl
+unread_fault text (faults.TwoCodes line place) unless_unmade = refl
+unread_fault text faults.NoMemory unless_unmade = refl
 
 -- the source is as sound as it was
 pub sound_after : {A : Type 0} (r : Result A PlacesFault) (old new : Bool) (Long : Type 0)

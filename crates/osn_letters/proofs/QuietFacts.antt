@@ -12,7 +12,7 @@ use Rattle.osn_letters.specs.declared.letters.Letters.{Letters}
 use Rattle.osn_letters.specs.declared.start.Start.{Start}
 use Rattle.osn_letters.specs.declared.start.Start.TheVariants.{Nothing, OneByte, TwoBytes, Past}
 use Rattle.osn_letters.specs.declared.separator.Separator.{Separator}
-use Rattle.osn_letters.specs.LettersInside.{text_from, text_behind}
+use Rattle.osn_letters.specs.LettersInside.{text_from, text_after}
 use Rattle.osn_letters.specs.Records.{Reading, PlacedRecord, after, is_between, moved}
 use Rattle.osn_letters.specs.Records.{faulty, is_stray, longest_record, read_byte, records_by}
 use Rattle.osn_letters.specs.Records.{records_from}
@@ -102,7 +102,7 @@ run_long (suc n) = rw (run_long n) refl
 
 -- after what is held back as well
 held_quiet : (s : Letters) (bytes : List ℕ) → ArePlain bytes → 65536 < length bytes
-    → (start : Start) → (text_behind s (held start ++ bytes)).text ≡ []
+    → (start : Start) → (text_after s (held start ++ bytes)).text ≡ []
 held_quiet s bytes plain long Nothing =
     quiet (source_of s.table) (heading_of s.table) (reading_of s.parser) bytes plain
     (omega (arith, long))
@@ -125,7 +125,7 @@ goes_on Past = refl
 
 run_quiet : (s : Letters) (n : ℕ) → 65536 < n → (text_from s (97 ∷ run n)).text ≡ []
 run_quiet s n high =
-    ap (λ bytes. (text_behind s bytes).text) (unmarked_held s.start 97 (goes_on s.start) (run n))
+    ap (λ bytes. (text_after s bytes).text) (unmarked_held s.start 97 (goes_on s.start) (run n))
     ∙ held_quiet s (97 ∷ run n) ((refl, refl, refl, refl), run_plain n)
     (omega (arith, high, run_long n)) s.start
 

@@ -29,14 +29,20 @@ use Rattle.osn_letters.specs.declared.separator.Separator.{Separator}
 use Rattle.osn_letters.specs.Columns.{columns_of}
 use Rattle.osn_letters.specs.DateParts.{date_in}
 use Rattle.osn_letters.specs.Fields.{fields_of_either}
-use Rattle.osn_letters.specs.Fields.{fields_of_found, fields_of_meaning, fields_said}
+use Rattle.osn_letters.specs.Fields.{fields_of_found, fields_of_meaning, fields_of_reading}
+use Rattle.osn_letters.specs.Fields.{fields_of_found_set, fields_of_members}
+use Rattle.osn_letters.specs.Remarks.{remarks_beside_set}
+use Rattle.osn_letters.specs.RowFields.{members_in}
+use Rattle.osn_written.specs.declared.set.AbsentMember.{AbsentMember}
+use Rattle.osn_written.specs.SetsMeant.{found_of_set}
 use Rattle.osn_letters.specs.Records.{PlacedRecord, records_of}
 use Rattle.osn_letters.specs.Remarks.{are_on_weekday, remark_words, remarks_beside}
 use Rattle.osn_letters.specs.Remarks.{remarks_on_days, those_that_apply}
-use Rattle.osn_letters.specs.RowFields.{is_malformed_weekday, said_in, territory_in, weekday_in}
+use Rattle.osn_letters.specs.RowFields.{is_malformed_weekday, date_of_field, territory_in}
+use Rattle.osn_letters.specs.RowFields.{weekday_in}
 use Rattle.osn_letters.specs.RowRemarks.{IsTallyOf, first_remarks, header_remarks}
 use Rattle.osn_letters.specs.RowRemarks.{letters_remarks, rows_remarks, table_remarks}
-use Rattle.osn_letters.specs.Table.{TableBasis, said_of}
+use Rattle.osn_letters.specs.Table.{TableBasis, letter_of}
 use Rattle.osn_letters.specs.TableInside.{letters_tally}
 use Rattle.osn_letters.specs.Tally.{IsTally, TallyModel, has_words}
 use Rattle.osn_letters.specs.TallyInside.{no_rows}
@@ -160,28 +166,69 @@ either_apart p edition t w given b (Some day) =
     meaning_apart edition w day given (none.Absent (absence p t day)) b (meaning p t day given)
 either_apart p edition t w given b None = found_apart edition w b (found p t w.extent)
 
-said_apart : (p : Profile) (edition : ℕ) (t : Option TerritoryModel) (named : Option (List ℕ))
-    (r : Result Written DateFault) → AreApart (fields_said p edition t named r).remarks
-said_apart p edition (Some t) named (Ok (written.Date w)) =
+-- ---- of a set of dates
+
+abbrev beside_set : Option Weekday × Bool → List (Bool × Remark)
+beside_set (given, malformed) = remarks_beside_set given malformed
+
+set_apart : (b : Option Weekday × Bool) → AreApart (remarks_in (beside_set b))
+set_apart b = (refl, (refl, tt))
+
+no_set_apart : (reason : NoDay) (b : Option Weekday × Bool)
+    → AreApart (remarks_in ((true, told.NoDay reason) ∷ beside_set b))
+no_set_apart (none.Absent why.NotWithBothYears) b = (refl, set_apart b)
+no_set_apart (none.Absent why.NotOfItsCalendar) b = (refl, set_apart b)
+no_set_apart (none.Absent why.OffTheLine) b = (refl, set_apart b)
+no_set_apart (none.Absent why.Skipped) b = (refl, set_apart b)
+no_set_apart (none.Absent why.NotInThatYear) b = (refl, set_apart b)
+no_set_apart (none.LastAbsent why.NotWithBothYears) b = (refl, set_apart b)
+no_set_apart (none.LastAbsent why.NotOfItsCalendar) b = (refl, set_apart b)
+no_set_apart (none.LastAbsent why.OffTheLine) b = (refl, set_apart b)
+no_set_apart (none.LastAbsent why.Skipped) b = (refl, set_apart b)
+no_set_apart (none.LastAbsent why.NotInThatYear) b = (refl, set_apart b)
+no_set_apart none.OutOfOrder b = (refl, set_apart b)
+no_set_apart none.OffTheLine b = (refl, set_apart b)
+
+found_set_apart : (edition : ℕ) (ws : List AnyDate) (b : Option Weekday × Bool)
+    (r : Result (List Run) AbsentMember)
+    → AreApart (fields_of_found_set edition ws (beside_set b) r).remarks
+found_set_apart edition ws b (Ok runs) = apart_those (beside_set b) (set_apart b)
+found_set_apart edition ws b (Err absent) =
+    apart_those ((true, told.NoDay absent.reason) ∷ beside_set b) (no_set_apart absent.reason b)
+
+members_apart : (p : Profile) (edition : ℕ) (t : Option TerritoryModel) (ws : List AnyDate)
+    (b : Option Weekday × Bool)
+    → AreApart (fields_of_members p edition t ws (beside_set b)).remarks
+members_apart p edition (Some t) ws b = found_set_apart edition ws b (found_of_set p t ws)
+members_apart p edition None ws b =
+    apart_those ((true, told.UnknownPlace) ∷ beside_set b) (refl, set_apart b)
+
+reading_apart : (p : Profile) (edition : ℕ) (t : Option TerritoryModel) (named : Option (List ℕ))
+    (ws : List AnyDate) (r : Result Written DateFault)
+    → AreApart (fields_of_reading p edition t named ws r).remarks
+reading_apart p edition (Some t) named ws (Ok (written.Date w)) =
     either_apart p edition (reckoned t w.reckoning) w (weekday_in named)
     (w, weekday_in named, is_by_other_calendar p t w, is_malformed_weekday named) (one_day w)
-said_apart p edition None named (Ok (written.Date w)) =
+reading_apart p edition None named ws (Ok (written.Date w)) =
     let b : Beside = (w, weekday_in named, false, is_malformed_weekday named) in
     apart_those ((true, told.UnknownPlace) ∷ beside b) (place_apart true b)
-said_apart p edition t named (Ok written.NoDate) =
+reading_apart p edition t named ws (Ok written.Set) =
+    members_apart p edition t ws (weekday_in named, is_malformed_weekday named)
+reading_apart p edition t named ws (Ok written.NoDate) =
     fault_apart (is_none t) (is_malformed_weekday named) faults.NoDate
-said_apart p edition t named (Err fault) =
+reading_apart p edition t named ws (Err fault) =
     fault_apart (is_none t) (is_malformed_weekday named) fault
 
 -- ---- of the rows of a table
 
 row_apart : (s : TableBasis) (columns : Columns) (record_fields : List (List ℕ))
-    → AreApart (said_of s columns record_fields).remarks
+    → AreApart (letter_of s columns record_fields).remarks
 row_apart s columns record_fields =
-    said_apart s.rules s.edition
+    reading_apart s.rules s.edition
     (territory_in s.lands s.places (get_or record_fields columns.place []))
     (option_map (λ n. get_or record_fields n []) columns.weekday)
-    (said_in s.order (date_in columns.date record_fields))
+    (members_in (date_in columns.date record_fields))
+    (date_of_field s.order (date_in columns.date record_fields))
 
 abbrev AreRowsApart : TableBasis → Columns → List PlacedRecord → Type 0
 AreRowsApart s columns records = AreAllApart (rows_remarks s columns records)

@@ -50,12 +50,12 @@ past_step line true false false = (omega arith, omega arith)
 past_step line false false true = (omega arith, omega arith)
 past_step line false false false = (omega arith, omega arith)
 
-pub IsPast-behind : (r q : Reading) (bytes : List ℕ) → IsPast r q
+pub IsPast-after_all : (r q : Reading) (bytes : List ℕ) → IsPast r q
     → IsPast r (reading_after q bytes)
-IsPast-behind r q [] h = h
-IsPast-behind r q (b ∷ bytes) h =
+IsPast-after_all r q [] h = h
+IsPast-after_all r q (b ∷ bytes) h =
     let step = past_step q.line q.returned (b == carriage_return) (b == line_feed) in
-    IsPast-behind r (after q b) bytes
+    IsPast-after_all r (after q b) bytes
     (record { line = omega (arith, h.line, step.0); feed = omega (arith, h.feed, step.1) })
 
 -- the same after one byte more

@@ -33,7 +33,7 @@ marked TwoBytes next b h more =
     rw parts.0 (ap (λ s. unmarked s more) parts.1)
 marked Past next b h more = absurd (cc)
 
--- the byte shows that there is no mark
+-- the byte does not go on with the mark
 pub unmarked_held : (start : Start) (b : ℕ) → next_start start b ≡ None → (more : List ℕ)
     → unmarked start (b ∷ more) ≡ held start ++ b ∷ more
 unfolding strip_bom
@@ -45,7 +45,7 @@ unmarked_held OneByte b h (c ∷ more) = rw (failed (b == 0xBB) TwoBytes h) refl
 unmarked_held TwoBytes b h more = rw (failed (b == 0xBF) Past h) refl
 unmarked_held Past b h more = refl
 
--- at the end of the text there is no mark
+-- at the end of the text what is held back is no mark
 pub unmarked_end : (start : Start) → unmarked start [] ≡ held start ++ []
 unfolding strip_bom
 unmarked_end Nothing = refl

@@ -86,8 +86,8 @@ ends_weaker true old old2 new P Q same goes (inl failed) = inl failed
 ends_weaker true old old2 new P Q same goes (inr long) = inr (goes long)
 ends_weaker false old old2 new P Q same goes h = h ∙ same
 
-long_behind : (c d : Option (List ℕ)) (w v : Written) → Passes c d w v → IsLong v → IsLong w
-long_behind c d w v passes long =
+long_after : (c d : Option (List ℕ)) (w v : Written) → Passes c d w v → IsLong v → IsLong w
+long_after c d w v passes long =
     omega (arith, long, ap (λ u. length u.text) passes.begins, length-append passes.text v.text)
 
 pub end_long : (all rest : List ℕ → Written) (input left c d : Option (List ℕ)) (read : List ℕ)
@@ -96,7 +96,7 @@ pub end_long : (all rest : List ℕ → Written) (input left c d : Option (List 
 end_long all rest input left c d read consumed end passes long =
     known_whole (λ text. IsLong (all text)) input left read consumed end
     (subst (λ text. IsLong (all text)) (append-nil read)
-    (long_behind c d (all (read ++ [])) (rest []) (passes []) long))
+    (long_after c d (all (read ++ [])) (rest []) (passes []) long))
 
 pub read_long : (all rest : List ℕ → Written) (input left c d : Option (List ℕ))
     (read got piece : List ℕ) → piece ≡ got → Consumes input left (read ++ got)
@@ -106,10 +106,10 @@ read_long all rest input left c d read got piece same consumed passes long =
     known (λ text. IsLong (all text)) input left (read ++ got) consumed
     (λ more. subst (λ text. IsLong (all text))
     (ap (λ l. read ++ (l ++ more)) same ∙ sym (append_assoc read got more))
-    (long_behind c d (all (read ++ (piece ++ more))) (rest (piece ++ more))
+    (long_after c d (all (read ++ (piece ++ more))) (rest (piece ++ more))
     (passes (piece ++ more)) (long more)))
 
--- so many bytes were read that there are as many
+-- at least this many bytes were read, so the input has as many
 pub input_long : (input left : Option (List ℕ)) (read : List ℕ) (n : ℕ) → n ≤ length read
     → Consumes input left read → IfSome input (λ text. n ≤ length text)
 input_long input left read n long consumed =

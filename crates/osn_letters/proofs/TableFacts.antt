@@ -21,8 +21,8 @@ pub written_by : {T E : Type 0} (r : Result T E) (x y : Separator) (new middle o
     (a b : List (List ℕ)) → x ≡ y → middle ≡ old → a ≡ b
     → OnOk r (new ≡ middle ++ row_text (writer_by x) a)
     → OnOk r (new ≡ old ++ row_text (writer_by y) b)
-written_by r x y new middle old a b same kept e h =
-    on_ok_weaker r (λ is. is ∙ ap (λ l. l ++ row_text (writer_by x) a) kept
+written_by r x y new middle old a b same old_is e h =
+    on_ok_weaker r (λ is. is ∙ ap (λ l. l ++ row_text (writer_by x) a) old_is
     ∙ ap (λ z. old ++ row_text (writer_by z) a) same
     ∙ ap (λ fs. old ++ row_text (writer_by y) fs) e) h
 

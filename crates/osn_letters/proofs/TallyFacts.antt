@@ -3,7 +3,8 @@ use Rattle.std.proofs.Common.{◌≡◌, ◌∙◌, ◌+◌, ◌==◌, ℕ, zero
 use Rattle.std.proofs.Common.{[], ◌∷◌, ◌++◌, length, count_by, refl, sym, ap, subst, arith}
 use Rattle.std.proofs.Common.{Bor, codes, map}
 use Rattle.std.proofs.Common.{Option, Some, unwrap_or, if◌then◌else◌, ◌||◌, nat_cmp}
-use Rattle.std.proofs.Common.{length-append, append_assoc, append-nil, Ordering, ◌<◌, take, get_or, add-one}
+use Rattle.std.proofs.Common.{length-append, append_assoc, append-nil, Ordering, ◌<◌}
+use Rattle.std.proofs.Common.{take, get_or, add-one}
 use Rattle.std.proofs.Math.Seq.{take-suc}
 use Rattle.std.proofs.Common.{eqb-true}
 use Rattle.std.proofs.lemmas.Cmp.{nat_list_cmp_total}
@@ -246,42 +247,43 @@ rows_tallied rows (remarks ∷ more) tally (first, apart) is =
 -- ---- in the map of the code
 
 -- an entry as its words and its count
-abbrev pub shown : Bor (List ℕ) × ℕ → List ℕ × ℕ
-shown e = (e.0.now, e.1)
+abbrev pub plain_entry : Bor (List ℕ) × ℕ → List ℕ × ℕ
+plain_entry e = (e.0.now, e.1)
 
 mapped_placed : (k : Bor (List ℕ)) (v : ℕ) (e : Bor (List ℕ) × ℕ)
-    (es rest : List (Bor (List ℕ) × ℕ)) (more : Counts) (o : Ordering) → map shown rest ≡ more
-    → map shown (match_ordering o ((k, v) ∷ e ∷ es) ((e.0, v) ∷ es) (e ∷ rest))
-    ≡ match_ordering o ((k.now, v) ∷ shown e ∷ map shown es) ((e.0.now, v) ∷ map shown es)
-    (shown e ∷ more)
+    (es rest : List (Bor (List ℕ) × ℕ)) (more : Counts) (o : Ordering) → map plain_entry rest ≡ more
+    → map plain_entry (match_ordering o ((k, v) ∷ e ∷ es) ((e.0, v) ∷ es) (e ∷ rest))
+    ≡ match_ordering o ((k.now, v) ∷ plain_entry e ∷ map plain_entry es)
+    ((e.0.now, v) ∷ map plain_entry es) (plain_entry e ∷ more)
 mapped_placed k v e es rest more Less is = refl
 mapped_placed k v e es rest more Equal is = refl
-mapped_placed k v e es rest more Greater is = ap (λ xs. shown e ∷ xs) is
+mapped_placed k v e es rest more Greater is = ap (λ xs. plain_entry e ∷ xs) is
 
 mapped_inserted : (k : Bor (List ℕ)) (v : ℕ) (es : List (Bor (List ℕ) × ℕ))
-    → map shown (insert_entry (λ x y. slice_cmp nat_cmp x.now y.now) es k v)
-    ≡ insert_entry compare (map shown es) k.now v
+    → map plain_entry (insert_entry (λ x y. slice_cmp nat_cmp x.now y.now) es k v)
+    ≡ insert_entry compare (map plain_entry es) k.now v
 mapped_inserted k v [] = refl
 mapped_inserted k v (e ∷ es) =
     mapped_placed k v e es (insert_entry (λ x y. slice_cmp nat_cmp x.now y.now) es k v) _
     (compare k.now e.0.now) (mapped_inserted k v es)
 
 mapped_found : (q : List ℕ) (es : List (Bor (List ℕ) × ℕ))
-    → lookup (λ k. is_eq (slice_cmp nat_cmp q k.now)) es ≡ lookup (is_at (compare q)) (map shown es)
+    → lookup (λ k. is_eq (slice_cmp nat_cmp q k.now)) es
+    ≡ lookup (is_at (compare q)) (map plain_entry es)
 mapped_found q [] = refl
 mapped_found q (e ∷ es) =
     ap (cond (is_eq (compare q e.0.now)) (Some e.1)) (mapped_found q es)
 
 -- one more for the remark with these words
 pub words_counted : (counts : Counts) (es new : List (Bor (List ℕ) × ℕ)) (words : Bor (List ℕ))
-    (n : ℕ) → counts ≡ map shown es
+    (n : ℕ) → counts ≡ map plain_entry es
     → new ≡ insert_entry (λ x y. slice_cmp nat_cmp x.now y.now) es words n
     → n ≡ counted (unwrap_or (lookup (λ k. is_eq (slice_cmp nat_cmp words.now k.now)) es) 0 + 1)
-    → map shown new ≡ with_words counts words.now
+    → map plain_entry new ≡ with_words counts words.now
 words_counted counts es new words n seen is count =
-    ap (map shown) is
+    ap (map plain_entry) is
     ∙ (mapped_inserted words n es
-    ∙ (ap (insert_entry compare (map shown es) words.now)
+    ∙ (ap (insert_entry compare (map plain_entry es) words.now)
     (count ∙ ap (λ o. counted (unwrap_or o 0 + 1)) (mapped_found words.now es))
     ∙ ap (λ cs. with_words cs words.now) (sym seen)))
 
@@ -307,9 +309,9 @@ pub remark_taken : (old now new : Counts) (remarks : List Remark) (i : ℕ) (d :
     (words : List ℕ) → i < length remarks → now ≡ with_remarks old (take i remarks)
     → words ≡ remark_words (get_or remarks i d) → new ≡ with_words now words
     → new ≡ with_remarks old (take (i + 1) remarks)
-remark_taken old now new remarks i d words low so_far said is =
+remark_taken old now new remarks i d words low so_far words_are is =
     is ∙ (ap (λ cs. with_words cs words) so_far
-    ∙ (ap (with_words (with_remarks old (take i remarks))) said
+    ∙ (ap (with_words (with_remarks old (take i remarks))) words_are
     ∙ (sym (remark_counted old (take i remarks) (get_or remarks i d))
     ∙ ap (with_remarks old) (sym (take-suc remarks i d low)
     ∙ ap (λ k. take k remarks) (sym (add-one i))))))
@@ -339,26 +341,26 @@ pub first_lines : (front begun first second : List ℕ) (tally : TallyModel)
     (es : List (Bor (List ℕ) × ℕ)) → begun ≡ []
     → first ≡ begun ++ count_line front (codes "rows") tally.rows
     → second ≡ first ++ count_line front (codes "rows with a remark") tally.remarked
-    → map shown es ≡ tally.by_remark
-    → second ++ remark_lines front (map shown es) ≡ tally_text front tally
+    → map plain_entry es ≡ tally.by_remark
+    → second ++ remark_lines front (map plain_entry es) ≡ tally_text front tally
 unfolding tally_text
 first_lines front begun first second tally es empty first_is second_is counts =
     let line = count_line front (codes "rows") tally.rows in
-    ap (λ t. t ++ remark_lines front (map shown es))
+    ap (λ t. t ++ remark_lines front (map plain_entry es))
     (second_is ∙ ap (λ t. t ++ count_line front (codes "rows with a remark") tally.remarked)
     (first_is ∙ ap (λ t. t ++ line) empty))
     ∙ (append_assoc line (count_line front (codes "rows with a remark") tally.remarked)
-    (remark_lines front (map shown es))
+    (remark_lines front (map plain_entry es))
     ∙ ap (λ cs. line ++ (count_line front (codes "rows with a remark") tally.remarked
     ++ remark_lines front cs)) counts)
 
 -- the lines of the entries that are left
 pub next_line : (front text new whole line : List ℕ) (e : Bor (List ℕ) × ℕ)
     (left rest : List (Bor (List ℕ) × ℕ)) → left ≡ e ∷ rest
-    → text ++ remark_lines front (map shown left) ≡ whole
+    → text ++ remark_lines front (map plain_entry left) ≡ whole
     → new ≡ text ++ count_line front e.0.now e.1
-    → new ++ remark_lines front (map shown rest) ≡ whole
+    → new ++ remark_lines front (map plain_entry rest) ≡ whole
 next_line front text new whole line e left rest is so_far pushed =
-    ap (λ t. t ++ remark_lines front (map shown rest)) pushed
-    ∙ (append_assoc text (count_line front e.0.now e.1) (remark_lines front (map shown rest))
-    ∙ (ap (λ es. text ++ remark_lines front (map shown es)) (sym is) ∙ so_far))
+    ap (λ t. t ++ remark_lines front (map plain_entry rest)) pushed
+    ∙ (append_assoc text (count_line front e.0.now e.1) (remark_lines front (map plain_entry rest))
+    ∙ (ap (λ es. text ++ remark_lines front (map plain_entry es)) (sym is) ∙ so_far))

@@ -30,8 +30,8 @@ abbrev pub is_required : WeekdayName → Bool
 is_required (Required name) = true
 is_required (Optional name) = false
 
--- the names of the columns that say the date: of one that has it all, or of its year, and perhaps of
--- its month and of its day
+-- the names of the columns that say the date: of one that has it all, or of its year, and perhaps
+-- of its month and of its day
 pub data DateTexts : Type 0 where
   OneText : List ℕ → DateTexts
   PartTexts : List ℕ → Option (List ℕ) → Option (List ℕ) → DateTexts

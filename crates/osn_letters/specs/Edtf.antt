@@ -1,6 +1,7 @@
 -- Days as ISO 8601-2 writes them, its Extended Date/Time Format: at its level 1, and where there
 -- are several days or runs as a set of its level 2. This project's profile.
-use Rattle.std.specs.Prelude.{ℕ, ◌==◌, if◌then◌else◌, List, [], ◌∷◌, ◌++◌, Option, Some, None, codes}
+use Rattle.std.specs.Prelude.{ℕ, Bool, ◌==◌, if◌then◌else◌, List, [], ◌∷◌, ◌++◌}
+use Rattle.std.specs.Prelude.{Option, Some, None, codes}
 use Rattle.std.specs.List.{join_by}
 use Rattle.osn_days.specs.declared.calendar.Calendar.TheVariants.{Gregorian}
 use Rattle.osn_days.specs.Chain.{date_of}
@@ -10,11 +11,15 @@ use Rattle.osn_lands.specs.declared.dated.DatedDay.{DatedDay}
 use Rattle.osn_lands.specs.declared.runs.Run.{Run}
 use Rattle.osn_letters.specs.declared.span.Span.{Span}
 
--- the sign after each day of a date: whether it is in doubt, about then, or both
+-- the sign after each day: whether it is in doubt, about then, or both
+abbrev pub sign_of : Bool → Bool → List ℕ
+sign_of uncertain approximate =
+    if uncertain then (if approximate then codes "%" else codes "?")
+    else (if approximate then codes "~" else [])
+
+-- that of a date
 abbrev pub sign : AnyDate → List ℕ
-sign w =
-    if w.is_uncertain then (if w.is_approximate then codes "%" else codes "?")
-    else (if w.is_approximate then codes "~" else [])
+sign w = sign_of w.is_uncertain w.is_approximate
 
 -- a day with a sign: 1732-02-22?
 abbrev pub edtf_day : List ℕ → ℕ → List ℕ

@@ -24,6 +24,8 @@ use Rattle.osn_register.specs.Plain.{LandModel}
 use Rattle.osn_written.specs.declared.finding.NoDay.{NoDay}
 use Rattle.osn_written.specs.declared.finding.NoDay.TheVariants.{Absent}
 use Rattle.osn_written.specs.declared.kind.Kind.{Kind}
+use Rattle.osn_written.specs.declared.kind.Kind.TheVariants as kinds
+use Rattle.osn_written.specs.declared.set.AbsentMember.{AbsentMember}
 use Rattle.osn_written.specs.declared.written_date.DateFault.{DateFault}
 use Rattle.osn_written.specs.declared.written_date.DateFault.TheVariants.{NoDate}
 use Rattle.osn_written.specs.declared.written_date.WrittenDate.{WrittenDate}
@@ -32,6 +34,7 @@ use Rattle.osn_written.specs.Finding.{found, is_by_other_calendar, reckoned}
 use Rattle.osn_written.specs.Kind.{kind_of, kind_word}
 use Rattle.osn_written.specs.Meaning.{meaning}
 use Rattle.osn_written.specs.Said.{one_day}
+use Rattle.osn_written.specs.SetsMeant.{found_of_set, is_set_approximate, is_set_uncertain}
 use Rattle.osn_letters.specs.declared.added_fields.Summary.{Summary}
 use Rattle.osn_letters.specs.declared.day_field.DayField.{DayField}
 use Rattle.osn_letters.specs.declared.day_field.DayField.TheVariants as field
@@ -39,12 +42,13 @@ use Rattle.osn_letters.specs.declared.letter.LetterFields.{LetterFields}
 use Rattle.osn_letters.specs.declared.remark.Remark.{Remark}
 use Rattle.osn_letters.specs.declared.remark.Remark.TheVariants as told
 use Rattle.osn_letters.specs.declared.span.Span.{Span}
-use Rattle.osn_letters.specs.Edtf.{edtf_of_days, edtf_of_span, sign}
+use Rattle.osn_letters.specs.Edtf.{edtf_of_days, edtf_of_runs, edtf_of_span, sign, sign_of}
 use Rattle.osn_letters.specs.PlaceEntries.{PlaceEntry}
-use Rattle.osn_letters.specs.Remarks.{remark_text, remarks_beside, remarks_on_days}
-use Rattle.osn_letters.specs.Remarks.{those_that_apply}
-use Rattle.osn_letters.specs.RowFields.{is_malformed_weekday, said_in, territory_in, weekday_in}
-use Rattle.osn_letters.specs.Span.{no_span, span_of_days, span_of_runs}
+use Rattle.osn_letters.specs.Remarks.{remark_text, remarks_beside, remarks_beside_set}
+use Rattle.osn_letters.specs.Remarks.{remarks_on_days, those_that_apply}
+use Rattle.osn_letters.specs.RowFields.{date_of_field, is_malformed_weekday, members_in}
+use Rattle.osn_letters.specs.RowFields.{territory_in, weekday_in}
+use Rattle.osn_letters.specs.Span.{no_span, span_of_days, span_of_runs, span_of_set}
 
 -- ---- the fields of the days
 
@@ -116,7 +120,7 @@ summary edition kind span = record { span = span; kind = kind; edition = edition
 abbrev pub summary_of : ℕ → AnyDate → Span → Summary
 summary_of edition w span = summary edition (Some (kind_of w.extent)) span
 
--- where there is no day
+-- of a row that has no day
 abbrev pub fields_of_none : ℕ → Option Kind → List (Bool × Remark) → FieldsAndRemarks
 fields_of_none edition kind remarks =
     fields_with (summary edition kind no_span) [] [] (those_that_apply remarks)
@@ -186,6 +190,41 @@ abbrev pub fields_in : Profile → ℕ → TerritoryModel → AnyDate → Option
 fields_in p edition t w named =
     fields_by p edition (reckoned t w.reckoning) (is_by_other_calendar p t w) w named
 
+-- ---- a set of dates
+
+-- of its runs
+abbrev pub fields_of_set_runs : ℕ → List AnyDate → List Run → List (Bool × Remark)
+    → FieldsAndRemarks
+fields_of_set_runs edition ws runs beside =
+    fields_with (summary edition (Some kinds.Set) (span_of_set runs)) []
+    (edtf_of_runs (sign_of (is_set_uncertain ws) (is_set_approximate ws)) runs)
+    (those_that_apply beside)
+
+-- where there is no day, for that reason
+abbrev pub fields_of_no_set : ℕ → Remark → List (Bool × Remark) → FieldsAndRemarks
+fields_of_no_set edition reason beside =
+    fields_of_none edition (Some kinds.Set) ((true, reason) ∷ beside)
+
+abbrev pub fields_of_found_set : ℕ → List AnyDate → List (Bool × Remark)
+    → Result (List Run) AbsentMember → FieldsAndRemarks
+fields_of_found_set edition ws beside (Ok runs) = fields_of_set_runs edition ws runs beside
+fields_of_found_set edition ws beside (Err absent) =
+    fields_of_no_set edition (told.NoDay absent.reason) beside
+
+-- in its place, if that is known
+abbrev pub fields_of_members : Profile → ℕ → Option TerritoryModel → List AnyDate
+    → List (Bool × Remark) → FieldsAndRemarks
+fields_of_members p edition (Some t) ws beside =
+    fields_of_found_set edition ws beside (found_of_set p t ws)
+fields_of_members p edition None ws beside = fields_of_no_set edition told.UnknownPlace beside
+
+-- with the field of the weekday
+abbrev pub fields_of_set : Profile → ℕ → Option TerritoryModel → List AnyDate
+    → Option (List ℕ) → FieldsAndRemarks
+fields_of_set p edition t ws named =
+    fields_of_members p edition t ws
+    (remarks_beside_set (weekday_in named) (is_malformed_weekday named))
+
 -- ---- the whole
 
 -- of a date whose place is not known
@@ -210,17 +249,20 @@ fields_without_date edition fault lacks_place named =
     ∷ (is_malformed_weekday named, told.MalformedWeekday)
     ∷ [])
 
--- of what the field of the date says
-abbrev pub fields_said : Profile → ℕ → Option TerritoryModel → Option (List ℕ)
+-- of what the field of the date says, where it is a set of these dates
+abbrev pub fields_of_reading : Profile → ℕ → Option TerritoryModel → Option (List ℕ) → List AnyDate
     → Result Written DateFault → FieldsAndRemarks
-fields_said p edition t named (Ok (written.Date w)) = fields_of_date p edition t w named
-fields_said p edition t named (Ok written.NoDate) =
+fields_of_reading p edition t named ws (Ok (written.Date w)) = fields_of_date p edition t w named
+fields_of_reading p edition t named ws (Ok written.Set) = fields_of_set p edition t ws named
+fields_of_reading p edition t named ws (Ok written.NoDate) =
     fields_without_date edition NoDate (is_none t) named
-fields_said p edition t named (Err fault) = fields_without_date edition fault (is_none t) named
+fields_of_reading p edition t named ws (Err fault) = fields_without_date edition fault (is_none t)
+    named
 
 -- the twelve fields for a place, a date and perhaps a weekday, by the territories of an edition and
 -- a table of places
 abbrev pub letter_fields : Profile → List LandModel → ℕ → DateOrder → List PlaceEntry → List ℕ
     → List ℕ → Option (List ℕ) → FieldsAndRemarks
 letter_fields p lands edition order places place date named =
-    fields_said p edition (territory_in lands places place) named (said_in order date)
+    fields_of_reading p edition (territory_in lands places place) named (members_in date)
+    (date_of_field order date)

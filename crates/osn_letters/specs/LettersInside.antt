@@ -9,7 +9,7 @@ use Rattle.osn_letters.specs.declared.fault.LettersFault.{LettersFault}
 use Rattle.osn_letters.specs.Records.{records_from}
 use Rattle.osn_letters.specs.RecordsInside.{reading_of}
 use Rattle.osn_letters.specs.Start.{unmarked}
-use Rattle.osn_letters.specs.Table.{Written, behind, ended_by, EndsEarly, IsLong}
+use Rattle.osn_letters.specs.Table.{Written, text_before, ended_by, EndsEarly, IsLong}
 use Rattle.osn_letters.specs.Faults.{is_of_table, is_of_stream, EndsStream, is_write_fault}
 use Rattle.osn_letters.specs.TableInside.{tally_of, written_of}
 use Rattle.osn_letters.specs.Tally.{TallyModel}
@@ -21,18 +21,18 @@ pub record IsReady (s : Letters) : Type 0 where
   pub between : IsBetweenRows s.table.out
 
 -- what is written of further bytes after the beginning, up to the end of the text
-abbrev pub text_behind : Letters → List ℕ → Written
-text_behind s bytes = written_of s.table (records_from (reading_of s.parser) bytes)
+abbrev pub text_after : Letters → List ℕ → Written
+text_after s bytes = written_of s.table (records_from (reading_of s.parser) bytes)
 
 -- the same of bytes that may go on with a byte order mark
 abbrev pub text_from : Letters → List ℕ → Written
-text_from s bytes = text_behind s (unmarked s.start bytes)
+text_from s bytes = text_after s (unmarked s.start bytes)
 
 -- what waits grew by the first part of what is written, and this is the rest
 pub record Wrote (old new : List ℕ) (written rest : Written) : Type 0 where
   pub text : List ℕ
   pub out : new ≡ old ++ text
-  pub begins : written ≡ behind text rest
+  pub begins : written ≡ text_before text rest
 
 -- the bytes were taken: what is written of them and of more is what waits, and what is written then
 -- of more
@@ -42,10 +42,10 @@ TakesBytes old new bytes = (more : List ℕ) →
     (text_from old (bytes ++ more)) (text_from new more)
 
 -- the same of bytes after the beginning
-abbrev pub TakesBehind : Letters → Letters → List ℕ → Type 0
-TakesBehind old new bytes = (more : List ℕ) →
+abbrev pub TakesAfter : Letters → Letters → List ℕ → Type 0
+TakesAfter old new bytes = (more : List ℕ) →
     Wrote (waiting old.table.out) (waiting new.table.out)
-    (text_behind old (bytes ++ more)) (text_behind new more)
+    (text_after old (bytes ++ more)) (text_after new more)
 
 -- what waits grew by all that is written, where the fault is one of the table. Where memory ran out
 -- it is not known
@@ -59,9 +59,9 @@ StopsAt old new bytes fault = (more : List ℕ) →
     Stops (waiting old.table.out) (waiting new.table.out) (text_from old (bytes ++ more)) fault
 
 -- the same of bytes after the beginning
-abbrev pub StopsBehind : Letters → Letters → List ℕ → LettersFault → Type 0
-StopsBehind old new bytes fault = (more : List ℕ) →
-    Stops (waiting old.table.out) (waiting new.table.out) (text_behind old (bytes ++ more)) fault
+abbrev pub StopsAfter : Letters → Letters → List ℕ → LettersFault → Type 0
+StopsAfter old new bytes fault = (more : List ℕ) →
+    Stops (waiting old.table.out) (waiting new.table.out) (text_after old (bytes ++ more)) fault
 
 -- whether it is known what waits of what was taken: not where memory ran out
 abbrev pub is_known : {T : Type 0} → Result T LettersFault → Bool
@@ -87,7 +87,7 @@ pub record WritesAll {T : Type 0} (c d : Option (List ℕ)) (old new : RowWriter
 pub record Passes (old new : Option (List ℕ)) (written rest : Written) : Type 0 where
   pub text : List ℕ
   pub appended : Appends old new text
-  pub begins : written ≡ behind text rest
+  pub begins : written ≡ text_before text rest
 
 abbrev pub PassesBytes : Option (List ℕ) → Option (List ℕ) → Letters → Letters → List ℕ → Type 0
 PassesBytes c d old new bytes = (more : List ℕ) →
@@ -108,17 +108,17 @@ SinkEnds before now old bytes fault =
 
 -- the tally of the rows so far and of those of further bytes after the beginning, up to the end of
 -- the text
-abbrev pub tally_behind : Letters → List ℕ → TallyModel
-tally_behind s bytes = tally_of s.table (records_from (reading_of s.parser) bytes)
+abbrev pub tally_after : Letters → List ℕ → TallyModel
+tally_after s bytes = tally_of s.table (records_from (reading_of s.parser) bytes)
 
 -- the same of bytes that may go on with a byte order mark
 abbrev pub tally_from : Letters → List ℕ → TallyModel
-tally_from s bytes = tally_behind s (unmarked s.start bytes)
+tally_from s bytes = tally_after s (unmarked s.start bytes)
 
 -- the bytes were taken, and their rows are counted
-abbrev pub CountsBehind : Letters → Letters → List ℕ → Type 0
-CountsBehind old new bytes = (more : List ℕ) → tally_behind old (bytes ++ more)
-    ≡ tally_behind new more
+abbrev pub CountsAfter : Letters → Letters → List ℕ → Type 0
+CountsAfter old new bytes = (more : List ℕ) → tally_after old (bytes ++ more)
+    ≡ tally_after new more
 
 abbrev pub CountsBytes : Letters → Letters → List ℕ → Type 0
 CountsBytes old new bytes = (more : List ℕ) → tally_from old (bytes ++ more)

@@ -3,6 +3,7 @@ pub mod PlaceEntries
 pub mod RowFields
 pub mod Span
 pub mod Edtf
+pub mod EdtfLaw
 pub mod Remarks
 pub mod Fields
 pub mod AddedColumns

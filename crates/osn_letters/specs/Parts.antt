@@ -26,10 +26,10 @@ rows_text s header part =
 abbrev pub lines_in : List ℕ → ℕ
 lines_in text = line_ends false (strip_bom text)
 
--- What is written of a header and of the parts after it is what is written of the header, and then
--- the rows that are written of each part after the header, in their order. A fault is that of the
--- last part after the header, on the line on which it stands in the whole: as many lines further on
--- as the whole has more.
+-- what is written of a header and of parts after it is first what is written of the header. Then
+-- come the rows that are written of each part after the header, in their order. A fault is that of
+-- the last part after the header, on the line on which it stands in the whole. That is as many
+-- lines further on as the whole has more
 pub record IsWrittenInParts (s : TableBasis) (header : List ℕ) (parts : List (List ℕ))
     (last : List ℕ) : Type 0 where
   pub more : ℕ

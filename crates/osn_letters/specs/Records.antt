@@ -26,10 +26,9 @@ pub record PlacedRecord : Type 0 where
   pub separator : Separator
   pub fields : Result (List (List ℕ)) LettersFault
 
--- where a reading stands: between which bytes, with the separator that was found, the fields of the
--- record at hand, the bytes of its last field and how many bytes it has in the text, on which line
--- the next byte stands, whether a carriage return stands before it, and on which line the record at
--- hand begins
+-- where a reading stands between two bytes, and which separator was found. Of the record at hand it
+-- has the fields, the bytes of the last field, how many bytes it has in the text, and on which line
+-- it begins. Of the next byte it has the line, and whether a carriage return stands before it
 pub record Reading : Type 0 where
   pub state : State
   pub separator : Option Separator

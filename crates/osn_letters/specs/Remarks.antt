@@ -64,3 +64,8 @@ remarks_beside w given is_by_other_calendar is_malformed =
     ∷ (is_none (one_day w) && is_weekday_given w.weekday given, told.WeekdayNotLookedFor)
     ∷ (is_malformed, told.MalformedWeekday)
     ∷ []
+
+-- of a set of dates
+abbrev pub remarks_beside_set : Option Weekday → Bool → List (Bool × Remark)
+remarks_beside_set given is_malformed =
+    (is_some given, told.WeekdayNotLookedFor) ∷ (is_malformed, told.MalformedWeekday) ∷ []

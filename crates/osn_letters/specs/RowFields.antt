@@ -1,5 +1,5 @@
 -- What the fields of a row say: the date, the territory and the weekday. This project's profile.
-use Rattle.std.specs.Prelude.{ℕ, ◌-◌, Bool, false, not, ◌&&◌, ◌==◌, if◌then◌else◌, List, length}
+use Rattle.std.specs.Prelude.{ℕ, ◌-◌, Bool, false, not, ◌&&◌, ◌==◌, if◌then◌else◌, List, [], length}
 use Rattle.std.specs.Prelude.{take, drop, Option, Some, None, is_none, Result, Err}
 use Rattle.std.specs.Char.{is_ascii_whitespace}
 use Rattle.std.specs.List.{prefix_len, suffix_len}
@@ -8,6 +8,8 @@ use Rattle.std.specs.Str.{is_utf8}
 use Rattle.osn_days.specs.declared.weekday.Weekday.{Weekday}
 use Rattle.osn_grammar.specs.declared.written.DateOrder.{DateOrder}
 use Rattle.osn_grammar.specs.declared.written.Written.{Written}
+use Rattle.osn_grammar.specs.declared.written.WrittenDate.{WrittenDate as AnyDate}
+use Rattle.osn_grammar.specs.Reading.{members}
 use Rattle.osn_lands.specs.Territory.{TerritoryModel}
 use Rattle.osn_letters.specs.PlaceEntries.{PlaceEntry, code_of}
 use Rattle.osn_register.specs.ByName.{territory_named}
@@ -35,12 +37,20 @@ abbrev pub text_in_field : List ℕ → Option (List ℕ)
 text_in_field bytes = if is_utf8 (trimmed bytes) then Some (trimmed bytes) else None
 
 -- what the text of a field says of a date, or why it says nothing of one
-abbrev pub said_of : DateOrder → Option (List ℕ) → Result Written DateFault
-said_of order None = Err Malformed
-said_of order (Some text) = said order text
+abbrev pub date_of_text : DateOrder → Option (List ℕ) → Result Written DateFault
+date_of_text order None = Err Malformed
+date_of_text order (Some text) = said order text
 
-abbrev pub said_in : DateOrder → List ℕ → Result Written DateFault
-said_in order field = said_of order (text_in_field field)
+abbrev pub date_of_field : DateOrder → List ℕ → Result Written DateFault
+date_of_field order field = date_of_text order (text_in_field field)
+
+-- the dates of the set that the text of a field is
+abbrev pub members_of : Option (List ℕ) → List AnyDate
+members_of None = []
+members_of (Some text) = members text
+
+abbrev pub members_in : List ℕ → List AnyDate
+members_in field = members_of (text_in_field field)
 
 -- the territory of a text, if that is a code, and that of a territory
 abbrev pub territory_of_code : List LandModel → List ℕ → Option TerritoryModel

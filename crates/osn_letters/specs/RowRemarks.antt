@@ -5,14 +5,14 @@ use Rattle.osn_letters.specs.declared.fault.LettersFault.{LettersFault}
 use Rattle.osn_letters.specs.declared.remark.Remark.{Remark}
 use Rattle.osn_letters.specs.Columns.{columns_of}
 use Rattle.osn_letters.specs.Records.{PlacedRecord, records_of}
-use Rattle.osn_letters.specs.Table.{TableBasis, said_of}
+use Rattle.osn_letters.specs.Table.{TableBasis, letter_of}
 use Rattle.osn_letters.specs.Tally.{IsTally, TallyModel}
 
 -- the remarks of a record, unless it has a fault, before those of the records after it
 abbrev pub remarks_by : TableBasis → Columns → Result (List (List ℕ)) LettersFault
     → List (List Remark) → List (List Remark)
 remarks_by s columns (Err fault) more = more
-remarks_by s columns (Ok record_fields) more = (said_of s columns record_fields).remarks ∷ more
+remarks_by s columns (Ok record_fields) more = (letter_of s columns record_fields).remarks ∷ more
 
 -- the remarks of each record after the header
 abbrev pub rows_remarks : TableBasis → Columns → List PlacedRecord → List (List Remark)

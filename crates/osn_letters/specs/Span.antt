@@ -37,6 +37,10 @@ last_of [] = None
 last_of (r ∷ []) = Some r.last
 last_of (r ∷ next ∷ rest) = last_of (next ∷ rest)
 
+-- of a set
+abbrev pub span_of_set : List Run → Span
+span_of_set runs = span (first_of runs) (last_of runs)
+
 -- a bound is open at one end
 abbrev pub span_of_runs : Extent → List Run → Span
 span_of_runs (extent.On date) runs = span (first_of runs) (last_of runs)

@@ -22,9 +22,10 @@ use Rattle.osn_letters.specs.PlaceEntries.{PlaceEntry}
 use Rattle.osn_letters.specs.Records.{PlacedRecord, records_of}
 use Rattle.osn_letters.specs.Separators.{writer_by}
 
--- by what a table is made: the rules, the territories, the number of their edition, the names of
--- the columns that are read, what separates the fields, if it was named, how a date is read that may
--- begin with its day or its month, and the entries of the table of places
+-- by what a table is made: the rules, the territories and the number of their edition. Of the table
+-- itself it has the names of the columns that are read, and what separates the fields, if it was
+-- named. It has how a date is read that may begin with its day or its month, and the entries of the
+-- table of places
 pub record TableBasis : Type 0 where
   pub rules : Profile
   pub lands : List LandModel
@@ -66,32 +67,32 @@ abbrev pub ended_by : LettersFault → Written
 ended_by fault = record { text = []; fault = Some fault }
 
 -- a text before what is written
-abbrev pub behind : List ℕ → Written → Written
-behind text written = record { text = text ++ written.text; fault = written.fault }
+abbrev pub text_before : List ℕ → Written → Written
+text_before text written = record { text = text ++ written.text; fault = written.fault }
 
 -- the header that is written
 abbrev pub header_text : Separator → List (List ℕ) → List ℕ
 header_text separator header = row_text (writer_by separator) (header ++ added_names)
 
 -- what is said of a record, with the text of its date: the twelve fields, and the remarks
-abbrev pub said_on : TableBasis → Columns → List (List ℕ) → List ℕ → FieldsAndRemarks
-said_on s columns record_fields date =
+abbrev pub letter_with_date : TableBasis → Columns → List (List ℕ) → List ℕ → FieldsAndRemarks
+letter_with_date s columns record_fields date =
     letter_fields s.rules s.lands s.edition s.order s.places
     (get_or record_fields columns.place []) date
     (option_map (λ n. get_or record_fields n []) columns.weekday)
 
-abbrev pub said_of : TableBasis → Columns → List (List ℕ) → FieldsAndRemarks
-said_of s columns record_fields =
-    said_on s columns record_fields (date_in columns.date record_fields)
+abbrev pub letter_of : TableBasis → Columns → List (List ℕ) → FieldsAndRemarks
+letter_of s columns record_fields =
+    letter_with_date s columns record_fields (date_in columns.date record_fields)
 
 -- the twelve fields of a record
-abbrev pub fields_behind : TableBasis → Columns → List (List ℕ) → List (List ℕ)
-fields_behind s columns record_fields = (said_of s columns record_fields).fields
+abbrev pub twelve_fields : TableBasis → Columns → List (List ℕ) → List (List ℕ)
+twelve_fields s columns record_fields = (letter_of s columns record_fields).fields
 
 -- the row that is written of a record
 unfoldable pub letter_text : TableBasis → Separator → Columns → List (List ℕ) → List ℕ
 letter_text s separator columns record_fields =
-    row_text (writer_by separator) (record_fields ++ fields_behind s columns record_fields)
+    row_text (writer_by separator) (record_fields ++ twelve_fields s columns record_fields)
 
 -- what is written of a record that is no header, and then what is written of those after it
 abbrev pub row_by : TableBasis → Heading → ℕ → Result (List (List ℕ)) LettersFault → Written
@@ -99,7 +100,7 @@ abbrev pub row_by : TableBasis → Heading → ℕ → Result (List (List ℕ)) 
 row_by s heading line (Err fault) more = ended_by fault
 row_by s heading line (Ok record_fields) more =
     if length record_fields == heading.width then
-    behind (letter_text s heading.separator heading.columns record_fields) more
+    text_before (letter_text s heading.separator heading.columns record_fields) more
     else ended_by (BadRecord line)
 
 -- what is written of the records after the header
@@ -112,7 +113,7 @@ abbrev pub header_at : TableBasis → Result Columns LettersFault → Separator 
     → List PlacedRecord → Written
 header_at s (Err fault) separator header rest = ended_by fault
 header_at s (Ok columns) separator header rest =
-    behind (header_text separator header)
+    text_before (header_text separator header)
     (rows_written s (record { columns = columns; width = length header; separator = separator })
     rest)
 
@@ -123,7 +124,7 @@ header_by s line separator (Err fault) rest = ended_by fault
 header_by s line separator (Ok header) rest =
     header_at s (columns_of s.names line header) separator header rest
 
--- what is written of all records. Without any there is no header
+-- what is written of all records. Without any record the header is lacking
 abbrev pub table_written : TableBasis → List PlacedRecord → Written
 table_written s [] = ended_by NoHeader
 table_written s (r ∷ rest) = header_by s r.line r.separator r.fields rest
@@ -147,7 +148,7 @@ pub record EndsEarly (old new : Option (List ℕ)) (written : Written) (fault : 
   pub text : List ℕ
   pub appended : Appends old new text
   pub rest : Written
-  pub begins : written ≡ behind text rest
+  pub begins : written ≡ text_before text rest
   pub ended : is_of_table fault ≡ true → rest ≡ ended_by fault
 
 -- of what was read, with some bytes after it, all was written

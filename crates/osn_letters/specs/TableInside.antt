@@ -9,7 +9,7 @@ use Rattle.osn_letters.specs.declared.fault.LettersFault.{LettersFault}
 use Rattle.osn_letters.specs.declared.fault.LettersFault.TheVariants.{NoMemory}
 use Rattle.osn_letters.specs.Faults.{is_of_stream}
 use Rattle.osn_letters.specs.Records.{PlacedRecord}
-use Rattle.osn_letters.specs.Table.{TableBasis, basis, Heading, Written, written_from, behind}
+use Rattle.osn_letters.specs.Table.{TableBasis, basis, Heading, Written, written_from, text_before}
 use Rattle.osn_letters.specs.Table.{ended_by}
 use Rattle.osn_letters.specs.RowRemarks.{letters_remarks, rows_remarks, table_remarks}
 use Rattle.osn_letters.specs.Tally.{TallyModel}
@@ -42,7 +42,7 @@ pub record TakesRecords (old new : Table) (taken : List PlacedRecord) : Type 0 w
   pub out : waiting new.out ≡ waiting old.out ++ text
   pub source : source_of new ≡ source_of old
   pub goes : (more : List PlacedRecord) → written_of old (taken ++ more)
-      ≡ behind text (written_of new more)
+      ≡ text_before text (written_of new more)
 
 -- a record was not taken, by that fault or for want of memory, and nothing was written of it. What
 -- waits is not known where memory ran out
@@ -66,12 +66,12 @@ RefusesRow old new line record_fields fault = (separator : Separator) →
 -- ---- remarks
 
 -- the tally of the rows so far and of those of further records
-abbrev pub tally_after : TableBasis → Option Rows → TallyModel → List PlacedRecord → TallyModel
-tally_after s None tally records = with_rows tally (table_remarks s records)
-tally_after s (Some rows) tally records = with_rows tally (rows_remarks s rows.columns records)
+abbrev pub tally_with : TableBasis → Option Rows → TallyModel → List PlacedRecord → TallyModel
+tally_with s None tally records = with_rows tally (table_remarks s records)
+tally_with s (Some rows) tally records = with_rows tally (rows_remarks s rows.columns records)
 
 abbrev pub tally_of : Table → List PlacedRecord → TallyModel
-tally_of t records = tally_after (source_of t) t.rows t.tally records
+tally_of t records = tally_with (source_of t) t.rows t.tally records
 
 -- a record was taken, and it is counted
 abbrev pub CountsRecord : Table → Table → PlacedRecord → Type 0

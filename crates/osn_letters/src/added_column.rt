@@ -27,7 +27,7 @@ pub enum AddedColumn {
     Edtf,
     /// The number of the register's edition.
     Edition,
-    /// What is said of the days, or why there is none.
+    /// What is said of the days, or why the date has none.
     Remark,
 }
 

@@ -23,8 +23,8 @@ const DAY_FIELDS: [DayField; 6] = [
     DayField::JulianDayNumber,
 ];
 
-/// What the fields say of a date as a whole: from when to when it may be, what kind of date it is,
-/// where it is read, and by which edition.
+/// What the fields say of a date as a whole: from when to when it may be, of what kind it is, and
+/// by which edition it is read.
 #[derive(Clone, Copy, Debug, PartialEq, Eq)]
 pub(crate) struct Summary {
     pub(crate) span: Span,

@@ -234,10 +234,10 @@ fn find_date_columns(
 ///
 /// # Errors
 ///
-/// `HasColumn` where the header has one of the columns that are put after its own, else
-/// `LacksColumn` where no column has the name of the places, or else none a name that is given for
-/// the date, or the year, the month and the day, in this order, or else none that of the weekdays,
-/// if it has to be there; and `NoMemory`.
+/// `HasColumn` where the header has one of the columns that are put after its own. Else
+/// `LacksColumn` for the first that is lacking: the place, then the date, then the weekday, if it
+/// has to be there. Where the parts of a date have columns, it is the first of those that are
+/// named: year, month, day. And `NoMemory`.
 pub fn find_columns(
     alloc: Global,
     header: &ByteRecord,

@@ -12,16 +12,23 @@ use osn_lands::{DatedDay, Run};
 use std::alloc::{AllocError, Global};
 use std::fmt;
 
-/// The sign after each day of a date: whether it is in doubt, about then, or both.
-pub(crate) fn sign(date: WrittenDate) -> &'static str
-    ensures { result.now ≡ spec.sign date }
+/// The sign after each day: whether it is in doubt, about then, or both.
+pub(crate) fn sign_of(is_uncertain: bool, is_approximate: bool) -> &'static str
+    ensures { result.now ≡ spec.sign_of is_uncertain is_approximate }
 {
-    match (date.is_uncertain, date.is_approximate) {
+    match (is_uncertain, is_approximate) {
         (true, true) => "%",
         (true, false) => "?",
         (false, true) => "~",
         (false, false) => "",
     }
+}
+
+/// The sign after each day of a date.
+pub(crate) fn sign(date: WrittenDate) -> &'static str
+    ensures { result.now ≡ spec.sign date }
+{
+    sign_of(date.is_uncertain, date.is_approximate)
 }
 
 /// A day with a sign after it.
@@ -112,7 +119,11 @@ fn runs_joined(
 }
 
 /// The runs of a date: one run, or the set of several.
-fn edtf_of_runs(alloc: Global, sign: &'static str, runs: &[Run]) -> Result<String, AllocError>
+pub(crate) fn edtf_of_runs(
+    alloc: Global,
+    sign: &'static str,
+    runs: &[Run],
+) -> Result<String, AllocError>
     ensures { IfOk result (λ s. string_bytes s ≡ spec.edtf_of_runs sign.now runs.now) }
 {
     match runs {

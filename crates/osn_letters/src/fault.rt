@@ -28,7 +28,7 @@ pub enum Column {
 /// told by its first one.
 #[derive(Debug, Drop)]
 pub enum LettersFault {
-    /// There is no header, since there is no record. Nothing was written.
+    /// The table has no record, and so no header. Nothing was written.
     NoHeader,
     /// The header, on that line, lacks a column. Found were these names, with a comma and a space
     /// between two. Nothing was written.

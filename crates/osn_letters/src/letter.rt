@@ -1,13 +1,15 @@
 //! The fields that are put after a letter's row.
 ghost use Rattle.std.specs.Prelude.{◌≡◌, [], ◌∷◌, ◌++◌, option_map, unwrap_or, IfOk};
 ghost use Rattle.osn_days.specs.Profile.{newest_rules};
+ghost use Rattle.osn_letters.specs.EdtfLaw.{AreDaysRead, AreRunsRead};
 ghost use Rattle.osn_letters.specs.Fields as spec;
 
 use crate::added_fields::{Summary, added_fields};
 use crate::edtf::{edtf_of_days, edtf_of_span, sign};
 use crate::places::Places;
 use crate::remark::{Remark, Told, remark_text, remarks_beside, remarks_on_days, those_that_apply};
-use crate::row_field::{is_malformed_weekday, said_in, territory_in, weekday_in};
+use crate::row_field::{date_of_field, is_malformed_weekday, territory_in, weekday_in};
+use crate::set::fields_of_set;
 use crate::span::{NO_SPAN, span_of_days, span_of_runs};
 use csv::ByteRecord;
 use osn_days::Weekday;
@@ -30,7 +32,7 @@ pub struct LetterFields {
 }
 
 /// The fields of these days, with this text of them, and the remarks.
-fn fields_with(
+pub(crate) fn fields_with(
     alloc: Global,
     summary: Summary,
     days: &[DatedDay],
@@ -45,8 +47,8 @@ fn fields_with(
     Ok(LetterFields { fields, remarks })
 }
 
-/// The fields where there is no day.
-fn fields_of_none(
+/// The fields of a row that has no day.
+pub(crate) fn fields_of_none(
     alloc: Global,
     edition: usize,
     kind: Option<Kind>,
@@ -276,17 +278,20 @@ fn fields_without_date(
 }
 
 /// The twelve fields that are put after the row of a letter, by the register of that edition: which
-/// days its date means in its place, as `days`, `gregorian`, `julian`, `dual`, `weekday_found` and
-/// `jdn`, which say each day of a date that is one day; then `earliest`, `latest`, `kind`, `edtf`,
-/// `edition` and `remark`. The place is one that the table of places lists, which has the code of a
-/// territory for it, or else the code of a territory, or else the name of one, and then the first
-/// one of that name is meant. The weekday may be lacking or empty, and its letters may be capital or
-/// small. White space of ASCII around each of the three is passed over. A date that names a calendar
-/// is read as if the territory had gone by it.
+/// days its date means in its place. The fields `days`, `gregorian`, `julian`, `dual`,
+/// `weekday_found` and `jdn` say each day of a date that is one day. After them stand `earliest`,
+/// `latest`, `kind`, `edtf`, `edition` and `remark`.
+///
+/// A place that the table of places lists has the code that stands there. Any other is the code of
+/// a territory or its name: the code first, else the first territory of that name. The weekday may
+/// be lacking or empty, and its letters may be capital or small. White space of ASCII around each
+/// of the three is passed over. A date that names a calendar is read as if the territory had gone
+/// by it.
 ///
 /// # Errors
 ///
 /// Want of memory, and nothing else.
+#[tactic(auto, using(crate::proofs::EdtfFacts::runs_read, crate::proofs::EdtfFacts::days_read))]
 pub fn letter_fields(
     alloc: Global,
     register: &Register,
@@ -297,15 +302,19 @@ pub fn letter_fields(
     date: &[u8],
     weekday: Option<&[u8]>,
 ) -> Result<LetterFields, AllocError>
-    ensures { IfOk result (λ made. spec.fields_and_remarks made ≡ spec.letter_fields newest_rules
-        register.now.lands edition order
+    ensures value { IfOk result (λ made. spec.fields_and_remarks made
+        ≡ spec.letter_fields newest_rules register.now.lands edition order
         (unwrap_or (option_map (λ places. places.now) places.entry) []) place.now date.now
         (option_map (λ w. w.now) weekday.entry)) }
+    // as laws: what `edtf` has of several runs or days is read as the set of these
+    ensures runs { AreRunsRead newest_rules }
+    ensures days { AreDaysRead newest_rules }
 {
     let territory = territory_in(register, places, place);
     let lacks_place = territory.is_none();
-    match said_in(alloc, order, date)? {
+    match date_of_field(alloc, order, date)? {
         Ok(Written::Date(date)) => fields_of_date(alloc, edition, territory, date, weekday),
+        Ok(Written::Set) => fields_of_set(alloc, edition, territory, date, weekday),
         Ok(Written::NoDate) => {
             fields_without_date(alloc, edition, DateFault::NoDate, lacks_place, weekday)
         }

@@ -63,7 +63,8 @@ impl<'a> Letters<'a> {
 
 impl Letters<'_> {
     /// Takes the next byte after the beginning of the text.
-    fn take_behind(&mut self, byte: u8) -> Result<(), LettersFault>
+    #[inline]
+    fn take_after(&mut self, byte: u8) -> Result<(), LettersFault>
         requires ready { inside.IsReady self.old }
         requires line { self.old.parser.line + 1 < 2 ^ 64 }
         ensures ready { OnOk result (inside.IsReady self.new) }
@@ -71,9 +72,9 @@ impl Letters<'_> {
             (self.new.parser.line
             ≡ next_line self.old.parser.returned self.old.parser.line byte) }
         ensures start { self.new.start ≡ self.old.start }
-        ensures takes { OnOk result (inside.TakesBehind self.old self.new (byte ∷ [])) }
-        ensures counts { OnOk result (inside.CountsBehind self.old self.new (byte ∷ [])) }
-        ensures stops { IfErr result (inside.StopsBehind self.old self.new (byte ∷ [])) }
+        ensures takes { OnOk result (inside.TakesAfter self.old self.new (byte ∷ [])) }
+        ensures counts { OnOk result (inside.CountsAfter self.old self.new (byte ∷ [])) }
+        ensures stops { IfErr result (inside.StopsAfter self.old self.new (byte ∷ [])) }
     {
         let Some(line) = self.parser.take(byte)? else {
             return Ok(());
@@ -91,19 +92,19 @@ impl Letters<'_> {
         ensures ready { OnOk result (inside.IsReady self.new) }
         ensures line { OnOk result (self.new.parser.line ≡ self.old.parser.line) }
         ensures start { self.new.start ≡ Past }
-        ensures takes { OnOk result (inside.TakesBehind self.old self.new (held self.old.start)) }
-        ensures counts { OnOk result (inside.CountsBehind self.old self.new (held self.old.start)) }
-        ensures stops { IfErr result (inside.StopsBehind self.old self.new
+        ensures takes { OnOk result (inside.TakesAfter self.old self.new (held self.old.start)) }
+        ensures counts { OnOk result (inside.CountsAfter self.old self.new (held self.old.start)) }
+        ensures stops { IfErr result (inside.StopsAfter self.old self.new
             (held self.old.start)) }
     {
         let start = self.start;
         self.start = Start::Past;
         match start {
             Start::Nothing | Start::Past => Ok(()),
-            Start::OneByte => self.take_behind(MARK[0]),
+            Start::OneByte => self.take_after(MARK[0]),
             Start::TwoBytes => {
-                self.take_behind(MARK[0])?;
-                self.take_behind(MARK[1])
+                self.take_after(MARK[0])?;
+                self.take_after(MARK[1])
             }
         }
     }
@@ -123,7 +124,7 @@ impl Letters<'_> {
             return Ok(());
         }
         self.take_held()?;
-        self.take_behind(byte)
+        self.take_after(byte)
     }
 
     /// Takes the next bytes.
@@ -148,11 +149,11 @@ impl Letters<'_> {
         requires { inside.IsReady self.old }
         ensures takes { OnOk result (inside.Wrote (waiting self.old.table.out)
             (waiting self.new.table.out)
-            (inside.text_behind self.old []) (written_of self.new.table [])) }
+            (inside.text_after self.old []) (written_of self.new.table [])) }
         ensures counts { OnOk result
-            (inside.tally_behind self.old [] ≡ tally_of self.new.table []) }
+            (inside.tally_after self.old [] ≡ tally_of self.new.table []) }
         ensures stops { IfErr result (inside.Stops (waiting self.old.table.out)
-            (waiting self.new.table.out) (inside.text_behind self.old [])) }
+            (waiting self.new.table.out) (inside.text_after self.old [])) }
     {
         if let Some(line) = self.parser.finish()? {
             let separator = self.parser.separator();

@@ -1,8 +1,9 @@
 //! Letters: a table in CSV, each row of which is told which days its date means in its place. What
 //! the crate promises to those above: `write_letters` writes the table of the definition and
-//! nothing else, in whatever pieces the bytes come, says where it ended early and why, and tells how
-//! many rows have each remark; the fields after a row are those of `letter_fields`, by which days
-//! its date means in the territory.
+//! nothing else, in whatever pieces the bytes come. It says where it ended early and why, and tells
+//! how many rows have each remark. The fields after a row are those of `letter_fields`, by which
+//! days its date means in the territory. `read_places` has the entries of a table of places, or
+//! tells its first fault.
 #![tactic(auto)]
 
 mod added_column;
@@ -25,6 +26,7 @@ mod places_fault;
 mod remark;
 mod row_field;
 mod separator;
+mod set;
 mod settings;
 mod span;
 mod start;

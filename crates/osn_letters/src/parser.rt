@@ -152,6 +152,7 @@ impl RecordParser {
     ///
     /// `TooLong` where the record at hand has no room for the byte, else `TextAfterQuote` where the
     /// byte is a text after a closing quote, and `NoMemory`.
+    #[inline]
     pub(crate) fn take(&mut self, byte: u8) -> Result<Option<u64>, LettersFault>
         requires partial { partial_of self.old.fields ≡ [] }
         requires line { self.old.line + 1 < 2 ^ 64 }

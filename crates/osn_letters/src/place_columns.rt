@@ -55,7 +55,8 @@ fn find_column(
 ///
 /// # Errors
 ///
-/// `LacksColumn` where no column has the name `place`, or else none the name `code`; and `NoMemory`.
+/// `LacksColumn` where no column has the name `place`, or else none the name `code`; and
+/// `NoMemory`.
 pub(crate) fn find_place_columns(
     alloc: Global,
     header: &ByteRecord,

@@ -1,5 +1,6 @@
 //! The reading of a table of places.
-ghost use Rattle.std.specs.Prelude.{ℕ, List, ◌≡◌, ◌≢◌, ◌+◌, ◌<◌, ◌≤◌, ◌^◌, ◌∷◌, [], length, true, false};
+ghost use Rattle.std.specs.Prelude.{ℕ, List, ◌≡◌, ◌≢◌, ◌+◌, ◌<◌, ◌≤◌, ◌^◌, ◌∷◌, []};
+ghost use Rattle.std.specs.Prelude.{length, true, false};
 ghost use Rattle.std.specs.Prelude.{Ok, Err, None, Some, IfOk, IfErr, IfSome, OnOk, MatchResult};
 ghost use Rattle.std.specs.Io.KnownBytes.{IsAtEnd};
 ghost use Rattle.csv.specs.Reading.{strip_bom};
@@ -170,22 +171,22 @@ fn places_in(alloc: Global, text: &[u8]) -> Result<Places, PlacesFault>
     reader.finish()
 }
 
-/// Reads a table of places in CSV to its end: the code of the territory for what the rows of a table
-/// of letters call a place. Its header has the columns `place` and `code`, and further ones are
-/// passed over. White space of ASCII around a place and a code is taken off. The fields are
+/// Reads a table of places in CSV to its end: the code of the territory for what the rows of a
+/// table of letters call a place. Its header has the columns `place` and `code`, and further ones
+/// are passed over. White space of ASCII around a place and a code is taken off. The fields are
 /// separated by the first comma, semicolon or tab of the header that stands in no quotes, or else
 /// by commas. A byte order mark at the beginning is left out. A place may be listed twice with the
 /// same code.
 ///
 /// # Errors
 ///
-/// The fault of the first record that has one. `NoHeader` where there is no record; `LacksColumn`
-/// where the header lacks the column `place`, or else `code`; `BadRecord` at a record with another
-/// number of fields than the header, else `NotUtf8` at one whose place or code is no text, else
-/// `TwoCodes` at one whose place had another code; `TooLong` at a record of more than 65,536 bytes;
-/// `OpenQuote` at one with a quote that is open at the end of the table; `TextAfterQuote` at one in
-/// which a text stands after a closing quote. `ReadFault` where the source failed or gave no end
-/// within 4,294,967,295 reads, and `NoMemory`.
+/// The fault of the first record that has one. `NoHeader` where the table has no record.
+/// `LacksColumn` where the header lacks the column `place`, or else `code`. At a record with
+/// another number of fields than the header `BadRecord`. Else `NotUtf8` where its place or its code
+/// is no text. Else `TwoCodes` where its place had another code before. `TooLong` at a record of
+/// more than 65,536 bytes. `OpenQuote` at one with a quote that is open at the end of the table.
+/// `TextAfterQuote` at one in which a text stands after a closing quote. `ReadFault` where the
+/// source failed or gave no end within 4,294,967,295 reads. And `NoMemory`.
 pub fn read_places<R: Source>(alloc: Global, source: &mut R) -> Result<Places, PlacesFault>
     ensures value { IfOk result (λ places. IfSome (R.remaining source.old)
         (λ text. spec.places_in text ≡ Ok places)) }

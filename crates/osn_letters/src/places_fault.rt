@@ -33,7 +33,7 @@ impl PlacesColumn {
 /// told by its first one.
 #[derive(Debug, Drop)]
 pub enum PlacesFault {
-    /// There is no header, since there is no record.
+    /// The table has no record, and so no header.
     NoHeader,
     /// The header, on that line, lacks a column. Found were these names, with a comma and a space
     /// between two.
@@ -81,6 +81,7 @@ impl From<AllocError> for PlacesFault {
     }
 }
 
+/// The parser of records tells three faults of a record, and want of memory.
 impl From<LettersFault> for PlacesFault {
     ghost from_gives = { λ fault given. given ≡ spec.of_letters fault };
 

@@ -157,6 +157,16 @@ pub(crate) fn remarks_on_days(
     ]
 }
 
+/// What is said beside the days of a set.
+pub(crate) fn remarks_beside_set(given: Option<Weekday>, is_malformed: bool) -> [Told; 2]
+    ensures { result ≡ spec.remarks_beside_set given is_malformed }
+{
+    [
+        (given.is_some(), Remark::WeekdayNotLookedFor),
+        (is_malformed, Remark::MalformedWeekday),
+    ]
+}
+
 /// What is said beside the days, of a date that is read.
 pub(crate) fn remarks_beside(
     date: AnyDate,

@@ -5,7 +5,7 @@ ghost use Rattle.osn_letters.specs.RowFields as spec;
 
 use crate::places::Places;
 use osn_days::Weekday;
-use osn_grammar::{DateOrder, Written};
+use osn_grammar::{DateOrder, Written, WrittenDate, members_of};
 use osn_lands::Territory;
 use osn_register::Register;
 use osn_written::{DateFault, read_date, weekday_named};
@@ -27,16 +27,26 @@ pub(crate) fn text_in_field(bytes: &[u8]) -> Option<&str>
 }
 
 /// What a field says of a date, or why it says nothing of one.
-pub(crate) fn said_in(
+pub(crate) fn date_of_field(
     alloc: Global,
     order: DateOrder,
     field: &[u8],
 ) -> Result<Result<Written, DateFault>, AllocError>
-    ensures { IfOk result (λ said. said ≡ spec.said_in order field.now) }
+    ensures { IfOk result (λ date. date ≡ spec.date_of_field order field.now) }
 {
     match text_in_field(field) {
         Some(text) => read_date(alloc, text, order),
         None => Ok(Err(DateFault::Malformed)),
+    }
+}
+
+/// The dates of the set that a field says.
+pub(crate) fn members_in(alloc: Global, field: &[u8]) -> Result<Vec<WrittenDate>, AllocError>
+    ensures { IfOk result (λ members. members.items ≡ spec.members_in field.now) }
+{
+    match text_in_field(field) {
+        Some(text) => members_of(alloc, text),
+        None => Ok(Vec::new(alloc)),
     }
 }
 

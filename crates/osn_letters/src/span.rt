@@ -64,6 +64,16 @@ fn last_of(runs: &[Run]) -> Option<Day>
     }
 }
 
+/// That of the runs of a set, in order.
+pub(crate) fn span_of_set(runs: &[Run]) -> Span
+    ensures { result ≡ spec.span_of_set runs.now }
+{
+    Span {
+        earliest: first_of(runs),
+        latest: last_of(runs),
+    }
+}
+
 /// That of the runs of what is written, in order. A bound is open at one end.
 pub(crate) fn span_of_runs(extent: Extent, runs: &[Run]) -> Span
     ensures { result ≡ spec.span_of_runs extent runs.now }

@@ -110,12 +110,12 @@ fn finish_and_write<W: Sink>(letters: &mut Letters<'_>, sink: &mut W) -> Result<
     }
 }
 
-/// Writes a table of letters in CSV from one in CSV: the header with twelve names after those that
-/// came, and each record with the twelve fields of `letter_fields` after its own, by the register
-/// of that edition. Which columns hold the places, the dates and the weekdays is told by their names.
-/// The fields are separated by what the settings name, or else by the first comma, semicolon or
-/// tab of the header that stands in no quotes, or else by commas; so are those that are written. A
-/// byte order mark at the beginning is left out.
+/// Writes a table of letters in CSV from one in CSV. The header has twelve names after those that
+/// came. Each record has the twelve fields of `letter_fields` after its own, by the register of
+/// that edition. The settings name the columns of the places, of the dates or their parts, and of
+/// the weekdays. The fields are separated by what the settings name. Else it is the first comma,
+/// semicolon or tab of the header that stands in no quotes, or else the comma. What is written has
+/// the same separator. A byte order mark at the beginning is left out.
 ///
 /// What comes of a read is written before the next one. Besides the register there is one read of
 /// at most 65,536 bytes, what is written of them, and of a record that hasn't ended yet at most
@@ -128,14 +128,16 @@ fn finish_and_write<W: Sink>(letters: &mut Letters<'_>, sink: &mut W) -> Result<
 ///
 /// # Errors
 ///
-/// `NoHeader` where there is no record; `HasColumn` where the header has one of the twelve names
-/// already; `LacksColumn` where it lacks a column that has to be there; `BadRecord` at a record
-/// with another number of fields than the header; `TooLong` at a record of more than 65,536 bytes;
-/// `OpenQuote` at one with a quote that is open at the end of the table; `TextAfterQuote` at one in
-/// which a text stands after a closing quote: of these all that stood before was written.
-/// `ReadFault` where the source failed or gave no end within 4,294,967,295 reads, `WriteFault`
-/// where the sink failed or did not take a text within as many writes, and `NoMemory`: of these a
-/// beginning of the table was written.
+/// `NoHeader` where the table has no record. `HasColumn` where the header has one of the twelve
+/// names already. `LacksColumn` where it lacks a column that has to be there. `BadRecord` at a
+/// record with another number of fields than the header. `TooLong` at a record of more than 65,536
+/// bytes. `OpenQuote` at one with a quote that is open at the end of the table. `TextAfterQuote` at
+/// one in which a text stands after a closing quote. All that stood before such a fault was
+/// written.
+///
+/// `ReadFault` where the source failed or gave no end within 4,294,967,295 reads. `WriteFault`
+/// where the sink failed or did not take a text within as many writes. And `NoMemory`. Where one of
+/// these ended the table, a beginning of it was written.
 #[tactic(auto, using(crate::proofs::PartFacts::table_laws))]
 pub fn write_letters<R: Source, W: Sink, P: Progress>(
     alloc: Global,
@@ -160,9 +162,9 @@ pub fn write_letters<R: Source, W: Sink, P: Progress>(
     ensures end { OnOk result
         (IsAtEnd (R.remaining source.new) × (W.holds_back sink.new ≡ false)) }
 
-    // The source failed where a read fault says so, or gave no end in 4,294,967,295 reads, and then
-    // all was written of what was read; the sink failed where a write fault says so, or the table
-    // has as many bytes.
+    // Where a read fault says so, the source failed or gave no end in 4,294,967,295 reads, and all
+    // was written of what was read. Where a write fault says so, the sink failed, or the table has
+    // as many bytes.
     ensures source { MatchResult result (λ _. R.has_failed source.new ≡ R.has_failed source.old)
         (λ f. EndsStream (is_read_fault f) (R.has_failed source.old) (R.has_failed source.new)
         (IfSome (R.remaining source.old) (λ text. 4294967295 ≤ length text))
@@ -175,7 +177,7 @@ pub fn write_letters<R: Source, W: Sink, P: Progress>(
         (IfSome (R.remaining source.old) (λ text. spec.IsLong (spec.letters_written
         (spec.basis newest_rules register.now.lands edition settings.entry) text)))) }
 
-    // As laws: the records of a text are those that the kit reads, where none has a fault; and a
+    // As laws: the records of a text are those that the kit reads, where none has a fault. And a
     // table may be cut between its records and written in parts, each after the header.
     ensures laws { AreTableLaws }
 {

@@ -101,13 +101,13 @@ impl Table<'_> {
     }
 
     /// The twelve fields of a record, with the text of its date, and its remarks.
-    fn said_on(
+    fn letter_with_date(
         &self,
         columns: Columns,
         row: &ByteRecord,
         date: &[u8],
     ) -> Result<LetterFields, AllocError>
-        ensures { IfOk result (λ made. fields_and_remarks made ≡ spec.said_on
+        ensures { IfOk result (λ made. fields_and_remarks made ≡ spec.letter_with_date
             (inside.source_of self.now) columns (fields_of row.now) date.now) }
     {
         letter_fields(
@@ -123,15 +123,15 @@ impl Table<'_> {
     }
 
     /// The twelve fields of a record, and its remarks.
-    fn said_of(&self, columns: Columns, row: &ByteRecord) -> Result<LetterFields, AllocError>
-        ensures { IfOk result (λ made. fields_and_remarks made ≡ spec.said_of
+    fn letter_of(&self, columns: Columns, row: &ByteRecord) -> Result<LetterFields, AllocError>
+        ensures { IfOk result (λ made. fields_and_remarks made ≡ spec.letter_of
             (inside.source_of self.now) columns (fields_of row.now)) }
     {
         match columns.date {
-            DateColumns::Whole(index) => self.said_on(columns, row, field_at(row, index)),
+            DateColumns::Whole(index) => self.letter_with_date(columns, row, field_at(row, index)),
             DateColumns::Apart { year, month, day } => {
                 let date = parts_text(self.alloc, row, year, month, day)?;
-                self.said_on(columns, row, &date)
+                self.letter_with_date(columns, row, &date)
             }
         }
     }
@@ -148,9 +148,9 @@ impl Table<'_> {
         ensures source { inside.source_of self.new ≡ inside.source_of self.old }
         ensures rows { self.new.rows ≡ self.old.rows }
         ensures tally { OnOk result (self.new.tally ≡ with_row self.old.tally
-            (spec.said_of (inside.source_of self.old) columns (fields_of row.old)).remarks) }
+            (spec.letter_of (inside.source_of self.old) columns (fields_of row.old)).remarks) }
     {
-        let made = self.said_of(columns, row)?;
+        let made = self.letter_of(columns, row)?;
         push_fields(row, &made.fields)?;
         self.tally.count(&made.remarks)?;
         self.out.write_row(row)

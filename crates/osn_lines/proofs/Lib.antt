@@ -3,3 +3,4 @@ pub mod FeedLemmas
 pub mod LineLemmas
 pub mod TakeLemmas
 pub mod InputLemmas
+pub mod EndedLemmas

@@ -1,4 +1,5 @@
 pub mod Bytes
+pub mod Ended
 pub mod Lines
 pub mod Plain
 pub mod Streams

@@ -1,7 +1,7 @@
 //! Bytes in memory as a source.
 ghost use Rattle.std.specs.Prelude.{◌≡◌, Some};
 
-use crate::source::{ReadFailed, Source};
+use crate::source::{MOST_ROOM, ReadFailed, Source};
 
 /// Bytes in memory as a source, which never fails.
 #[derive(Clone, Copy, Debug, Drop)]
@@ -37,5 +37,9 @@ impl<'a> Source for Bytes<'a> {
 
     fn failed(&self) -> bool {
         false
+    }
+
+    fn room(&self) -> usize {
+        self.rest.len().clamp(1, MOST_ROOM)
     }
 }

@@ -6,6 +6,7 @@
 
 mod bytes;
 mod cut;
+mod ended;
 mod fault;
 mod kept;
 mod line;
@@ -18,6 +19,7 @@ mod taker;
 mod whole;
 
 pub use bytes::Bytes;
+pub use ended::ended_length;
 pub use fault::{Interrupted, TakeFault};
 pub use line::{LONGEST_LINE, Line};
 pub use plain::Plain;

@@ -1,5 +1,5 @@
 //! What bytes are read from.
-ghost use Rattle.std.specs.Prelude.{◌≡◌, ℕ, List, Option, Bool, true, is_ok, if◌then◌else◌};
+ghost use Rattle.std.specs.Prelude.{◌≡◌, ◌<◌, ◌≤◌, ℕ, List, Option, Bool, true, is_ok, if◌then◌else◌};
 ghost use Rattle.std.specs.Prelude.{IfOk, length};
 ghost use Rattle.std.specs.Io.{ReadsAtMost};
 ghost use Rattle.std.specs.Io.KnownBytes.{ReadConsumes};
@@ -30,6 +30,24 @@ pub trait Source {
     /// Whether a read has ever failed.
     fn failed(&self) -> bool
         ensures { result ≡ has_failed self.now };
+
+    /// How many bytes a read is worth having room for: from 1 to 65,536.
+    fn room(&self) -> usize
+        ensures some { 0 < result }
+        ensures most { result ≤ 65536 }
+    {
+        MOST_ROOM
+    }
+}
+
+/// The most bytes that are read at once.
+pub(crate) const MOST_ROOM: usize = 65_536;
+
+/// A buffer of this many bytes.
+pub(crate) fn buffer_of(alloc: Global, room: usize) -> Result<Vec<u8>, AllocError>
+    ensures { IfOk result (λ buffer. length buffer.items ≡ room) }
+{
+    vec![in alloc; 0u8; room]
 }
 
 /// A buffer to read a source into, of 65,536 bytes.
@@ -40,5 +58,5 @@ pub trait Source {
 pub fn read_buffer(alloc: Global) -> Result<Vec<u8>, AllocError>
     ensures { IfOk result (λ buffer. length buffer.items ≡ 65536) }
 {
-    vec![in alloc; 0u8; 65_536]
+    buffer_of(alloc, MOST_ROOM)
 }

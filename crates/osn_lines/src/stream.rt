@@ -11,7 +11,7 @@ ghost use Rattle.osn_lines.specs.Taking.{HasKeptUp, StopsAfter};
 use crate::cut::{take_line, take_piece};
 use crate::fault::{Interrupted, TakeFault};
 use crate::kept::Kept;
-use crate::source::{Source, read_buffer};
+use crate::source::{Source, buffer_of};
 use crate::taker::LineTaker;
 use std::alloc::Global;
 
@@ -84,7 +84,7 @@ pub fn take_lines<T: LineTaker, R: Source>(
         (IsReadFault (R.has_failed source.new) (R.remaining source.old))
         (λ _. R.has_failed source.new ≡ R.has_failed source.old)) }
 {
-    let Ok(mut buffer) = read_buffer(alloc) else {
+    let Ok(mut buffer) = buffer_of(alloc, source.room()) else {
         return Err(Interrupted {
             lines: 0,
             cause: TakeFault::NoMemory,

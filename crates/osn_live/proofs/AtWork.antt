@@ -124,9 +124,9 @@ gate_at passes who seen published replies f told (inl e) =
 gate_at passes who seen published replies f told (inr e) = subst (IsOfGate passes) (sym e.0) tt
 
 -- a reader that finds no place or no memory was not stopped by a gate
-pub asked_at : (passes : Bool) (f : AskFault) → IsOfPassing passes (by_ask f)
-asked_at passes Ask.NoMemory = tt
-asked_at passes Ask.NoPlace = tt
+pub ask_at : (passes : Bool) (f : AskFault) → IsOfPassing passes (by_ask f)
+ask_at passes Ask.NoMemory = tt
+ask_at passes Ask.NoPlace = tt
 
 pub open_at : (lists published : ℕ) (f : OpenFault) → (f ≡ Open.BadCount → IsBadCount lists) →
     IsDeskFault lists published (by_open f)

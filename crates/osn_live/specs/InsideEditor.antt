@@ -17,7 +17,7 @@ editor_in e = record {
 
 -- readers are shown the last edition, and the draft is that of its batches
 pub record IsEditing (e : Inside) : Type 0 where
-  pub shown : e.copies.desk.shown.value ≡ last_edition e
+  pub edition : e.copies.desk.shown.value ≡ last_edition e
   pub known : view e.copies.desk.place ≡ Some (origin_of (last_edition e))
   pub book : e.certificate.book ≡ e.history
   pub draft : IsDraftOf e.draft e.certificate.batches

@@ -71,8 +71,8 @@ pub(crate) fn show<R: Wait>(copies: EditionWriter, next: Edition, rt: &R) -> Tur
     let Ok(()) = copies.append(next) else {
         return (copies, Err(AllocError));
     };
-    let (copies, shown) = copies.publish_as::<FindOrigin, R>(rt);
-    match shown {
+    let (copies, outcome) = copies.publish_as::<FindOrigin, R>(rt);
+    match outcome {
         Ok(()) => (align_copies(copies, rt), Ok(())),
         Err(failed) => (copies, Err(failed)),
     }
@@ -83,7 +83,7 @@ pub(crate) fn show<R: Wait>(copies: EditionWriter, next: Edition, rt: &R) -> Tur
 fn align_copies<R: Wait>(copies: EditionWriter, rt: &R) -> EditionWriter
     requires none { drop copies.behind copies.log.items ≡ [] }
     requires known { view copies.desk.place ≡ Some (origin_of copies.desk.shown.value) }
-    ensures shown { result.desk.shown.value ≡ copies.desk.shown.value }
+    ensures edition { result.desk.shown.value ≡ copies.desk.shown.value }
     ensures known { view result.desk.place ≡ view copies.desk.place }
 {
     copies.publish_as::<FindOrigin, R>(rt).0
@@ -98,7 +98,7 @@ impl Editor {
         certificate: Certificate,
     ) -> Editor
         requires none { certificate ≡ none_of history }
-        requires shown { copies.desk.shown.value ≡ edition_of limits certificate }
+        requires edition { copies.desk.shown.value ≡ edition_of limits certificate }
         requires known { view copies.desk.place
             ≡ Some (origin_of (edition_of limits certificate)) }
         ensures object { result.object ≡ opened limits }

@@ -27,8 +27,8 @@ fn start<R: Wait>(rt: &R, alloc: Global, limits: Limits, readers: u32) -> Result
     let second = first.share()?;
     let third = first.share()?;
     let copies: EditionWriter = Writer::new(alloc, first, second, readers as usize)?;
-    let (copies, shown) = show(copies, third, rt);
-    match shown {
+    let (copies, outcome) = show(copies, third, rt);
+    match outcome {
         Ok(()) => Ok(Editor::begin(alloc, limits, copies, history, certificate)),
         Err(_) => {
             copies.take(rt);

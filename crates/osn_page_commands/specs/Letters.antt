@@ -34,17 +34,17 @@ use Rattle.osn_report.specs.declared.fault.CommandFault.TheVariants.{File, Write
 use Rattle.osn_report.specs.declared.status.Status.{Status}
 use Rattle.osn_report.specs.declared.status.Status.TheVariants as statuses
 
--- how a table is read: by the names of its columns, what separates its fields, if that is named,
--- the order of a date's three numbers, and the entries of the table of places
-pub record TableAsked : Type 0 where
+-- how a table is read: the names of its columns, what separates its fields, if that is named, the
+-- order of a date's three numbers, and the entries of places
+pub record SettingsModel : Type 0 where
   pub names : NameTexts
   pub separator : Option Separator
   pub order : DateOrder
   pub places : List PlaceEntry
 
 -- what settings say of that
-abbrev pub asked_of : TableSettings → TableAsked
-asked_of settings = record {
+abbrev pub settings_model : TableSettings → SettingsModel
+settings_model settings = record {
   names = names_of settings.names;
   separator = settings.separator;
   order = settings.order;
@@ -123,29 +123,29 @@ TellsTable names e ends.NoMemory status = EndsBy e NoMemory status
 -- ---- what was written
 
 -- by what a table is made, of what an object has published
-abbrev pub basis_of : ObjectState → TableAsked → TableBasis
-basis_of s asked = record {
+abbrev pub basis_of : ObjectState → SettingsModel → TableBasis
+basis_of s settings = record {
   rules = newest_rules;
   lands = published s;
   edition = length s.batches;
-  names = asked.names;
-  separator = asked.separator;
-  order = asked.order;
-  places = asked.places;
+  names = settings.names;
+  separator = settings.separator;
+  order = settings.order;
+  places = settings.places;
 }
 
 -- the table that is written of a text
-abbrev pub table_of : ObjectState → TableAsked → List ℕ → Written
-table_of s asked = letters_written (basis_of s asked)
+abbrev pub table_of : ObjectState → SettingsModel → List ℕ → Written
+table_of s settings = letters_written (basis_of s settings)
 
 -- a beginning of the table was written by the time of this end, and all that stands before a record
 -- that ended it
 abbrev pub EndsTable : (List ℕ → Written) → Input → Output → LettersFault → Type 0
 EndsTable table i o ended = IfSome i.bytes (λ text. EndsEarly o.old o.new (table text) ended)
 
--- the input failed or gave no end where a read fault says so, and then all was written of what was
--- read; and the output failed, or the table may take more writes than are made, where a write fault
--- says so
+-- where a read fault says so, the input failed or gave no end, and all was written of what was
+-- read. Where a write fault says so, the output failed, or the table may take more writes than are
+-- made
 abbrev pub IsReason : (List ℕ → Written) → Input → Output → LettersFault → Type 0
 IsReason table i o ended =
     EndsStream (is_read_fault ended) i.unread_before i.unread
@@ -173,26 +173,27 @@ TellsEnd rules tally e status =
     (status_by rules.strict (has_remarks tally)) status
 
 -- all was written, and the end told
-abbrev pub EndsWhole : ObjectState → TableAsked → EndRules → Input → Output → Output → Status
+abbrev pub EndsWhole : ObjectState → SettingsModel → EndRules → Input → Output → Output → Status
     → Type 0
-EndsWhole s asked rules i o e status =
+EndsWhole s settings rules i o e status =
     (tally : TallyModel) × TellsEnd rules tally e status
-    × IfSome i.bytes (λ text. IsWhole o.old o.new (table_of s asked text))
-    × IfSome i.bytes (λ text. IsTallyOf (basis_of s asked) text tally)
+    × IfSome i.bytes (λ text. IsWhole o.old o.new (table_of s settings text))
+    × IfSome i.bytes (λ text. IsTallyOf (basis_of s settings) text tally)
 
 -- what was written and told, by what an object has published: the table whole; or a part of it, and
 -- why it ended there
-abbrev pub WritesTable : ObjectState → TableAsked → EndRules → Input → Output → Output → Status → Type 0
-WritesTable s asked rules i o e status =
-    EndsWhole s asked rules i o e status
-    ⊎ ((ended : LettersFault) × TellsTable asked.names e ended status
-    × EndsTable (table_of s asked) i o ended × IsReason (table_of s asked) i o ended)
+abbrev pub WritesTable : ObjectState → SettingsModel → EndRules → Input → Output → Output → Status
+    → Type 0
+WritesTable s settings rules i o e status =
+    EndsWhole s settings rules i o e status
+    ⊎ ((ended : LettersFault) × TellsTable settings.names e ended status
+    × EndsTable (table_of s settings) i o ended × IsReason (table_of s settings) i o ended)
 
 -- how the command ends: the journal is refused, and nothing was written; or it makes an object, and
 -- that was done
-abbrev pub PrintsLetters : Limits → Input → TableAsked → EndRules → Input → Output → Output → Status
-    → Type 0
-PrintsLetters limits journal asked rules i o e status =
+abbrev pub PrintsLetters : Limits → Input → SettingsModel → EndRules → Input → Output → Output
+    → Status → Type 0
+PrintsLetters limits journal settings rules i o e status =
     ((fault : FileFault) × MakesNoObject limits journal fault × PrintsNone (File fault) o e status)
     ⊎ ((s : ObjectState) × MakesObject limits journal.bytes s
-    × WritesTable s asked rules i o e status)
+    × WritesTable s settings rules i o e status)

@@ -10,9 +10,9 @@ use Rattle.osn_letters.specs.Places.{places_in}
 use Rattle.osn_letters.specs.declared.places_fault.PlacesFault.{PlacesFault}
 use Rattle.osn_lines.specs.Streams.{Input, Output}
 use Rattle.osn_register.specs.declared.limits.Limits.{Limits}
-use Rattle.osn_page_commands.specs.Letters.{PrintsLetters, TableAsked}
+use Rattle.osn_page_commands.specs.Letters.{PrintsLetters, SettingsModel}
 use Rattle.osn_page_commands.specs.Places.{IsPlacesFault, TellsPlaces}
-use Rattle.osn_page_commands.specs.TableWords.{settings_asked}
+use Rattle.osn_page_commands.specs.TableWords.{settings_of_options}
 use Rattle.osn_page_commands.specs.declared.letters.EndRules.{EndRules}
 use Rattle.osn_report.specs.Folders.{Folders, IsReadOf, ReadsOne}
 use Rattle.osn_report.specs.Told.{TellsIfMade, TellsMisuse}
@@ -22,7 +22,7 @@ use Rattle.osn_report.specs.declared.status.Status.TheVariants as statuses
 
 -- what a table that was written whole ends with, by what is asked for
 abbrev pub rules_of : LettersModel → EndRules
-rules_of asked = record { strict = asked.strict; summary = asked.summary }
+rules_of options = record { strict = options.strict; summary = options.summary }
 
 -- the table of places of a path could not be opened, which standard error was told, and nothing was
 -- written
@@ -38,38 +38,39 @@ RefusesPlaces path table o e status =
     × TellsPlaces path e fault status
 
 -- it has these entries, and letters were read by them
-abbrev pub ReadsByEntries : Limits → Input → Input → TableAsked → EndRules → Input → Output → Output
-    → Status → Type 0
-ReadsByEntries limits table journal asked rules i o e status =
+abbrev pub ReadsByEntries : Limits → Input → Input → SettingsModel → EndRules → Input → Output
+    → Output → Status → Type 0
+ReadsByEntries limits table journal settings rules i o e status =
     (entries : List PlaceEntry) × IfSome table.bytes (λ text. places_in text ≡ Ok entries)
-    × PrintsLetters limits journal (record asked { places = entries }) rules i o e status
+    × PrintsLetters limits journal (record settings { places = entries }) rules i o e status
 
 -- how the command ends that was given a table of places, once the journal was opened
-abbrev pub PrintsByPlaces : Limits → List ℕ → Input → TableAsked → EndRules → (Bool → Type 0)
+abbrev pub PrintsByPlaces : Limits → List ℕ → Input → SettingsModel → EndRules → (Bool → Type 0)
     → Folders → Input → Output → Output → Status → Type 0
-PrintsByPlaces limits path journal asked rules CanFail d i o e status =
+PrintsByPlaces limits path journal settings rules CanFail d i o e status =
     MissesPlaces path d o e status
     ⊎ (Changes (Opens (path ∷ [])) d.before d.after
     × (table : Input) × IsReadOf d path CanFail table
     × (RefusesPlaces path table o e status
-    ⊎ ReadsByEntries limits table journal asked rules i o e status))
+    ⊎ ReadsByEntries limits table journal settings rules i o e status))
 
 -- how the command ends, once the journal was opened, with a table of places or without
-abbrev pub PrintsTable : Limits → List ℕ → Option (List ℕ) → TableAsked → EndRules
+abbrev pub PrintsTable : Limits → List ℕ → Option (List ℕ) → SettingsModel → EndRules
     → (Bool → Type 0) → Folders → Input → Output → Output → Status → Type 0
-PrintsTable limits journal None asked rules CanFail d i o e status = ReadsOne journal CanFail d
-    (λ file. PrintsLetters limits file asked rules i o e status)
-PrintsTable limits journal (Some path) asked rules CanFail d i o e status =
+PrintsTable limits journal None settings rules CanFail d i o e status = ReadsOne journal CanFail d
+    (λ file. PrintsLetters limits file settings rules i o e status)
+PrintsTable limits journal (Some path) settings rules CanFail d i o e status =
     (opened : Option Known) × Changes (Opens (journal ∷ [])) d.before opened
     × (file : Input) × IsReadOf d journal CanFail file
-    × PrintsByPlaces limits path file asked rules CanFail
+    × PrintsByPlaces limits path file settings rules CanFail
     (record { before = opened; after = d.after }) i o e status
 
 -- what the command has done: what the options ask for; or one of them is wrong, which standard
 -- error was told, and no file was opened and nothing written
 abbrev pub RunsLetters : Limits → List ℕ → LettersModel → (Bool → Type 0) → Folders → Input → Output
     → Output → Status → Type 0
-RunsLetters limits journal options CanFail d i o e status = MatchResult (settings_asked options)
-    (λ asked.
-    PrintsTable limits journal options.places asked (rules_of options) CanFail d i o e status)
+RunsLetters limits journal options CanFail d i o e status = MatchResult
+    (settings_of_options options)
+    (λ settings.
+    PrintsTable limits journal options.places settings (rules_of options) CanFail d i o e status)
     (λ wrong. (d.after ≡ d.before) × (o.new ≡ o.old) × TellsMisuse e wrong.0 wrong.1 status)

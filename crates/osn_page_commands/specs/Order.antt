@@ -7,9 +7,9 @@ use Rattle.osn_report.specs.declared.misuse.Misuse.{Misuse}
 use Rattle.osn_report.specs.declared.misuse.Misuse.TheVariants as misuses
 
 -- the order of a word, if there is one: dmy for the day first, mdy for the month
-abbrev pub order_asked : Option (List ℕ) → Result DateOrder Misuse
-order_asked None = Ok Unknown
-order_asked (Some word) =
+abbrev pub order_of_word : Option (List ℕ) → Result DateOrder Misuse
+order_of_word None = Ok Unknown
+order_of_word (Some word) =
     if bytes_eq word (codes "dmy") then Ok DayMonth
     else (if bytes_eq word (codes "mdy") then Ok MonthDay
     else Err misuses.Order)

@@ -1,10 +1,12 @@
--- The page that a command prints, and why there is none.
+-- The page that a command prints, or why it prints none.
 use Rattle.std.specs.Prelude.{◌≡◌, ◌⊎◌, ◌++◌, ℕ, pos, List, length, codes, Option, None, Some}
 use Rattle.std.specs.Prelude.{Bool, true, false, ◌&&◌, if◌then◌else◌, MatchResult}
 use Rattle.std.specs.Option.{MatchOption}
+use Rattle.std.specs.Result.{is_err}
 use Rattle.osn_almanac.specs.Almanac.{almanac, almanac_refusal}
 use Rattle.osn_days.specs.Profile.{newest_rules}
 use Rattle.osn_grammar.specs.declared.written.WrittenDate.{WrittenDate as AnyDate}
+use Rattle.osn_grammar.specs.Reading.{members}
 use Rattle.osn_lands.specs.Territory.{TerritoryModel}
 use Rattle.osn_register.specs.Named.{named_of}
 use Rattle.osn_register.specs.Plain.{LandModel, code_refusal}
@@ -16,14 +18,17 @@ use Rattle.osn_lines.specs.Streams.{Input, Output}
 use Rattle.osn_files.specs.declared.fault.FileFault.{FileFault}
 use Rattle.osn_invocation.specs.Invocation.{PageWordsModel}
 use Rattle.osn_pages.specs.DateLines.{has_no_day}
+use Rattle.osn_written.specs.SetsMeant.{found_of_set}
 use Rattle.osn_pages.specs.Page.{page_text}
+use Rattle.osn_pages.specs.SetPage.{set_page_text}
 use Rattle.osn_pages.specs.Territory.{territories_page}
 use Rattle.osn_pages.specs.declared.page.Page.{Page}
 use Rattle.osn_pages.specs.declared.page.Page.TheVariants as pages
 use Rattle.osn_pages.specs.declared.page.Published.{Published}
-use Rattle.osn_page_commands.specs.PageWords.{page_asked, takes_memory, code_of, wrong_word}
-use Rattle.osn_page_commands.specs.declared.page_words.Asked.{Asked}
-use Rattle.osn_page_commands.specs.declared.page_words.Asked.TheVariants.{Year, Land, Lands}
+use Rattle.osn_page_commands.specs.PageWords.{topic_of_words, takes_memory, code_of, date_text_of}
+use Rattle.osn_page_commands.specs.PageWords.{wrong_word}
+use Rattle.osn_page_commands.specs.declared.page_words.Topic.{Topic}
+use Rattle.osn_page_commands.specs.declared.page_words.Topic.TheVariants.{Year, Land, Set, Lands}
 use Rattle.osn_report.specs.Fault.{numbered_line}
 use Rattle.osn_report.specs.Journal.{MakesObject, MakesNoObject}
 use Rattle.osn_report.specs.Printing.{PrintsIfMade, PrintsNone}
@@ -42,17 +47,22 @@ edition_of s = record { edition = length s.batches; pending = length s.pending }
 
 -- ---- the page
 
--- the text of what was asked for, of what an object has published
-abbrev pub asked_text : ObjectState → List ℕ → Asked → List ℕ
-asked_text s code (Year year) = almanac newest_rules (published s) code (pos year)
-asked_text s code (Land page is_strict) = page_text newest_rules (published s) code (edition_of s) page
-asked_text s code Lands = territories_page (published s) (length s.batches) (length s.pending)
+-- the text of what was asked for, of what an object has published, where this is the text of its
+-- date
+abbrev pub topic_text : ObjectState → List ℕ → List ℕ → Topic → List ℕ
+topic_text s code date (Year year) = almanac newest_rules (published s) code (pos year)
+topic_text s code date (Land page is_strict) =
+    page_text newest_rules (published s) code (edition_of s) page
+topic_text s code date (Set given is_strict) =
+    set_page_text newest_rules (published s) code (edition_of s) date given
+topic_text s code date Lands = territories_page (published s) (length s.batches) (length s.pending)
 
 -- why it is refused
-abbrev pub asked_refusal : List LandModel → List ℕ → Asked → Option Refusal
-asked_refusal lands code (Year year) = almanac_refusal newest_rules lands code (pos year)
-asked_refusal lands code (Land page is_strict) = code_refusal lands code
-asked_refusal lands code Lands = None
+abbrev pub topic_refusal : List LandModel → List ℕ → Topic → Option Refusal
+topic_refusal lands code (Year year) = almanac_refusal newest_rules lands code (pos year)
+topic_refusal lands code (Land page is_strict) = code_refusal lands code
+topic_refusal lands code (Set given is_strict) = code_refusal lands code
+topic_refusal lands code Lands = None
 
 -- ---- a day that is wanted
 
@@ -68,11 +78,21 @@ lacks_day lands code (pages.OfDay day) = false
 lacks_day lands code (pages.Month year month) = false
 lacks_day lands code pages.Periods = false
 
+-- a date of a set means no day in the territory of the code
+abbrev pub is_set_without_day : Option (List ℕ × TerritoryModel) → List ℕ → Bool
+is_set_without_day None date = false
+is_set_without_day (Some named) date =
+    is_err (found_of_set newest_rules named.1 (members date))
+
+abbrev pub lacks_set : List LandModel → List ℕ → List ℕ → Bool
+lacks_set lands code date = is_set_without_day (named_of code lands) date
+
 -- that, where the words ask for a day
-abbrev pub lacks_asked_day : List LandModel → List ℕ → Asked → Bool
-lacks_asked_day lands code (Year year) = false
-lacks_asked_day lands code (Land page is_strict) = is_strict && lacks_day lands code page
-lacks_asked_day lands code Lands = false
+abbrev pub lacks_strict_day : List LandModel → List ℕ → List ℕ → Topic → Bool
+lacks_strict_day lands code date (Year year) = false
+lacks_strict_day lands code date (Land page is_strict) = is_strict && lacks_day lands code page
+lacks_strict_day lands code date (Set given is_strict) = is_strict && lacks_set lands code date
+lacks_strict_day lands code date Lands = false
 
 -- the status of a page that was printed: that of a refusal, where such a day is lacking
 abbrev pub ended : Bool → Status → Status
@@ -90,17 +110,18 @@ land_refusal_line path code UnknownLand = codes "oldstyle: no territory has the 
 land_refusal_line path code refusal = numbered_line refusal
 
 -- the line on a refusal; that of an almanac has its number and name
-abbrev pub refusal_line : List ℕ → List ℕ → Asked → Refusal → List ℕ
+abbrev pub refusal_line : List ℕ → List ℕ → Topic → Refusal → List ℕ
 refusal_line path code (Year year) refusal = numbered_line refusal
 refusal_line path code (Land page is_strict) refusal = land_refusal_line path code refusal
+refusal_line path code (Set given is_strict) refusal = land_refusal_line path code refusal
 refusal_line path code Lands refusal = numbered_line refusal
 
 -- ---- how the command ends
 
 -- nothing was written, and standard error was told of the refusal
-abbrev pub IsRefused : List ℕ → List ℕ → Asked → Refusal → Output → Output → Status → Type 0
-IsRefused path code asked refusal o e status =
-    (o.new ≡ o.old) × TellsIfMade e statuses.Refused (refusal_line path code asked refusal) status
+abbrev pub IsRefused : List ℕ → List ℕ → Topic → Refusal → Output → Output → Status → Type 0
+IsRefused path code topic refusal o e status =
+    (o.new ≡ o.old) × TellsIfMade e statuses.Refused (refusal_line path code topic refusal) status
 
 -- a text was printed, with the status that goes with it
 abbrev pub PrintsPageText : List ℕ → Bool → Output → Output → Status → Type 0
@@ -108,24 +129,27 @@ PrintsPageText text lacks o e status =
     (printed : Status) × PrintsIfMade text o e printed × (status ≡ ended lacks printed)
 
 -- of an object: the page was printed, unless what was asked for is refused, or memory ran out
-abbrev pub PrintsPageOf : ObjectState → List ℕ → List ℕ → Asked → Output → Output → Status → Type 0
-PrintsPageOf s path code asked o e status = MatchOption (asked_refusal (published s) code asked)
-    (PrintsPageText (asked_text s code asked) (lacks_asked_day (published s) code asked) o e status)
-    (λ refusal. IsRefused path code asked refusal o e status)
+abbrev pub PrintsPageOf : ObjectState → List ℕ → List ℕ → List ℕ → Topic → Output → Output
+    → Status → Type 0
+PrintsPageOf s path code date topic o e status =
+    MatchOption (topic_refusal (published s) code topic)
+    (PrintsPageText (topic_text s code date topic) (lacks_strict_day (published s) code date topic)
+    o e status)
+    (λ refusal. IsRefused path code topic refusal o e status)
 
 -- of a journal: it is refused; or it makes an object, and that was done
-abbrev pub PrintsAsked : Limits → List ℕ → Input → List ℕ → Asked → Output → Output → Status
-    → Type 0
-PrintsAsked limits path journal code asked o e status =
+abbrev pub PrintsTopic : Limits → List ℕ → Input → List ℕ → List ℕ → Topic → Output → Output
+    → Status → Type 0
+PrintsTopic limits path journal code date topic o e status =
     ((fault : FileFault) × MakesNoObject limits journal fault × PrintsNone (File fault) o e status)
     ⊎ ((s : ObjectState) × MakesObject limits journal.bytes s
-    × PrintsPageOf s path code asked o e status)
+    × PrintsPageOf s path code date topic o e status)
 
 -- of words: that, or a word is not what its place asks for
 abbrev pub PrintsOfWords : Limits → List ℕ → Input → PageWordsModel → Output → Output → Status
     → Type 0
-PrintsOfWords limits path journal words o e status = MatchResult (page_asked words)
-    (λ asked. PrintsAsked limits path journal (code_of words) asked o e status)
+PrintsOfWords limits path journal words o e status = MatchResult (topic_of_words words)
+    (λ topic. PrintsTopic limits path journal (code_of words) (date_text_of words) topic o e status)
     (λ misuse. (o.new ≡ o.old) × TellsMisuse e misuse (wrong_word words misuse) status)
 
 -- there was no memory to read the words, which was told

@@ -25,9 +25,9 @@ use Rattle.osn_written.specs.declared.written_date.DateFault.TheVariants as faul
 use Rattle.osn_written.specs.declared.written_date.WrittenDate.{WrittenDate}
 use Rattle.osn_invocation.specs.Invocation.{PageWordsModel, almanac_words, reading_words, day_words}
 use Rattle.osn_invocation.specs.Invocation.{month_words, territory_words}
-use Rattle.osn_page_commands.specs.Order.{order_asked}
-use Rattle.osn_page_commands.specs.declared.page_words.Asked.{Asked}
-use Rattle.osn_page_commands.specs.declared.page_words.Asked.TheVariants.{Year, Land, Lands}
+use Rattle.osn_page_commands.specs.Order.{order_of_word}
+use Rattle.osn_page_commands.specs.declared.page_words.Topic.{Topic}
+use Rattle.osn_page_commands.specs.declared.page_words.Topic.TheVariants.{Year, Land, Set, Lands}
 use Rattle.osn_report.specs.declared.misuse.Misuse.{Misuse}
 use Rattle.osn_report.specs.declared.misuse.Misuse.TheVariants as misuses
 
@@ -44,24 +44,22 @@ abbrev pub date_or_misuse : Result WrittenDate DateFault → Result WrittenDate 
 date_or_misuse (Ok date) = Ok date
 date_or_misuse (Err fault) = Err (misuses.Date fault)
 
-abbrev pub date_asked : List ℕ → Result WrittenDate Misuse
-date_asked text = date_or_misuse (written_date text)
+abbrev pub date_of_word : List ℕ → Result WrittenDate Misuse
+date_of_word text = date_or_misuse (written_date text)
 
--- a date with all that is written of it, which has to be there. One that may begin with its day or
--- its month may be given an order
-abbrev pub date_said : Result Written DateFault → Result AnyDate Misuse
-date_said (Ok (say.Date date)) = Ok date
-date_said (Ok say.NoDate) = Err (misuses.Date faults.NoDate)
-date_said (Err faults.DayOrMonth) = Err misuses.OpenOrder
-date_said (Err fault) = Err (misuses.Date fault)
-
-abbrev pub any_date_asked : DateOrder → List ℕ → Result AnyDate Misuse
-any_date_asked order text = date_said (said order text)
+-- a date with all that is written of it, which has to be there, and is no set. One that may begin
+-- with its day or its month may be given an order
+abbrev pub any_date_or_misuse : Result Written DateFault → Result AnyDate Misuse
+any_date_or_misuse (Ok (say.Date date)) = Ok date
+any_date_or_misuse (Ok say.Set) = Err (misuses.Date faults.NotOneDay)
+any_date_or_misuse (Ok say.NoDate) = Err (misuses.Date faults.NoDate)
+any_date_or_misuse (Err faults.DayOrMonth) = Err misuses.OpenOrder
+any_date_or_misuse (Err fault) = Err (misuses.Date fault)
 
 -- a weekday by its name, if any
-abbrev pub weekday_asked : Option (List ℕ) → Result (Option Weekday) Misuse
-weekday_asked None = Ok None
-weekday_asked (Some name) = do
+abbrev pub weekday_of_word : Option (List ℕ) → Result (Option Weekday) Misuse
+weekday_of_word None = Ok None
+weekday_of_word (Some name) = do
   weekday ← ok_or (weekday_named name) misuses.Weekday
   Ok (Some weekday)
 
@@ -75,17 +73,35 @@ weekday_beside (Some named) (Some given) =
 
 -- the reading of a date that was asked for
 abbrev pub reading_of : Result AnyDate Misuse → Option (List ℕ) → Result Page Misuse
-reading_of asked name = do
-  date ← asked
-  given ← weekday_asked name
+reading_of date_result name = do
+  date ← date_result
+  given ← weekday_of_word name
   beside ← weekday_beside date.weekday given
   Ok (pages.Reading date beside)
 
+-- a page on a territory, as what is asked for
+abbrev pub of_land : Result Page Misuse → Bool → Result Topic Misuse
+of_land page_result is_strict = do
+  page ← page_result
+  Ok (Land page is_strict)
+
+-- the page on a set of dates
+abbrev pub topic_of_set : Option (List ℕ) → Bool → Result Topic Misuse
+topic_of_set name is_strict = do
+  given ← weekday_of_word name
+  Ok (Set given is_strict)
+
+-- the page on what a text says
+abbrev pub topic_of_read : Result Written DateFault → Option (List ℕ) → Bool → Result Topic Misuse
+topic_of_read (Ok say.Set) name is_strict = topic_of_set name is_strict
+topic_of_read read name is_strict = of_land (reading_of (any_date_or_misuse read) name) is_strict
+
 -- the same of a text, and of the word of the order of its numbers, if there is one
-abbrev pub reading_asked : List ℕ → Option (List ℕ) → Option (List ℕ) → Result Page Misuse
-reading_asked text name word = do
-  order ← order_asked word
-  reading_of (any_date_asked order text) name
+abbrev pub topic_of_reading : List ℕ → Option (List ℕ) → Option (List ℕ) → Bool
+    → Result Topic Misuse
+topic_of_reading text name word is_strict = do
+  order ← order_of_word word
+  topic_of_read (said order text) name is_strict
 
 -- ---- a day
 
@@ -97,7 +113,8 @@ one_day c (d ∷ ds) = Ok d
 -- the day of a date in a calendar. A double date is that of a territory
 abbrev pub day_of_date : Calendar → WrittenDate → Result ℕ Misuse
 day_of_date c date =
-    if date.is_double then Err misuses.DoubleDate else one_day c (days_of_written newest_rules c date)
+    if date.is_double then Err misuses.DoubleDate
+    else one_day c (days_of_written newest_rules c date)
 
 -- the day of a number
 abbrev pub day_of_number : ℕ → Result ℕ Misuse
@@ -111,14 +128,14 @@ page_of_number number = do
   Ok (pages.OfDay day)
 
 abbrev pub page_of_date : Result WrittenDate Misuse → Result Page Misuse
-page_of_date asked = do
-  date ← asked
+page_of_date date_result = do
+  date ← date_result
   day ← day_of_date Gregorian date
   Ok (pages.OfDay day)
 
-abbrev pub day_page_asked : Option ℕ → List ℕ → Result Page Misuse
-day_page_asked (Some number) text = page_of_number number
-day_page_asked None text = page_of_date (date_asked text)
+abbrev pub day_page_of : Option ℕ → List ℕ → Result Page Misuse
+day_page_of (Some number) text = page_of_number number
+day_page_of None text = page_of_date (date_of_word text)
 
 -- ---- a conversion: its day, and the weekday that the date names, if any
 
@@ -132,8 +149,8 @@ day_by_number text = do
 -- by a date that was asked for in a calendar
 abbrev pub day_and_weekday : Calendar → Result WrittenDate Misuse
     → Result (ℕ × Option Weekday) Misuse
-day_and_weekday calendar asked = do
-  date ← asked
+day_and_weekday calendar date_result = do
+  date ← date_result
   day ← day_of_date calendar date
   Ok (day, date.weekday)
 
@@ -141,10 +158,10 @@ day_and_weekday calendar asked = do
 abbrev pub day_by_date : List ℕ → List ℕ → Result (ℕ × Option Weekday) Misuse
 day_by_date word text = do
   calendar ← ok_or (calendar_named word) misuses.Calendar
-  day_and_weekday calendar (date_asked text)
+  day_and_weekday calendar (date_of_word text)
 
-abbrev pub conversion_asked : List ℕ → List ℕ → Result (ℕ × Option Weekday) Misuse
-conversion_asked word text =
+abbrev pub conversion_of_words : List ℕ → List ℕ → Result (ℕ × Option Weekday) Misuse
+conversion_of_words word text =
     if bytes_eq word (codes "day") then day_by_number text else day_by_date word text
 
 -- the word that is not what its place asks for
@@ -159,38 +176,32 @@ abbrev pub year_in : Option ℕ → Result ℕ Misuse
 year_in None = Err (misuses.Date faults.Year)
 year_in (Some year) = if nat_le year 10000 then Ok year else Err (misuses.Date faults.Year)
 
-abbrev pub year_asked : List ℕ → Result ℕ Misuse
-year_asked text = year_in (number_of text)
+abbrev pub year_of_word : List ℕ → Result ℕ Misuse
+year_of_word text = year_in (number_of text)
 
 -- a month by its number, or else by its English name
-abbrev pub month_asked : Option ℕ → List ℕ → Result ℕ Misuse
-month_asked (Some month) text =
+abbrev pub month_of_word : Option ℕ → List ℕ → Result ℕ Misuse
+month_of_word (Some month) text =
     if nat_le 1 month && nat_le month 12 then Ok month else Err misuses.Month
-month_asked None text = ok_or (month_named text) misuses.Month
+month_of_word None text = ok_or (month_named text) misuses.Month
 
 -- the page on a month
-abbrev pub month_page_asked : List ℕ → List ℕ → Result Page Misuse
-month_page_asked year month = do
-  year ← year_asked year
-  number ← month_asked (number_of month) month
+abbrev pub month_page_of : List ℕ → List ℕ → Result Page Misuse
+month_page_of year month = do
+  year ← year_of_word year
+  number ← month_of_word (number_of month) month
   Ok (pages.Month year number)
 
 -- ---- a page
 
--- a page on a territory, as what is asked for
-abbrev pub of_land : Result Page Misuse → Bool → Result Asked Misuse
-of_land asked is_strict = do
-  page ← asked
-  Ok (Land page is_strict)
-
-abbrev pub page_asked : PageWordsModel → Result Asked Misuse
-page_asked (almanac_words code year) = Ok (Year year)
-page_asked (reading_words code date weekday order strict) =
-    of_land (reading_asked date weekday order) strict
-page_asked (day_words code date) = of_land (day_page_asked (number_of date) date) false
-page_asked (month_words code year month) = of_land (month_page_asked year month) false
-page_asked (territory_words None) = Ok Lands
-page_asked (territory_words (Some code)) = Ok (Land pages.Periods false)
+abbrev pub topic_of_words : PageWordsModel → Result Topic Misuse
+topic_of_words (almanac_words code year) = Ok (Year year)
+topic_of_words (reading_words code date weekday order strict) =
+    topic_of_reading date weekday order strict
+topic_of_words (day_words code date) = of_land (day_page_of (number_of date) date) false
+topic_of_words (month_words code year month) = of_land (month_page_of year month) false
+topic_of_words (territory_words None) = Ok Lands
+topic_of_words (territory_words (Some code)) = Ok (Land pages.Periods false)
 
 -- words take memory where a date is in none of the usual forms
 abbrev pub day_takes_memory : Option ℕ → List ℕ → Bool
@@ -203,6 +214,14 @@ takes_memory (reading_words code date weekday order strict) = not (is_ok (usual_
 takes_memory (day_words code date) = day_takes_memory (number_of date) date
 takes_memory (month_words code year month) = false
 takes_memory (territory_words code) = false
+
+-- the text of the date that is named, if any
+abbrev pub date_text_of : PageWordsModel → List ℕ
+date_text_of (reading_words code date weekday order strict) = date
+date_text_of (almanac_words code year) = []
+date_text_of (day_words code date) = []
+date_text_of (month_words code year month) = []
+date_text_of (territory_words code) = []
 
 -- the code of the territory that is named, if any
 abbrev pub code_of : PageWordsModel → List ℕ

@@ -7,15 +7,15 @@ use Rattle.osn_invocation.specs.Invocation.{DateModel, LettersModel}
 use Rattle.osn_letters.specs.Columns.{DateTexts, OneText, PartTexts, NameTexts}
 use Rattle.osn_letters.specs.declared.separator.Separator.{Separator}
 use Rattle.osn_letters.specs.declared.separator.Separator.TheVariants.{Comma, Semicolon, Tab}
-use Rattle.osn_page_commands.specs.Letters.{TableAsked}
-use Rattle.osn_page_commands.specs.Order.{order_asked}
+use Rattle.osn_page_commands.specs.Letters.{SettingsModel}
+use Rattle.osn_page_commands.specs.Order.{order_of_word}
 use Rattle.osn_report.specs.declared.misuse.Misuse.{Misuse}
 use Rattle.osn_report.specs.declared.misuse.Misuse.TheVariants as misuses
 
 -- what separates the fields, by its word, if there is one
-abbrev pub separator_asked : Option (List ℕ) → Result (Option Separator) Misuse
-separator_asked None = Ok None
-separator_asked (Some word) =
+abbrev pub separator_of_word : Option (List ℕ) → Result (Option Separator) Misuse
+separator_of_word None = Ok None
+separator_of_word (Some word) =
     if bytes_eq word (codes "comma") then Ok (Some Comma)
     else (if bytes_eq word (codes "semicolon") then Ok (Some Semicolon)
     else (if bytes_eq word (codes "tab") then Ok (Some Tab)
@@ -25,9 +25,10 @@ separator_asked (Some word) =
 abbrev pub weekday_column : Option (List ℕ) → List ℕ
 weekday_column name = unwrap_or name (codes "weekday")
 
--- the names of the columns of the date, by those that are named: that of whole dates, which goes with
--- none of the others, or those of years, months and days, of which a month goes with a year, and a
--- day with both. Or what is wrong, and the option in question. Of none, one column has the date
+-- the names of the columns of the date, by those that are named: that of whole dates, or those of
+-- years, months and days. The first goes with none of the others, a month goes with a year, and a
+-- day with both. Else it is told what is wrong, and of which option. Where none is named, one
+-- column has the date
 abbrev pub dates_named : Option (List ℕ) → Option (List ℕ) → Option (List ℕ) → Option (List ℕ)
     → Result DateTexts (Misuse × List ℕ)
 dates_named None None None None = Ok (OneText (codes "date"))
@@ -38,8 +39,8 @@ dates_named None None None (Some day) = Err (misuses.PartWithoutYear, codes "--d
 dates_named None (Some year) None (Some day) = Err (misuses.DayWithoutMonth, codes "--day")
 dates_named None (Some year) month day = Ok (PartTexts year month day)
 
-abbrev pub dates_asked : DateModel → Result DateTexts (Misuse × List ℕ)
-dates_asked named = dates_named named.date named.year named.month named.day
+abbrev pub dates_of_options : DateModel → Result DateTexts (Misuse × List ℕ)
+dates_of_options named = dates_named named.date named.year named.month named.day
 
 -- the names of all columns
 abbrev pub names_with : List ℕ → Option (List ℕ) → DateTexts → NameTexts
@@ -53,22 +54,22 @@ names_with place weekday dates = record {
 -- what a word asks for, or what is wrong with it, and the word as it was typed
 abbrev pub or_typed : {T : Type 0} → Option (List ℕ) → Result T Misuse
     → Result T (Misuse × List ℕ)
-or_typed word (Ok asked) = Ok asked
+or_typed word (Ok value) = Ok value
 or_typed word (Err misuse) = Err (misuse, unwrap_or word [])
 
 -- what the words ask for, or the first that is wrong: of the date's columns, the separator's or the
 -- order's
-abbrev pub table_asked : (DateTexts → NameTexts) → Result DateTexts (Misuse × List ℕ)
+abbrev pub settings_with : (DateTexts → NameTexts) → Result DateTexts (Misuse × List ℕ)
     → Result (Option Separator) (Misuse × List ℕ) → Result DateOrder (Misuse × List ℕ)
-    → Result TableAsked (Misuse × List ℕ)
-table_asked names (Err wrong) separator order = Err wrong
-table_asked names (Ok dates) (Err wrong) order = Err wrong
-table_asked names (Ok dates) (Ok separator) (Err wrong) = Err wrong
-table_asked names (Ok dates) (Ok separator) (Ok order) =
+    → Result SettingsModel (Misuse × List ℕ)
+settings_with names (Err wrong) separator order = Err wrong
+settings_with names (Ok dates) (Err wrong) order = Err wrong
+settings_with names (Ok dates) (Ok separator) (Err wrong) = Err wrong
+settings_with names (Ok dates) (Ok separator) (Ok order) =
     Ok (record { names = names dates; separator = separator; order = order; places = [] })
 
-abbrev pub settings_asked : LettersModel → Result TableAsked (Misuse × List ℕ)
-settings_asked options =
-    table_asked (names_with options.place options.weekday) (dates_asked options.date)
-    (or_typed options.separator (separator_asked options.separator))
-    (or_typed options.order (order_asked options.order))
+abbrev pub settings_of_options : LettersModel → Result SettingsModel (Misuse × List ℕ)
+settings_of_options options =
+    settings_with (names_with options.place options.weekday) (dates_of_options options.date)
+    (or_typed options.separator (separator_of_word options.separator))
+    (or_typed options.order (order_of_word options.order))

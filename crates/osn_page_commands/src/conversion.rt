@@ -2,16 +2,17 @@
 ghost use Rattle.osn_lines.specs.Streams.{output_of};
 ghost use Rattle.osn_page_commands.specs.Conversion.{PrintsConversion};
 
-use crate::page_words::{asked_day, wrong_word_of_conversion};
+use crate::page_words::{conversion_of_words, wrong_word_of_conversion};
 use osn_lines::Sink;
 use osn_pages::conversion_page;
 use osn_report::{Status, print, tell_misuse, tell_no_memory};
 use std::alloc::Global;
 
-/// The command `convert`: prints the day of a date in the calendar of that word, by every calendar
-/// and by its numbers; after the word `day` in place of a calendar's, the day of a number.
+/// The command `convert`: prints a day by every calendar and by its numbers. The day is that of a
+/// date in the calendar of that word. After the word `day` in place of a calendar's, it is that of
+/// a number.
 ///
-/// Where there is no such day, standard error is told in a line why, and the status says it.
+/// Where the words name no day, standard error is told in a line why, and the status says it.
 pub fn convert_command<W: Sink, E: Sink>(
     alloc: Global,
     calendar: &str,
@@ -23,7 +24,7 @@ pub fn convert_command<W: Sink, E: Sink>(
         (output_of W.contents W.has_failed W.holds_back output.old output.new)
         (output_of E.contents E.has_failed E.holds_back errors.old errors.new) result }
 {
-    match asked_day(alloc, calendar, date) {
+    match conversion_of_words(alloc, calendar, date) {
         Ok(Ok((day, given))) => print(conversion_page(alloc, day, given), output, errors),
         Ok(Err(misuse)) => {
             let word = wrong_word_of_conversion(calendar, date, misuse);

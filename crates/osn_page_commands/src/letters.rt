@@ -56,7 +56,7 @@ fn write_table<R: Source, W: Sink, E: Sink, P: Progress>(
     errors: &mut E,
     progress: &mut P,
 ) -> Status
-    ensures { spec.WritesTable object.now (spec.asked_of settings.entry) rules
+    ensures { spec.WritesTable object.now (spec.settings_model settings.entry) rules
         (input_of R.remaining R.has_failed input.old input.new)
         (output_of W.contents W.has_failed W.holds_back output.old output.new)
         (output_of E.contents E.has_failed E.holds_back errors.old errors.new) result }
@@ -70,14 +70,14 @@ fn write_table<R: Source, W: Sink, E: Sink, P: Progress>(
 }
 
 /// The command `letters`: writes the table of the input, CSV with a header, with twelve columns
-/// more after its own, which say of each row what its date means, by what the journal published
+/// more after its own. These say of each row what its date means, by what the journal published
 /// under these limits. The journal is read whole before a record is, and what comes of a read is
 /// written before the next one. The settings name the columns that are read, what separates the
 /// fields, the order of a date's three numbers and the table of places. How much of the table was
 /// read is told on the way.
 ///
 /// Where it ends early, standard error is told in a line why, and the status says it. Where it is
-/// written whole and a remark is a refusal, `Refused` says that a row has one; and where it is asked
+/// written whole and a remark is a refusal, `Refused` says that a row has one. Where it is asked
 /// for, standard error is told how many rows have each remark.
 pub fn letters_command<J: Source, R: Source, W: Sink, E: Sink, P: Progress>(
     alloc: Global,
@@ -92,7 +92,7 @@ pub fn letters_command<J: Source, R: Source, W: Sink, E: Sink, P: Progress>(
 ) -> Status
     ensures { spec.PrintsLetters limits
         (input_of J.remaining J.has_failed journal.old journal.new)
-        (spec.asked_of settings.entry) rules
+        (spec.settings_model settings.entry) rules
         (input_of R.remaining R.has_failed input.old input.new)
         (output_of W.contents W.has_failed W.holds_back output.old output.new)
         (output_of E.contents E.has_failed E.holds_back errors.old errors.new) result }

@@ -4,13 +4,13 @@ ghost use Rattle.std.specs.Prelude.{◌≡◌, ◌∷◌, [], IfOk, OnErr, optio
 ghost use Rattle.osn_folder.specs.Folder.{CannotOpen, MayFail};
 ghost use Rattle.osn_invocation.specs.Invocation.{letters_model};
 ghost use Rattle.osn_lines.specs.Streams.{input_of, output_of};
-ghost use Rattle.osn_page_commands.specs.Letters.{asked_of};
+ghost use Rattle.osn_page_commands.specs.Letters.{settings_model};
 ghost use Rattle.osn_page_commands.specs.LettersFiles as spec;
 ghost use Rattle.osn_report.specs.Folders.{folders_of};
 
 use crate::letters::{EndRules, letters_command};
 use crate::places::tell_places;
-use crate::table_words::asked_settings;
+use crate::table_words::settings_of_options;
 use osn_folder::{Folder, OpenFailed, open_file};
 use osn_invocation::LettersOptions;
 use osn_letters::{TableSettings, read_places};
@@ -47,7 +47,7 @@ fn letters_by_places<D: Folder, R: Source, W: Sink, E: Sink, P: Progress>(
 ) -> Status
     ensures { spec.PrintsByPlaces limits path.now
         (input_of D.File.remaining D.File.has_failed journal.old journal.new)
-        (asked_of settings.entry) rules (MayFail D.File.has_failed)
+        (settings_model settings.entry) rules (MayFail D.File.has_failed)
         (folders_of D.known folder.old folder.new)
         (input_of R.remaining R.has_failed input.old input.new)
         (output_of W.contents W.has_failed W.holds_back output.old output.new)
@@ -71,7 +71,8 @@ fn letters_by_places<D: Folder, R: Source, W: Sink, E: Sink, P: Progress>(
     }
 }
 
-/// Opens the journal, and the table of places, if there is one, and does what `letters_command` does.
+/// Opens the journal, and the table of places, if there is one, and does what `letters_command`
+/// does.
 fn letters_by<D: Folder, R: Source, W: Sink, E: Sink, T: Sink + Drop>(
     alloc: Global,
     limits: Limits,
@@ -85,7 +86,7 @@ fn letters_by<D: Folder, R: Source, W: Sink, E: Sink, T: Sink + Drop>(
     terminal: Option<T>,
 ) -> Result<Status, OpenFailed>
     ensures ok { IfOk result (spec.PrintsTable limits journal.now
-        (option_map (λ path. path.now) options.entry.places) (asked_of settings.entry)
+        (option_map (λ path. path.now) options.entry.places) (settings_model settings.entry)
         (spec.rules_of (letters_model options.entry)) (MayFail D.File.has_failed)
         (folders_of D.known folder.old folder.new)
         (input_of R.remaining R.has_failed input.old input.new)
@@ -156,7 +157,7 @@ pub fn letters_in_folder<D: Folder, R: Source, W: Sink, E: Sink, T: Sink + Drop>
         (D.known folder.old) (D.known folder.new)
         × (output.new ≡ output.old) × (errors.new ≡ errors.old)) }
 {
-    match asked_settings(options) {
+    match settings_of_options(options) {
         Ok(settings) => letters_by(
             alloc, limits, folder, journal, options, settings, input, output, errors, terminal,
         ),

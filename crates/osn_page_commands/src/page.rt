@@ -6,37 +6,48 @@ ghost use Rattle.osn_register.specs.Plain.{code_refusal};
 ghost use Rattle.osn_register.specs.Refusal.{IsRefusalOrNoMemory};
 ghost use Rattle.osn_page_commands.specs.Page as spec;
 
-use crate::page_words::{Asked, asked_page, code_of, wrong_word};
+use crate::page_words::{Topic, code_of, date_text_of, topic_of_words, wrong_word};
 use osn_almanac::almanac_text;
 use osn_core::Object;
 use osn_files::load_journal;
 use osn_invocation::PageWords;
 use osn_lines::{Sink, Source};
-use osn_pages::{Page, Published, has_no_day, page_text, territories_page};
+use osn_pages::{
+    Page, Published, has_no_day, page_text, set_has_no_day, set_page_text, territories_page,
+};
 use osn_register::{Limits, Refusal, Register};
 use osn_report::{
     CommandFault, Status, print, refused, report, tell_line, tell_misuse, tell_no_memory,
 };
 use std::alloc::{AllocError, Global};
 
-/// The page that was asked for, on what an object has published.
-fn text_of(alloc: Global, object: &Object, code: &str, asked: &Asked) -> Result<String, Refusal>
+/// The page that was asked for, on what an object has published. `date` is the text of its date.
+fn text_of(
+    alloc: Global,
+    object: &Object,
+    code: &str,
+    date: &str,
+    topic: &Topic,
+) -> Result<String, Refusal>
     ensures lawful { OnOk result
-        (spec.asked_refusal (spec.published object.now) code.now asked.now ≡ None) }
+        (spec.topic_refusal (spec.published object.now) code.now topic.now ≡ None) }
     ensures text { IfOk result (λ text.
-        string_bytes text ≡ spec.asked_text object.now code.now asked.now) }
+        string_bytes text ≡ spec.topic_text object.now code.now date.now topic.now) }
     ensures refused { IfErr result (IsRefusalOrNoMemory
-        (spec.asked_refusal (spec.published object.now) code.now asked.now)) }
+        (spec.topic_refusal (spec.published object.now) code.now topic.now)) }
 {
     let register = object.register();
     let published = Published {
         edition: object.batches().len(),
         pending: object.pending().len(),
     };
-    match *asked {
-        Asked::Year(year) => almanac_text(alloc, register, code, i64::from(year)),
-        Asked::Land { page, .. } => page_text(alloc, register, code, published, page),
-        Asked::Lands => Ok(territories_page(alloc, register, published)?),
+    match *topic {
+        Topic::Year(year) => almanac_text(alloc, register, code, i64::from(year)),
+        Topic::Land { page, .. } => page_text(alloc, register, code, published, page),
+        Topic::Set { weekday, .. } => {
+            set_page_text(alloc, register, code, published, date, weekday)
+        }
+        Topic::Lands => Ok(territories_page(alloc, register, published)?),
     }
 }
 
@@ -53,23 +64,39 @@ fn lacks_day(alloc: Global, register: &Register, code: &str, page: Page) -> Resu
     Ok(has_no_day(alloc, territory, date)?)
 }
 
+/// Whether a date of a set means no day in the territory of the code.
+fn lacks_set(alloc: Global, register: &Register, code: &str, date: &str) -> Result<bool, Refusal>
+    ensures value { IfOk result (λ lacks.
+        lacks ≡ spec.lacks_set register.now.lands code.now date.now) }
+    ensures refused { IfErr result
+        (IsRefusalOrNoMemory (code_refusal register.now.lands code.now)) }
+{
+    let (_, territory) = register.land(code)?;
+    Ok(set_has_no_day(alloc, territory, date)?)
+}
+
 /// The same where the words ask for a day.
-fn lacks_asked_day(
+fn lacks_strict_day(
     alloc: Global,
     object: &Object,
     code: &str,
-    asked: &Asked,
+    date: &str,
+    topic: &Topic,
 ) -> Result<bool, Refusal>
     ensures value { IfOk result (λ lacks.
-        lacks ≡ spec.lacks_asked_day (spec.published object.now) code.now asked.now) }
+        lacks ≡ spec.lacks_strict_day (spec.published object.now) code.now date.now topic.now) }
     ensures refused { IfErr result (IsRefusalOrNoMemory
-        (spec.asked_refusal (spec.published object.now) code.now asked.now)) }
+        (spec.topic_refusal (spec.published object.now) code.now topic.now)) }
 {
-    match *asked {
-        Asked::Land {
+    match *topic {
+        Topic::Land {
             page,
             is_strict: true,
         } => lacks_day(alloc, object.register(), code, page),
+        Topic::Set {
+            is_strict: true,
+            ..
+        } => lacks_set(alloc, object.register(), code, date),
         _ => Ok(false),
     }
 }
@@ -81,18 +108,24 @@ struct Made {
 }
 
 /// The page that was asked for, and whether a day that was asked for is lacking.
-fn page_of(alloc: Global, object: &Object, code: &str, asked: &Asked) -> Result<Made, Refusal>
+fn page_of(
+    alloc: Global,
+    object: &Object,
+    code: &str,
+    date: &str,
+    topic: &Topic,
+) -> Result<Made, Refusal>
     ensures lawful { OnOk result
-        (spec.asked_refusal (spec.published object.now) code.now asked.now ≡ None) }
+        (spec.topic_refusal (spec.published object.now) code.now topic.now ≡ None) }
     ensures text { IfOk result (λ made.
-        string_bytes made.text ≡ spec.asked_text object.now code.now asked.now) }
-    ensures lacks { IfOk result (λ made.
-        made.lacks_day ≡ spec.lacks_asked_day (spec.published object.now) code.now asked.now) }
+        string_bytes made.text ≡ spec.topic_text object.now code.now date.now topic.now) }
+    ensures lacks { IfOk result (λ made. made.lacks_day
+        ≡ spec.lacks_strict_day (spec.published object.now) code.now date.now topic.now) }
     ensures refused { IfErr result (IsRefusalOrNoMemory
-        (spec.asked_refusal (spec.published object.now) code.now asked.now)) }
+        (spec.topic_refusal (spec.published object.now) code.now topic.now)) }
 {
-    let text = text_of(alloc, object, code, asked)?;
-    let lacks_day = lacks_asked_day(alloc, object, code, asked)?;
+    let text = text_of(alloc, object, code, date, topic)?;
+    let lacks_day = lacks_strict_day(alloc, object, code, date, topic)?;
     Ok(Made { text, lacks_day })
 }
 
@@ -132,15 +165,15 @@ fn refusal_line(
     alloc: Global,
     path: &str,
     code: &str,
-    asked: &Asked,
+    topic: &Topic,
     refusal: Refusal,
 ) -> Result<String, AllocError>
     ensures { IfOk result (λ line.
-        string_bytes line ≡ spec.refusal_line path.now code.now asked.now refusal) }
+        string_bytes line ≡ spec.refusal_line path.now code.now topic.now refusal) }
 {
-    match asked {
-        Asked::Land { .. } => land_refusal_line(alloc, path, code, refusal),
-        Asked::Year(_) | Asked::Lands => refused(alloc, refusal.number(), refusal.name()),
+    match topic {
+        Topic::Land { .. } | Topic::Set { .. } => land_refusal_line(alloc, path, code, refusal),
+        Topic::Year(_) | Topic::Lands => refused(alloc, refusal.number(), refusal.name()),
     }
 }
 
@@ -150,42 +183,44 @@ fn print_page<W: Sink, E: Sink>(
     object: &Object,
     path: &str,
     code: &str,
-    asked: &Asked,
+    date: &str,
+    topic: &Topic,
     output: &mut W,
     errors: &mut E,
 ) -> Status
-    ensures { spec.PrintsPageOf object.now path.now code.now asked.now
+    ensures { spec.PrintsPageOf object.now path.now code.now date.now topic.now
         (output_of W.contents W.has_failed W.holds_back output.old output.new)
         (output_of E.contents E.has_failed E.holds_back errors.old errors.new) result }
 {
-    match page_of(alloc, object, code, asked) {
+    match page_of(alloc, object, code, date, topic) {
         Ok(Made { text, lacks_day }) => ended(lacks_day, print(Ok(text), output, errors)),
         Err(Refusal::NoMemory) => tell_no_memory(errors),
         Err(refusal) => {
-            let line = refusal_line(alloc, path, code, asked, refusal);
+            let line = refusal_line(alloc, path, code, topic, refusal);
             tell_line(errors, Status::Refused, line)
         }
     }
 }
 
 /// Prints the page that was asked for, on what a journal published.
-fn print_asked<J: Source, W: Sink, E: Sink>(
+fn print_topic<J: Source, W: Sink, E: Sink>(
     alloc: Global,
     limits: Limits,
     path: &str,
     journal: &mut J,
     code: &str,
-    asked: &Asked,
+    date: &str,
+    topic: &Topic,
     output: &mut W,
     errors: &mut E,
 ) -> Status
-    ensures { spec.PrintsAsked limits path.now
-        (input_of J.remaining J.has_failed journal.old journal.new) code.now asked.now
+    ensures { spec.PrintsTopic limits path.now
+        (input_of J.remaining J.has_failed journal.old journal.new) code.now date.now topic.now
         (output_of W.contents W.has_failed W.holds_back output.old output.new)
         (output_of E.contents E.has_failed E.holds_back errors.old errors.new) result }
 {
     match load_journal(alloc, limits, journal) {
-        Ok(object) => print_page(alloc, &object, path, code, asked, output, errors),
+        Ok(object) => print_page(alloc, &object, path, code, date, topic, output, errors),
         Err(fault) => report(alloc, errors, CommandFault::File(fault)),
     }
 }
@@ -194,7 +229,7 @@ fn print_asked<J: Source, W: Sink, E: Sink>(
 /// ask for, on what the journal of this path published under these limits. The words are read
 /// first, and the journal whole before anything is printed.
 ///
-/// Where there is no page, standard error is told in a line why, and the status says it. With
+/// Where no page is printed, standard error is told in a line why, and the status says it. With
 /// `--strict` a date that means no day has its page, and the status of a refusal.
 pub fn page_command<J: Source, W: Sink, E: Sink>(
     alloc: Global,
@@ -210,10 +245,13 @@ pub fn page_command<J: Source, W: Sink, E: Sink>(
         (output_of W.contents W.has_failed W.holds_back output.old output.new)
         (output_of E.contents E.has_failed E.holds_back errors.old errors.new) result }
 {
-    match asked_page(alloc, words) {
-        Ok(Ok(asked)) => {
+    match topic_of_words(alloc, words) {
+        Ok(Ok(topic)) => {
             let code = code_of(words);
-            print_asked(alloc, limits, path, journal, code, &asked, output, errors)
+            let date = date_text_of(words);
+            print_topic(
+                alloc, limits, path, journal, code, date, &topic, output, errors,
+            )
         }
         Ok(Err(misuse)) => tell_misuse(alloc, errors, misuse, wrong_word(words, misuse)),
         Err(_) => tell_no_memory(errors),

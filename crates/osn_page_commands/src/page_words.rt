@@ -4,7 +4,7 @@ ghost use Rattle.osn_invocation.specs.Invocation.{page_words};
 ghost use Rattle.osn_written.specs.WrittenDate.{number_of as number_in, usual_date};
 ghost use Rattle.osn_page_commands.specs.PageWords as spec;
 
-use crate::order::asked_order;
+use crate::order::order_of_word;
 use osn_days::{Calendar, Day, Keyword, Weekday, month_named};
 use osn_grammar::{DateOrder, Written, WrittenDate as AnyDate};
 use osn_invocation::PageWords;
@@ -15,7 +15,7 @@ use std::alloc::{AllocError, Global};
 
 /// What a command prints a page on.
 #[derive(Clone, Copy, Debug, PartialEq, Eq)]
-pub(crate) enum Asked {
+pub(crate) enum Topic {
     /// A year of a territory, as an almanac.
     Year(u32),
     /// What this page says of a territory.
@@ -24,13 +24,20 @@ pub(crate) enum Asked {
         /// Whether a date that means no day ends the command as a refusal does.
         is_strict: bool,
     },
+    /// Which days the set of dates means that the text of the date is.
+    Set {
+        /// The weekday that is given beside it, if any.
+        weekday: Option<Weekday>,
+        /// Whether a date that means no day ends the command as a refusal does.
+        is_strict: bool,
+    },
     /// All territories.
     Lands,
 }
 
 /// The date of one day that a text is.
-fn asked_date(alloc: Global, text: &str) -> Result<Result<WrittenDate, Misuse>, AllocError>
-    ensures value { IfOk result (λ date. date ≡ spec.date_asked text.now) }
+fn date_of_word(alloc: Global, text: &str) -> Result<Result<WrittenDate, Misuse>, AllocError>
+    ensures value { IfOk result (λ date. date ≡ spec.date_of_word text.now) }
     ensures memory { OnErr result (is_ok (usual_date text.now) ≡ false) }
 {
     match WrittenDate::parse(alloc, text)? {
@@ -39,33 +46,22 @@ fn asked_date(alloc: Global, text: &str) -> Result<Result<WrittenDate, Misuse>, 
     }
 }
 
-/// The date that was read of a text, which has to say one.
-fn date_said(read: Result<Written, DateFault>) -> Result<AnyDate, Misuse>
-    ensures { result ≡ spec.date_said read }
+/// The date that was read of a text, which has to say one that is no set.
+fn any_date_or_misuse(read: Result<Written, DateFault>) -> Result<AnyDate, Misuse>
+    ensures { result ≡ spec.any_date_or_misuse read }
 {
     match read {
         Ok(Written::Date(date)) => Ok(date),
+        Ok(Written::Set) => Err(Misuse::Date(DateFault::NotOneDay)),
         Ok(Written::NoDate) => Err(Misuse::Date(DateFault::NoDate)),
         Err(DateFault::DayOrMonth) => Err(Misuse::OpenOrder),
         Err(fault) => Err(Misuse::Date(fault)),
     }
 }
 
-/// The date that a text says, with all that is written of it.
-fn asked_any_date(
-    alloc: Global,
-    text: &str,
-    order: DateOrder,
-) -> Result<Result<AnyDate, Misuse>, AllocError>
-    ensures value { IfOk result (λ date. date ≡ spec.any_date_asked order text.now) }
-    ensures memory { OnErr result (is_ok (usual_date text.now) ≡ false) }
-{
-    Ok(date_said(read_date(alloc, text, order)?))
-}
-
 /// The weekday of a name, if there is a name.
-fn asked_weekday(name: Option<&str>) -> Result<Option<Weekday>, Misuse>
-    ensures { result ≡ spec.weekday_asked (option_map (λ name. name.now) name.entry) }
+fn weekday_of_word(name: Option<&str>) -> Result<Option<Weekday>, Misuse>
+    ensures { result ≡ spec.weekday_of_word (option_map (λ name. name.now) name.entry) }
 {
     match name {
         None => Ok(None),
@@ -74,7 +70,7 @@ fn asked_weekday(name: Option<&str>) -> Result<Option<Weekday>, Misuse>
 }
 
 /// The weekday that is given beside a date, unless the date names another one.
-fn asked_beside(named: Option<Weekday>, given: Option<Weekday>) -> Result<Option<Weekday>, Misuse>
+fn weekday_beside(named: Option<Weekday>, given: Option<Weekday>) -> Result<Option<Weekday>, Misuse>
     ensures { result ≡ spec.weekday_beside named given }
 {
     match (named, given) {
@@ -90,33 +86,63 @@ fn reading_of(date: Result<AnyDate, Misuse>, name: Option<&str>) -> Result<Page,
     ensures { result ≡ spec.reading_of date (option_map (λ name. name.now) name.entry) }
 {
     let date = date?;
-    let given = asked_weekday(name)?;
+    let given = weekday_of_word(name)?;
     Ok(Page::Reading {
         date,
-        weekday: asked_beside(date.weekday, given)?,
+        weekday: weekday_beside(date.weekday, given)?,
     })
+}
+
+/// The page on a set of dates, by the weekday of that name, if there is a name.
+fn topic_of_set(name: Option<&str>, is_strict: bool) -> Result<Topic, Misuse>
+    ensures { result ≡ spec.topic_of_set (option_map (λ name. name.now) name.entry) is_strict }
+{
+    Ok(Topic::Set {
+        weekday: weekday_of_word(name)?,
+        is_strict,
+    })
+}
+
+/// The page on what was read of a text, by the weekday of that name, if there is a name.
+fn topic_of_read(
+    read: Result<Written, DateFault>,
+    name: Option<&str>,
+    is_strict: bool,
+) -> Result<Topic, Misuse>
+    ensures { result
+        ≡ spec.topic_of_read read (option_map (λ name. name.now) name.entry) is_strict }
+{
+    match read {
+        Ok(Written::Set) => topic_of_set(name, is_strict),
+        _ => of_land(reading_of(any_date_or_misuse(read), name), is_strict),
+    }
 }
 
 /// The reading of a date that was asked for, by the word of the order of its numbers and by the
 /// weekday of that name, if there are any.
-fn asked_reading(
+fn topic_of_reading(
     alloc: Global,
     text: &str,
     weekday: Option<&str>,
     order: Option<&str>,
-) -> Result<Result<Page, Misuse>, AllocError>
-    ensures value { IfOk result (λ page. page ≡ spec.reading_asked text.now
-        (option_map (λ name. name.now) weekday.entry) (option_map (λ word. word.now) order.entry)) }
+    is_strict: bool,
+) -> Result<Result<Topic, Misuse>, AllocError>
+    ensures value { IfOk result (λ topic. topic ≡ spec.topic_of_reading text.now
+        (option_map (λ name. name.now) weekday.entry) (option_map (λ word. word.now) order.entry)
+        is_strict) }
     ensures memory { OnErr result (is_ok (usual_date text.now) ≡ false) }
 {
-    match asked_order(order) {
-        Ok(order) => Ok(reading_of(asked_any_date(alloc, text, order)?, weekday)),
+    match order_of_word(order) {
+        Ok(order) => {
+            let read = read_date(alloc, text, order)?;
+            Ok(topic_of_read(read, weekday, is_strict))
+        }
         Err(misuse) => Ok(Err(misuse)),
     }
 }
 
 /// The day of a date in a calendar.
-fn asked_day_of(calendar: Calendar, date: WrittenDate) -> Result<Day, Misuse>
+fn day_of_date(calendar: Calendar, date: WrittenDate) -> Result<Day, Misuse>
     ensures { result ≡ spec.day_of_date calendar date }
 {
     if date.is_double {
@@ -126,48 +152,48 @@ fn asked_day_of(calendar: Calendar, date: WrittenDate) -> Result<Day, Misuse>
 }
 
 /// The day of a number.
-fn asked_numbered(number: u32) -> Result<Day, Misuse>
+fn day_of_number(number: u32) -> Result<Day, Misuse>
     ensures { result ≡ spec.day_of_number number }
 {
     Day::new(i64::from(number)).ok_or(Misuse::DayNumber)
 }
 
 /// A day, and the weekday that is named beside it, if any.
-pub(crate) type DayAsked = (Day, Option<Weekday>);
+pub(crate) type DayAndWeekday = (Day, Option<Weekday>);
 
 /// The day of a number, which names no weekday.
-fn day_by_number(text: &str) -> Result<DayAsked, Misuse>
+fn day_by_number(text: &str) -> Result<DayAndWeekday, Misuse>
     ensures { result ≡ spec.day_by_number text.now }
 {
     let number = number_of(text).ok_or(Misuse::DayNumber)?;
-    Ok((asked_numbered(number)?, None))
+    Ok((day_of_number(number)?, None))
 }
 
 /// The day of a date that was asked for in a calendar, and the weekday that it names, if any.
 fn day_and_weekday(
     calendar: Calendar,
     date: Result<WrittenDate, Misuse>,
-) -> Result<DayAsked, Misuse>
+) -> Result<DayAndWeekday, Misuse>
     ensures { result ≡ spec.day_and_weekday calendar date }
 {
     let date = date?;
-    Ok((asked_day_of(calendar, date)?, date.weekday))
+    Ok((day_of_date(calendar, date)?, date.weekday))
 }
 
 /// The day of a date in the calendar of a word, or, after the word `day`, of a number; and the
 /// weekday that the date names, if any.
-pub(crate) fn asked_day(
+pub(crate) fn conversion_of_words(
     alloc: Global,
     word: &str,
     text: &str,
-) -> Result<Result<DayAsked, Misuse>, AllocError>
-    ensures { IfOk result (λ asked. asked ≡ spec.conversion_asked word.now text.now) }
+) -> Result<Result<DayAndWeekday, Misuse>, AllocError>
+    ensures { IfOk result (λ day. day ≡ spec.conversion_of_words word.now text.now) }
 {
     if word == "day" {
         return Ok(day_by_number(text));
     }
     match Calendar::from_word(word) {
-        Some(calendar) => Ok(day_and_weekday(calendar, asked_date(alloc, text)?)),
+        Some(calendar) => Ok(day_and_weekday(calendar, date_of_word(alloc, text)?)),
         None => Ok(Err(Misuse::Calendar)),
     }
 }
@@ -176,30 +202,30 @@ pub(crate) fn asked_day(
 fn page_of_date(date: Result<WrittenDate, Misuse>) -> Result<Page, Misuse>
     ensures { result ≡ spec.page_of_date date }
 {
-    Ok(Page::OfDay(asked_day_of(Calendar::Gregorian, date?)?))
+    Ok(Page::OfDay(day_of_date(Calendar::Gregorian, date?)?))
 }
 
 /// The page on the day of a number.
 fn page_of_number(number: u32) -> Result<Page, Misuse>
     ensures { result ≡ spec.page_of_number number }
 {
-    Ok(Page::OfDay(asked_numbered(number)?))
+    Ok(Page::OfDay(day_of_number(number)?))
 }
 
 /// The page on the day of a number, or of a Gregorian date.
-fn asked_day_page(alloc: Global, text: &str) -> Result<Result<Page, Misuse>, AllocError>
-    ensures value { IfOk result (λ page. page ≡ spec.day_page_asked (number_in text.now) text.now) }
+fn day_page_of(alloc: Global, text: &str) -> Result<Result<Page, Misuse>, AllocError>
+    ensures value { IfOk result (λ page. page ≡ spec.day_page_of (number_in text.now) text.now) }
     ensures memory { OnErr result (spec.day_takes_memory (number_in text.now) text.now ≡ true) }
 {
     match number_of(text) {
         Some(number) => Ok(page_of_number(number)),
-        None => Ok(page_of_date(asked_date(alloc, text)?)),
+        None => Ok(page_of_date(date_of_word(alloc, text)?)),
     }
 }
 
 /// A year as a territory counts it.
-fn asked_year(text: &str) -> Result<u16, Misuse>
-    ensures { result ≡ spec.year_asked text.now }
+fn year_of_word(text: &str) -> Result<u16, Misuse>
+    ensures { result ≡ spec.year_of_word text.now }
 {
     match number_of(text) {
         Some(year) if year <= 10_000 => Ok(year as u16),
@@ -208,8 +234,8 @@ fn asked_year(text: &str) -> Result<u16, Misuse>
 }
 
 /// A month by its number or its English name.
-fn asked_month(text: &str) -> Result<u8, Misuse>
-    ensures { result ≡ spec.month_asked (number_in text.now) text.now }
+fn month_of_word(text: &str) -> Result<u8, Misuse>
+    ensures { result ≡ spec.month_of_word (number_in text.now) text.now }
 {
     match number_of(text) {
         Some(month) if month >= 1 && month <= 12 => Ok(month as u8),
@@ -219,45 +245,55 @@ fn asked_month(text: &str) -> Result<u8, Misuse>
 }
 
 /// The page on a month.
-fn asked_month_page(year: &str, month: &str) -> Result<Page, Misuse>
-    ensures { result ≡ spec.month_page_asked year.now month.now }
+fn month_page_of(year: &str, month: &str) -> Result<Page, Misuse>
+    ensures { result ≡ spec.month_page_of year.now month.now }
 {
-    let year = asked_year(year)?;
-    let month = asked_month(month)?;
+    let year = year_of_word(year)?;
+    let month = month_of_word(month)?;
     Ok(Page::Month { year, month })
 }
 
 /// A page on a territory, as what is asked for.
-fn of_land(page: Result<Page, Misuse>, is_strict: bool) -> Result<Asked, Misuse>
+fn of_land(page: Result<Page, Misuse>, is_strict: bool) -> Result<Topic, Misuse>
     ensures { result ≡ spec.of_land page is_strict }
 {
-    Ok(Asked::Land {
+    Ok(Topic::Land {
         page: page?,
         is_strict,
     })
 }
 
 /// What words ask for a page on.
-pub(crate) fn asked_page(
+pub(crate) fn topic_of_words(
     alloc: Global,
     words: PageWords<'_>,
-) -> Result<Result<Asked, Misuse>, AllocError>
-    ensures value { IfOk result (λ asked. asked ≡ spec.page_asked (page_words words.entry)) }
+) -> Result<Result<Topic, Misuse>, AllocError>
+    ensures value { IfOk result (λ topic. topic ≡ spec.topic_of_words (page_words words.entry)) }
     ensures memory { OnErr result (spec.takes_memory (page_words words.entry) ≡ true) }
 {
     match words {
-        PageWords::Almanac { year, .. } => Ok(Ok(Asked::Year(year))),
+        PageWords::Almanac { year, .. } => Ok(Ok(Topic::Year(year))),
         PageWords::Read {
             date,
             weekday,
             order,
             strict,
             ..
-        } => Ok(of_land(asked_reading(alloc, date, weekday, order)?, strict)),
-        PageWords::Day { date, .. } => Ok(of_land(asked_day_page(alloc, date)?, false)),
-        PageWords::Month { year, month, .. } => Ok(of_land(asked_month_page(year, month), false)),
-        PageWords::Territory { code: None } => Ok(Ok(Asked::Lands)),
+        } => topic_of_reading(alloc, date, weekday, order, strict),
+        PageWords::Day { date, .. } => Ok(of_land(day_page_of(alloc, date)?, false)),
+        PageWords::Month { year, month, .. } => Ok(of_land(month_page_of(year, month), false)),
+        PageWords::Territory { code: None } => Ok(Ok(Topic::Lands)),
         PageWords::Territory { code: Some(_) } => Ok(of_land(Ok(Page::Periods), false)),
+    }
+}
+
+/// The text of the date that words name, and none where they name no date.
+pub(crate) fn date_text_of<'a>(words: PageWords<'a>) -> &'a str
+    ensures { result.now ≡ spec.date_text_of (page_words words.entry) }
+{
+    match words {
+        PageWords::Read { date, .. } => date,
+        _ => "",
     }
 }
 

@@ -2,17 +2,17 @@
 ghost use Rattle.std.specs.Prelude.{◌≡◌, [], Ok, Err, IfErr, IfOk, is_some, option_map, unwrap_or};
 ghost use Rattle.osn_invocation.specs.Invocation.{date_model, letters_model};
 ghost use Rattle.osn_letters.specs.Columns.{dates_of, is_required, weekday_name};
-ghost use Rattle.osn_page_commands.specs.Letters.{asked_of};
+ghost use Rattle.osn_page_commands.specs.Letters.{settings_model};
 ghost use Rattle.osn_page_commands.specs.TableWords as spec;
 
-use crate::order::asked_order;
+use crate::order::order_of_word;
 use osn_invocation::{DateOptions, LettersOptions};
 use osn_letters::{ColumnNames, DateNames, Separator, TableSettings, WeekdayName};
 use osn_report::Misuse;
 
 /// What separates the fields of a table, by its word, if there is one.
-fn asked_separator(word: Option<&str>) -> Result<Option<Separator>, Misuse>
-    ensures { result ≡ spec.separator_asked (option_map (λ word. word.now) word.entry) }
+fn separator_of_word(word: Option<&str>) -> Result<Option<Separator>, Misuse>
+    ensures { result ≡ spec.separator_of_word (option_map (λ word. word.now) word.entry) }
 {
     match word {
         None => Ok(None),
@@ -61,10 +61,10 @@ fn wrong_word<'a>(misuse: Misuse, word: Option<&'a str>) -> WrongWord<'a>
 /// # Errors
 ///
 /// The option that goes with none of the others, or lacks one.
-fn asked_dates<'a>(options: DateOptions<'a>) -> Result<DateNames<'a>, WrongWord<'a>>
+fn dates_of_options<'a>(options: DateOptions<'a>) -> Result<DateNames<'a>, WrongWord<'a>>
     ensures ok { IfOk result
-        (λ names. spec.dates_asked (date_model options.entry) ≡ Ok (dates_of names)) }
-    ensures err { IfErr result (λ wrong. spec.dates_asked (date_model options.entry)
+        (λ names. spec.dates_of_options (date_model options.entry) ≡ Ok (dates_of names)) }
+    ensures err { IfErr result (λ wrong. spec.dates_of_options (date_model options.entry)
         ≡ Err (wrong.misuse, wrong.typed.now)) }
 {
     let (misuse, typed) = match (options.date, options.year, options.month, options.day) {
@@ -85,17 +85,17 @@ fn asked_dates<'a>(options: DateOptions<'a>) -> Result<DateNames<'a>, WrongWord<
 /// # Errors
 ///
 /// The first of these words that is wrong.
-pub(crate) fn asked_settings<'a>(
+pub(crate) fn settings_of_options<'a>(
     options: LettersOptions<'a>,
 ) -> Result<TableSettings<'a>, WrongWord<'a>>
     ensures ok { IfOk result (λ settings.
-        spec.settings_asked (letters_model options.entry) ≡ Ok (asked_of settings)) }
-    ensures err { IfErr result (λ wrong. spec.settings_asked (letters_model options.entry)
+        spec.settings_of_options (letters_model options.entry) ≡ Ok (settings_model settings)) }
+    ensures err { IfErr result (λ wrong. spec.settings_of_options (letters_model options.entry)
         ≡ Err (wrong.misuse, wrong.typed.now)) }
 {
-    let separator = asked_separator(options.separator);
-    let order = asked_order(options.order);
-    match (asked_dates(options.date), separator, order) {
+    let separator = separator_of_word(options.separator);
+    let order = order_of_word(options.order);
+    match (dates_of_options(options.date), separator, order) {
         (Err(wrong), _, _) => Err(wrong),
         (Ok(_), Err(misuse), _) => Err(wrong_word(misuse, options.separator)),
         (Ok(_), Ok(_), Err(misuse)) => Err(wrong_word(misuse, options.order)),

@@ -12,3 +12,4 @@ pub mod Territory
 pub mod Grid
 pub mod Law
 pub mod Page
+pub mod SetPage

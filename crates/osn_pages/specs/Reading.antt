@@ -22,15 +22,15 @@ other_weekday None d = None
 other_weekday (Some given) d = if is_on (Some given) d then None else Some given
 
 -- that the day is of the weekday, or of which it is not
-abbrev pub said_of_weekday : Option Weekday → List ℕ
-said_of_weekday None = codes " ok"
-said_of_weekday (Some given) = codes " not " ++ weekday_name given
+abbrev pub weekday_verdict : Option Weekday → List ℕ
+weekday_verdict None = codes " ok"
+weekday_verdict (Some given) = codes " not " ++ weekday_name given
 
 -- the remark on a day, where the date names a weekday or one is given beside it
 unfoldable pub verdict : Option Weekday → Option Weekday → ℕ → List ℕ
 verdict written given d =
     if is_some written || is_some given then
-    said_of_weekday (option_or (other_weekday written d) (other_weekday given d))
+    weekday_verdict (option_or (other_weekday written d) (other_weekday given d))
     else []
 
 -- ---- the lines

@@ -1,5 +1,5 @@
--- What is remarked after the days of a date: how sure it is, by which calendar it was read, and that
--- its weekday is not looked for. And how its page names it. This project's profile.
+-- What is remarked after the days of a date: how sure it is, by which calendar it was read, and
+-- that its weekday is not looked for. And how its page names it. This project's profile.
 use Rattle.std.specs.Prelude.{ℕ, Bool, if◌then◌else◌, List, [], ◌∷◌, ◌++◌, Option, Some, None}
 use Rattle.std.specs.Prelude.{Result, Ok, Err, codes}
 use Rattle.std.specs.Option.{option_or}
@@ -31,7 +31,7 @@ subject w = subject_of w (plain_day w)
 
 -- a word where something is said
 abbrev pub word_if : Bool → List ℕ → List (List ℕ)
-word_if said word = if said then word ∷ [] else []
+word_if applies word = if applies then word ∷ [] else []
 
 -- words with `; ` between them, as a line, where there are words
 abbrev pub words_after : List (List ℕ) → List ℕ

@@ -63,7 +63,7 @@ fn push_last_absent(
 }
 
 /// Appends why no day is meant.
-fn push_no_day(
+pub(crate) fn push_no_day(
     alloc: Global,
     out: &mut String,
     territory: &Territory,
@@ -123,8 +123,8 @@ fn push_lines(
     }
 }
 
-/// Appends the lines of a date. Where it names a calendar it is read as if the place had gone by that
-/// one.
+/// Appends the lines of a date. Where it names a calendar it is read as if the place had gone by
+/// that one.
 pub(crate) fn push_date(
     alloc: Global,
     out: &mut String,

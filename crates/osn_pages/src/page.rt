@@ -56,15 +56,15 @@ pub struct Published {
 
 /// What the heading of a page says, and the territory that the page is on.
 #[derive(Clone, Copy)]
-struct Place<'a> {
-    name: &'a str,
-    code: &'a str,
-    territory: &'a Territory,
-    edition: usize,
+pub(crate) struct Place<'a> {
+    pub(crate) name: &'a str,
+    pub(crate) code: &'a str,
+    pub(crate) territory: &'a Territory,
+    pub(crate) edition: usize,
 }
 
 /// The room that the text gets at first: that of most pages takes less than 500 bytes.
-const ROOM: usize = 512;
+pub(crate) const ROOM: usize = 512;
 
 /// Appends a day as the territory dated it, and the period that holds it.
 fn push_day_lines(out: &mut String, territory: &Territory, day: Day) -> Result<(), AllocError>

@@ -60,7 +60,7 @@ fn calendar_line(is_other: bool) -> &'static str
 
 /// Appends that the weekday of a date is not looked for, where it has one.
 #[tactic(auto, unfolding(crate::specs::Remarks::not_sought_line))]
-fn push_not_sought(out: &mut String, weekday: Option<Weekday>) -> Result<(), AllocError>
+pub(crate) fn push_not_sought(out: &mut String, weekday: Option<Weekday>) -> Result<(), AllocError>
     ensures { OnOk result (string_bytes out.new
         ≡ string_bytes out.old ++ spec.not_sought_line weekday) }
 {

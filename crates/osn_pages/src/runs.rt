@@ -98,7 +98,9 @@ fn push_run(out: &mut String, territory: &Territory, kind: Kind, run: Run) -> Re
     match kind {
         Kind::Before => push_until(out, territory, run),
         Kind::After => push_since(out, territory, run),
-        Kind::Day | Kind::Month | Kind::Year | Kind::Range => push_whole(out, territory, run),
+        Kind::Day | Kind::Month | Kind::Year | Kind::Range | Kind::Set => {
+            push_whole(out, territory, run)
+        }
     }
 }
 

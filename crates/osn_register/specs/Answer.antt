@@ -24,7 +24,10 @@ use Rattle.osn_lands.specs.declared.runs.Run.{Run}
 use Rattle.osn_lands.specs.Territory.{TerritoryModel, regime_at, periods_of, reading, skipped}
 use Rattle.osn_lands.specs.Exceptions.{exception_of}
 use Rattle.osn_lands.specs.Easters.{easters}
+use Rattle.osn_grammar.specs.Reading.{members}
 use Rattle.osn_written.specs.declared.finding.NoDay.{NoDay}
+use Rattle.osn_written.specs.declared.kind.Kind.TheVariants as kinds
+use Rattle.osn_written.specs.declared.set.AbsentMember.{AbsentMember}
 use Rattle.osn_written.specs.declared.written_date.DateFault.{DateFault}
 use Rattle.osn_written.specs.declared.written_date.DateFault.TheVariants.{NoDate}
 use Rattle.osn_written.specs.declared.written_date.WrittenDate.{WrittenDate}
@@ -32,6 +35,7 @@ use Rattle.osn_written.specs.Finding.{found, reckoned, is_by_other_calendar}
 use Rattle.osn_written.specs.Kind.{kind_of}
 use Rattle.osn_written.specs.Meaning.{meaning, has_weekday}
 use Rattle.osn_written.specs.Said.{said, one_day}
+use Rattle.osn_written.specs.SetsMeant.{found_of_set, is_set_approximate, is_set_uncertain}
 use Rattle.osn_register.specs.declared.query.Query.{Query}
 use Rattle.osn_register.specs.declared.query.Query.TheVariants as queries
 use Rattle.osn_register.specs.declared.answer.Answer.{Answer}
@@ -195,16 +199,39 @@ no_date fault = record {
   is_on_weekday = None;
 }
 
+-- the days of a set, and why it means none
+abbrev pub set_runs_in : Result (List Run) AbsentMember → List Run
+set_runs_in (Ok runs) = runs
+set_runs_in (Err absent) = []
+
+abbrev pub set_reason_in : Result (List Run) AbsentMember → Option Reason
+set_reason_in (Ok runs) = None
+set_reason_in (Err absent) = Some (reasons.NoDay absent.reason)
+
+-- what a set of dates means in a territory. It is no day, so that no weekday is looked for
+abbrev pub set_answer : Profile → TerritoryModel → List AnyDate → WrittenAnswer
+set_answer p t ws = record {
+  kind = Some kinds.Set;
+  is_approximate = is_set_approximate ws;
+  is_uncertain = is_set_uncertain ws;
+  is_supplied = false;
+  is_by_other_calendar = false;
+  reason = set_reason_in (found_of_set p t ws);
+  runs = map (found_run p t) (set_runs_in (found_of_set p t ws));
+  is_on_weekday = None;
+}
+
 -- the answer about what a text says
-abbrev pub said_answer : Profile → TerritoryModel → Result Said DateFault → Option Weekday
-    → WrittenAnswer
-said_answer p t (Ok (say.Date w)) given = date_answer p t w given
-said_answer p t (Ok say.NoDate) given = no_date NoDate
-said_answer p t (Err fault) given = no_date fault
+abbrev pub said_answer : Profile → TerritoryModel → List ℕ → Result Said DateFault
+    → Option Weekday → WrittenAnswer
+said_answer p t text (Ok (say.Date w)) given = date_answer p t w given
+said_answer p t text (Ok say.Set) given = set_answer p t (members text)
+said_answer p t text (Ok say.NoDate) given = no_date NoDate
+said_answer p t text (Err fault) given = no_date fault
 
 abbrev pub written_answer : Profile → Option TerritoryModel → List ℕ → Option Weekday → Answer
 written_answer p None text given = Refused UnknownLand
-written_answer p (Some t) text given = Written (said_answer p t (said Unknown text) given)
+written_answer p (Some t) text given = Written (said_answer p t text (said Unknown text) given)
 
 -- ---- each query
 

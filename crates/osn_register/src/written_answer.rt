@@ -2,17 +2,20 @@
 ghost use Rattle.std.specs.Prelude.{◌≡◌, Some, IfOk, map};
 ghost use Rattle.osn_days.specs.Profile.{newest_rules};
 ghost use Rattle.osn_register.specs.Answer as spec;
+ghost use Rattle.osn_grammar.specs.Reading.{members};
 ghost use Rattle.osn_written.specs.Finding as finding;
+ghost use Rattle.osn_written.specs.SetsMeant.{set_list_of};
 
 use crate::answer::{Answer, FoundRun, Reason, WrittenAnswer};
 use crate::listing::Listing;
 use crate::territory_answer::found_on;
 use osn_days::Weekday;
-use osn_grammar::{DateOrder, Written, WrittenDate as AnyDate};
+use osn_grammar::{DateOrder, Written, WrittenDate as AnyDate, members_of};
 use osn_lands::{Run, Territory};
 use osn_written::{
-    DateFault, NoDay, WrittenDate, by_reckoning, days_meant, find_runs, has_weekday,
-    is_by_other_calendar, kind_of, read_date,
+    AbsentMember, DateFault, Kind, NoDay, WrittenDate, by_reckoning, days_meant, find_runs,
+    find_set, has_weekday, is_by_other_calendar, is_set_approximate, is_set_uncertain, kind_of,
+    read_date,
 };
 use std::alloc::{AllocError, Global};
 
@@ -134,6 +137,57 @@ fn date_answer(
     }
 }
 
+/// The runs that a set of dates means, and why it means none.
+fn set_runs_and_reason(
+    alloc: Global,
+    territory: &Territory,
+    found: Result<Vec<Run>, AbsentMember>,
+) -> Result<(Vec<FoundRun>, Option<Reason>), AllocError>
+    ensures runs { IfOk result (λ told. told.0.items
+        ≡ map (spec.found_run newest_rules territory.now) (spec.set_runs_in (set_list_of found))) }
+    ensures reason { IfOk result (λ told. told.1 ≡ spec.set_reason_in (set_list_of found)) }
+{
+    match found {
+        Ok(runs) => Ok((found_runs(alloc, territory, runs.as_slice())?, None)),
+        Err(absent) => Ok((Vec::new(alloc), Some(Reason::NoDay(absent.reason)))),
+    }
+}
+
+/// What a set of dates means in a territory. No weekday is looked for.
+fn set_answer(
+    alloc: Global,
+    territory: &Territory,
+    members: &[AnyDate],
+) -> Result<WrittenAnswer, AllocError>
+    ensures { IfOk result (λ a. a ≡ spec.set_answer newest_rules territory.now members.now) }
+{
+    let found = find_set(alloc, territory, members)?;
+    let (runs, reason) = set_runs_and_reason(alloc, territory, found)?;
+    Ok(WrittenAnswer {
+        kind: Some(Kind::Set),
+        is_approximate: is_set_approximate(members),
+        is_uncertain: is_set_uncertain(members),
+        is_supplied: false,
+        is_by_other_calendar: false,
+        reason,
+        runs: Listing::new(runs),
+        is_on_weekday: None,
+    })
+}
+
+/// What the set of dates that a text is means in a territory.
+fn set_answer_of(
+    alloc: Global,
+    territory: &Territory,
+    text: &str,
+) -> Result<WrittenAnswer, AllocError>
+    ensures { IfOk result (λ a.
+        a ≡ spec.set_answer newest_rules territory.now (members text.now)) }
+{
+    let members = members_of(alloc, text)?;
+    set_answer(alloc, territory, members.as_slice())
+}
+
 /// What is told where no date is read.
 fn no_date(alloc: Global, fault: DateFault) -> WrittenAnswer
     ensures { result ≡ spec.no_date fault }
@@ -154,13 +208,16 @@ fn no_date(alloc: Global, fault: DateFault) -> WrittenAnswer
 fn said_answer(
     alloc: Global,
     territory: &Territory,
+    text: &str,
     said: Result<Written, DateFault>,
     given: Option<Weekday>,
 ) -> Result<WrittenAnswer, AllocError>
-    ensures { IfOk result (λ a. a ≡ spec.said_answer newest_rules territory.now said given) }
+    ensures { IfOk result (λ a.
+        a ≡ spec.said_answer newest_rules territory.now text.now said given) }
 {
     match said {
         Ok(Written::Date(date)) => date_answer(alloc, territory, date, given),
+        Ok(Written::Set) => set_answer_of(alloc, territory, text),
         Ok(Written::NoDate) => Ok(no_date(alloc, DateFault::NoDate)),
         Err(fault) => Ok(no_date(alloc, fault)),
     }
@@ -177,5 +234,5 @@ pub(crate) fn written(
         a ≡ spec.written_answer newest_rules (Some territory.now) text.now given) }
 {
     let said = read_date(alloc, text, DateOrder::Unknown)?;
-    Ok(Answer::Written(said_answer(alloc, territory, said, given)?))
+    Ok(Answer::Written(said_answer(alloc, territory, text, said, given)?))
 }

@@ -2,6 +2,8 @@
 -- project's profile.
 use Rattle.std.specs.Prelude.{ℕ, List, ◌++◌, codes}
 use Rattle.std.specs.Fmt.{decimal}
+use Rattle.osn_folder.specs.declared.fault.FollowFault.{FollowFault}
+use Rattle.osn_folder.specs.declared.fault.FollowFault.TheVariants as follow_faults
 use Rattle.osn_folder.specs.declared.fault.KeepFault.{KeepFault}
 use Rattle.osn_folder.specs.declared.fault.KeepFault.TheVariants.{Held, NotOpened}
 use Rattle.osn_folder.specs.declared.fault.KeptFileFault.{KeptFileFault}
@@ -50,6 +52,12 @@ abbrev pub refusal_status : Refusal → Status
 refusal_status refusals.NoMemory = NoMemory
 refusal_status refusal = Refused
 
+abbrev pub followed_status : FollowFault → Status
+followed_status follow_faults.NoMemory = NoMemory
+followed_status follow_faults.NotRead = ReadFault
+followed_status follow_faults.Shorter = Refused
+followed_status follow_faults.Replaced = Refused
+
 -- the status with which a command ends by a fault
 abbrev pub fault_status : CommandFault → Status
 fault_status (faults.File why) = file_status why
@@ -58,6 +66,8 @@ fault_status (faults.Refused refusal) = refusal_status refusal
 fault_status faults.KeptWithOther = Misused
 fault_status (faults.Keep why) = ReadFault
 fault_status (faults.KeptFile why) = WriteFault
+fault_status faults.FollowedWithOther = Misused
+fault_status (faults.FollowedFile why) = followed_status why
 fault_status (faults.OlderVersion version) = Refused
 fault_status (faults.RefusedLine line) = Refused
 fault_status faults.NotOpened = ReadFault
@@ -131,6 +141,15 @@ kept_file_line ChangeFailed = write_line
 kept_file_line Replaced = codes "oldstyle: another program moved, replaced or changed the journal: "
     ++ codes "no more is kept in it\n"
 
+abbrev pub followed_line : FollowFault → List ℕ
+followed_line follow_faults.NoMemory = memory_line
+followed_line follow_faults.NotRead = read_line
+followed_line follow_faults.Shorter = codes "oldstyle: the journal that is followed got shorter: "
+    ++ codes "no further line is answered\n"
+followed_line follow_faults.Replaced =
+    codes "oldstyle: another file, or none, stands where the journal that is "
+    ++ codes "followed was: no further line is answered\n"
+
 -- the line on standard error
 abbrev pub fault_line : CommandFault → List ℕ
 fault_line (faults.File why) = file_line why
@@ -139,6 +158,9 @@ fault_line (faults.Refused refusal) = refusal_line refusal
 fault_line faults.KeptWithOther = codes "oldstyle: --keep goes with neither --journal nor --save\n"
 fault_line (faults.Keep why) = keep_line why
 fault_line (faults.KeptFile why) = kept_file_line why
+fault_line faults.FollowedWithOther =
+    codes "oldstyle: --follow goes with none of --journal, --save and --keep\n"
+fault_line (faults.FollowedFile why) = followed_line why
 fault_line (faults.OlderVersion version) = older_line version
 fault_line (faults.RefusedLine line) = refused_line line
 fault_line faults.NotOpened = read_line

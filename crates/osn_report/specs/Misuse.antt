@@ -22,7 +22,8 @@ date_text faults.LaterYear =
     codes "after the / stands the year that follows, in full or its last digits, "
     ++ codes "as 1731/2, 1731/32 or 1731/1732"
 date_text faults.Year = codes "a year is 0 to 10000"
-date_text faults.Month = codes "a month is 1 to 12"
+date_text faults.Month =
+    codes "a month is 1 to 12: of a range of years write the later year in full, as 1640-1645"
 date_text faults.Day = codes "a day of a month is 1 to 31"
 date_text faults.NoDate = codes "it says no date: write a day, as \"11 February 1731\""
 date_text faults.NotOneDay = codes

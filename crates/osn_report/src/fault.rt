@@ -4,7 +4,7 @@ ghost use Rattle.osn_report.specs.Fault.{by_read};
 ghost use Rattle.osn_report.specs.declared.fault.CommandFault.{CommandFault};
 
 use osn_files::FileFault;
-use osn_folder::{KeepFault, KeptFileFault};
+use osn_folder::{FollowFault, KeepFault, KeptFileFault};
 use osn_format::Version;
 use osn_lines::ReadAllFault;
 use osn_register::Refusal;
@@ -26,6 +26,10 @@ pub enum CommandFault {
     Keep(KeepFault),
     /// The journal that is kept could not be changed, or is another file now.
     KeptFile(KeptFileFault),
+    /// A journal is to be followed, and another one to begin with, to be kept or to be saved.
+    FollowedWithOther,
+    /// The journal that is followed could not be read, or is another file now.
+    FollowedFile(FollowFault),
     /// A journal of this version, which is not the newest, is not kept.
     OlderVersion(Version),
     /// The line of this number was refused, and was to be the last to be answered. Lines are

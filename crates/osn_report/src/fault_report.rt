@@ -1,7 +1,8 @@
 //! How standard error is told why a command ended early.
 ghost use Rattle.std.specs.Prelude.{◌≡◌, ◌++◌, codes, ℕ, List, IfOk, string_bytes};
 ghost use Rattle.osn_lines.specs.Streams.{output_of};
-ghost use Rattle.osn_report.specs.Fault.{bad_line, older_line, refused_line, refusal_end, role_name};
+ghost use Rattle.osn_report.specs.Fault.{bad_line, older_line, refused_line, refusal_end};
+ghost use Rattle.osn_report.specs.Fault.{role_name};
 ghost use Rattle.osn_report.specs.Told.{WritesLine, EndsBy, Tells, TellsIfMade};
 ghost use Rattle.osn_report.specs.declared.fault.CommandFault.{CommandFault};
 
@@ -9,7 +10,7 @@ use crate::fault::CommandFault;
 use crate::limit_hint::limit_hint;
 use crate::status::Status;
 use osn_files::{FileFault, LineFault, Role};
-use osn_folder::{KeepFault, KeptFileFault};
+use osn_folder::{FollowFault, KeepFault, KeptFileFault};
 use osn_format::Version;
 use osn_lines::{Sink, write_all};
 use osn_register::Refusal;
@@ -28,6 +29,15 @@ const KEPT_ELSEWHERE: &str = "oldstyle: another run of the program keeps that jo
 
 const KEPT_REPLACED: &str = "oldstyle: another program moved, replaced or changed the journal: \
 no more is kept in it\n";
+
+const FOLLOWED_WITH_OTHER: &str =
+    "oldstyle: --follow goes with none of --journal, --save and --keep\n";
+
+const FOLLOWED_SHORTER: &str = "oldstyle: the journal that is followed got shorter: \
+no further line is answered\n";
+
+const FOLLOWED_REPLACED: &str = "oldstyle: another file, or none, stands where the journal that is \
+followed was: no further line is answered\n";
 
 /// Writes a line. Where standard error fails too, the status alone tells.
 pub fn write_line<E: Sink>(errors: &mut E, line: &str)
@@ -190,6 +200,18 @@ fn report_kept_file<E: Sink>(errors: &mut E, fault: KeptFileFault) -> Status
     }
 }
 
+fn report_followed_file<E: Sink>(errors: &mut E, fault: FollowFault) -> Status
+    ensures { EndsBy (output_of E.contents E.has_failed E.holds_back errors.old errors.new)
+        (CommandFault.FollowedFile fault) result }
+{
+    match fault {
+        FollowFault::NoMemory => tell_no_memory(errors),
+        FollowFault::NotRead => tell(errors, Status::ReadFault, READ_FAULT),
+        FollowFault::Shorter => tell(errors, Status::Refused, FOLLOWED_SHORTER),
+        FollowFault::Replaced => tell(errors, Status::Refused, FOLLOWED_REPLACED),
+    }
+}
+
 /// Tells standard error in a line why a command ended early. Answers the status.
 pub fn report<E: Sink>(alloc: Global, errors: &mut E, fault: CommandFault) -> Status
     ensures { Tells (output_of E.contents E.has_failed E.holds_back errors.old errors.new)
@@ -202,6 +224,8 @@ pub fn report<E: Sink>(alloc: Global, errors: &mut E, fault: CommandFault) -> St
         CommandFault::KeptWithOther => tell(errors, Status::Misused, KEPT_WITH_OTHER),
         CommandFault::Keep(fault) => report_keep(errors, fault),
         CommandFault::KeptFile(fault) => report_kept_file(errors, fault),
+        CommandFault::FollowedWithOther => tell(errors, Status::Misused, FOLLOWED_WITH_OTHER),
+        CommandFault::FollowedFile(fault) => report_followed_file(errors, fault),
         CommandFault::OlderVersion(version) => {
             tell_line(errors, Status::Refused, older_version(alloc, version))
         }

@@ -63,7 +63,9 @@ with a weekday before it or without"
 1731/32 or 1731/1732"
         }
         DateFault::Year => "a year is 0 to 10000",
-        DateFault::Month => "a month is 1 to 12",
+        DateFault::Month => {
+            "a month is 1 to 12: of a range of years write the later year in full, as 1640-1645"
+        }
         DateFault::Day => "a day of a month is 1 to 31",
         DateFault::NoDate => "it says no date: write a day, as \"11 February 1731\"",
         DateFault::NotOneDay => {

@@ -20,8 +20,9 @@ use Rattle.osn_format.specs.Version.{newest_version}
 use Rattle.osn_format.specs.declared.version.Version.{Version}
 use Rattle.osn_files.specs.Journal.{load}
 use Rattle.osn_files.specs.Loaded.{IsOfVersion}
-use Rattle.osn_files.specs.WholePart.{IsWholePart, by_last, ended_length, last_line_of}
-use Rattle.osn_files.specs.WholePart.{whole_bytes, whole_length, with_byte}
+use Rattle.osn_lines.specs.Ended.{ended_length, with_byte}
+use Rattle.osn_files.specs.WholePart.{IsWholePart, by_last, last_line_of}
+use Rattle.osn_files.specs.WholePart.{whole_bytes, whole_length}
 use Rattle.osn_files.specs.declared.fault.FileFault.{FileFault}
 use Rattle.osn_files.specs.declared.fault.FileFault.TheVariants as file_faults
 use Rattle.osn_files.specs.declared.fault.LineFault.{LineFault}

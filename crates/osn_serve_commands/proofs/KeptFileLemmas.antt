@@ -8,7 +8,8 @@ use Rattle.std.specs.Io.KnownBytes.{Appends}
 use Rattle.osn_lines.specs.Lines.{lines}
 use Rattle.osn_files.specs.LastLine.{last_line, is_unfinished}
 use Rattle.osn_files.specs.WholePart.{IsWholePart, by_last, last_line_of, ended_count}
-use Rattle.osn_files.specs.WholePart.{ended_length, unended_bytes, whole_bytes, whole_length}
+use Rattle.osn_lines.specs.Ended.{ended_length, unended_bytes}
+use Rattle.osn_files.specs.WholePart.{whole_bytes, whole_length}
 use Rattle.osn_files.specs.WholePart.{whole_count}
 use Rattle.osn_files.specs.declared.last_line.LastLine.TheVariants.{Ended, LacksFeed, Unfinished}
 use Rattle.osn_files.specs.declared.whole_lines.WholePart.{WholePart}

@@ -4,3 +4,4 @@ pub mod KeepLemmas
 pub mod ServeLemmas
 pub mod SaveLemmas
 pub mod OptionLemmas
+mod FollowLemmas

@@ -9,24 +9,25 @@ use Rattle.osn_report.specs.Folders.{Folders}
 use Rattle.osn_report.specs.Printing.{PrintsNone}
 use Rattle.osn_report.specs.declared.fault.CommandFault.TheVariants.{KeptWithOther}
 use Rattle.osn_report.specs.declared.status.Status.{Status}
-use Rattle.osn_serve_commands.specs.InFolder.{EndsKeeping, RunsServing, opened_by, rules_of}
+use Rattle.osn_serve_commands.specs.InFolder.{EndsKeeping, RunsEditing, opened_by, rules_of}
 
 -- the service was run by these options
 pub served_by : (limits : Limits) (journal save given found : Option (List ℕ))
     (service : ServiceModel) (CanFail : Bool → Type 0) (d : Folders) (i : Input) (o e : Output)
     (status : Status)
-    → given ≡ found → RunsServing limits journal save found service CanFail d i o e status
-    → RunsServing limits journal save given service CanFail d i o e status
+    → given ≡ found → RunsEditing limits journal save found service CanFail d i o e status
+    → RunsEditing limits journal save given service CanFail d i o e status
 served_by limits journal save given found service CanFail d i o e status is h =
-    subst (λ k. RunsServing limits journal save k service CanFail d i o e status) (sym is) h
+    subst (λ k. RunsEditing limits journal save k service CanFail d i o e status) (sym is) h
 
 -- where none is kept, the journal is the file that could not be opened
 pub unserved_by : {T E : Type 0} (result : Result T E) (journal given : Option (List ℕ))
     (before after : Option Known) (P Q : Type 0) → given ≡ None
     → OnErr result (CannotOpen (path_if journal) before after × P × Q)
-    → OnErr result (CannotOpen (opened_by journal given) before after × P × Q)
+    → OnErr result (CannotOpen (opened_by journal given None) before after × P × Q)
 unserved_by {T} {E} result journal given before after P Q is h =
-    subst (λ k. OnErr result (CannotOpen (opened_by journal k) before after × P × Q)) (sym is) h
+    subst (λ k. OnErr result (CannotOpen (opened_by journal k None) before after × P × Q)) (sym is)
+    h
 
 -- a journal that is kept goes with no other
 module _ {P : Type 0} (now : P → List ℕ) (limits : Limits) where
@@ -34,7 +35,7 @@ module _ {P : Type 0} (now : P → List ℕ) (limits : Limits) where
       (CanFail : Bool → Type 0) (d : Folders) (i : Input) (o e : Output) (status : Status)
       → (is_some journal || is_some save) ≡ true
       → (d.after ≡ d.before) × PrintsNone KeptWithOther o e status
-      → RunsServing limits (option_map now journal) (option_map now save) (Some path) service
+      → RunsEditing limits (option_map now journal) (option_map now save) (Some path) service
       CanFail d i o e status
   misused_with None None path service CanFail d i o e status given h = absurd (cc)
   misused_with None (Some save) path service CanFail d i o e status given h = h
@@ -44,7 +45,7 @@ module _ {P : Type 0} (now : P → List ℕ) (limits : Limits) where
       (CanFail : Bool → Type 0) (d : Folders) (i : Input) (o e : Output) (status : Status)
       → (is_some journal || is_some save) ≡ false
       → EndsKeeping limits path (rules_of service) CanFail d i o e status
-      → RunsServing limits (option_map now journal) (option_map now save) (Some path) service
+      → RunsEditing limits (option_map now journal) (option_map now save) (Some path) service
       CanFail d i o e status
   kept_alone None None path service CanFail d i o e status given h = h
   kept_alone None (Some save) path service CanFail d i o e status given h = absurd (cc)

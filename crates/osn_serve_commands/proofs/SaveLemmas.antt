@@ -328,6 +328,7 @@ not_read_whole read_faults.NoMemory fault journal is h = inl is
 not_read_whole read_faults.ReadFault fault journal is h = inr (is, h)
 
 -- bytes in memory never fail
-pub never_failed : {S : Type 0} (source : Option S) → option_map_or (λ _. false) source false ≡ false
+pub never_failed : {S : Type 0} (source : Option S) → option_map_or (λ _. false) source false ≡
+    false
 never_failed None = refl
 never_failed (Some source) = refl

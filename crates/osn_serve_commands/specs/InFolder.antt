@@ -13,7 +13,8 @@ use Rattle.osn_files.specs.JournalText.{journal_text}
 use Rattle.osn_files.specs.declared.fault.FileFault.{FileFault}
 use Rattle.osn_files.specs.declared.fault.FileFault.TheVariants.{ReadFault}
 use Rattle.osn_folder.specs.Folder.{Known, Changes, IsFileIf, Opens, Saves, CannotSave, path_if}
-use Rattle.osn_folder.specs.Folder.{Keeps, CannotKeep, IsKeptAt, Leaves}
+use Rattle.osn_folder.specs.Folder.{Keeps, CannotKeep, IsKeptAt, Leaves, Stays}
+use Rattle.osn_follower.specs.Arrivals.{Arrival}
 use Rattle.osn_folder.specs.declared.fault.KeepFault.{KeepFault}
 use Rattle.osn_folder.specs.declared.fault.SaveFault.{SaveFault}
 use Rattle.osn_invocation.specs.Invocation.{ServiceModel}
@@ -28,8 +29,9 @@ use Rattle.osn_report.specs.Printing.{PrintsNone}
 use Rattle.osn_report.specs.Told.{Ends, EndsBy}
 use Rattle.osn_report.specs.declared.fault.CommandFault.{CommandFault}
 use Rattle.osn_report.specs.declared.fault.CommandFault.TheVariants.{File, Keep, KeptWithOther}
-use Rattle.osn_report.specs.declared.fault.CommandFault.TheVariants.{NoMemory}
+use Rattle.osn_report.specs.declared.fault.CommandFault.TheVariants.{FollowedWithOther, NoMemory}
 use Rattle.osn_report.specs.declared.status.Status.{Status}
+use Rattle.osn_serve_commands.specs.Follow.{EndsFollowed}
 use Rattle.osn_serve_commands.specs.Keep.{EndsKept}
 use Rattle.osn_serve_commands.specs.Saving.{LocksIf, CannotLockIf, TellsUnsaved}
 use Rattle.osn_serve_commands.specs.Serve.{EndsServed}
@@ -147,20 +149,48 @@ EndsKeeping limits path rules CanFail d i o e status =
     × (file : FileState) × EndsKept limits rules begun file given i o e status
     × Changes (Leaves path file.contents) held d.after)
 
--- the paths of the files that are opened to be read
-abbrev pub opened_by : Option (List ℕ) → Option (List ℕ) → List (List ℕ)
-opened_by journal None = path_if journal
-opened_by journal (Some kept) = []
-
 -- the service was run, with a journal that is kept or without: a journal that is kept goes with no
 -- other
-abbrev pub RunsServing : Limits → Option (List ℕ) → Option (List ℕ) → Option (List ℕ)
+abbrev pub RunsEditing : Limits → Option (List ℕ) → Option (List ℕ) → Option (List ℕ)
     → ServiceModel → (Bool → Type 0) → Folders → Input → Output → Output → Status → Type 0
-RunsServing limits journal save None service CanFail d i o e status =
+RunsEditing limits journal save None service CanFail d i o e status =
     EndsService limits journal save (rules_of service) CanFail d i o e status
-RunsServing limits None None (Some path) service CanFail d i o e status =
+RunsEditing limits None None (Some path) service CanFail d i o e status =
     EndsKeeping limits path (rules_of service) CanFail d i o e status
-RunsServing limits (Some journal) save (Some path) service CanFail d i o e status =
+RunsEditing limits (Some journal) save (Some path) service CanFail d i o e status =
     (d.after ≡ d.before) × PrintsNone KeptWithOther o e status
-RunsServing limits None (Some save) (Some path) service CanFail d i o e status =
+RunsEditing limits None (Some save) (Some path) service CanFail d i o e status =
     (d.after ≡ d.before) × PrintsNone KeptWithOther o e status
+
+-- ---- the service of a journal that is followed
+
+-- the file of this path was followed, and nothing in the folder was changed; or there was no memory
+-- to do so
+abbrev pub EndsFollowing : Limits → ServiceModel → Folders → Output → Output → Status → Type 0
+EndsFollowing limits service d o e status =
+    Changes Stays d.before d.after
+    × (PrintsNone NoMemory o e status
+    ⊎ ((before : Option (List Arrival)) × (after : Option (List Arrival))
+    × EndsFollowed limits service before after o e status))
+
+-- the paths of the files that are opened to be read
+abbrev pub opened_by : Option (List ℕ) → Option (List ℕ) → Option (List ℕ) → List (List ℕ)
+opened_by journal None None = path_if journal
+opened_by journal (Some kept) None = []
+opened_by journal kept (Some followed) = []
+
+-- the service was run, with a journal that is followed or without: a journal that is followed goes
+-- with no other
+abbrev pub RunsServing : Limits → Option (List ℕ) → Option (List ℕ) → Option (List ℕ)
+    → Option (List ℕ) → ServiceModel → (Bool → Type 0) → Folders → Input → Output → Output
+    → Status → Type 0
+RunsServing limits journal save kept None service CanFail d i o e status =
+    RunsEditing limits journal save kept service CanFail d i o e status
+RunsServing limits None None None (Some path) service CanFail d i o e status =
+    EndsFollowing limits service d o e status
+RunsServing limits (Some journal) save kept (Some path) service CanFail d i o e status =
+    (d.after ≡ d.before) × PrintsNone FollowedWithOther o e status
+RunsServing limits None (Some save) kept (Some path) service CanFail d i o e status =
+    (d.after ≡ d.before) × PrintsNone FollowedWithOther o e status
+RunsServing limits None None (Some kept) (Some path) service CanFail d i o e status =
+    (d.after ≡ d.before) × PrintsNone FollowedWithOther o e status

@@ -1,15 +1,18 @@
 //! The command `serve` over the files of a folder, by its options: with a journal that is kept, or
 //! without.
-ghost use Rattle.std.specs.Prelude.{◌≡◌, ◌||◌, IfOk, OnErr, Some, is_some, option_map};
+ghost use Rattle.std.specs.Prelude.{◌≡◌, ◌||◌, IfOk, OnErr, Some, None, is_some, option_map};
 ghost use Rattle.osn_folder.specs.Folder.{CannotOpen, MayFail};
 ghost use Rattle.osn_invocation.specs.Invocation.{service_model};
 ghost use Rattle.osn_lines.specs.Streams.{input_of, output_of};
 ghost use Rattle.osn_report.specs.Folders.{folders_of};
-ghost use Rattle.osn_serve_commands.specs.InFolder.{EndsKeeping, RunsServing, opened_by};
+ghost use Rattle.osn_serve_commands.specs.InFolder.{EndsFollowing, EndsKeeping, RunsEditing};
+ghost use Rattle.osn_serve_commands.specs.InFolder.{RunsServing, opened_by};
 
+use crate::follow::follow_command;
 use crate::keep::keep_command;
 use crate::saving::{rules_of, serve};
 use osn_folder::{Folder, OpenFailed};
+use osn_follower::Feed;
 use osn_invocation::ServeOptions;
 use osn_lines::{Sink, Source};
 use osn_register::Limits;
@@ -24,9 +27,9 @@ fn is_given(one: Option<&str>, other: Option<&str>) -> bool
     one.is_some() || other.is_some()
 }
 
-/// Opens what is to be read, answers the request lines as `serve_command` or `keep_command` does,
-/// and keeps or saves the journal. A terminal, where there is one, is told of editions that were
-/// published and saved nowhere.
+/// Opens what is to be read, answers the request lines as `serve_command`, `keep_command` or
+/// `follow_command` does, and keeps or saves the journal. A terminal, where there is one, is told
+/// of editions that were published and saved nowhere.
 ///
 /// # Errors
 ///
@@ -44,6 +47,102 @@ pub fn serve_in_folder<D: Folder, R: Source, W: Sink, E: Sink, T: Sink + Drop>(
     ensures ok { IfOk result (RunsServing limits
         (option_map (λ path. path.now) options.entry.journal)
         (option_map (λ path. path.now) options.entry.save)
+        (option_map (λ path. path.now) options.entry.keep)
+        (option_map (λ path. path.now) options.entry.follow) (service_model options.entry)
+        (MayFail D.File.has_failed)
+        (folders_of D.known folder.old folder.new)
+        (input_of R.remaining R.has_failed input.old input.new)
+        (output_of W.contents W.has_failed W.holds_back output.old output.new)
+        (output_of E.contents E.has_failed E.holds_back errors.old errors.new)) }
+    ensures err { OnErr result (CannotOpen (opened_by
+        (option_map (λ path. path.now) options.entry.journal)
+        (option_map (λ path. path.now) options.entry.keep)
+        (option_map (λ path. path.now) options.entry.follow))
+        (D.known folder.old) (D.known folder.new)
+        × (output.new ≡ output.old) × (errors.new ≡ errors.old)) }
+{
+    match options.follow {
+        None => serve_edits(
+            alloc, limits, folder, options, input, output, errors, terminal,
+        ),
+        Some(path) => Ok(follow_alone(alloc, limits, folder, path, options, input, output, errors)),
+    }
+}
+
+/// Whether a journal to begin with, to be saved or to be kept is given.
+fn names_other(options: ServeOptions) -> bool
+    ensures { result ≡ ((is_some options.entry.journal || is_some options.entry.save)
+        || is_some options.entry.keep) }
+{
+    is_given(options.journal, options.save) || options.keep.is_some()
+}
+
+/// Follows the journal of a path, where no other option names a journal.
+fn follow_alone<D: Folder, R: Source, W: Sink, E: Sink>(
+    alloc: Global,
+    limits: Limits,
+    folder: &mut D,
+    path: &str,
+    options: ServeOptions,
+    input: &mut R,
+    output: &mut W,
+    errors: &mut E,
+) -> Status
+    ensures { RunsServing limits
+        (option_map (λ path. path.now) options.entry.journal)
+        (option_map (λ path. path.now) options.entry.save)
+        (option_map (λ path. path.now) options.entry.keep) (Some path.now)
+        (service_model options.entry) (MayFail D.File.has_failed)
+        (folders_of D.known folder.old folder.new)
+        (input_of R.remaining R.has_failed input.old input.new)
+        (output_of W.contents W.has_failed W.holds_back output.old output.new)
+        (output_of E.contents E.has_failed E.holds_back errors.old errors.new) result }
+{
+    if names_other(options) {
+        return report(alloc, errors, CommandFault::FollowedWithOther);
+    }
+    follow_file(alloc, limits, folder, path, options, input, output, errors)
+}
+
+/// Follows the file of a path, and answers the request lines from what it holds.
+fn follow_file<D: Folder, R: Source, W: Sink, E: Sink>(
+    alloc: Global,
+    limits: Limits,
+    folder: &mut D,
+    path: &str,
+    options: ServeOptions,
+    input: &mut R,
+    output: &mut W,
+    errors: &mut E,
+) -> Status
+    ensures { EndsFollowing limits (service_model options.entry)
+        (folders_of D.known folder.old folder.new)
+        (output_of W.contents W.has_failed W.holds_back output.old output.new)
+        (output_of E.contents E.has_failed E.holds_back errors.old errors.new) result }
+{
+    match folder.follow(alloc, path) {
+        Ok(file) => {
+            let mut arrivals = Feed::new(input, file);
+            follow_command(alloc, limits, options, &mut arrivals, output, errors)
+        }
+        Err(_) => report(alloc, errors, CommandFault::NoMemory),
+    }
+}
+
+/// The same, where no journal is followed.
+fn serve_edits<D: Folder, R: Source, W: Sink, E: Sink, T: Sink + Drop>(
+    alloc: Global,
+    limits: Limits,
+    folder: &mut D,
+    options: ServeOptions,
+    input: &mut R,
+    output: &mut W,
+    errors: &mut E,
+    terminal: Option<T>,
+) -> Result<Status, OpenFailed>
+    ensures ok { IfOk result (RunsEditing limits
+        (option_map (λ path. path.now) options.entry.journal)
+        (option_map (λ path. path.now) options.entry.save)
         (option_map (λ path. path.now) options.entry.keep) (service_model options.entry)
         (MayFail D.File.has_failed)
         (folders_of D.known folder.old folder.new)
@@ -52,7 +151,7 @@ pub fn serve_in_folder<D: Folder, R: Source, W: Sink, E: Sink, T: Sink + Drop>(
         (output_of E.contents E.has_failed E.holds_back errors.old errors.new)) }
     ensures err { OnErr result (CannotOpen (opened_by
         (option_map (λ path. path.now) options.entry.journal)
-        (option_map (λ path. path.now) options.entry.keep))
+        (option_map (λ path. path.now) options.entry.keep) None)
         (D.known folder.old) (D.known folder.new)
         × (output.new ≡ output.old) × (errors.new ≡ errors.old)) }
 {
@@ -75,7 +174,7 @@ fn keep_alone<D: Folder, R: Source, W: Sink, E: Sink>(
     output: &mut W,
     errors: &mut E,
 ) -> Status
-    ensures { RunsServing limits
+    ensures { RunsEditing limits
         (option_map (λ path. path.now) options.entry.journal)
         (option_map (λ path. path.now) options.entry.save) (Some path.now)
         (service_model options.entry) (MayFail D.File.has_failed)

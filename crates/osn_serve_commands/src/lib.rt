@@ -1,14 +1,16 @@
-//! The command `serve`: answers request lines, and saves or keeps the journal. What the crate
-//! promises to those above: the lines are answered as the service does, from the object that the
-//! journal holds. The journal that is left is saved whole or not at all, and one that is kept has
-//! each change before its reply is written.
+//! The command `serve`: answers request lines, and saves, keeps or follows the journal. What the
+//! crate promises to those above: the lines are answered as the service does, from the object that
+//! the journal holds. The journal that is left is saved whole or not at all. One that is kept has
+//! each change before its reply is written, and one that another run keeps is followed.
 #![tactic(auto)]
 
+mod follow;
 mod in_folder;
 mod keep;
 mod saving;
 mod serve;
 
+pub use follow::follow_command;
 pub use in_folder::serve_in_folder;
 pub use keep::keep_command;
 pub use serve::{ServeResult, serve_command};

@@ -8,7 +8,8 @@ ghost use Rattle.osn_lines.specs.Streams.{input_of, output_of};
 ghost use Rattle.osn_report.specs.Folders.{folders_of};
 ghost use Rattle.osn_serve_commands.specs.InFolder as spec;
 ghost use Rattle.osn_serve_commands.specs.SavingInside.{ReplacesRead};
-ghost use Rattle.osn_serve_commands.specs.Saving.{CannotLockIf, LocksIf, TellsUnsaved, changed_line};
+ghost use Rattle.osn_serve_commands.specs.Saving.{CannotLockIf, LocksIf, TellsUnsaved};
+ghost use Rattle.osn_serve_commands.specs.Saving.{changed_line};
 ghost use Rattle.osn_serve_commands.specs.Serve.{input_if};
 
 use crate::serve::{ServeResult, serve_command};

@@ -30,6 +30,8 @@ mod figures;
 #[cfg(test)]
 mod file_failures;
 #[cfg(test)]
+mod followers;
+#[cfg(test)]
 mod forty;
 #[cfg(test)]
 mod gates;

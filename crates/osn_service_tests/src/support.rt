@@ -1,6 +1,7 @@
 //! What the tests share: values compared, lines read and written, sessions, and streams that fail.
 pub mod compare;
 pub mod failing;
+pub mod growing;
 pub mod register_lines;
 pub mod session;
 pub mod streams;

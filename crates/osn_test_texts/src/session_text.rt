@@ -33,8 +33,8 @@ fn add_line(text: &mut String, line: &str) -> Result<(), AllocError> {
     text.push('\n')
 }
 
-/// Adds the lines of a session to its requests and its replies. A line that lacks its mark counts as
-/// a reply that is wanted, so that the test fails.
+/// Adds the lines of a session to its requests and its replies. A line that lacks its mark counts
+/// as a reply that is wanted, so that the test fails.
 fn take_apart(
     session: &str,
     requests: &mut String,

@@ -7,4 +7,5 @@ pub mod RunFacts
 pub mod OrderFacts
 pub mod OneDayFacts
 mod SpanFacts
+mod UnionFacts
 mod WordsLaw

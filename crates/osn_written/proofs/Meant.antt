@@ -21,6 +21,7 @@ use Rattle.osn_written.specs.Law.{Means, AreDualTextsMeant}
 use Rattle.osn_written.specs.Meaning.{label_of, is_of_later_year, counted_double, double_meant}
 use Rattle.osn_written.specs.Meaning.{not_counted_double, days_meant, has_weekday, meaning}
 use Rattle.osn_written.proofs.DualLaw.{dual_texts_written, named_days_written}
+use Rattle.osn_written.proofs.OneDayFacts.{same_days}
 
 -- ---- elements
 
@@ -141,3 +142,6 @@ texts_meant t d on = (
   written_means newest_rules t d _ _ _ on (dual_texts_written (regime_at t d) d on),
   written_means newest_rules t d _ _ _ on (named_days_written (regime_at t d) d on),
 )
+
+-- the laws of what a date means
+pub ruleset meant_laws = (texts_meant, same_days)

@@ -1,7 +1,6 @@
 -- The days of a date that is one day are the same by its label and by the search of the line.
 use Rattle.std.proofs.Common.{◌≡◌, ◌∙◌, ◌+◌, ◌==◌, ◌&&◌, ◌||◌, ℕ, zero, suc, Bool, true, false}
-use Rattle.std.proofs.Common.{if◌then◌else◌, List, [], ◌++◌, filter, pos, refl, sym, ap, subst}
-use Rattle.std.proofs.Common.{append-nil}
+use Rattle.std.proofs.Common.{if◌then◌else◌, [], ◌++◌, filter, pos, refl, sym, ap, subst}
 use Rattle.std.proofs.lemmas.Bool.Decides.{Decides-eqb}
 use Rattle.std.proofs.lemmas.List.Sorted.{IsPermutation-refl}
 use Rattle.std.proofs.Math.Bool.{and-true}
@@ -21,7 +20,7 @@ use Rattle.osn_written.specs.OneDay.{AreSameDays, simple_of}
 use Rattle.osn_written.specs.Runs.{all_double, all_labelled, all_meant, has_month_and_day}
 use Rattle.osn_written.specs.Runs.{is_labelled, is_meant_double, year_of}
 use Rattle.osn_written.proofs.OrderFacts.{in_parts, later_alone, two_years}
-use Rattle.osn_written.proofs.RunFacts.{labelled_day, meant_double, meant_single}
+use Rattle.osn_written.proofs.RunFacts.{meant_double, meant_single}
 
 -- ---- tests of a day, as truth values
 

@@ -26,8 +26,8 @@ use Rattle.osn_grammar.specs.declared.written.Year.{Year}
 use Rattle.osn_grammar.proofs.FormFacts.{IsYear, IsDate, IsExtent, year_parts, day_is, month_is}
 use Rattle.osn_grammar.proofs.FormFacts.{year_is, on_is, from_to_is, before_is, after_is}
 use Rattle.osn_grammar.proofs.FormFacts.{not_before_is, not_after_is}
-use Rattle.osn_grammar.proofs.SaidFacts.{Say, IsSaid, nothing_said, part_said, weekday_said}
-use Rattle.osn_grammar.proofs.SaidFacts.{reckoning_said, text_read}
+use Rattle.osn_grammar.proofs.PartFacts.{Say, TextSays, nothing_says, part_adds, weekday_adds}
+use Rattle.osn_grammar.proofs.PartFacts.{reckoning_adds, text_read}
 use Rattle.osn_grammar.proofs.TextFacts.{Reads, Closes, blank, slash, doubt, bracket}
 use Rattle.osn_grammar.proofs.TextFacts.{digits_read, joined_reads, begins_reads, begun_scans}
 use Rattle.osn_grammar.proofs.TextFacts.{closed_scans, mark_closes, nothing_closes}
@@ -295,11 +295,11 @@ record IsTail (text : List ℕ) (r : Option Reckoning) (u s : Bool) : Type 0 whe
   says : Say parts [] None r false u s
 
 bracket_tail : (s : Bool) → IsTail (if_said s (codes "]")) None false s
-bracket_tail false = record { parts = []; closes = nothing_closes; says = nothing_said }
+bracket_tail false = record { parts = []; closes = nothing_closes; says = nothing_says }
 bracket_tail true = record {
   parts = Bracket ∷ [];
   closes = mark_closes bracket nothing_closes;
-  says = part_said Bracket refl nothing_said;
+  says = part_adds Bracket refl nothing_says;
 }
 
 doubt_tail : {x : List ℕ} {s : Bool} (u : Bool) → IsTail x None false s
@@ -308,7 +308,7 @@ doubt_tail false tail = tail
 doubt_tail true tail = record {
   parts = Doubt ∷ tail.parts;
   closes = mark_closes doubt tail.closes;
-  says = part_said Doubt refl tail.says;
+  says = part_adds Doubt refl tail.says;
 }
 
 calendar_tail : {x : List ℕ} {u s : Bool} (r : Option Reckoning) → IsTail x None u s
@@ -317,19 +317,19 @@ calendar_tail None tail = tail
 calendar_tail (Some OldStyle) tail = record {
   parts = By OldStyle ∷ tail.parts;
   closes = old_style_closes tail.closes;
-  says = reckoning_said OldStyle tail.says;
+  says = reckoning_adds OldStyle tail.says;
 }
 calendar_tail (Some NewStyle) tail = record {
   parts = By NewStyle ∷ tail.parts;
   closes = new_style_closes tail.closes;
-  says = reckoning_said NewStyle tail.says;
+  says = reckoning_adds NewStyle tail.says;
 }
 
 -- ---- the whole
 
 closed_said : {x text : List ℕ} {ps : List Part} {e : Extent} {r : Option Reckoning} {u s : Bool}
     → Reads text ps → IsExtent ps e → IsTail x r u s
-    → IsSaid (text ++ x) ps None r false u s
+    → TextSays (text ++ x) ps None r false u s
 closed_said {ps = ps} {r = r} {u = u} {s = s} reads is tail = record {
   parts = ps ++ tail.parts;
   scans = closed_scans reads tail.closes;
@@ -338,32 +338,32 @@ closed_said {ps = ps} {r = r} {u = u} {s = s} reads is tail = record {
 }
 
 named_said : {x : List ℕ} {ps : List Part} {r : Option Reckoning} {u s : Bool} (w : Option Weekday)
-    → IsSaid x ps None r false u s → IsSaid (weekday_before w ++ x) ps w r false u s
+    → TextSays x ps None r false u s → TextSays (weekday_before w ++ x) ps w r false u s
 unfolding weekday_before
 named_said None rest = rest
 named_said (Some w) rest = record {
   parts = OnWeekday w ∷ rest.parts;
   scans = begun_scans (weekday_begins w) rest.scans;
-  says = weekday_said w rest.says;
+  says = weekday_adds w rest.says;
 }
 
 about_said : {x : List ℕ} {ps : List Part} {w : Option Weekday} {r : Option Reckoning} {u s : Bool}
-    (a : Bool) → IsSaid x ps w r false u s
-    → IsSaid (if_said a (codes "about ") ++ x) ps w r a u s
+    (a : Bool) → TextSays x ps w r false u s
+    → TextSays (if_said a (codes "about ") ++ x) ps w r a u s
 about_said false rest = rest
 about_said true rest = record {
   parts = About ∷ rest.parts;
   scans = begun_scans about_begins rest.scans;
-  says = part_said About refl rest.says;
+  says = part_adds About refl rest.says;
 }
 
 opened_said : {x : List ℕ} {ps : List Part} {w : Option Weekday} {r : Option Reckoning} {a u : Bool}
-    (s : Bool) → IsSaid x ps w r a u s → IsSaid (if_said s (codes "[") ++ x) ps w r a u s
+    (s : Bool) → TextSays x ps w r a u s → TextSays (if_said s (codes "[") ++ x) ps w r a u s
 opened_said false rest = rest
 opened_said true rest = record {
   parts = Bracket ∷ rest.parts;
   scans = begun_scans bracket_begins rest.scans;
-  says = part_said Bracket refl rest.says;
+  says = part_adds Bracket refl rest.says;
 }
 
 pub words_law : AreWordsRead

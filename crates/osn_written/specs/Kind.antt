@@ -15,6 +15,7 @@ kind_word kinds.Year = codes "year"
 kind_word kinds.Range = codes "range"
 kind_word kinds.Before = codes "before"
 kind_word kinds.After = codes "after"
+kind_word kinds.Set = codes "set"
 
 -- of one date, and of what is written
 abbrev pub kind_of_date : SimpleDate → Kind

@@ -10,5 +10,6 @@ pub mod OneDay
 pub mod Spans
 pub mod Kind
 pub mod Finding
+pub mod SetsMeant
 pub mod Said
 pub mod Words

@@ -1,5 +1,5 @@
 -- Which days a written date means in a territory. This project's profile.
-use Rattle.std.specs.Prelude.{ℕ, Bool, true, false, not, ◌&&◌, ◌+◌, if◌then◌else◌, pos}
+use Rattle.std.specs.Prelude.{ℕ, Bool, true, not, ◌&&◌, ◌+◌, if◌then◌else◌, pos}
 use Rattle.std.specs.Prelude.{List, [], ◌++◌, map, filter, Option, Some, None}
 use Rattle.std.specs.Ordering.{int_eq}
 use Rattle.std.specs.Str.{bytes_eq}

@@ -57,6 +57,7 @@ plain_day w = if_plain (has_qualifier w) (day_in w.extent w.weekday)
 abbrev pub day_read : Result Written FormFault → Result WrittenDate DateFault
 day_read (Ok (say.Date w)) = plain_day w
 day_read (Ok say.NoDate) = Err faults.NoDate
+day_read (Ok say.Set) = Err faults.NotOneDay
 day_read (Err fault) = Err (fault_of fault)
 
 -- the date of one day that a text is in one of the grammar's forms, or why it is no such date

@@ -16,10 +16,12 @@ pub enum Kind {
     Before,
     /// After a date, or not before it.
     After,
+    /// One of several dates.
+    Set,
 }
 
 impl Kind {
-    /// The word of the kind: `day`, `month`, `year`, `range`, `before` or `after`.
+    /// The word of the kind: `day`, `month`, `year`, `range`, `before`, `after` or `set`.
     pub fn word(self) -> &'static str
         ensures { result.now ≡ spec.kind_word self }
     {
@@ -30,6 +32,7 @@ impl Kind {
             Kind::Range => "range",
             Kind::Before => "before",
             Kind::After => "after",
+            Kind::Set => "set",
         }
     }
 }

@@ -173,7 +173,7 @@ fn first_by_weekday(
 /// # Errors
 ///
 /// `AllocError` where there is no memory for the list.
-#[tactic(auto, using(crate::proofs::Meant::texts_meant, crate::proofs::OneDayFacts::same_days), unfolding(crate::specs::Meaning::meaning))]
+#[tactic(auto, using(crate::proofs::Meant::meant_laws), unfolding(crate::specs::Meaning::meaning))]
 pub fn days_meant(
     alloc: Global,
     territory: &Territory,

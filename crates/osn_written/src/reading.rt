@@ -75,6 +75,7 @@ fn day_read(read: Result<Written, FormFault>) -> Result<WrittenDate, DateFault>
     match read {
         Ok(Written::Date(date)) => plain_day(date),
         Ok(Written::NoDate) => Err(DateFault::NoDate),
+        Ok(Written::Set) => Err(DateFault::NotOneDay),
         Err(fault) => Err(fault_of(fault)),
     }
 }
@@ -104,7 +105,7 @@ fn else_fault(
 impl WrittenDate {
     /// The date that a text is, in the usual forms or else in another form of one day:
     /// `1731-02-11`, `11 February 1731/2`, `Friday 11 February 1731`, `11 Feb. 1731/32`,
-    /// `Feb 11, 1731` and more, as `docs/DATES.md` says. Where it is no such date, the result
+    /// `Feb 11, 1731`. `docs/DATES.md` has all forms. Where the text is no such date, the result
     /// within has the fault.
     ///
     /// # Errors

@@ -209,7 +209,7 @@ fn joined_after(alloc: Global, first: Run, others: &[Run]) -> Result<Vec<Run>, A
 }
 
 /// Runs in order, those as one that touch.
-fn joined(alloc: Global, runs: &[Run]) -> Result<Vec<Run>, AllocError>
+pub(crate) fn joined(alloc: Global, runs: &[Run]) -> Result<Vec<Run>, AllocError>
     requires { spec.HaveDays runs.now }
     ensures { IfOk result (λ joined. joined.items ≡ spec.runs_of (days_in runs.now)) }
 {

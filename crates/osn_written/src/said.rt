@@ -62,9 +62,9 @@ fn else_said(fault: DateFault, said: Result<Written, DateFault>) -> Result<Writt
     }
 }
 
-/// What a text says of a date: a day, a month, a year, a range or a bound, and what is said beside
-/// it, as `docs/DATES.md` tells. The usual forms of one day are tried first. Where the text says
-/// nothing of a date, the result within has the fault.
+/// What a text says of a date: a day, a month, a year, a range, a bound or a set, and what is said
+/// beside it, as `docs/DATES.md` tells. The usual forms of one day are tried first. Where the text
+/// says nothing of a date, the result within has the fault.
 ///
 /// # Errors
 ///

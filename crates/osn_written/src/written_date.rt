@@ -32,7 +32,7 @@ pub enum DateFault {
     Day,
     /// The text is empty or says that there is no date, as `n.d.`.
     NoDate,
-    /// It is a month, a year, a range or a bound.
+    /// It is a month, a year, a range, a bound or a set.
     NotOneDay,
     /// More is said of the day than which it is: `about`, `?`, `[ ]`, `O.S.` or `N.S.`.
     Qualifier,

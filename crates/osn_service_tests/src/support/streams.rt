@@ -32,7 +32,7 @@ impl Notes {
     }
 }
 
-/// Gives at most so many bytes a read, and fails at a place.
+/// Gives at most this many bytes a read, and fails at a place.
 #[derive(Drop)]
 struct Pieces {
     bytes: Vec<u8>,
@@ -56,7 +56,7 @@ impl Read for Pieces {
     }
 }
 
-/// Takes at most so many bytes a write, and fails once it has so many.
+/// Takes at most this many bytes a write, and fails once it has a given number.
 #[derive(Drop)]
 pub struct Bounded {
     bytes: Vec<u8>,
@@ -186,7 +186,7 @@ pub const WRITTEN: &str = r#"{"ok":"staged","pending":1}
 {"answer":{"lands":[{"code":"RM","name":"Rome"}]},"edition":1,"reader":1}
 "#;
 
-/// A sink that takes so many bytes a write, and fails once it has so many.
+/// A sink that takes at most this many bytes a write, and fails once it has a given number.
 pub fn sink_that_fails(
     alloc: Global,
     step: usize,

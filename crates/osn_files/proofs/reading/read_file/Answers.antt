@@ -1,5 +1,5 @@
 use Rattle.std.proofs.Common.{refl}
-use Rattle.osn_files.proofs.ReadLemmas.{made-all, no-head, said_first, interrupted}
+use Rattle.osn_files.proofs.ReadLemmas.{made-all, no-head, said_first, said_same, interrupted}
 use Rattle.osn_files.proofs.reading.read_file.Goals as goal
 
 pub returns-in-Some-clause-file : goal.returns-in-Some-clause-file
@@ -29,3 +29,7 @@ returns-in-Err-clause-file g c =
 pub returns-in-Some-clause-version : goal.returns-in-Some-clause-version
 returns-in-Some-clause-version g c = λ none.
     said_first _ _ _ _ _ _ _ c.in-Some.is c.in-Ok.ensures.taken none
+
+pub returns-in-Some-clause-same : goal.returns-in-Some-clause-same
+returns-in-Some-clause-same g c =
+    said_same _ _ _ _ _ _ _ c.in-Some.is c.in-Ok.ensures.taken

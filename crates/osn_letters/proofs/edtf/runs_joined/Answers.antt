@@ -9,7 +9,8 @@ use Rattle.osn_letters.proofs.edtf.runs_joined.Goals as goal
 
 pub returns : goal.returns
 returns c =
-    let signed : Run → SignedRun = λ run. record { run = run; between = c.args.between; sign = c.args.sign } in
+    let signed : Run → SignedRun =
+    λ run. record { run = run; between = c.args.between; sign = c.args.sign } in
     let word : SignedRun → List ℕ = λ x. spec.edtf_run x.between.now x.sign.now x.run in
     IfOk-weaker c.join.result _ _ (λ s h.
     let q = c.map.ensures.runs h.0 h.0.seen h.1 in

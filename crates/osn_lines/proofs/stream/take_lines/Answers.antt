@@ -14,7 +14,8 @@ use Rattle.osn_lines.proofs.stream.take_lines.Goals as goal
 
 pub loop-call-init : goal.loop-call-init
 loop-call-init g c = record {
-  buffer = c.in-Ok.ensures;
+  room = omega (arith, c.in-Ok.ensures, c.room.ensures.some);
+  buffer = omega (arith, c.in-Ok.ensures, c.room.ensures.most);
   few = omega arith;
   source = refl;
   taken = (
@@ -161,10 +162,11 @@ loop-call-preserved g c =
     let all =
     IsTaken-then after s t u inv.0 _ got c.loop-call.kept 0 c.loop-call.lines _ _ ready same
     c.in_default-take_piece.ensures.taken in
+    let size_now = ap length (sym c.deref.ensures.value ∙ here) in
     record {
+      room = omega (arith, size_now, full, c.loop-call.invariant.room, c.loop-call.buffer.ok.0);
       buffer =
-          ap length (sym c.deref.ensures.value ∙ here)
-          ∙ omega (arith, full, c.loop-call.invariant.buffer, c.loop-call.buffer.ok.0);
+          omega (arith, size_now, full, c.loop-call.invariant.buffer, c.loop-call.buffer.ok.0);
       few =
           omega (
             arith,

@@ -1,4 +1,4 @@
-use Rattle.std.proofs.Common.{◌≡◌, ◌*◌, ◌≤◌, ℕ, List, length}
+use Rattle.std.proofs.Common.{◌≡◌, ◌*◌, ◌<◌, ◌≤◌, ℕ, List, length}
 use Rattle.std.specs.Io.KnownBytes.{Consumes}
 use Rattle.osn_lines.specs.Inside.{IsKept, IsTaken}
 use Rattle.osn_lines.proofs.stream.take_lines.Given as goal
@@ -8,7 +8,8 @@ use Rattle.osn_lines.proofs.stream.take_lines.Given as goal
 abbrev pub invariant-loop-call : goal.invariant-loop-call
 invariant-loop-call g l =
     record {
-      buffer : length l.buffer.items ≡ 65536;
+      room : 0 < length l.buffer.items;
+      buffer : length l.buffer.items ≤ 65536;
       few : l.lines ≤ 65536 * l._call;
       source : g.R.Source.has_failed l.source ≡ g.R.Source.has_failed l.fn.source;
       taken : (read : List ℕ) × (l._call ≤ length read)

@@ -9,7 +9,7 @@ use Rattle.osn_core.specs.Sequential.{reply_at}
 use Rattle.osn_live.specs.Desk.{AreReplies}
 use Rattle.osn_live.specs.declared.protocol.Origin.{Origin}
 use Rattle.osn_live.proofs.Answered.{replies_later, replies_more}
-use Rattle.osn_live.proofs.AtWork.{asked_at}
+use Rattle.osn_live.proofs.AtWork.{ask_at}
 use Rattle.osn_live.proofs.work.answer_all.Goals as goal
 
 pub loop-question-preserved : goal.loop-question-preserved
@@ -44,5 +44,5 @@ loop-question-preserved g c =
 
 pub returns-in_err-reply-clause-gate : goal.returns-in_err-reply-clause-gate
 returns-in_err-reply-clause-gate g c =
-    let told = asked_at (g.G.Gate.is_open c.args.turns.now.gate.now) c.in_err-reply.field-0.0 in
+    let told = ask_at (g.G.Gate.is_open c.args.turns.now.gate.now) c.in_err-reply.field-0.0 in
     search (rules, told)

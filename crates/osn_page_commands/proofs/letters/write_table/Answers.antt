@@ -1,13 +1,13 @@
 use Rattle.std.proofs.Common.{sym, inl, inr, ap, length}
 use Rattle.osn_lines.specs.Streams.{input_of, output_of}
-use Rattle.osn_page_commands.specs.Letters.{asked_of}
+use Rattle.osn_page_commands.specs.Letters.{settings_model}
 use Rattle.osn_page_commands.proofs.LettersLemmas.{ended_table, whole_table}
 use Rattle.osn_page_commands.proofs.letters.write_table.Goals as goal
 
 pub returns-in-Ok : goal.returns-in-Ok
 returns-in-Ok g c =
     let new = c.write_letters.new in
-    inl (whole_table c.args.object.now (asked_of c.args.settings) c.args.rules _ _ _
+    inl (whole_table c.args.object.now (settings_model c.args.settings) c.args.rules _ _ _
     (input_of g.R.Source.remaining g.R.Source.has_failed c.args.input.now new.source)
     (output_of g.W.Sink.contents g.W.Sink.has_failed g.W.Sink.holds_back c.args.output.now
     new.sink)
@@ -22,7 +22,7 @@ returns-in-Err g c =
     let ended = c.in-Err.ensures in
     let new = c.write_letters.new in
     let wrote =
-    ended_table c.args.object.now (asked_of c.args.settings) _ _
+    ended_table c.args.object.now (settings_model c.args.settings) _ _
     (input_of g.R.Source.remaining g.R.Source.has_failed c.args.input.now new.source)
     (output_of g.W.Sink.contents g.W.Sink.has_failed g.W.Sink.holds_back c.args.output.now
     new.sink)

@@ -1,7 +1,7 @@
 use Rattle.osn_folder.specs.Folder.{MayFail}
 use Rattle.osn_invocation.specs.Invocation.{letters_model}
 use Rattle.osn_lines.specs.Streams.{input_of, output_of}
-use Rattle.osn_page_commands.specs.Letters.{asked_of}
+use Rattle.osn_page_commands.specs.Letters.{settings_model}
 use Rattle.osn_page_commands.specs.LettersFiles.{rules_of}
 use Rattle.osn_page_commands.proofs.FilesLemmas.{table_alone, table_placed}
 use Rattle.osn_report.specs.Folders.{folders_of}
@@ -11,7 +11,8 @@ pub returns-in-None-clause-ok : goal.returns-in-None-clause-ok
 returns-in-None-clause-ok g c =
     let found = c.in_ok-file in
     let new = c.letters_command.new in
-    table_alone c.args.limits c.args.journal.now c.args.options.places (asked_of c.args.settings)
+    table_alone c.args.limits c.args.journal.now c.args.options.places
+    (settings_model c.args.settings)
     c.rules_of-rules.result (rules_of (letters_model c.args.options))
     (MayFail g.D.File.Source.has_failed)
     (folders_of g.D.Folder.known c.args.folder.now c.open_file.new.folder)
@@ -31,7 +32,8 @@ pub returns-clause-ok : goal.returns-clause-ok
 returns-clause-ok g c =
     let found = c.in_ok-file in
     let new = c.letters_by_places.new in
-    table_placed c.args.limits c.args.journal.now c.args.options.places (asked_of c.args.settings)
+    table_placed c.args.limits c.args.journal.now c.args.options.places
+    (settings_model c.args.settings)
     c.rules_of-rules.result (rules_of (letters_model c.args.options))
     (MayFail g.D.File.Source.has_failed)
     (folders_of g.D.Folder.known c.args.folder.now new.folder)

@@ -7,11 +7,12 @@ pub returns-in-Ok-Ok : goal.returns-in-Ok-Ok
 returns-in-Ok-Ok g c =
     page_printed c.args.limits c.args.path.now
     (input_of g.J.Source.remaining g.J.Source.has_failed c.args.journal.now
-    c.print_asked.new.journal)
-    (page_words c.args.words) c.in-Ok-Ok.asked c.code_of-code.result.now
+    c.print_topic.new.journal)
+    (page_words c.args.words) c.in-Ok-Ok.topic c.code_of-code.result.now
+    c.date_text_of-date.result.now
     (output_of g.W.Sink.contents g.W.Sink.has_failed g.W.Sink.holds_back c.args.output.now
-    c.print_asked.new.output)
+    c.print_topic.new.output)
     (output_of g.E.Sink.contents g.E.Sink.has_failed g.E.Sink.holds_back c.args.errors.now
-    c.print_asked.new.errors)
-    c.print_asked.result (cc (c.in-Ok-Ok.ensures.value, c.in-Ok-Ok.field-0-is))
-    c.code_of-code.ensures c.print_asked.ensures
+    c.print_topic.new.errors)
+    c.print_topic.result (cc (c.in-Ok-Ok.ensures.value, c.in-Ok-Ok.field-0-is))
+    c.code_of-code.ensures c.date_text_of-date.ensures c.print_topic.ensures

@@ -1,6 +1,6 @@
 use Rattle.std.proofs.Common.{refl}
 use Rattle.osn_lines.specs.Streams.{output_of}
-use Rattle.osn_page_commands.specs.Page.{asked_text, refusal_line}
+use Rattle.osn_page_commands.specs.Page.{topic_text, refusal_line}
 use Rattle.osn_page_commands.proofs.PageLemmas.{page_made, page_unmade, page_refused}
 use Rattle.osn_page_commands.proofs.page.print_page.Goals as goal
 
@@ -11,7 +11,9 @@ returns-in-Ok g c =
     c.args.output.now c.print.new.output in
     let told = output_of g.E.Sink.contents g.E.Sink.has_failed g.E.Sink.holds_back
     c.args.errors.now c.print.new.errors in
-    page_made s c.args.path.now c.args.code.now c.args.asked.now wrote told c.ended.result
+    page_made s c.args.path.now c.args.code.now c.args.date.now c.args.topic.now wrote told
+    c.ended.result
     c.print.result c.in-Ok.field-0.lacks_day c.in-Ok.ensures.lawful c.in-Ok.ensures.lacks
-    (c.print.ensures (asked_text s c.args.code.now c.args.asked.now) c.in-Ok.ensures.text)
+    (c.print.ensures (topic_text s c.args.code.now c.args.date.now c.args.topic.now)
+    c.in-Ok.ensures.text)
     c.ended.ensures

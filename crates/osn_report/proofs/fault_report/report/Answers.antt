@@ -45,6 +45,20 @@ returns-in-KeptFile g c =
     told_by told c.args.fault (faults.KeptFile c.in-KeptFile.fault) _ c.in-KeptFile.is
     c.report_kept_file.ensures
 
+pub returns-in-FollowedWithOther : goal.returns-in-FollowedWithOther
+returns-in-FollowedWithOther g c =
+    let told = output_of g.E.Sink.contents g.E.Sink.has_failed g.E.Sink.holds_back
+    c.args.errors.now c.tell-in-FollowedWithOther.new.errors in
+    told_by told c.args.fault faults.FollowedWithOther _ c.in-FollowedWithOther.is
+    (c.tell-in-FollowedWithOther.ensures.status, c.tell-in-FollowedWithOther.ensures.line)
+
+pub returns-in-FollowedFile : goal.returns-in-FollowedFile
+returns-in-FollowedFile g c =
+    let told = output_of g.E.Sink.contents g.E.Sink.has_failed g.E.Sink.holds_back
+    c.args.errors.now c.report_followed_file.new.errors in
+    told_by told c.args.fault (faults.FollowedFile c.in-FollowedFile.fault) _ c.in-FollowedFile.is
+    c.report_followed_file.ensures
+
 pub returns-in-OlderVersion : goal.returns-in-OlderVersion
 returns-in-OlderVersion g c =
     let told = output_of g.E.Sink.contents g.E.Sink.has_failed g.E.Sink.holds_back

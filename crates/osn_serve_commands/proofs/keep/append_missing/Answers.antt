@@ -1,6 +1,7 @@
 use Rattle.std.proofs.Common.{◌∙◌, inl, inr, refl}
 use Rattle.osn_serve_commands.proofs.ResultLemmas.{if_err_made}
-use Rattle.osn_serve_commands.proofs.KeptFileLemmas.{completed, completed_in_part, completed_by_none}
+use Rattle.osn_serve_commands.proofs.KeptFileLemmas.{completed, completed_in_part}
+use Rattle.osn_serve_commands.proofs.KeptFileLemmas.{completed_by_none}
 use Rattle.osn_serve_commands.proofs.KeptFileLemmas.{completed_by_all}
 use Rattle.osn_serve_commands.proofs.keep.append_missing.Goals as goal
 

@@ -17,5 +17,6 @@ pub returns-clause-ok : goal.returns-clause-ok
 returns-clause-ok g c = (
   c.in_ok-cut.ensures.ok,
   subst (WritesLine (output_of g.E.Sink.contents g.E.Sink.has_failed g.E.Sink.holds_back
-      c.args.errors.now c.write_line.new.errors)) (c.as_str.ensures.value ∙ c.in_ok-told.ensures) c.write_line.ensures,
+      c.args.errors.now c.write_line.new.errors)) (c.as_str.ensures.value ∙ c.in_ok-told.ensures)
+      c.write_line.ensures,
 )

@@ -7,5 +7,6 @@ use Rattle.osn_core.proofs.draft.Draft.make_edition.Goals as goal
 
 pub overflow_add-self : goal.overflow_add-self
 overflow_add-self c =
-    let room = has_edits (draft_in c.self.inside) (ap edition_refusal c.self.view_is ∙ c.requires) in
+    let granted = ap edition_refusal c.self.view_is ∙ c.requires in
+    let room = has_edits (draft_in c.self.inside) granted in
     omega (arith, room.1, ap (λ (l : Limits). l.editions) c.limits-most.ensures.value)

@@ -1,6 +1,6 @@
 use Rattle.std.proofs.Common.{[], subst}
 use Rattle.std.proofs.lemmas.Result.{on_ok_weaker, IfErr-weaker}
-use Rattle.osn_letters.specs.LettersInside.{Wrote, text_behind}
+use Rattle.osn_letters.specs.LettersInside.{Wrote, text_after}
 use Rattle.osn_letters.specs.Table.{whole}
 use Rattle.osn_letters.specs.WriterInside.{waiting}
 use Rattle.osn_letters.proofs.CountFacts.{end_counted}
@@ -27,7 +27,7 @@ returns-clause-takes c =
     let out = waiting c.take_last.new.self.table.out in
     on_ok_weaker c.finish.result
     (λ ended. end_taken c.args.self.now t out whole c.in_ok-take_held.ensures.takes
-    (subst (λ w. Wrote (waiting t.table.out) out (text_behind t []) w) ended
+    (subst (λ w. Wrote (waiting t.table.out) out (text_after t []) w) ended
     c.in_ok-take_last.ensures.takes))
     c.finish.ensures.whole
 

@@ -1,6 +1,6 @@
 use Rattle.std.proofs.Common.{[], sym, subst}
 use Rattle.osn_letters.specs.declared.letters.Letters.{Letters}
-use Rattle.osn_letters.specs.LettersInside.{Wrote, text_behind}
+use Rattle.osn_letters.specs.LettersInside.{Wrote, text_after}
 use Rattle.osn_letters.specs.TableInside.{written_of}
 use Rattle.osn_letters.specs.WriterInside.{waiting}
 use Rattle.osn_letters.proofs.LastFacts.{last_refused, last_taken, none_last}
@@ -26,12 +26,12 @@ returns-clause-takes c =
     elim c.match-branch-2.branch [
       | in-Some+in_ok-take w ↦
           subst (λ (t : Letters). Wrote (waiting s.table.out) (waiting t.table.out)
-          (text_behind s []) (written_of t.table [])) (sym w.self-is)
+          (text_after s []) (written_of t.table [])) (sym w.self-is)
           (last_taken s w.take.new.self c.finish.new.self w.in-Some.line _
           w.separator-separator.ensures (rw w.in-Some.is at c.in_ok-line.ensures.ends)
           w.in_ok-take.ensures.takes)
       | in_default w ↦
           subst (λ (t : Letters). Wrote (waiting s.table.out) (waiting t.table.out)
-          (text_behind s []) (written_of t.table [])) (sym w.self-is)
+          (text_after s []) (written_of t.table [])) (sym w.self-is)
           (none_last s c.finish.new.self (rw w.in_default.is at c.in_ok-line.ensures.ends))
     ]

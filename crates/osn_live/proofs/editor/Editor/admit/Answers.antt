@@ -22,7 +22,7 @@ invariant_of-self-2 c =
     ∙ ap (λ (v : EditorState). stage_refusal newest_rules v.object c.args.edit) c.self.view_is
     ∙ c.requires in
     rw c.in_ok-admit.ensures.ok (record {
-      shown = c.self.invariant.shown;
+      edition = c.self.invariant.edition;
       known = c.self.invariant.known;
       book = c.self.invariant.book;
       draft = edit_staged d batches c.args.edit c.self.invariant.draft lawful;

@@ -28,9 +28,10 @@ invariant_of-self-2 g c =
     ap (λ (k : CertificateState). k.batches) c.in-Some.ensures
     ∙ ap (λ (es : List Edit). batches ++ es ∷ []) c.pending.ensures in
     let draft : IsDraftOf c.make_edition-published.new.self c.in-Some.certificate.batches =
-    rw (c.make_edition-published.ensures.after, now) (edition_made d batches c.self.invariant.draft) in
+    rw (c.make_edition-published.ensures.after, now)
+    (edition_made d batches c.self.invariant.draft) in
     record {
-      shown = search rules;
+      edition = search rules;
       known = search rules;
       book = search rules;
       draft = draft;

@@ -1,0 +1,21 @@
+"""Which day a written date means in a territory, as the program oldstyle tells it.
+
+    >>> from oldstyle import Register
+    >>> print(Register("samples.journal").read("GB", "11 Feb. 1731/32"))
+    Friday 11 February 1731/2, 1732-02-22 Gregorian (GB, edition 5)
+"""
+from .answers import Day, Land, Period, Reading, Run
+from .faults import (BadCode, BadDate, BadField, DayOffLine, Fault, JournalRefused, LineTooLong,
+                     NotJson, NotObject, OldstyleError, PlacesRefused, ProgramDiffers,
+                     ProgramEnded, ProgramFailed, ProgramMissing, ReadOnly, UnknownLand,
+                     UnknownOp, UnknownReader, YearOffRange)
+from .frames import read_frame
+from .places import Places
+from .register import Register
+
+__version__ = "0.1.0"
+__all__ = ["BadCode", "BadDate", "BadField", "Day", "DayOffLine", "Fault", "JournalRefused", "Land",
+           "LineTooLong", "NotJson", "NotObject", "OldstyleError", "Period", "Places",
+           "PlacesRefused", "ProgramDiffers", "ProgramEnded", "ProgramFailed", "ProgramMissing",
+           "ReadOnly", "Reading", "Register", "Run", "UnknownLand", "UnknownOp", "UnknownReader",
+           "YearOffRange", "read_frame"]

@@ -1,0 +1,141 @@
+"""What the program answers, as values that don't change."""
+from __future__ import annotations
+
+import datetime
+from dataclasses import dataclass
+from typing import Any, Dict, Mapping, Optional, Tuple, Type, TypeVar
+
+Value = TypeVar("Value")
+
+
+@dataclass(frozen=True)
+class Day:
+    """A day, with its dates in both calendars and as the territory wrote it."""
+
+    day: int
+    dual: str
+    gregorian: str
+    jdn: int
+    julian: str
+    label: str
+    weekday: str
+
+    @property
+    def date(self) -> datetime.date:
+        """The Gregorian date, as Python counts them."""
+        return datetime.date.fromisoformat(self.gregorian)
+
+    def __str__(self) -> str:
+        return f"{self.weekday} {self.dual}, {self.gregorian} Gregorian"
+
+
+@dataclass(frozen=True)
+class Run:
+    """Days that follow one another."""
+
+    first: Day
+    last: Day
+
+    def __str__(self) -> str:
+        return str(self.first) if self.first == self.last else f"{self.first} to {self.last}"
+
+
+@dataclass(frozen=True)
+class Reading:
+    """Which days a date means in a territory, and what its text says of them.
+
+    `runs` has all of the days, and `reason` says why there are none. What is open stays open:
+    `day` is None where the date means several days, `earliest` and `latest` are None at the open
+    end of a bound. The other members are those of `written` in docs/FORMATS.md.
+    """
+
+    code: str
+    date: str
+    edition: int
+    kind: str
+    runs: Tuple[Run, ...]
+    reason: Optional[str]
+    approximate: bool
+    supplied: bool
+    uncertain: bool
+    other_calendar: bool
+    weekday_fits: Optional[bool]
+
+    @property
+    def day(self) -> Optional[Day]:
+        """The day, where the date means one alone."""
+        if len(self.runs) == 1 and not self.is_open and self.runs[0].first == self.runs[0].last:
+            return self.runs[0].first
+        return None
+
+    @property
+    def is_open(self) -> bool:
+        """Whether it is a bound, before or after a date."""
+        return self.kind in ("before", "after")
+
+    @property
+    def earliest(self) -> Optional[Day]:
+        """The first day that the date may mean."""
+        return self.runs[0].first if self.runs and self.kind != "before" else None
+
+    @property
+    def latest(self) -> Optional[Day]:
+        """The last day that the date may mean."""
+        return self.runs[-1].last if self.runs and self.kind != "after" else None
+
+    def __str__(self) -> str:
+        signs = ["in doubt"] * self.uncertain + ["approximate"] * self.approximate
+        signs += ["supplied by an editor"] * self.supplied
+        signs += ["weekday differs"] if self.weekday_fits is False else []
+        if self.kind in ("before", "after"):
+            days = f"{self.kind}: " + str(self.latest or self.earliest or self.reason)
+        else:
+            days = "; or ".join(map(str, self.runs)) or str(self.reason)
+        return "; ".join([f"{days} ({self.code}, edition {self.edition})", *signs])
+
+
+@dataclass(frozen=True)
+class Land:
+    """A territory of the register."""
+
+    code: str
+    name: str
+
+
+@dataclass(frozen=True)
+class Period:
+    """The days over which a territory has one calendar, one year beginning and one Easter rule."""
+
+    calendar: str
+    first: int
+    last: int
+    rule: str
+    style: str
+
+
+def reading_of(code: str, date: str, reply: Mapping[str, Any]) -> Reading:
+    """The reading that a reply to `written` tells."""
+    answer = reply["answer"]
+    return made(Reading, {
+        "code": code, "date": date, "edition": reply["edition"], "kind": answer["kind"],
+        "runs": tuple(map(run_of, answer["runs"])), "reason": answer["reason"],
+        "approximate": answer["approximate"], "supplied": answer["supplied"],
+        "uncertain": answer["uncertain"], "other_calendar": answer["other_calendar"],
+        "weekday_fits": answer["weekday"]})
+
+
+def run_of(run: Mapping[str, Any]) -> Run:
+    """A run of days. One of a single day has that day once."""
+    first = made(Day, run["first"])
+    last = first if run["first"] == run["last"] else made(Day, run["last"])
+    return made(Run, {"first": first, "last": last})
+
+
+def made(kind: Type[Value], members: Dict[str, Any]) -> Value:
+    """A value with these members, which nobody else holds.
+
+    The call of a frozen dataclass sets each member by itself, and takes four times as long.
+    """
+    value = object.__new__(kind)
+    object.__setattr__(value, "__dict__", members)
+    return value

@@ -1,0 +1,140 @@
+"""What can go wrong, by its name: faults that the program tells, and a program that fails."""
+from __future__ import annotations
+
+from typing import Any, Mapping
+
+WAY_OUT = "see docs/FORMATS.md of the program for what a request takes"
+
+
+LONGEST_SHOWN = 200
+
+
+def shown(asked: str) -> str:
+    """What was asked as a message has it: not too long, and of letters that can be printed."""
+    text = asked if len(asked) <= LONGEST_SHOWN else f"{asked[:LONGEST_SHOWN]}.."
+    return text.encode("utf-8", "backslashreplace").decode("utf-8")
+
+
+class OldstyleError(Exception):
+    """Whatever this package raises by itself."""
+
+
+class Fault(OldstyleError):
+    """A request that the program refused, or a line that it could not read.
+
+    `number` and `name` are those of docs/FORMATS.md, `field` is the member that is wrong of a
+    BadField, and `edition` the edition that a query was asked of.
+    """
+
+    number = 0
+    advice = WAY_OUT
+
+    def __init__(self, reply: Mapping[str, Any], asked: str):
+        self.number = reply["fault"]
+        self.name: str = reply["name"]
+        self.field: str | None = reply.get("field")
+        self.edition: int | None = reply.get("edition")
+        self.asked = asked
+        field = f" {self.field}" if self.field else ""
+        super().__init__(f"{self.name} ({self.number}){field}: {shown(asked)}: {self.advice}")
+
+
+class BadCode(Fault):
+    number = 1
+    advice = "a code is 2 to 8 capital letters or digits, the first a letter"
+
+
+class UnknownLand(Fault):
+    number = 3
+    advice = "no territory of the register has that code: Register.lands() tells which it has"
+
+
+class DayOffLine(Fault):
+    number = 5
+    advice = "the number of a day is 1 to 3652059"
+
+
+class YearOffRange(Fault):
+    number = 9
+    advice = "a year is 1 to 9999, and 0 to 10000 as a document counts it"
+
+
+class BadDate(Fault):
+    number = 18
+    advice = "a month is 1 to 12, and a day of a month 1 to 31"
+
+
+class LineTooLong(Fault):
+    number = 31
+    advice = "a request has at most 65536 bytes: shorten the date"
+
+
+class NotJson(Fault):
+    number = 32
+    advice = "the text can't be written in UTF-8: decode the bytes that it came from anew"
+
+
+class NotObject(Fault):
+    number = 33
+
+
+class BadField(Fault):
+    number = 34
+
+    def __init__(self, reply: Mapping[str, Any], asked: str):
+        if reply.get("field") == "weekday":
+            self.advice = "a weekday is its English name, as Friday"
+        super().__init__(reply, asked)
+
+
+class UnknownOp(Fault):
+    number = 35
+    advice = "this program lacks the request: take a newer one, as `oldstyle --version` tells"
+
+
+class UnknownReader(Fault):
+    number = 36
+    advice = "a reader is 1 to 8"
+
+
+class ReadOnly(Fault):
+    number = 45
+    advice = "a Register is only read: edit the journal by `oldstyle serve --keep FILE`"
+
+
+KINDS = {kind.number: kind for kind in Fault.__subclasses__()}
+
+
+def fault_of(reply: Mapping[str, Any], asked: str) -> Fault:
+    """The fault that a reply tells, of the class that has its number."""
+    return KINDS.get(reply["fault"], Fault)(reply, asked)
+
+
+class ProgramFailed(OldstyleError):
+    """The program could not be asked. Its message says what to do."""
+
+
+class ProgramMissing(ProgramFailed):
+    """No program is there, or it can't be started."""
+
+
+class ProgramEnded(ProgramFailed):
+    """The program ended before it had answered. `status` is its status, and `told` what it told
+    on standard error."""
+
+    def __init__(self, message: str, status: int, told: str):
+        super().__init__(message)
+        self.status = status
+        self.told = told
+
+
+class JournalRefused(ProgramEnded):
+    """The program ended since it could not open or load the journal."""
+
+
+class ProgramDiffers(ProgramFailed):
+    """What answers is another program, or a version that lacks what was asked."""
+
+
+class PlacesRefused(OldstyleError):
+    """A table of places with a mistake, which the message names with its line."""

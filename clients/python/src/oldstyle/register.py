@@ -1,0 +1,145 @@
+"""A register of territories, which the program oldstyle reads from its journal."""
+from __future__ import annotations
+
+import json
+import os
+from typing import (Any, Dict, Iterable, Iterator, List, Literal, NoReturn, Optional, Sequence,
+                    Union, overload)
+
+from .answers import Land, Period, Reading, reading_of
+from .faults import Fault, JournalRefused, ProgramDiffers, fault_of
+from .service import Service, program_at, unreadable
+
+Row = Sequence[Optional[str]]
+AHEAD = 1000
+quoted = json.JSONEncoder(ensure_ascii=False).encode
+
+
+class Register:
+    """The territories of a journal, asked by queries alone. The journal is only read.
+
+    `program` names the program; without it the environment variable OLDSTYLE does, or it is
+    `oldstyle` on the PATH. With `follow` the answers are those of the editions that another run
+    publishes meanwhile: that wants a program that knows `serve --follow`.
+    """
+
+    def __init__(self, journal: Union[str, "os.PathLike[str]"], *, program: Optional[str] = None,
+                 follow: bool = False):
+        path = os.fspath(journal)
+        path = os.path.join(".", path) if path.startswith("-") else path
+        words = ["--follow"] if follow else ["--read-only", "--journal"]
+        if follow and not os.path.exists(path):
+            raise JournalRefused(f"{path}: {unreadable(path)}", 0, "")
+        self._program = program_at(program)
+        self._service = Service([self._program, "serve", *words, path])
+        try:
+            self.lands()
+        except BaseException:
+            self.close()
+            raise
+
+    def __enter__(self) -> "Register":
+        return self
+
+    def __exit__(self, *_: object) -> None:
+        self.close()
+
+    def close(self) -> None:
+        """Ends the program. A register that is no longer used ends it too."""
+        self._service.close()
+
+    def read(self, code: str, date: str, weekday: Optional[str] = None) -> Reading:
+        """Which days a written date means in the territory of that code."""
+        line = written_line(code, date, weekday)
+        return self._reading((code, date, weekday), self._service.ask(line))
+
+    @overload
+    def read_many(self, rows: Iterable[Row], *, refused: Literal[False] = False,
+                  ahead: int = AHEAD) -> Iterator[Reading]: ...
+
+    @overload
+    def read_many(self, rows: Iterable[Row], *, refused: bool,
+                  ahead: int = AHEAD) -> Iterator[Union[Reading, Fault]]: ...
+
+    def read_many(self, rows: Iterable[Row], *, refused: bool = False,
+                  ahead: int = AHEAD) -> Iterator[Union[Reading, Fault]]:
+        """The reading of each row of code and date, or code, date and weekday, in order.
+
+        Rows are taken as readings are, at most `ahead` rows before them: 1 asks for each row by
+        itself. A row that is refused raises its fault, or with `refused` gives it in its place.
+        """
+        if ahead < 1:
+            raise ValueError(f"ahead is {ahead}: it is 1 or more")
+        lines = ((row, line_of(row)) for row in rows)
+        for row, reply in self._service.ask_many(lines, ahead):
+            try:
+                reading = self._reading(row, reply)
+            except Fault as fault:
+                if not refused:
+                    raise
+                yield fault
+            else:
+                yield reading
+
+    def lands(self) -> List[Land]:
+        """The territories, in the order in which they were added."""
+        return [Land(**land) for land in self.ask("lands")["lands"]]
+
+    def periods(self, code: str) -> List[Period]:
+        """The periods of a territory, ascending."""
+        return [Period(**period) for period in self.ask("periods", code=code)["periods"]]
+
+    def ask(self, op: str, **members: Any) -> Dict[str, Any]:
+        """The answer to any query of docs/FORMATS.md, as `ask("easter", code="GB", year=1753)`."""
+        request = {"op": op, "reader": 1, **members}
+        line = json.dumps(request, ensure_ascii=False) + "\n"
+        asked = f"{op} {' '.join(map(str, members.values()))}".strip()
+        reply = self._reply(self._service.ask(line.encode("utf-8", "surrogatepass")), asked)
+        answer = reply["answer"]
+        if not isinstance(answer, dict):
+            self._differs(asked)
+        return answer
+
+    def _reading(self, row: Row, line: bytes) -> Reading:
+        try:
+            return reading_of(str(row[0]), str(row[1]), json.loads(line))
+        except (KeyError, TypeError, ValueError):
+            weekday = f" ({row[2]})" if len(row) > 2 and row[2] else ""
+            asked = f"{row[1]}{weekday} in {row[0]}"
+            self._reply(line, asked)
+            self._differs(asked)
+
+    def _reply(self, line: bytes, asked: str) -> Dict[str, Any]:
+        """The reply of a line, or the fault that it tells."""
+        try:
+            reply = json.loads(line)
+        except ValueError:
+            self._differs(asked)
+        if not isinstance(reply, dict) or not ("answer" in reply or "fault" in reply):
+            self._differs(asked)
+        if "fault" in reply:
+            raise fault_of(reply, asked)
+        return reply
+
+    def _differs(self, asked: str) -> NoReturn:
+        raise ProgramDiffers(f"{self._program} answered {asked} in a form that this package "
+                             f"doesn't know: does `{self._program} --version` tell an oldstyle of "
+                             "this package's version?")
+
+
+def line_of(row: Row) -> bytes:
+    """The request line of a row."""
+    if isinstance(row, str) or len(row) not in (2, 3):
+        raise TypeError(f"{row!r} is no row: a row is code and date, or code, date and weekday")
+    return written_line(*row)
+
+
+def written_line(code: Optional[str], date: Optional[str], weekday: Optional[str] = None) -> bytes:
+    """The request line that asks for a date. An empty weekday is none."""
+    for text in (code, date, weekday or ""):
+        if not isinstance(text, str):
+            raise TypeError(f"{text!r} is no text: a code, a date and a weekday are texts")
+    given = f',"weekday":{quoted(weekday)}' if weekday else ""
+    line = (f'{{"op":"written","reader":1,"code":{quoted(code)},'
+            f'"date":{quoted(date)}{given}}}\n')
+    return line.encode("utf-8", "surrogatepass")

@@ -1,0 +1,186 @@
+"""oldstyle-tei JOURNAL < letters.xml: writes the file with the attributes of its dates filled in.
+
+Each date in correspAction, opener and dateline is read by its text and the place beside it. It gets
+@when, or @notBefore and @notAfter, by the Gregorian calendar. @when-custom has the date as the
+place wrote it, @calendar its calendar, and @cert says that it is in doubt or approximate. No other
+byte changes, and no attribute that is there. Standard error is told what is not read, and where an
+attribute that is there says something else.
+"""
+from __future__ import annotations
+
+import argparse
+from typing import Dict, List, Optional, Sequence, Union
+
+from .answers import Day, Reading
+from .commands import Desk, command_line, run
+from .faults import Fault
+from .tei_dates import Date, Finder, Place, tag_end
+
+BOUNDS = ("when", "notBefore", "notAfter")
+# How other attributes for a time say what the three above say.
+ALIKE = {name + iso: {"from": "notBefore", "to": "notAfter"}.get(name, name)
+         for name in (*BOUNDS, "from", "to") for iso in ("", "-iso")}
+OTHER: Dict[str, List[str]] = {"julian": ["gregorian"], "gregorian": ["julian"], "swedish": []}
+Attributes = Dict[str, str]
+
+
+def main(words: Optional[Sequence[str]] = None) -> int:
+    assert __doc__
+    return run(command_line("oldstyle-tei", __doc__, "file"), fill, words)
+
+
+def fill(data: bytes, desk: Desk, _: argparse.Namespace) -> bytes:
+    """The file with what is known of its dates."""
+    finder = Finder(data)
+    if not finder.is_tei:
+        desk.say(1, "no element of TEI's namespace http://www.tei-c.org/ns/1.0 is here")
+    asked = [(date, code) for date in finder.dates if (code := code_of(date, desk))]
+    readings = desk.register.read_many(((code, date.text) for date, code in asked), refused=True)
+    pointers = Pointers(finder.calendars)
+    pieces, done = [], 0
+    for (date, code), reading in zip(asked, readings):
+        if added := attributes_of(date, code, reading, desk, pointers):
+            if (at := tag_end(data, date.at)) is None:
+                desk.say(date.line, f"{date.text}: its start tag stands in an entity: write it out")
+                continue
+            pieces += [data[done:at], *spelled(added, data[at - 1 : at])]
+            done = at
+    for calendar, line in pointers.undeclared.items():
+        desk.say(line, f'no <calendar xml:id="{calendar}"> in the header: declare it there')
+    return b"".join([*pieces, data[done:]])
+
+
+def spelled(added: Attributes, last: bytes) -> List[bytes]:
+    """Attributes as bytes, in the quotes of the one before them."""
+    quote = last.decode() if last in (b'"', b"'") else '"'
+    return [f" {name}={quote}{value}{quote}".encode("ascii") for name, value in added.items()]
+
+
+class Pointers:
+    """How a file points to a calendar: by the declaration whose name has the calendar's name."""
+
+    def __init__(self, declared: Sequence[str]):
+        self._declared = declared
+        self.undeclared: Dict[str, int] = {}
+
+    def to(self, calendar: str, line: int) -> str:
+        found = [name for name in self._declared if calendar in name.lower()]
+        if len(found) != 1:
+            self.undeclared.setdefault(calendar, line)
+        return f"#{found[0] if len(found) == 1 else calendar}"
+
+
+def code_of(date: Date, desk: Desk) -> Optional[str]:
+    """The territory of a date. Where there is none or nothing to read, that is said."""
+    if not date.text:
+        if not date.attributes:
+            desk.say(date.line, "a date has neither a text nor an attribute")
+        return None
+    if date.problem:
+        desk.say(date.line, f"{date.text}: {date.problem}")
+        return None
+    beside = [scope.places for scope in date.scopes if scope.places]
+    places = beside[0] if beside else []
+    codes = list(dict.fromkeys(code for place in places for code in codes_of(place, desk)))
+    if len(codes) == 1:
+        return codes[0]
+    named = "; ".join(place.names[-1] or place.names[0] for place in places)
+    if codes:
+        desk.say(date.line, f"{date.text}: {named}: more than one territory: {', '.join(codes)}")
+        return None
+    names = [name for place in places for name in (*place.names, *place.parts)]
+    return desk.default_for(named, names, date.line)
+
+
+def codes_of(place: Place, desk: Desk) -> List[str]:
+    """The territories of a place: of the first of its names that is known, else of its parts."""
+    return desk.places.codes(place.names)[:1] or desk.places.codes(place.parts)
+
+
+def attributes_of(date: Date, code: str, reading: Union[Reading, Fault], desk: Desk,
+                  pointers: Pointers) -> Attributes:
+    """The attributes that a date lacks. What is open or differs is said."""
+    where = f"{date.text} ({code})"
+    if isinstance(reading, Fault) or not reading.runs:
+        why = reading.name if isinstance(reading, Fault) else reading.reason
+        desk.say(date.line, f"{where}: {why}")
+        return {}
+    if len(reading.runs) > 1:
+        runs = "; or ".join(map(str, reading.runs))
+        desk.say(date.line, f"{where}: several days that don't follow one another: {runs}")
+    if reading.weekday_fits is False:
+        desk.say(date.line, f"{where}: the weekday differs: {reading.runs[0]}")
+    bounds = bounds_of(reading)
+    if not agrees(date, bounds, where, desk):
+        return {}
+    is_plain = not any(name in date.attributes for name in ALIKE if name not in BOUNDS)
+    wanted = {**(bounds if is_plain else {}),
+              **written_by(date, code, reading, desk, pointers), **certainty(reading, date)}
+    other = [name for name, value in wanted.items() if date.attributes.get(name, value) != value]
+    for name in other:
+        differs(date, name, f'{name}="{wanted[name]}"', where, desk)
+    return {} if other else {name: value for name, value in wanted.items()
+                             if name not in date.attributes}
+
+
+def bounds_of(reading: Reading) -> Attributes:
+    """The Gregorian dates of the day, or of the first and the last one that it may be."""
+    if day := reading.day:
+        return {"when": day.gregorian}
+    ends = {"notBefore": reading.earliest, "notAfter": reading.latest}
+    return {name: day.gregorian for name, day in ends.items() if day}
+
+
+def agrees(date: Date, bounds: Attributes, where: str, desk: Desk) -> bool:
+    """Whether the times that a date has already are those of the program."""
+    there = {name: date.attributes[name] for name in ALIKE if name in date.attributes}
+    other = [name for name, value in there.items() if bounds.get(ALIKE[name]) != value]
+    told = " ".join(f'{name}="{value}"' for name, value in bounds.items())
+    for name in other:
+        differs(date, name, told, where, desk)
+    return not other
+
+
+def differs(date: Date, name: str, told: str, where: str, desk: Desk) -> None:
+    desk.say(date.line, f'{where}: {name}="{date.attributes[name]}" is left, the program has '
+                        f"{told}")
+
+
+def written_by(date: Date, code: str, reading: Reading, desk: Desk,
+               pointers: Pointers) -> Attributes:
+    """The date as the place wrote it, where that is another one, and the calendar of the text."""
+    day = reading.day
+    found: Attributes = {}
+    if day and day.label != day.gregorian and not reading.other_calendar:
+        found["when-custom"] = day.label
+    calendars = calendars_of(code, reading, desk)
+    there = date.attributes.get("calendar", "").lower()
+    if calendars and not (there and all(name in there for name in calendars)):
+        found["calendar"] = " ".join(pointers.to(name, date.line) for name in calendars)
+    return found
+
+
+def calendars_of(code: str, reading: Reading, desk: Desk) -> List[str]:
+    """The calendars of a text: those of the place on the first and the last day.
+
+    A text that names a calendar by which it means other days is by the other one of the two. Where
+    the place kept the Swedish one, that is not known.
+    """
+    ends: List[Optional[Day]] = [reading.earliest, reading.latest]
+    calendars = list(dict.fromkeys(desk.calendar(code, day.day) for day in ends if day))
+    if reading.other_calendar:
+        return OTHER[calendars[0]] if len(calendars) == 1 else []
+    return calendars
+
+
+def certainty(reading: Reading, date: Date) -> Attributes:
+    """How sure the date is: medium where there is one doubt, low where there are two, or where the
+    weekday differs."""
+    doubts = [reading.uncertain or date.is_unclear, reading.approximate]
+    if reading.weekday_fits is False or all(doubts):
+        return {"cert": "low"}
+    return {"cert": "medium"} if any(doubts) else {}
+
+
+if __name__ == "__main__":
+    raise SystemExit(main())

@@ -1,0 +1,152 @@
+//! A file of the disk that another run appends to.
+ghost use Rattle.std.specs.Prelude.{◌<◌, IfOk, length};
+ghost use Rattle.osn_folder.specs.FollowedFile.{IsOfWholeLines};
+
+use crate::fault::FollowFault;
+use crate::followed_file::FollowedFile;
+use osn_lines::ended_length;
+use std::alloc::Global;
+use std::fs::{File, Metadata};
+use std::io::ErrorKind;
+use std::os::unix::fs::{FileExt, MetadataExt};
+use std::rt::Files;
+use std::{fs, io};
+
+/// The most bytes that are read at a look.
+const MOST_BYTES: u64 = 1 << 30;
+
+/// A file that was found.
+#[derive(Drop)]
+struct FoundFile {
+    file: File,
+    /// The numbers by which the system knows it.
+    device: u64,
+    inode: u64,
+}
+
+/// A file of the disk that another run appends to, by its path.
+#[derive(Drop)]
+pub struct FollowedDiskFile<'a, R> {
+    files: &'a R,
+    path: String,
+    /// The file, once one was at the path.
+    found: Option<FoundFile>,
+    /// How many bytes the lines have that were read.
+    length: u64,
+}
+
+/// Why a file could not be read.
+fn read_fault(error: &io::Error) -> FollowFault {
+    match error.kind() {
+        ErrorKind::NotFound => FollowFault::Replaced,
+        ErrorKind::OutOfMemory => FollowFault::NoMemory,
+        _ => FollowFault::NotRead,
+    }
+}
+
+/// Reads from a place up to the end of the file or of the buffer, and tells how many bytes came.
+///
+/// The file may have become shorter since its length was asked, where its last line was cut off.
+fn read_on(file: &File, buffer: &mut [u8], place: u64) -> io::Result<usize> {
+    let mut count = 0;
+    for _call in 0..u32::MAX {
+        match file.read_at(&mut buffer[count..], place.saturating_add(count as u64)) {
+            Ok(0) => break,
+            Ok(read) => count += read,
+            Err(error) if error.kind() == ErrorKind::Interrupted => {}
+            Err(error) => return Err(error),
+        }
+    }
+    Ok(count)
+}
+
+impl<'a, R: Files<File = File>> FollowedDiskFile<'a, R> {
+    /// The file of a path, of which nothing was read yet.
+    pub(crate) fn new(files: &'a R, path: String) -> FollowedDiskFile<'a, R> {
+        FollowedDiskFile {
+            files,
+            path,
+            found: None,
+            length: 0,
+        }
+    }
+
+    /// Opens the file that was found at the path.
+    fn open(&self) -> io::Result<FoundFile> {
+        let file = fs::open(self.files, self.path.as_str())?;
+        let held = file.metadata()?;
+        Ok(FoundFile {
+            file,
+            device: held.dev(),
+            inode: held.ino(),
+        })
+    }
+
+    /// How long the file is that is at the path, once one is.
+    fn find(&mut self) -> Result<Option<u64>, FollowFault> {
+        match fs::metadata(self.files, self.path.as_str()) {
+            Ok(found) => {
+                self.check(&found)?;
+                Ok(Some(found.len()))
+            }
+            Err(error) if error.kind() == ErrorKind::NotFound && self.found.is_none() => Ok(None),
+            Err(error) => Err(read_fault(&error)),
+        }
+    }
+
+    /// Checks that what is at the path is the file that was found first, and has grown if anything.
+    fn check(&mut self, found: &Metadata) -> Result<(), FollowFault> {
+        if !found.is_file() {
+            return Err(FollowFault::NotRead);
+        }
+        match &self.found {
+            Some(file) if file.device != found.dev() || file.inode != found.ino() => {
+                Err(FollowFault::Replaced)
+            }
+            Some(_) if found.len() < self.length => Err(FollowFault::Shorter),
+            Some(_) => Ok(()),
+            None => match self.open() {
+                Ok(file) => {
+                    self.found = Some(file);
+                    Ok(())
+                }
+                Err(error) => Err(read_fault(&error)),
+            },
+        }
+    }
+
+    /// The lines that end between what was read and this place.
+    fn read_lines(&mut self, alloc: Global, end: u64) -> Result<Vec<u8>, FollowFault>
+        ensures lines { IfOk result (λ gained. IsOfWholeLines gained.items) }
+        ensures few { IfOk result (λ gained. length gained.items < 4294967295) }
+    {
+        let Some(found) = &self.found else {
+            return Ok(Vec::new(alloc));
+        };
+        let size = end.saturating_sub(self.length).min(MOST_BYTES);
+        let mut gained = vec![in alloc; 0u8; size as usize]?;
+        match read_on(&found.file, &mut gained, self.length) {
+            Ok(count) => {
+                gained.truncate(count);
+                let ended = ended_length(&gained);
+                gained.truncate(ended);
+                self.length = self.length.saturating_add(ended as u64);
+                Ok(gained)
+            }
+            Err(error) => Err(read_fault(&error)),
+        }
+    }
+}
+
+impl<R: Files<File = File>> FollowedFile for FollowedDiskFile<'_, R> {
+    ghost use Rattle.std.specs.Prelude.{None};
+
+    ghost contents = { λ _. None };
+
+    fn look(&mut self, alloc: Global) -> Result<Vec<u8>, FollowFault> {
+        match self.find()? {
+            Some(end) if end != self.length => self.read_lines(alloc, end),
+            _ => Ok(Vec::new(alloc)),
+        }
+    }
+}

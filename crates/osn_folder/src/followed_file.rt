@@ -1,0 +1,28 @@
+//! A file that another run appends to.
+ghost use Rattle.std.specs.Prelude.{◌≡◌, ◌<◌, ℕ, List, Option, IfOk, OnErr, length};
+ghost use Rattle.std.specs.Io.KnownBytes.{Appends};
+ghost use Rattle.osn_folder.specs.FollowedFile.{IsOfWholeLines};
+
+use crate::fault::FollowFault;
+use std::alloc::Global;
+
+/// A file that another run appends to, as far as its lines have come whole.
+pub trait FollowedFile {
+    // The lines that were read of it so far, where they are known.
+    ghost contents: { Self → Option (List ℕ) };
+
+    /// The lines that the file holds now after those that it held at the look before. There are
+    /// none where no file has been there yet. A last line without its line feed waits. At most
+    /// 1,073,741,824 bytes are read at a look.
+    ///
+    /// # Errors
+    ///
+    /// `NoMemory` where memory ran out, `NotRead` where the file can't be read. `Shorter` where it
+    /// holds less than those lines, `Replaced` where the path names another file, or none.
+    fn look(&mut self, alloc: Global) -> Result<Vec<u8>, FollowFault>
+        ensures lines { IfOk result (λ gained. IsOfWholeLines gained.items) }
+        ensures few { IfOk result (λ gained. length gained.items < 4294967295) }
+        ensures ok { IfOk result
+            (λ gained. Appends (contents self.old) (contents self.new) gained.items) }
+        ensures err { OnErr result (contents self.new ≡ contents self.old) };
+}

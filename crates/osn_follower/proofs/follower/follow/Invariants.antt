@@ -1,0 +1,20 @@
+use Rattle.std.proofs.Common.{◌≡◌, ◌≤◌, ◌*◌, List, length}
+use Rattle.osn_reply.specs.declared.outcome.Outcome.{Outcome}
+use Rattle.osn_follower.specs.Arrivals.{Arrival, Arrive}
+use Rattle.osn_follower.specs.FollowerInside.{HasFew, IsFollowing}
+use Rattle.osn_follower.specs.Told.{following}
+use Rattle.osn_follower.proofs.follower.follow.Given as goal
+
+-- exactly what is told by what has arrived is written
+abbrev pub invariant-loop-call : goal.invariant-loop-call
+invariant-loop-call g l =
+    record {
+      buffer : length l.buffer.items ≡ 65536;
+      few : HasFew l.follower.requests;
+      lines : l.follower.lines ≤ 196608 * l._call;
+      limits : l.follower.journal.limits ≡ l.fn.limits;
+      following : (arrivals : List Arrival) × (all : List Outcome)
+          × Arrive (g.A.Arrivals.arrived l.fn.arrivals) (g.A.Arrivals.arrived l.arrivals) arrivals
+          × IsFollowing (following l.fn.readers l.fn.stop_at_refusal) l.follower.journal.limits
+          (g.W.Sink.contents l.fn.sink) arrivals all l.follower (g.W.Sink.contents l.sink);
+    }

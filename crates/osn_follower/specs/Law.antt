@@ -1,0 +1,18 @@
+-- A journal that grows keeps its editions: what a follower shows never falls.
+use Rattle.std.specs.Prelude.{◌≡◌, ℕ, List, ◌++◌, Result, Ok}
+use Rattle.osn_register.specs.declared.edit.Edit.{Edit}
+use Rattle.osn_register.specs.declared.limits.Limits.{Limits}
+use Rattle.osn_core.specs.Sequential.{ObjectState}
+use Rattle.osn_folder.specs.FollowedFile.{IsOfWholeLines}
+use Rattle.osn_follower.specs.Told.{shown}
+
+-- the batches of one object are the first of another's
+pub record BeginsWith (s t : ObjectState) : Type 0 where
+  pub later : List (List Edit)
+  pub batches : t.batches ≡ s.batches ++ later
+
+-- so it is with what a file of whole lines shows, and what it shows once it has gained more
+unfoldable pub DoEditionsNeverFall : Type 0
+DoEditionsNeverFall =
+    (limits : Limits) (file more : List ℕ) (s t : ObjectState) → IsOfWholeLines file
+    → shown limits file ≡ Ok s → shown limits (file ++ more) ≡ Ok t → BeginsWith s t

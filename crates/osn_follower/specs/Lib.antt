@@ -1,0 +1,7 @@
+pub mod Arrivals
+pub mod Told
+pub mod Follows
+pub mod Law
+pub mod FollowerInside
+pub mod JournalInside
+pub mod RoundInside

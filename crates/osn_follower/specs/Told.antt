@@ -1,0 +1,71 @@
+-- What a follower tells: at each look at the file, the lines that have come whole since the look
+-- before are answered from the journal that the file then holds.
+use Rattle.std.specs.Prelude.{◌≡◌, ◌==◌, ℕ, true, Bool, List, [], ◌∷◌, ◌++◌, take, map, length}
+use Rattle.std.specs.Prelude.{Result, Ok, Err, if◌then◌else◌}
+use Rattle.std.specs.List.{flat_map}
+use Rattle.osn_days.specs.Profile.{newest_rules}
+use Rattle.osn_register.specs.declared.limits.Limits.{Limits}
+use Rattle.osn_core.specs.Sequential.{ObjectState, opened}
+use Rattle.osn_lines.specs.Ended.{ended_bytes, unended_bytes}
+use Rattle.osn_lines.specs.Lines.{lines}
+use Rattle.osn_reply.specs.ReplyText.{reply_line}
+use Rattle.osn_reply.specs.declared.outcome.Outcome.{Outcome}
+use Rattle.osn_files.specs.Journal.{load}
+use Rattle.osn_files.specs.declared.fault.LineFault.{LineFault}
+use Rattle.osn_service.specs.Session.{line_outcome}
+use Rattle.osn_service.specs.declared.rules.ServeRules.{ServeRules}
+use Rattle.osn_follower.specs.Arrivals.{Arrival, Requests, Ended, Gained}
+
+-- ---- the lines of the input
+
+-- a line feed, where some bytes of a line stand after the last one
+abbrev pub missing_feed : List ℕ → List ℕ
+missing_feed [] = []
+missing_feed (b ∷ bs) = 10 ∷ []
+
+-- the bytes with the line feed that their last line may lack
+abbrev pub with_feed : List ℕ → List ℕ
+with_feed bytes = bytes ++ missing_feed (unended_bytes bytes)
+
+-- ---- the journal that a file holds
+
+-- the object of a journal of these lines: an empty one where it has none yet
+abbrev pub object_of : Limits → List (List ℕ) → Result ObjectState (ℕ × LineFault)
+object_of limits [] = Ok (opened limits)
+object_of limits (head ∷ rest) = load newest_rules limits (head ∷ rest)
+
+-- the object that a file shows which holds these whole lines, or the first that is refused
+abbrev pub shown : Limits → List ℕ → Result ObjectState (ℕ × LineFault)
+shown limits file = object_of limits (lines file)
+
+-- ---- what is told
+
+-- the rules of a follower: no line changes anything
+abbrev pub following : ℕ → Bool → ServeRules
+following readers stop =
+    record { readers = readers; read_only = true; stop_at_refusal = stop }
+
+-- what the lines of a text are told by an object
+abbrev pub outcomes : ServeRules → ObjectState → List ℕ → List Outcome
+outcomes rules s text = map (line_outcome rules s) (lines text)
+
+-- what a text is told, and then the rest; nothing where the journal has a line that is refused
+abbrev pub told_by : ServeRules → Result ObjectState (ℕ × LineFault) → List ℕ → List Outcome
+    → List Outcome
+told_by rules (Ok s) text rest = outcomes rules s text ++ rest
+told_by rules (Err refused) text rest = []
+
+-- what is told by arrivals, where the file held these bytes before, and these bytes of request
+-- lines wait
+abbrev pub told : ServeRules → Limits → List ℕ → List ℕ → List Arrival → List Outcome
+told rules limits file waiting [] = []
+told rules limits file waiting (Requests bytes ∷ rest) =
+    told rules limits file (waiting ++ bytes) rest
+told rules limits file waiting (Ended ∷ rest) = told rules limits file (with_feed waiting) rest
+told rules limits file waiting (Gained bytes ∷ rest) =
+    told_by rules (shown limits (file ++ bytes)) (ended_bytes waiting)
+    (told rules limits (file ++ bytes) (unended_bytes waiting) rest)
+
+-- the reply lines of outcomes
+abbrev pub texts : List Outcome → List ℕ
+texts = flat_map reply_line

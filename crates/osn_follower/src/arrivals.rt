@@ -1,0 +1,66 @@
+//! What arrives: request lines, and what a file has gained.
+ghost use Rattle.std.specs.Prelude.{◌<◌, ◌∷◌, [], List, Option, take, length, IfOk, OnErr};
+ghost use Rattle.std.specs.Io.{ReadsAtMost};
+ghost use Rattle.osn_folder.specs.FollowedFile.{IsOfWholeLines};
+ghost use Rattle.osn_follower.specs.Arrivals.{Arrival, Arrive, Gained, arrival_of};
+
+use osn_folder::{FollowFault, FollowedFile};
+use osn_lines::{ReadFailed, Source};
+use std::alloc::Global;
+
+/// Request lines, and a file to which another run appends meanwhile. One value has both, so that it
+/// can be known in which order they came.
+pub trait Arrivals {
+    // What has arrived so far, in order, where that is known.
+    ghost arrived: { Self → Option (List Arrival) };
+
+    /// Reads bytes of request lines once: `Ok(n)` for n bytes at the front of `buffer`, and `Ok(0)`
+    /// for a buffer with room at the end of the input.
+    fn read(&mut self, buffer: &mut [u8]) -> Result<usize, ReadFailed>
+        ensures bound { ReadsAtMost result buffer.new }
+        ensures ok { IfOk result (λ n. Arrive (arrived self.old) (arrived self.new)
+            (arrival_of (take n buffer.new) ∷ [])) }
+        ensures err { OnErr result (Arrive (arrived self.old) (arrived self.new) []) };
+
+    /// Lines that the file holds now after those of the looks before, in order. There are none where
+    /// no file has been there yet. A last line without its line feed waits, and so may what is more
+    /// than a look reads.
+    ///
+    /// # Errors
+    ///
+    /// Why that isn't known, or that the file is no longer the one that was read so far.
+    fn look(&mut self, alloc: Global) -> Result<Vec<u8>, FollowFault>
+        ensures lines { IfOk result (λ gained. IsOfWholeLines gained.items) }
+        ensures few { IfOk result (λ gained. length gained.items < 4294967295) }
+        ensures ok { IfOk result (λ gained. Arrive (arrived self.old) (arrived self.new)
+            (Gained gained.items ∷ [])) }
+        ensures err { OnErr result (Arrive (arrived self.old) (arrived self.new) []) };
+}
+
+/// A source of request lines, and a file of a folder. In which order they come is not known.
+#[derive(Drop)]
+pub struct Feed<'a, R, F> {
+    requests: &'a mut R,
+    file: F,
+}
+
+impl<'a, R, F> Feed<'a, R, F> {
+    /// This source and this file.
+    pub fn new(requests: &'a mut R, file: F) -> Feed<'a, R, F> {
+        Feed { requests, file }
+    }
+}
+
+impl<'a, R: Source, F: FollowedFile> Arrivals for Feed<'a, R, F> {
+    ghost use Rattle.std.specs.Prelude.{None};
+
+    ghost arrived = { λ _. None };
+
+    fn read(&mut self, buffer: &mut [u8]) -> Result<usize, ReadFailed> {
+        self.requests.read(buffer)
+    }
+
+    fn look(&mut self, alloc: Global) -> Result<Vec<u8>, FollowFault> {
+        self.file.look(alloc)
+    }
+}

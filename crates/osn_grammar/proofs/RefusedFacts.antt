@@ -1,0 +1,175 @@
+-- Several days in digits are refused by every other form than that of a set.
+use Rattle.std.proofs.Common.{◌≡◌, ℕ, ◌+◌, ◌/◌, ◌^◌, ◌<◌, ◌≤◌, ◌&&◌, ◌==◌, not, Bool, true, false}
+use Rattle.std.proofs.Common.{List, [], ◌∷◌, if◌then◌else◌, subst₂}
+use Rattle.std.proofs.Common.{◌++◌, codes, length, filter, map, unsigned_abs, Option, Some, None}
+use Rattle.std.proofs.Common.{option_map, Result, Ok, Err, is_err, refl, ap, ◌∙◌, sym, subst, arith}
+use Rattle.std.proofs.Common.{append_assoc, append-nil}
+use Rattle.std.proofs.lemmas.Bool.{ne_eqb}
+use Rattle.std.proofs.lemmas.List.Elements.{All-nil, All-cons, All-head, All-tail, All-append}
+use Rattle.std.proofs.lemmas.List.Elements.{filter-append}
+use Rattle.std.proofs.lemmas.List.Splits.{slice_split_at, slice_split_none}
+use Rattle.std.specs.List.{All, join_by, list_any}
+use Rattle.std.specs.Option.{option_and_then, option_to_list, unwrap_or}
+use Rattle.std.specs.Result.{result_ok}
+use Rattle.std.specs.Str.{all_ascii_digits}
+use Rattle.std.proofs.lemmas.Str.Parse.{tells_all_ascii_digits}
+use Rattle.osn_days.specs.declared.date.Date.{Date}
+use Rattle.osn_days.specs.DateText.{at_least, date_text, text_of_date}
+use Rattle.osn_days.proofs.DateDigits.{four_digits}
+use Rattle.osn_days.specs.declared.weekday.Weekday.{Weekday}
+use Rattle.osn_grammar.specs.declared.part.Part.{Part}
+use Rattle.osn_grammar.specs.declared.part.Part.TheVariants.{Number, Dash, Open, Bracket}
+use Rattle.osn_grammar.specs.declared.written.DateFault.{DateFault}
+use Rattle.osn_grammar.specs.declared.written.DateFault.TheVariants as faults
+use Rattle.osn_grammar.specs.declared.written.DateOrder.{DateOrder}
+use Rattle.osn_grammar.specs.declared.written.Extent.{Extent}
+use Rattle.osn_grammar.specs.declared.written.Reckoning.{Reckoning}
+use Rattle.osn_grammar.specs.declared.written.Written.{Written}
+use Rattle.osn_grammar.specs.declared.written.Written.TheVariants as say
+use Rattle.osn_grammar.specs.declared.written.WrittenDate.{WrittenDate}
+use Rattle.osn_grammar.specs.declared.extent.Joining.TheVariants as joins
+use Rattle.osn_grammar.specs.Extent.{extent_of, first_read, range, range_after}
+use Rattle.osn_grammar.specs.InDigits.{HasFourDigits, sign, signed}
+use Rattle.osn_grammar.specs.Parts.{tells_time}
+use Rattle.osn_grammar.specs.Reading.{all_members, date_of, date_unless, is_undated, member_in}
+use Rattle.osn_grammar.specs.Reading.{member_of, members, or_set, reading_of_parts, unread}
+use Rattle.osn_grammar.specs.Reading.{with_signs, is_about}
+use Rattle.osn_grammar.specs.Reading.{is_doubt, is_bracket, weekday_after, reckoning_after}
+use Rattle.osn_grammar.specs.Scan.{first_of, is_name, next_is, part_of_run, parts_after, parts_in}
+use Rattle.osn_grammar.specs.Sets.{between_commas, days_in_digits, is_sign}
+use Rattle.osn_grammar.specs.SetsInDigits.{AreSetsRead, Days, HaveFourDigits, days_text}
+use Rattle.osn_grammar.specs.SetsInDigits.{extent_of_days, member, set_text}
+use Rattle.osn_grammar.specs.Simple.{◌>>=◌, simple_date}
+use Rattle.osn_grammar.proofs.DigitLaw.{IsDay, padded_digits, parts_of, sign_parts, signed_reads}
+use Rattle.osn_grammar.proofs.DigitLaw.{text_is, year_small}
+use Rattle.osn_grammar.proofs.SetFacts.{last_without}
+use Rattle.osn_grammar.proofs.TextFacts.{Ends, IsMark, Reads, Scans, bracket, begun_scans}
+use Rattle.osn_grammar.proofs.TextFacts.{closed_scans, is_low-append, joined_reads, mark_closes}
+use Rattle.osn_grammar.proofs.TextFacts.{nothing_closes, parts_scanned, reads_scan}
+use Rattle.osn_grammar.proofs.WordFacts.{bracket_begins}
+
+bind_err : {A B : Type 0} (r : Result A DateFault) (f : A → Result B DateFault) → is_err r ≡ true
+    → is_err (r >>= f) ≡ true
+bind_err (Ok x) f wrong = absurd (cc)
+bind_err (Err fault) f wrong = refl
+
+both_err : (a b : Result Extent DateFault) → is_err a ≡ true → is_err b ≡ true
+    → is_err (first_read a b) ≡ true
+both_err (Ok e) b first other = absurd (cc)
+both_err (Err f) (Ok e) first other = absurd (cc)
+both_err (Err faults.Malformed) (Err g) first other = refl
+both_err (Err f) (Err g) first other = refl
+
+-- after a month and a day these parts are no date, nor a range
+record AreNoDate (more : List Part) : Type 0 where
+  month : (o : DateOrder) (m d : ℕ)
+      → is_err (simple_date o (Number (record { value = m; digits = 2 }) ∷ Dash
+      ∷ Number (record { value = d; digits = 2 }) ∷ more)) ≡ true
+  day : (o : DateOrder) (d : ℕ)
+      → is_err (simple_date o (Number (record { value = d; digits = 2 }) ∷ more)) ≡ true
+  range : (o : DateOrder) (before : List Part)
+      → is_err (range_after o joins.Any before more) ≡ true
+
+nothing_more : AreNoDate []
+nothing_more = record {
+  month = λ o m d. refl;
+  day = λ o d. refl;
+  range = λ o before. refl;
+}
+
+abbrev pub parts_of_date : Date → List Part
+parts_of_date d = parts_of (unsigned_abs d.year) d.month d.day
+
+-- a day before such parts
+day_refused : {more : List Part} (y m d : ℕ) → AreNoDate more → (o : DateOrder)
+    (before : List Part) → is_err (range_after o joins.Any before (parts_of y m d ++ more)) ≡ true
+day_refused {more} y m d none o before =
+    let year = Number (record { value = y; digits = 4 }) in
+    let month = Number (record { value = m; digits = 2 }) in
+    let day = Number (record { value = d; digits = 2 }) in
+    let at_month = before ++ year ∷ [] in
+    let after_month = (at_month ++ Dash ∷ []) ++ month ∷ [] in
+    let at_end = (after_month ++ Dash ∷ []) ++ day ∷ [] in
+    let end = range_after o joins.Any at_end more in
+    let last = first_read (Err faults.Malformed) end in
+    let days = first_read (range o after_month (day ∷ more)) last in
+    let months = first_read (Err faults.Malformed) days in
+    both_err (Err faults.Malformed)
+    (first_read (range o at_month (month ∷ Dash ∷ day ∷ more)) months) refl
+    (both_err (range o at_month (month ∷ Dash ∷ day ∷ more)) months
+    (bind_err (simple_date o (month ∷ Dash ∷ day ∷ more)) _ (none.month o m d))
+    (both_err (Err faults.Malformed) days refl
+    (both_err (range o after_month (day ∷ more)) last
+    (bind_err (simple_date o (day ∷ more)) _ (none.day o d))
+    (both_err (Err faults.Malformed) end refl (none.range o at_end)))))
+
+-- the parts of days that tell the time, one after another
+abbrev pub timed : List Days → List Part
+timed [] = []
+timed ((d, None) ∷ rest) = parts_of_date d ++ timed rest
+timed ((d, Some e) ∷ rest) = parts_of_date d ++ Open ∷ (parts_of_date e ++ timed rest)
+
+opened : {more : List Part} (e : Date) → AreNoDate more
+    → AreNoDate (Open ∷ (parts_of_date e ++ more))
+opened {more} e none = record {
+  month = λ o m d. refl;
+  day = λ o d. refl;
+  range = λ o before. both_err (Err faults.Malformed)
+      (range_after o joins.Any (before ++ Open ∷ []) (parts_of_date e ++ more)) refl
+      (day_refused (unsigned_abs e.year) e.month e.day none o (before ++ Open ∷ []));
+}
+
+no_date : (days : List Days) → AreNoDate (timed days)
+no_date [] = nothing_more
+no_date ((d, None) ∷ rest) = record {
+  month = λ o m e. refl;
+  day = λ o e. refl;
+  range = day_refused (unsigned_abs d.year) d.month d.day (no_date rest);
+}
+no_date ((d, Some e) ∷ rest) = record {
+  month = λ o m e. refl;
+  day = λ o e. refl;
+  range = day_refused (unsigned_abs d.year) d.month d.day (opened e (no_date rest));
+}
+
+pub extent_refused : (o : DateOrder) (first next : Days) (rest : List Days)
+    → is_err (extent_of o (timed (first ∷ next ∷ rest))) ≡ true
+extent_refused o (d, None) (e, None) rest = (no_date ((d, None) ∷ (e, None) ∷ rest)).range o []
+extent_refused o (d, None) (e, Some f) rest = (no_date ((d, None) ∷ (e, Some f) ∷ rest)).range o []
+extent_refused o (d, Some e) next rest = (no_date ((d, Some e) ∷ next ∷ rest)).range o []
+
+pub dated : (days : Days) (rest : List Days) → is_undated (timed (days ∷ rest)) ≡ false
+dated (d, None) rest = refl
+dated (d, Some e) rest = refl
+
+date_refused : (weekday : Result (Option Weekday) DateFault)
+    (reckoning : Result (Option Reckoning) DateFault) (extent : Result Extent DateFault)
+    (f : Option Weekday → Option Reckoning → Extent → Result WrittenDate DateFault)
+    → is_err extent ≡ true
+    → is_err (weekday >>= (λ w. reckoning >>= (λ r. extent >>= f w r))) ≡ true
+date_refused (Err fault) reckoning extent f wrong = refl
+date_refused (Ok w) (Err fault) extent f wrong = refl
+date_refused (Ok w) (Ok r) (Err fault) f wrong = refl
+date_refused (Ok w) (Ok r) (Ok e) f wrong = absurd (cc)
+
+unless_refused : (o : DateOrder) (parts ts : List Part) (fault : Option DateFault)
+    → is_err (extent_of o ts) ≡ true → is_err (date_unless o parts ts fault) ≡ true
+unless_refused o parts ts (Some fault) wrong = refl
+unless_refused o parts ts None wrong =
+    bind_err (date_of o parts ts) (λ w. Ok (say.Date w))
+    (date_refused (weekday_after None parts) (reckoning_after None parts) (extent_of o ts)
+    (λ w r e. Ok (record {
+      extent = e;
+      weekday = w;
+      reckoning = r;
+      is_approximate = list_any is_about parts;
+      is_uncertain = list_any is_doubt parts;
+      is_supplied = list_any is_bracket parts;
+    })) wrong)
+
+pub said_refused : (o : DateOrder) (p : Part) (ps ts : List Part) → filter tells_time (p ∷ ps) ≡ ts
+    → is_undated ts ≡ false → is_err (extent_of o ts) ≡ true
+    → is_err (reading_of_parts o (p ∷ ps) (filter tells_time (p ∷ ps))) ≡ true
+said_refused o p ps ts is dated wrong =
+    rw (ne_eqb (length (p ∷ ps)) 0 (λ none. omega (arith, none)), is, dated)
+    (unless_refused o (p ∷ ps) ts (unread (p ∷ ps)) wrong)

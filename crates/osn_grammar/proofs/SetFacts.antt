@@ -1,0 +1,53 @@
+-- What stands inside the brackets of a set, in the words of the calls that find it.
+use Rattle.std.proofs.Common.{◌≡◌, ℕ, List, [], ◌∷◌, ◌++◌, Option, Some, None, Bor, MatchOption}
+use Rattle.std.proofs.Common.{option_map, refl, ap, ◌∙◌, sym, append_assoc}
+use Rattle.std.specs.Option.{option_and_then}
+use Rattle.std.proofs.lemmas.Bool.{ne_eqb}
+use Rattle.osn_grammar.specs.declared.written.WrittenDate.{WrittenDate}
+use Rattle.osn_grammar.specs.Sets.{without_first, without_last}
+
+-- ---- brackets
+
+no_first : (bs : List ℕ) → ((rest : List ℕ) → bs ≡ 91 ∷ rest → ⊥) → without_first 91 bs ≡ None
+no_first [] none = refl
+no_first (b ∷ rest) none =
+    rw (ne_eqb b 91 (λ same. none rest (ap (λ c. c ∷ rest) same))) refl
+
+pub first_stripped : (bs : List ℕ) (r : Option (Bor (List ℕ)))
+    → MatchOption r ((rest : List ℕ) → bs ≡ 91 ∷ rest → ⊥) (λ x. bs ≡ 91 ∷ x.now)
+    → option_map (λ x. x.now) r ≡ without_first 91 bs
+first_stripped bs None none = sym (no_first bs none)
+first_stripped bs (Some x) found = sym (ap (without_first 91) found)
+
+-- what stands before a bracket at the end
+pub last_without : (front : List ℕ) → without_last 93 (front ++ 93 ∷ []) ≡ Some front
+last_without [] = refl
+last_without (b ∷ []) = refl
+last_without (b ∷ next ∷ rest) =
+    ap (option_map (λ front. b ∷ front)) (last_without (next ∷ rest))
+
+no_last : (bs : List ℕ) → ((front : List ℕ) → bs ≡ front ++ 93 ∷ [] → ⊥)
+    → without_last 93 bs ≡ None
+no_last [] none = refl
+no_last (b ∷ []) none =
+    rw (ne_eqb b 93 (λ same. none [] (ap (λ c. c ∷ []) same))) refl
+no_last (b ∷ next ∷ rest) none =
+    ap (option_map (λ front. b ∷ front))
+    (no_last (next ∷ rest) (λ front is. none (b ∷ front) (ap (λ bs. b ∷ bs) is)))
+
+pub last_stripped : (bs : List ℕ) (r : Option (Bor (List ℕ)))
+    → MatchOption r ((front : List ℕ) → bs ≡ front ++ 93 ∷ [] → ⊥) (λ x. bs ≡ x.now ++ 93 ∷ [])
+    → option_map (λ x. x.now) r ≡ without_last 93 bs
+last_stripped bs None none = sym (no_last bs none)
+last_stripped bs (Some x) found = sym (ap (without_last 93) found ∙ last_without x.now)
+
+-- ---- members
+
+-- one member more
+pub member_added : (front : List WrittenDate) (w : WrittenDate) (found : Option WrittenDate)
+    (rest : Option (List WrittenDate)) → found ≡ Some w
+    → option_map (λ ws. front ++ ws) (option_and_then (λ v. option_map (λ ws. v ∷ ws) rest) found)
+    ≡ option_map (λ ws. (front ++ w ∷ []) ++ ws) rest
+member_added front w found None is = rw is refl
+member_added front w found (Some ws) is =
+    rw is (ap Some (sym (append_assoc front (w ∷ []) ws)))

@@ -1,0 +1,142 @@
+//! A set of dates, of which one is meant, as EDTF writes it.
+ghost use Rattle.std.specs.Prelude.{◌≡◌, filter, map, not, option_map, IfOk};
+ghost use Rattle.std.specs.Result.{result_ok};
+ghost use Rattle.osn_grammar.specs.Reading as reading;
+ghost use Rattle.osn_grammar.specs.Sets as spec;
+
+use crate::part::Part::{self, About, AboutAndDoubt, Dash, Doubt, Number, Open};
+use crate::reading::{is_approximate, is_uncertain};
+use crate::scan::parts_in;
+use crate::simple::{day_in_digits, one};
+use crate::written::{DateFault, Extent, WrittenDate};
+use std::alloc::{AllocError, Global};
+
+/// What stands after the opening bracket of a text, if it begins with one.
+fn after_bracket(text: &str) -> Option<&str>
+    ensures { option_map (λ rest. rest.now) result ≡ spec.without_first 91 text.now }
+{
+    text.strip_prefix('[')
+}
+
+/// What stands before the closing bracket of a text, if it ends with one.
+fn before_bracket(text: &str) -> Option<&str>
+    ensures { option_map (λ front. front.now) result ≡ spec.without_last 93 text.now }
+{
+    text.strip_suffix(']')
+}
+
+/// The text between square brackets, if it stands in them.
+fn inside_brackets(text: &str) -> Option<&str>
+    ensures { option_map (λ inside. inside.now) result ≡ spec.inside_brackets text.now }
+{
+    before_bracket(after_bracket(text)?)
+}
+
+/// A day in digits, or the first and the last one with `..` between them.
+fn days_in_digits(parts: &[Part]) -> Result<Extent, DateFault>
+    ensures { result ≡ spec.days_in_digits parts.now }
+{
+    match parts {
+        [Number(y), Dash, Number(m), Dash, Number(d)] => {
+            Ok(Extent::On(day_in_digits(one(*y), *m, *d)?))
+        }
+        [
+            Number(y),
+            Dash,
+            Number(m),
+            Dash,
+            Number(d),
+            Open,
+            Number(v),
+            Dash,
+            Number(n),
+            Dash,
+            Number(e),
+        ] => {
+            let first = day_in_digits(one(*y), *m, *d)?;
+            Ok(Extent::FromTo(first, day_in_digits(one(*v), *n, *e)?))
+        }
+        _ => Err(DateFault::Malformed),
+    }
+}
+
+/// The member of a set that parts are, of which some are no signs.
+fn member_of(parts: &[Part], unsigned: &[Part]) -> Option<WrittenDate>
+    ensures { result ≡ option_map (reading.with_signs parts.now)
+        (result_ok (spec.days_in_digits unsigned.now)) }
+{
+    let extent = days_in_digits(unsigned).ok()?;
+    Some(WrittenDate {
+        extent,
+        weekday: None,
+        reckoning: None,
+        is_approximate: is_approximate(parts),
+        is_uncertain: is_uncertain(parts),
+        is_supplied: false,
+    })
+}
+
+/// The member of a set that a text is, if it is one.
+fn member_in(alloc: Global, text: &str) -> Result<Option<WrittenDate>, AllocError>
+    ensures { IfOk result (λ member. member ≡ reading.member_in text.now) }
+{
+    let parts = parts_in(alloc, text)?;
+    let unsigned: Vec<Part> = parts
+        .iter()
+        .copied()
+        .filter(|part| !matches!(part, About | Doubt | AboutAndDoubt))
+        .collect(alloc)?;
+    Ok(member_of(parts.as_slice(), unsigned.as_slice()))
+}
+
+/// The members of a set that texts are, if each is one.
+fn all_members(alloc: Global, texts: &[&str]) -> Result<Option<Vec<WrittenDate>>, AllocError>
+    ensures { IfOk result (λ members. option_map (λ members. members.items) members
+        ≡ reading.all_members (map (λ text. text.now) texts.now)) }
+{
+    let mut members = Vec::new(alloc);
+    for text in texts {
+        match member_in(alloc, text)? {
+            Some(member) => members.push(member)?,
+            None => return Ok(None),
+        }
+    }
+    Ok(Some(members))
+}
+
+/// The texts between the commas of a text.
+fn between_commas(alloc: Global, text: &str) -> Result<Vec<&str>, AllocError>
+    ensures { IfOk result (λ texts.
+        map (λ text. text.now) texts.items ≡ spec.between_commas text.now) }
+{
+    text.split(',').collect(alloc)
+}
+
+/// The members of the set that stands in brackets, if it is one.
+fn members_inside(alloc: Global, inside: &str) -> Result<Option<Vec<WrittenDate>>, AllocError>
+    ensures { IfOk result (λ members. option_map (λ members. members.items) members
+        ≡ reading.all_members (spec.between_commas inside.now)) }
+{
+    let texts = between_commas(alloc, inside)?;
+    all_members(alloc, texts.as_slice())
+}
+
+/// The dates of a set of EDTF, of which one is meant, as `[1543-04-11,1544-04-11]`: those of a text
+/// that `parse` tells as `Written::Set`. Each is a day or a range, and has its own signs. Of a text
+/// that has not the form of a set there is none.
+///
+/// # Errors
+///
+/// Want of memory.
+#[tactic(auto, unfolding(crate::specs::Reading::members))]
+pub fn members_of(alloc: Global, text: &str) -> Result<Vec<WrittenDate>, AllocError>
+    ensures { IfOk result (λ members. members.items ≡ reading.members text.now) }
+{
+    let Some(inside) = inside_brackets(text) else {
+        return Ok(Vec::new(alloc));
+    };
+    match members_inside(alloc, inside)? {
+        Some(members) => Ok(members),
+        None => Ok(Vec::new(alloc)),
+    }
+}

@@ -1,0 +1,108 @@
+//! The fields of a letter's date that is a set of dates.
+ghost use Rattle.std.specs.Prelude.{◌≡◌, option_map, IfOk};
+ghost use Rattle.osn_days.specs.Profile.{newest_rules};
+ghost use Rattle.osn_letters.specs.Fields as spec;
+ghost use Rattle.osn_letters.specs.RowFields.{members_in as members_in_field};
+ghost use Rattle.osn_written.specs.SetsMeant.{set_list_of};
+
+use crate::added_fields::Summary;
+use crate::edtf::{edtf_of_runs, sign_of};
+use crate::letter::{LetterFields, fields_of_none, fields_with};
+use crate::remark::{Remark, Told, remarks_beside_set, those_that_apply};
+use crate::row_field::{is_malformed_weekday, members_in, weekday_in};
+use crate::span::span_of_set;
+use osn_grammar::WrittenDate as AnyDate;
+use osn_lands::{Run, Territory};
+use osn_written::{AbsentMember, Kind, find_set, is_set_approximate, is_set_uncertain};
+use std::alloc::{AllocError, Global};
+
+/// The fields of the runs of a set.
+fn fields_of_set_runs(
+    alloc: Global,
+    edition: usize,
+    members: &[AnyDate],
+    runs: &[Run],
+    beside: &[Told],
+) -> Result<LetterFields, AllocError>
+    ensures { IfOk result (λ made. spec.fields_and_remarks made
+        ≡ spec.fields_of_set_runs edition members.now runs.now beside.now) }
+{
+    let summary = Summary {
+        span: span_of_set(runs),
+        kind: Some(Kind::Set),
+        edition,
+    };
+    let sign = sign_of(is_set_uncertain(members), is_set_approximate(members));
+    let edtf = edtf_of_runs(alloc, sign, runs)?;
+    let remarks = those_that_apply(alloc, &[], beside)?;
+    fields_with(alloc, summary, &[], &edtf, remarks)
+}
+
+/// The fields of a set without days, for that reason.
+fn fields_of_no_set(
+    alloc: Global,
+    edition: usize,
+    reason: Remark,
+    beside: &[Told],
+) -> Result<LetterFields, AllocError>
+    ensures { IfOk result (λ made. spec.fields_and_remarks made
+        ≡ spec.fields_of_no_set edition reason beside.now) }
+{
+    fields_of_none(alloc, edition, Some(Kind::Set), &[(true, reason)], beside)
+}
+
+/// The fields of what was found of a set.
+fn fields_of_found_set(
+    alloc: Global,
+    edition: usize,
+    members: &[AnyDate],
+    found: Result<Vec<Run>, AbsentMember>,
+    beside: &[Told],
+) -> Result<LetterFields, AllocError>
+    ensures { IfOk result (λ made. spec.fields_and_remarks made
+        ≡ spec.fields_of_found_set edition members.now beside.now (set_list_of found)) }
+{
+    match found {
+        Ok(runs) => fields_of_set_runs(alloc, edition, members, &runs, beside),
+        Err(absent) => fields_of_no_set(alloc, edition, Remark::NoDay(absent.reason), beside),
+    }
+}
+
+/// The fields of a set of dates in its place, if that is known.
+fn fields_of_members(
+    alloc: Global,
+    edition: usize,
+    territory: Option<&Territory>,
+    members: &[AnyDate],
+    beside: &[Told],
+) -> Result<LetterFields, AllocError>
+    ensures { IfOk result (λ made. spec.fields_and_remarks made
+        ≡ spec.fields_of_members newest_rules edition
+        (option_map (λ t. t.now) territory.entry) members.now beside.now) }
+{
+    match territory {
+        Some(territory) => {
+            let found = find_set(alloc, territory, members)?;
+            fields_of_found_set(alloc, edition, members, found, beside)
+        }
+        None => fields_of_no_set(alloc, edition, Remark::UnknownPlace, beside),
+    }
+}
+
+/// The fields of the set of dates that a field says, with the field of the weekday.
+pub(crate) fn fields_of_set(
+    alloc: Global,
+    edition: usize,
+    territory: Option<&Territory>,
+    date: &[u8],
+    named: Option<&[u8]>,
+) -> Result<LetterFields, AllocError>
+    ensures { IfOk result (λ made. spec.fields_and_remarks made
+        ≡ spec.fields_of_set newest_rules edition
+        (option_map (λ t. t.now) territory.entry) (members_in_field date.now)
+        (option_map (λ w. w.now) named.entry)) }
+{
+    let members = members_in(alloc, date)?;
+    let beside = remarks_beside_set(weekday_in(named), is_malformed_weekday(named));
+    fields_of_members(alloc, edition, territory, &members, &beside)
+}

@@ -1,0 +1,48 @@
+-- The page of a set of dates, of which one is meant. This project's profile.
+use Rattle.std.specs.Prelude.{ℕ, Bool, false, List, [], ◌++◌, Option, Some, None, Result, Ok, Err}
+use Rattle.osn_days.specs.declared.weekday.Weekday.{Weekday}
+use Rattle.osn_days.specs.Profile.{Profile}
+use Rattle.osn_grammar.specs.declared.written.WrittenDate.{WrittenDate}
+use Rattle.osn_grammar.specs.Reading.{members}
+use Rattle.osn_lands.specs.declared.runs.Run.{Run}
+use Rattle.osn_lands.specs.Territory.{TerritoryModel}
+use Rattle.osn_register.specs.Named.{named_of}
+use Rattle.osn_register.specs.Plain.{LandModel}
+use Rattle.osn_written.specs.declared.kind.Kind.TheVariants as kinds
+use Rattle.osn_written.specs.declared.set.AbsentMember.{AbsentMember}
+use Rattle.osn_written.specs.SetsMeant.{found_of_set, is_set_approximate, is_set_uncertain}
+use Rattle.osn_pages.specs.declared.page.Published.{Published}
+use Rattle.osn_pages.specs.DateLines.{no_day_lines}
+use Rattle.osn_pages.specs.Heading.{heading, pending_line}
+use Rattle.osn_pages.specs.Remarks.{not_sought_line, sureness}
+use Rattle.osn_pages.specs.Runs.{runs_text}
+
+-- the days, or why the first date without a day means none
+abbrev pub found_set_lines : Profile → TerritoryModel → Result (List Run) AbsentMember → List ℕ
+found_set_lines p t (Ok runs) = runs_text p t kinds.Set runs
+found_set_lines p t (Err absent) = no_day_lines p t absent.extent absent.reason
+
+-- how sure it is
+abbrev pub set_sureness : Bool → Bool → List ℕ
+set_sureness approximate uncertain = sureness approximate uncertain false
+
+-- both, and that a weekday is not looked for
+unfoldable pub set_lines : Profile → TerritoryModel → List WrittenDate → Option Weekday → List ℕ
+set_lines p t ws given =
+    found_set_lines p t (found_of_set p t ws)
+    ++ (set_sureness (is_set_approximate ws) (is_set_uncertain ws) ++ not_sought_line given)
+
+-- the page of a text, of the name and the territory of the code, and how many edits wait. The text
+-- itself is the heading
+abbrev pub set_page_of : Profile → Option (List ℕ × TerritoryModel) → List ℕ → Published → List ℕ
+    → Option Weekday → List ℕ
+set_page_of p None code published text given = []
+set_page_of p (Some named) code published text given =
+    (heading text named.0 code published.edition ++ set_lines p named.1 (members text) given)
+    ++ pending_line published.pending
+
+-- the text of the page. A code that no territory has is refused
+abbrev pub set_page_text : Profile → List LandModel → List ℕ → Published → List ℕ
+    → Option Weekday → List ℕ
+set_page_text p lands code published text given =
+    set_page_of p (named_of code lands) code published text given

@@ -1,0 +1,40 @@
+-- What the service has done that follows a journal.
+use Rattle.std.specs.Prelude.{◌≡◌, List, ℕ, None, Option, Result, Ok, Err}
+use Rattle.osn_register.specs.declared.limits.Limits.{Limits}
+use Rattle.osn_lines.specs.Streams.{Output}
+use Rattle.osn_lines.specs.declared.fault.Interrupted.{Interrupted}
+use Rattle.osn_invocation.specs.Invocation.{ServiceModel}
+use Rattle.osn_service.specs.Faults.{MatchServed}
+use Rattle.osn_service.specs.declared.service.Served.{Served}
+use Rattle.osn_follower.specs.Arrivals.{Arrival}
+use Rattle.osn_follower.specs.Follows.{Follows}
+use Rattle.osn_follower.specs.Told.{following}
+use Rattle.osn_follower.specs.declared.fault.FollowerFault.{FollowerFault}
+use Rattle.osn_follower.specs.declared.fault.FollowerFault.TheVariants as follower
+use Rattle.osn_report.specs.Told.{Ends, Tells}
+use Rattle.osn_report.specs.declared.fault.CommandFault.{CommandFault}
+use Rattle.osn_report.specs.declared.fault.CommandFault.TheVariants.{File, FollowedFile, Service}
+use Rattle.osn_report.specs.declared.fault.CommandFault.TheVariants.{RefusedLine}
+use Rattle.osn_report.specs.declared.status.Status.{Status}
+
+-- the fault of the command where following ended early
+abbrev pub fault_of : FollowerFault → CommandFault
+fault_of (follower.Serve why) = Service why
+fault_of (follower.Journal why) = File why
+fault_of (follower.File why) = FollowedFile why
+
+-- what standard error was told where following ended so
+abbrev pub TellsFollowed : Result Served (Interrupted FollowerFault) → Output → Status → Type 0
+TellsFollowed (Ok served) e status =
+    MatchServed served.refused (λ n. Ends e None status) (λ n. Tells e (RefusedLine n) status)
+    served.lines
+TellsFollowed (Err end) e status = Tells e (fault_of end.cause) status
+
+-- The journal was followed, and each line of the input answered from it, or it ended early, which
+-- standard error was told.
+pub record EndsFollowed (limits : Limits) (service : ServiceModel)
+    (before after : Option (List Arrival)) (o e : Output) (status : Status) : Type 0 where
+  pub result : Result Served (Interrupted FollowerFault)
+  pub follows : Follows (following service.readers service.stop_at_refusal) limits before after o
+      result
+  pub told : TellsFollowed result e status

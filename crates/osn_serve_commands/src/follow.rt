@@ -1,0 +1,60 @@
+//! The command `serve` with a journal that another run keeps: each line is answered from the newest
+//! edition that the file holds.
+ghost use Rattle.osn_follower.specs.Follows.{MatchFollower};
+ghost use Rattle.osn_invocation.specs.Invocation.{service_model};
+ghost use Rattle.osn_lines.specs.Streams.{output_of};
+ghost use Rattle.osn_report.specs.declared.fault.CommandFault.{CommandFault};
+ghost use Rattle.osn_serve_commands.specs.Follow.{EndsFollowed};
+ghost use Rattle.std.specs.Prelude.{◌≡◌};
+ghost use Rattle.osn_serve_commands.specs.Follow as spec;
+
+use osn_follower::{Arrivals, FollowerFault, follow};
+use osn_invocation::ServeOptions;
+use osn_lines::Sink;
+use osn_register::Limits;
+use osn_report::{CommandFault, Status, report};
+use std::alloc::Global;
+
+/// The fault of the command where following ended early.
+fn fault_of(cause: FollowerFault) -> CommandFault
+    ensures { result ≡ spec.fault_of cause }
+{
+    match cause {
+        FollowerFault::Serve(fault) => CommandFault::Service(fault),
+        FollowerFault::Journal(fault) => CommandFault::File(fault),
+        FollowerFault::File(fault) => CommandFault::FollowedFile(fault),
+    }
+}
+
+/// The command `serve` with a journal that another run keeps. Answers the request lines as
+/// `follow` does; where that ends early, standard error is told in a line why, and the status says
+/// it.
+pub fn follow_command<A: Arrivals, W: Sink, E: Sink>(
+    alloc: Global,
+    limits: Limits,
+    options: ServeOptions,
+    arrivals: &mut A,
+    output: &mut W,
+    errors: &mut E,
+) -> Status
+    ensures { EndsFollowed limits (service_model options.entry) (A.arrived arrivals.old)
+        (A.arrived arrivals.new)
+        (output_of W.contents W.has_failed W.holds_back output.old output.new)
+        (output_of E.contents E.has_failed E.holds_back errors.old errors.new) result }
+{
+    let followed = follow(
+        alloc,
+        limits,
+        options.readers,
+        options.stop_at_refusal,
+        arrivals,
+        output,
+    );
+    match followed {
+        Ok(served) if served.refused => {
+            report(alloc, errors, CommandFault::RefusedLine(served.lines))
+        }
+        Ok(_) => Status::Done,
+        Err(end) => report(alloc, errors, fault_of(end.cause)),
+    }
+}

@@ -1,0 +1,136 @@
+//! The days of a set of dates in a territory, of which one is meant.
+ghost use Rattle.std.specs.Prelude.{◌≡◌, ◌≤◌, ◌++◌, ◌∷◌, [], IfOk, OnOk};
+ghost use Rattle.std.specs.List.Sorted.{IsNonDecreasingBy, IsPermutation};
+ghost use Rattle.osn_days.specs.Profile.{newest_rules};
+ghost use Rattle.osn_written.specs.SetsMeant as spec;
+
+use crate::finding::{NoDay, find_runs};
+use crate::runs::joined;
+use osn_days::Day;
+use osn_grammar::{Extent, WrittenDate as AnyDate};
+use osn_lands::{Run, Territory};
+use std::alloc::{AllocError, Global};
+
+/// A date of a set that means no day in a territory, and why.
+#[derive(Clone, Copy, Debug, PartialEq, Eq)]
+pub struct AbsentMember {
+    pub extent: Extent,
+    pub reason: NoDay,
+}
+
+/// Whether one of the dates is approximate.
+pub fn is_set_approximate(members: &[AnyDate]) -> bool
+    ensures { result ≡ spec.is_set_approximate members.now }
+{
+    members.iter().any(|date| date.is_approximate)
+}
+
+/// Whether one of the dates is in doubt.
+pub fn is_set_uncertain(members: &[AnyDate]) -> bool
+    ensures { result ≡ spec.is_set_uncertain members.now }
+{
+    members.iter().any(|date| date.is_uncertain)
+}
+
+/// The runs of all dates, one date after another, or the first one that means no day.
+fn all_found(
+    alloc: Global,
+    territory: &Territory,
+    members: &[AnyDate],
+) -> Result<Result<Vec<Run>, AbsentMember>, AllocError>
+    ensures { IfOk result (λ found. spec.set_list_of found
+        ≡ spec.all_found newest_rules territory.now members.now) }
+{
+    let mut runs = Vec::new(alloc);
+    for member in members {
+        match find_runs(alloc, territory, member.extent)? {
+            Ok(found) => runs.extend_from_slice(found.as_slice())?,
+            Err(reason) => {
+                let extent = member.extent;
+                return Ok(Err(AbsentMember { extent, reason }));
+            }
+        }
+    }
+    Ok(Ok(runs))
+}
+
+/// Puts runs in the order of their first days.
+fn sort_by_first(runs: &mut Vec<Run>) -> Result<(), AllocError>
+    ensures sorted { OnOk result (IsNonDecreasingBy (λ run. run.first) runs.new.items) }
+    ensures same { IsPermutation runs.old.items runs.new.items }
+{
+    runs.sort_by_key(|run| run.first.number())?;
+    Ok(())
+}
+
+/// The first day of a run from a number on.
+fn first_from(run: Run, next: u32) -> u32
+    ensures { result ≡ spec.first_from run next }
+{
+    if next <= run.first.number() {
+        run.first.number()
+    } else {
+        next
+    }
+}
+
+/// Appends the run from a number to a last day.
+fn push_from(rest: &mut Vec<Run>, first: u32, last: Day) -> Result<(), AllocError>
+    requires { (1 ≤ first) × (first ≤ last) }
+    ensures { OnOk result (rest.new.items
+        ≡ rest.old.items ++ record { first = first; last = last } ∷ []) }
+{
+    rest.push(Run {
+        first: Day::on_line(i64::from(first)),
+        last,
+    })?;
+    Ok(())
+}
+
+/// Of runs in the order of their first days, each without the days that the runs before it have.
+fn without_overlap(alloc: Global, runs: &[Run]) -> Result<Vec<Run>, AllocError>
+    ensures value { IfOk result (λ rest. rest.items ≡ spec.rest_from 1 runs.now) }
+    ensures within { IfOk result (λ rest. spec.EndOnLine newest_rules runs.now) }
+{
+    let mut rest = Vec::new(alloc);
+    let mut next = 1;
+    for run in runs {
+        let first = first_from(*run, next);
+        let last = run.last.number();
+        if first <= last {
+            push_from(&mut rest, first, run.last)?;
+            next = last + 1;
+        }
+    }
+    Ok(rest)
+}
+
+/// The days of runs in any order, as runs in order.
+fn union(alloc: Global, mut runs: Vec<Run>) -> Result<Vec<Run>, AllocError>
+    ensures { IfOk result (λ union. union.items ≡ spec.union newest_rules runs.items) }
+{
+    sort_by_first(&mut runs)?;
+    let rest = without_overlap(alloc, runs.as_slice())?;
+    joined(alloc, rest.as_slice())
+}
+
+/// The days of a set of dates in a territory, of which one is meant: those that any of the dates
+/// means, as runs in order. No two of the runs touch. Where a date means no day, it is told which
+/// is the first such date, and why.
+///
+/// # Errors
+///
+/// `AllocError` where there is no memory for the list.
+pub fn find_set(
+    alloc: Global,
+    territory: &Territory,
+    members: &[AnyDate],
+) -> Result<Result<Vec<Run>, AbsentMember>, AllocError>
+    ensures { IfOk result (λ found. spec.set_list_of found
+        ≡ spec.found_of_set newest_rules territory.now members.now) }
+{
+    match all_found(alloc, territory, members)? {
+        Ok(runs) => Ok(Ok(union(alloc, runs)?)),
+        Err(absent) => Ok(Err(absent)),
+    }
+}

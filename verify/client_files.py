@@ -1,0 +1,332 @@
+"""What clients.py holds of files: an installed package, its commands, R, Gramps and xmllint."""
+import gzip
+import os
+import re
+import shutil
+import subprocess
+import sys
+
+from common import TOP
+
+CLIENTS = os.path.join(TOP, "clients")
+SAMPLES = os.path.join(CLIENTS, "samples")
+JOURNAL = os.path.join(TOP, "examples", "samples.journal")
+PLACES = os.path.join(SAMPLES, "places.csv")
+TEI, GEDCOM = "oldstyle-tei", "oldstyle-gedcom"
+HEAD = b'<TEI xmlns="http://www.tei-c.org/ns/1.0"><opener><placeName>London</placeName> '
+TAIL = b"</opener></TEI>"
+MAY = b' when="1640-05-13" when-custom="1640-05-03" calendar="#julian"'
+# The lines of the samples of which standard error is told: counted in the files by hand.
+TOLD = {"letters.xml": (TEI, {"skipped": 2, "no date": 1, "several days": 1, "is left": 1,
+                              "unknown place": 1}),
+        "cmif.xml": (TEI, {"declare it": 1}),
+        "events.ged": (GEDCOM, {"skipped": 3, "several days": 1, "calendar changed": 1,
+                                "INT takes one date": 2, "a feast": 1, "is left": 1,
+                                "unknown place": 1, "no place": 1, "no date of its calendar": 1,
+                                "weekday differs": 1, "not the year that follows": 1}),
+        "events7.ged": (GEDCOM, {"skipped": 1, "is left": 1})}
+# What Gramps has to make of dates that were written: dual years are those from 1 January there.
+IN_GRAMPS = {
+    "@#DJULIAN@ 11 FEB 1731/32": 'dateval val="1732-02-11" cformat="Julian" dualdated="1"',
+    "@#DJULIAN@ 25 MAR 1732": 'dateval val="1732-03-25" cformat="Julian"',
+    "14 SEP 1752": 'dateval val="1752-09-14"',
+    "ABT @#DJULIAN@ 11 FEB 1731/32":
+        'dateval val="1732-02-11" type="about" cformat="Julian" dualdated="1"',
+    "BEF @#DJULIAN@ 25 MAR 1640": 'dateval val="1640-03-25" type="before" cformat="Julian"',
+    "AFT @#DJULIAN@ 3 JAN 1699/00":
+        'dateval val="1700-01-03" type="after" cformat="Julian" dualdated="1"',
+    "BET @#DJULIAN@ 1 FEB 1731/32 AND @#DJULIAN@ 5 MAY 1732":
+        'daterange start="1732-02-01" stop="1732-05-05" cformat="Julian" dualdated="1"',
+    "@#DJULIAN@ FEB 1731/32": 'dateval val="1732-02" cformat="Julian" dualdated="1"',
+    "@#DJULIAN@ 29 FEB 1731/32": 'dateval val="1732-02-29" cformat="Julian" dualdated="1"',
+}
+tried = []
+
+
+def tools_tried():
+    return tried
+
+
+def read(path):
+    with open(path, "rb") as file:
+        return file.read()
+
+
+class Installed:
+    """An environment with the package, installed as its README says, and the network off."""
+
+    def __init__(self, program, folder):
+        self.folder = os.path.join(folder, "environment")
+        self.path = os.path.join(self.folder, "bin")
+        self.variables = {**os.environ, "OLDSTYLE": program, "PIP_NO_INDEX": "1"}
+        subprocess.run([sys.executable, "-m", "venv", self.folder], check=True)
+        alone = ["unshare", "--net"] if os.getuid() == 0 and shutil.which("unshare") else []
+        words = [*alone, os.path.join(self.path, "pip"), "install", "./clients/python"]
+        self.done = self.run(words)
+
+    def run(self, words, data=b"", folder=TOP, **variables):
+        words = [os.path.join(self.path, words[0]), *words[1:]]
+        words[0] = words[0] if os.path.exists(words[0]) else os.path.basename(words[0])
+        return subprocess.run(words, input=data, capture_output=True, check=False, cwd=folder,
+                              env={**self.variables, **variables})
+
+    def fill(self, command, data, *words):
+        """What a command makes of a file, with the table of places of the samples."""
+        return self.run([command, JOURNAL, "--places", PLACES, *words], data)
+
+
+def checks(options, folder):
+    """All that is held of files."""
+    installed = Installed(options.program, folder)
+    yield f"pip install: {installed.done.stderr}", installed.done.returncode == 0
+    tried.append("the package installed without a network")
+    yield from documents(installed)
+    for name, (command, told) in TOLD.items():
+        yield from samples(installed, name, command, told)
+    yield from letters(installed)
+    yield from by_place(installed)
+    yield from trees(installed)
+    yield from words(installed, folder)
+    yield from with_tools(installed, options, folder)
+
+
+def documents(installed):
+    """The Python examples of documents, as they stand there, and the example of two lines."""
+    for path in ("README.md", "clients/python/README.md"):
+        done = installed.run(["python3", "-c", "import doctest, sys; print(*doctest.testfile("
+                              "sys.argv[1], module_relative=False))", path])
+        failed, count = map(int, done.stdout.split()[-2:])
+        yield f"{path}: {done.stdout.decode()}", not failed and (count > 0 or path == "README.md")
+    done = installed.run(["python3", "examples/client.py"])
+    expected = b"Friday 11 February 1731/2, 1732-02-22 Gregorian (GB, edition 5)\n"
+    yield f"examples/client.py: {done.stdout}", done.stdout == expected
+
+
+def samples(installed, name, command, told):
+    """A sample: what comes out is the file that was written by hand, and a second run's input."""
+    given = read(os.path.join(SAMPLES, name))
+    expected = read(os.path.join(SAMPLES, name.replace(".", ".filled.")))
+    done = installed.fill(command, given)
+    yield f"{name} is filled in", (done.returncode, done.stdout) == (0, expected)
+    lines = done.stderr.decode().splitlines()
+    counts = {what: sum(what in line for line in lines) for what in told}
+    yield f"{name}: standard error: {lines}", (counts, len(lines)) == (told, sum(told.values()))
+    yield f"{name}: a second run", installed.fill(command, expected).stdout == expected
+    ends = given.replace(b"\n", b"\r\n"), expected.replace(b"\n", b"\r\n")
+    yield f"{name}: other line ends", installed.fill(command, ends[0]).stdout == ends[1]
+    marked = b"\xef\xbb\xbf" + given, b"\xef\xbb\xbf" + expected
+    yield f"{name}: a byte order mark", installed.fill(command, marked[0]).stdout == marked[1]
+    strict = installed.fill(command, given, "--strict")
+    yield f"{name}: --strict", (strict.returncode, strict.stdout) == (1, expected)
+
+
+def letters(installed):
+    """TEI: tags of all forms, and what can't be changed."""
+    date = b"<date>3 May 1640</date>"
+    for tag in (b"<date%s>", b"<date%s >", b"<date%s\n>", b"<date n = 'a>b'%s  >",
+                b'<date n="1" \txml:id="a"%s>'):
+        quote = b"'" if b"'" in tag else b'"'
+        for text in (b"3 May 1640", b"3 <![CDATA[May]]> 1640", b"3 M&#97;y<!-- <date> --> 1640",
+                     b"\n3 <hi>May</hi>\r\n 1640", b"3 May<note>or June</note> 1640"):
+            made = [HEAD + tag % added + text + b"</date>" + TAIL
+                    for added in (b"", MAY.replace(b'"', quote))]
+            done = installed.fill(TEI, made[0])
+            yield f"TEI {made[0]}: {done.stdout}", done.stdout == made[1]
+    filled = HEAD + b"<date" + MAY + b">3 May 1640</date>" + TAIL
+    latin = b"<?xml version='1.0' encoding='ISO-8859-1'?>", b"<p>\xe9</p>"
+    done = installed.fill(TEI, latin[0] + HEAD + date + latin[1] + TAIL)
+    yield "TEI in Latin-1", done.stdout == latin[0] + filled[: -len(TAIL)] + latin[1] + TAIL
+    other = HEAD.replace(b"www.tei-c.org", b"example.org") + date + TAIL
+    entity = b'<!DOCTYPE TEI [<!ENTITY d "' + date + b'">]>' + HEAD + b"&d;" + TAIL
+    outside = HEAD.replace(b"opener", b"p") + date + TAIL.replace(b"opener", b"p")
+    gap = HEAD + b"<date>3 May 16<gap/></date>" + TAIL
+    differs = HEAD + b'<date calendar="#gregorian">3 May 1640</date>' + TAIL
+    for what, left in (("namespace", other), ("entity", entity), ("", outside), ("gap", gap),
+                       ('calendar="#gregorian" is left', differs)):
+        done = installed.fill(TEI, left)
+        yield f"TEI left: {what} {done.stderr}", (done.stdout == left
+                                                  and (what in done.stderr.decode()))
+    wide = (HEAD + date + TAIL).decode().encode("utf-16")
+    for data, told in ((wide, "UTF-16"), (b"", "no element"), (HEAD, "no element"),
+                       (b"<a></b>", "mismatched"), (b"<a>\xff</a>", "not well-formed")):
+        done = installed.fill(TEI, data)
+        yield f"TEI refused: {done.stderr}", (done.returncode, done.stdout) == (1, b"") \
+            and told in done.stderr.decode()
+    many = HEAD + date * 20_000 + TAIL
+    done = installed.fill(TEI, many)
+    yield "TEI of 20,000 dates", done.stdout == HEAD + filled[len(HEAD): -len(TAIL)] * 20_000 + TAIL
+
+
+def by_place(installed):
+    """What --place stands for, with a table of places and without one."""
+    date = b"<date>3 May 1640</date>"
+    filled = b"<date" + MAY + b">3 May 1640</date>"
+    lacking = HEAD.replace(b"<placeName>London</placeName> ", b"")
+    unknown = lacking + b"<placeName>Nowhere</placeName>"
+    two = lacking + b"<placeName>London</placeName> and <placeName>Stockholm</placeName>"
+    parts = lacking + b"<placeName><settlement>Nowhere</settlement>, <country>England</country>" \
+        b"</placeName>"
+    for front, words, told in (
+            (lacking, ["--place", "GB"], "taken as GB"),
+            (unknown, ["--place", "GB"], "taken as GB"),
+            (parts, ["--places", PLACES], "")):
+        done = installed.run([TEI, JOURNAL, *words], front + date + TAIL)
+        yield f"TEI {front} {words}", (done.stdout == front + filled + TAIL
+                                       and told in done.stderr.decode())
+    for front, words, told in (
+            (lacking, [], "by --place"), (unknown, ["--places", PLACES], "--places FILE"),
+            (unknown, ["--places", PLACES, "--place", "GB"], "unknown place Nowhere (1 date)"),
+            (two, ["--places", PLACES, "--place", "GB"], "more than one territory: GB, SE")):
+        done = installed.run([TEI, JOURNAL, *words], front + date + TAIL)
+        yield f"TEI left: {front} {words}", (done.stdout == front + date + TAIL
+                                             and told in done.stderr.decode())
+
+
+def tree(*lines, version=b"5.5.1", charset=b"UTF-8"):
+    head = [b"0 HEAD", b"1 GEDC", b"2 VERS " + version, b"1 CHAR " + charset, b"0 @I1@ INDI",
+            b"1 BIRT"]
+    return b"\n".join([*head, *lines, b"0 TRLR\n"])
+
+
+def trees(installed):
+    """GEDCOM: letters, places, the Gregorian date, and what is no file of it."""
+    place = b"2 PLAC London"
+    pairs = [
+        ((b"2 DATE 3 MAY 1640", place), (b"2 DATE @#DJULIAN@ 3 MAY 1640", place), ()),
+        ((place, b"2 DATE 3 MAY 1640"), (place, b"2 DATE @#DJULIAN@ 3 MAY 1640"), ()),
+        ((b"2 DATE 3 MAY 1640", place), (b"2 DATE INT 13 MAY 1640 (3 MAY 1640)", place),
+         ("--gregorian",)),
+        ((b"2 DATE BEF 3 MAY 1640", place), (b"2 DATE BEF 3 MAY 1640", place), ("--gregorian",)),
+        ((b"2 DATE 3 MAY 1640",), (b"2 DATE @#DJULIAN@ 3 MAY 1640",), ("--place", "GB")),
+        ((b"2 DATE (3 mai 1640)", place), (b"2 DATE INT @#DJULIAN@ 3 MAY 1640 (3 mai 1640)", place),
+         ()),
+        ((b"2 DATE 1 JAN 1751/52", place), (b"2 DATE @#DJULIAN@ 1 JAN 1751/52", place), ()),
+        ((b"2 DATE 10 FEB 1753/54", place), (b"2 DATE INT 10 FEB 1754 (10 FEB 1753/54)", place),
+         ()),
+        ((b"2 SOUR @S1@", b"3 DATA", b"4 DATE 3 MAY 1640", place),) * 2 + ((),),
+    ]
+    for given, expected, more in pairs:
+        done = installed.fill(GEDCOM, tree(*given), *more)
+        yield f"GEDCOM {given}: {done.stdout}", done.stdout == tree(*expected)
+        again = installed.fill(GEDCOM, done.stdout, *more)
+        yield f"GEDCOM {given} again", again.stdout == done.stdout
+    ansi = installed.fill(GEDCOM, tree(b"2 DATE (3 d\xe9c. 1640)", place, charset=b"ANSI"))
+    yield f"GEDCOM in ANSI: {ansi.stdout}", b"INT @#DJULIAN@ 3 DEC 1640 (3 d\xe9c" in ansi.stdout
+    wrong = installed.fill(GEDCOM, tree(b"2 DATE (3 d\xe9c. 1640)", place))
+    yield "GEDCOM: bytes that are no UTF-8", b"CHAR" in wrong.stderr and b"INT" not in wrong.stdout
+    for data, told in ((b"", "0 HEAD"), (b"1 BIRT\n", "0 HEAD"), (tree(version=b"4.0"), "4.0"),
+                       (tree(charset=b"UNICODE"), "UNICODE"),
+                       (tree().decode().encode("utf-16"), "UTF-16")):
+        done = installed.fill(GEDCOM, data)
+        yield f"GEDCOM refused: {done.stderr}", (done.returncode, done.stdout) == (1, b"") \
+            and told in done.stderr.decode()
+    lines = [line for _ in range(20_000) for line in (b"1 DEAT", b"2 DATE 3 MAY 1640", place)]
+    done = installed.fill(GEDCOM, tree(*lines))
+    yield "GEDCOM of 20,000 dates", done.stdout.count(b"@#DJULIAN@ 3 MAY 1640\n") == 20_000
+
+
+def words(installed, folder):
+    """Wrong words, tables of places with mistakes, and streams that fail."""
+    given = read(os.path.join(SAMPLES, "letters.xml"))
+    table = os.path.join(folder, "table.csv")
+    runs = [([TEI], 2, "JOURNAL"), ([TEI, JOURNAL, "--wrong"], 2, "--help"),
+            ([TEI, "none.journal"], 1, "No such file"), ([TEI, TOP], 1, "directory"),
+            ([TEI, JOURNAL, "--place", "FR"], 1, "RM, GB, SE, RU, DE"),
+            ([TEI, JOURNAL, "--places", "none.csv"], 3, "none.csv"),
+            ([TEI, JOURNAL, "--program", "no-such-oldstyle"], 1, "OLDSTYLE"),
+            ([GEDCOM, JOURNAL], 1, "0 HEAD"), ([TEI, "--help"], 0, "")]
+    for line, status, told in runs:
+        done = installed.run(line, given)
+        is_told = told in done.stderr.decode() and b"Traceback" not in done.stderr
+        yield f"{line}: {done.stderr}", done.returncode == status and is_told
+    tables = [(b"", "no header"), (b"a,b\n", "no column place"),
+              (b"place\tcode\nLondon\n", "line 2"),
+              (b"place,code\nA,GB\nA,SE\n", "line 3"), (b"place,code\n\xff,GB\n", "line 2"),
+              (b'place,code\n"A,GB\n', "quote")]
+    for held, told in tables:
+        with open(table, "wb") as file:
+            file.write(held)
+        done = installed.run([TEI, JOURNAL, "--places", table], given)
+        yield f"table {held}: {done.stderr}", (done.returncode, done.stdout) == (1, b"") \
+            and told in done.stderr.decode()
+    with open(table, "wb") as file:
+        file.write(b"place,code\nLondon,FR\n")
+    done = installed.run([TEI, JOURNAL, "--places", table], given)
+    yield f"a code that is lacking: {done.stderr}", b"the register has its code FR" in done.stderr
+    done = installed.run(["sh", "-c", f"{installed.path}/{TEI} {JOURNAL} --place GB >&-"], given)
+    yield f"closed output: {done.stderr}", (done.returncode == 3 and b"closed" in done.stderr
+                                            and b"Traceback" not in done.stderr)
+    with open("/dev/full", "wb") as full:
+        done = subprocess.run([os.path.join(installed.path, TEI), JOURNAL, "--place", "GB"],
+                              input=given, stdout=full, stderr=subprocess.PIPE, check=False,
+                              env=installed.variables)
+    yield f"a full disk: {done.stderr}", done.returncode == 3 and b"No space" in done.stderr
+
+
+def with_tools(installed, options, folder):
+    """What R, Gramps and xmllint say, where they are there."""
+    if shutil.which("xmllint"):
+        yield from linted(options.schema)
+    if shutil.which("Rscript"):
+        yield from in_r(installed)
+    if shutil.which("gramps"):
+        yield from in_gramps(folder)
+
+
+def linted(schema):
+    tried.append("xmllint by TEI's schema" if schema else "xmllint without a schema")
+    by = ["--relaxng", schema] if schema else []
+    for name in ("letters.filled.xml", "cmif.filled.xml"):
+        done = subprocess.run(["xmllint", "--noout", *by, os.path.join(SAMPLES, name)],
+                              capture_output=True, check=False)
+        yield f"xmllint {name}: {done.stderr.decode()}", done.returncode == 0
+
+
+def in_gramps(folder):
+    """What Gramps makes of the dates that were written, in a home of its own."""
+    tried.append("Gramps")
+    home = os.path.join(folder, "gramps")
+    os.mkdir(home)
+    path, exported = os.path.join(SAMPLES, "events.filled.ged"), os.path.join(home, "tree.gramps")
+    done = subprocess.run(["gramps", "-q", "-y", "-i", path, "-e", exported, "-f", "gramps"],
+                          capture_output=True, check=False,
+                          env={**os.environ, "HOME": home, "GRAMPSHOME": home})
+    told = (done.stdout + done.stderr).decode()
+    yield f"Gramps: {told}", "No errors detected" in told and os.path.exists(exported)
+    with gzip.open(exported, "rt", encoding="utf-8") as file:
+        events = re.findall(r"<event .*?</event>", file.read(), re.DOTALL)
+    dates = re.findall(r"^2 DATE (.*)$", read(path).decode(), re.MULTILINE)
+    yield f"Gramps: {len(events)} events", len(events) == len(dates) == 50
+    for date, expected in IN_GRAMPS.items():
+        found = [event for event, written in zip(events, dates) if written == date]
+        yield f"Gramps: {date}: {found}", bool(found) and all(f"<{expected}/>" in event
+                                                              for event in found)
+
+
+def in_r(installed):
+    """The example of R's README, as it stands there, and what its functions refuse."""
+    with open(os.path.join(CLIENTS, "r", "README.md"), encoding="utf-8") as file:
+        blocks = dict(re.findall(r"```(\w+)\n(.*?)```", file.read(), re.DOTALL))
+    tried.append("R")
+    done = installed.run(["Rscript", "-e", blocks["r"]])
+    yield f"R: {done.stdout}{done.stderr}", done.stdout.decode() == blocks["text"]
+    source = 'source("clients/r/oldstyle.R"); read <- function(...) oldstyle_read("%s", ...);'
+    calls = [
+        ('read(c("GB", "FR"), c("1640", "1640"))$fault', '[1] NA            "UnknownLand"\n'),
+        ('read("GB", c("before 25 March 1640", "after 25 March 1640"))[c("first", "last")]',
+         "       first       last\n1       <NA> 1640-04-03\n2 1640-04-05       <NA>\n"),
+        ('read("GB", "11 Feb. 1731/32", c("Friday"))$weekday_fits', "[1] TRUE\n"),
+        ('read("GB", "11 f\\u00e9vrier 1731")$dual', '[1] "11 February 1731/2"\n'),
+        ('read("GB", c(NA, "\\"\\\\\\n"))$kind', '[1] "none" "none"\n'),
+        ('dim(read("GB", character(0))) - dim(read("GB", "1640"))', "[1] -1  0\n"),
+        (f'oldstyle_lands("{JOURNAL}")$code', '[1] "RM" "GB" "SE" "RU" "DE"\n'),
+    ]
+    for code, told in calls:
+        done = installed.run(["Rscript", "-e", source % JOURNAL, "-e", code])
+        yield f"R {code}: {done.stdout}{done.stderr}", done.stdout.decode() == told
+    for code, told in (('oldstyle_read("none.journal", "GB", "1640")', "no such file"),
+                       ('oldstyle_read("README.md", "GB", "1640")', "README.md: mend"),
+                       ('oldstyle_lands("x", program = "no-such-oldstyle")', "OLDSTYLE"),
+                       ('read(c("GB", "GB"), "1640")', "as long as date")):
+        done = installed.run(["Rscript", "-e", source % JOURNAL, "-e", code])
+        yield f"R {code}: {done.stderr}", done.returncode == 1 and told in done.stderr.decode()

@@ -1,0 +1,321 @@
+#!/usr/bin/env python3
+"""Holds the clients of clients/ against the program.
+
+The Python package is installed into an environment of its own without a network, and the examples
+of its README are run as they stand there. Its readings are held against the program's own replies
+and against days that are worked out here. Faults are provoked, each with its exception. The two
+commands fill in the samples of clients/samples, and what comes out is held against the files that
+were written by hand. R, Gramps, pandas and xmllint are tried where they are there; --schema names
+TEI's schema in RELAX NG for xmllint. Prints what doesn't hold.
+"""
+import contextlib
+import datetime
+import itertools
+import json
+import os
+import random
+import signal
+import subprocess
+import sys
+import tempfile
+import threading
+import time
+
+from common import TOP, CommandLine, compact, end, file_at, run
+
+sys.path.append(os.path.join(TOP, "clients", "python", "src"))
+
+import client_files
+import oldstyle
+
+JOURNAL = os.path.join(TOP, "examples", "samples.journal")
+ORDINAL_TO_JDN = 1_721_425
+# What a date means in the samples, worked out by hand. The Julian calendar was ten days after the
+# Gregorian one from 1582 to February 1700, eleven in the 18th century, thirteen in the 20th. Great
+# Britain counted its years from 25 March until 1751. Python's own dates tell the weekdays.
+WORKED = [
+    ("GB", "11 Feb. 1731/32", "1732-02-22", "1732-02-22"),
+    ("GB", "24 March 1699", "1700-04-04", "1700-04-04"),
+    ("GB", "3-10 May 1640", "1640-05-13", "1640-05-20"),
+    ("GB", "[1640?]", "1640-04-04", "1641-04-03"),
+    ("GB", "March 1731", "1731-04-05", "1732-04-04"),
+    ("GB", "before 25 March 1640", None, "1640-04-03"),
+    ("GB", "after 25 March 1640", "1640-04-05", None),
+    ("GB", "5 September 1752", None, None),
+    ("GB", "n.d.", None, None),
+    ("SE", "30 February 1712", "1712-03-11", "1712-03-11"),
+    ("RU", "25 October 1917", "1917-11-07", "1917-11-07"),
+    ("GB", "c. mai 1640", "1640-05-11", "1640-06-10"),
+]
+
+
+def rows_drawn(chance, count):
+    """Rows of dates in several forms, one in ten of them with a weekday."""
+    months = "January Feb. mars April Mai June 7bris October Nov. d\u00e9cembre".split()
+    for _ in range(count):
+        day, year = chance.randint(1, 31), chance.randint(1500, 1950)
+        text = chance.choice([f"{day} {chance.choice(months)} {year}", f"{year}", "n.d.",
+                              f"{chance.choice(months)} {year}", f"before {year}", f"{year}?",
+                              f"{day} Feb. {year}/{(year + 1) % 100:02}", 'no "date" \\ at\nall'])
+        weekday = chance.choice([None] * 9 + ["Friday"])
+        yield chance.choice(["GB", "SE", "RU", "RM"]), text, weekday
+
+
+def request(row):
+    asked = {"op": "written", "reader": 1, "code": row[0], "date": row[1]}
+    return compact({**asked, "weekday": row[2]} if row[2] else asked)
+
+
+def reply_of(reading):
+    """The reply that a reading was made of."""
+    runs = [{"first": vars(run.first), "last": vars(run.last)} for run in reading.runs]
+    answer = {name: getattr(reading, name) for name in ("approximate", "kind", "other_calendar",
+                                                        "reason", "supplied", "uncertain")}
+    return {"answer": {**answer, "runs": runs, "weekday": reading.weekday_fits},
+            "edition": reading.edition, "reader": 1}
+
+
+def is_day_right(day):
+    """Whether the members of a day agree, by Python's own count of Gregorian days."""
+    date = day.date
+    return (date.toordinal() == day.day == day.jdn - ORDINAL_TO_JDN
+            and date.strftime("%A") == day.weekday and date.isoformat() == day.gregorian)
+
+
+def worked(register):
+    """Dates that were worked out by hand."""
+    for code, text, first, last in WORKED:
+        reading = register.read(code, text)
+        found = [day and day.gregorian for day in (reading.earliest, reading.latest)]
+        yield f"read {text}: {found}", found == [first, last]
+        is_one = first == last is not None
+        yield f"read {text}: one day: {reading.day}", (reading.day is not None) == is_one
+        days = [day for run in reading.runs for day in (run.first, run.last)]
+        yield f"read {text}: its days", all(map(is_day_right, days))
+    friday = [register.read("GB", "11 Feb. 1731/32", day) for day in ("Friday", "Monday")]
+    fits = datetime.date(1732, 2, 22).strftime("%A") == "Friday"
+    yield "weekdays", fits and [reading.weekday_fits for reading in friday] == [True, False]
+    yield "two runs of March 1731", len(register.read("GB", "March 1731").runs) == 2
+    yield "territories", [land.code for land in register.lands()] == "RM GB SE RU DE".split()
+    styles = [period.style for period in register.periods("GB")]
+    yield "periods", styles == ["annunciation", "january", "january"]
+
+
+def piped(register, program, options):
+    """Many rows, held against what the program writes of the same lines."""
+    rows = list(rows_drawn(random.Random(options.seed), options.count))
+    told = run(program, ["serve", "--journal", JOURNAL], map(request, rows)).stdout.splitlines()
+    found = [reply_of(reading) for reading in register.read_many(rows)]
+    yield f"{len(rows)} readings", found == list(map(json.loads, told))
+    few = rows[:500]
+    one_by_one = [reply_of(reading) for reading in register.read_many(few, ahead=1)]
+    yield "rows one by one", one_by_one == found[:500]
+    taken = itertools.count()
+    endless = (("GB", f"{next(taken) % 300 + 1500}") for _ in itertools.count())
+    given = list(itertools.islice(register.read_many(endless, ahead=50), 120))
+    yield "an endless source", len(given) == 120 and next(taken) <= 120 + 50
+    long = [("GB", "x" * 60_000)] * 300
+    yield "long lines", [reading.kind for reading in register.read_many(long)] == ["none"] * 300
+    mixed = [(reading.date, register.read("GB", "1640").date)
+             for reading in register.read_many([("GB", "1650"), ("GB", "1651")])]
+    yield "a question meanwhile", mixed == [("1650", "1640"), ("1651", "1640")]
+    yield from threaded(register, rows[:1000], found[:1000])
+
+
+def threaded(register, rows, found):
+    """Four threads that ask one register."""
+    told = {}
+
+    def ask(place):
+        told[place] = [reply_of(register.read(*row)) for row in rows[place::4]]
+
+    threads = [threading.Thread(target=ask, args=(place,)) for place in range(4)]
+    for thread in threads:
+        thread.start()
+    for thread in threads:
+        thread.join(60)
+    yield "four threads", all(told.get(place) == found[place::4] for place in range(4))
+
+
+def failing_rows():
+    yield "GB", "1640"
+    raise LookupError("the source failed")
+
+
+def raised(call):
+    """The exception of a call, or None."""
+    try:
+        call()
+    except Exception as why:
+        return why
+    return None
+
+
+def faults(register, program, folder):
+    """What is refused, and a program or a journal that fails: the exception and its message."""
+    opened = lambda path=JOURNAL, **words: lambda: oldstyle.Register(path, **words)
+    written = os.path.join(folder, "wrong.journal")
+    with open(written, "w", encoding="utf-8") as file:
+        file.write('{"journal":2}\nnothing\n')
+    calls = [
+        (lambda: register.read("FR", "1640"), "UnknownLand", "FR"),
+        (lambda: register.read("gb", "1640"), "BadCode", "capital letters"),
+        (lambda: register.read("GB", "x" * 70_000), "LineTooLong", "65536"),
+        (lambda: register.read("GB", "\udc80"), "NotJson", "UTF-8"),
+        (lambda: register.read("GB", "1640", "Freitag"), "BadField", "(Freitag) in GB: a"),
+        (lambda: register.read("GB", None), "TypeError", "no text"),
+        (lambda: register.ask("publish"), "ReadOnly", "only read"),
+        (lambda: register.ask("easter", code="GB", year=0), "YearOffRange", "9999"),
+        (lambda: register.ask("fly"), "UnknownOp", "newer"),
+        (lambda: list(register.read_many([("GB", "1640")], ahead=0)), "ValueError", "1 or more"),
+        (lambda: list(register.read_many([("GB", "1640"), ("FR", "1")])), "UnknownLand", "FR"),
+        (opened(os.path.join(folder, "none.journal"), program=program), "JournalRefused",
+         "No such file"),
+        (opened(os.path.join(folder, "none.journal"), program=program, follow=True),
+         "JournalRefused", "No such file"),
+        (opened(folder, program=program), "JournalRefused", "directory"),
+        (opened(written, program=program), "JournalRefused", "line 2"),
+        (opened(program="no-such-oldstyle"), "ProgramMissing", "OLDSTYLE"),
+        (opened(program=written), "ProgramMissing", "OLDSTYLE"),
+        (opened(program="cat"), "ProgramEnded", "status 1"),
+        (opened(program="true"), "ProgramEnded", "before"),
+    ]
+    for place, (call, name, told) in enumerate(calls):
+        why = raised(call)
+        yield f"fault {place}: {why!r}", type(why).__name__ == name and told in str(why)
+        yield f"fault {place} can be shown", len(str(why)) < 900 and str(why).encode() != b""
+    kept = list(register.read_many([("FR", "1"), ("GB", "1640")], refused=True))
+    yield "a fault in its place", [type(row).__name__ for row in kept] == ["UnknownLand", "Reading"]
+    rows = register.read_many(failing_rows())
+    yield "a source that fails", next(rows).date == "1640" and isinstance(
+        raised(lambda: next(rows)), LookupError)
+    yield from ended(program)
+    yield from followed(program, os.path.join(folder, "followed.journal"))
+
+
+def ended(program):
+    """A program that is killed while it is asked, and a register that was closed."""
+    register = oldstyle.Register(JOURNAL, program=program)
+    rows = register.read_many(("GB", "1640") for _ in itertools.count())
+    next(rows)
+    os.kill(register._service._process.pid, signal.SIGKILL)
+    why = raised(lambda: list(rows))
+    yield f"killed: {why!r}", isinstance(why, oldstyle.ProgramEnded) and "SIGKILL" in str(why)
+    register.close()
+    why = raised(lambda: register.read("GB", "1640"))
+    yield f"closed: {why!r}", isinstance(why, oldstyle.ProgramEnded) and "closed" in str(why)
+
+
+def followed(program, journal):
+    """Editions that a keeper publishes meanwhile, and a journal that is cut, removed or broken."""
+    with subprocess.Popen([program, "serve", "--keep", journal], text=True, bufsize=1,
+                          stdin=subprocess.PIPE, stdout=subprocess.PIPE) as keeper:
+        publish(keeper, 1)
+        register = oldstyle.Register(journal, program=program, follow=True)
+        for edition in range(2, 21):
+            told = publish(keeper, edition)
+            found = register.read(f"L{edition}", "1640").edition
+            yield f"a followed edition: {found}", found == told == edition
+        keeper.stdin.close()
+    register.close()
+    with open(journal, "rb") as file:
+        whole = file.read()
+    for text, told in ((whole[:200], "got shorter"), (None, "none, stands"),
+                       (whole + b"{}\n", "journal line")):
+        put(journal, whole)
+        register = oldstyle.Register(journal, program=program, follow=True)
+        put(journal, text)
+        why = raised(lambda: register.read("L1", "1640"))
+        yield f"a followed journal: {why!r}", (isinstance(why, oldstyle.ProgramEnded)
+                                               and told in str(why) and journal in str(why))
+
+
+def publish(keeper, edition):
+    """Has a keeper publish an edition with a territory more, and gives the one that it tells."""
+    keeper.stdin.write(compact({"op": "add_land", "code": f"L{edition}", "name": f"Land {edition}",
+                                "calendar": "julian", "style": "january", "rule": "julian"})
+                       + '\n{"op":"publish"}\n')
+    keeper.stdout.readline()
+    return json.loads(keeper.stdout.readline())["edition"]
+
+
+def put(path, text):
+    """Writes a file in its place, or takes it away."""
+    if text is None:
+        return os.remove(path)
+    with open(path, "wb") as file:
+        file.write(text)
+
+
+def in_frames(register):
+    """A table of pandas."""
+    import pandas
+
+    client_files.tried.append("pandas")
+    frame = pandas.DataFrame({"code": ["GB", "FR", None, "GB"], "weekday": ["Friday", "", "", None],
+                              "date": ["11 Feb. 1731/32", "1640", "1640", None]},
+                             index=[7, 8, 9, 10])
+    found = oldstyle.read_frame(register, frame, weekday="weekday")
+    ordinal = datetime.date(1732, 2, 22).toordinal()
+    yield "pandas: a day", found.loc[7, "day"] == ordinal and bool(found.loc[7, "weekday_fits"])
+    faults_told = [None if pandas.isna(name) else name for name in found["fault"]]
+    yield "pandas: faults", faults_told == [None, "UnknownLand", "BadCode", None]
+    yield "pandas: no date", found.loc[10, "reason"] == "no date"
+    yield "pandas: an empty table", len(oldstyle.read_frame(register, frame[:0])) == 0
+
+
+def speed(register, program, count):
+    """Prints the seconds of the pipe beside those of the program alone and of Python's JSON."""
+    rows = list(itertools.islice(itertools.cycle(rows_drawn(random.Random(1), 10_000)), count))
+    lines = list(map(request, rows))
+    clock = time.perf_counter
+    begun = clock()
+    told = run(program, ["serve", "--journal", JOURNAL], lines).stdout.splitlines()
+    alone = clock() - begun
+    begun = clock()
+    for line in told:
+        json.loads(line)
+    parsed = clock() - begun
+    begun = clock()
+    for _ in register.read_many(rows):
+        pass
+    print(f"{count} rows: the program alone {alone:.2f} s, json.loads of its replies {parsed:.2f} "
+          f"s, read_many {clock() - begun:.2f} s")
+
+
+def checks(options, folder):
+    """All that is held, each with whether it holds."""
+    program = options.program
+    with oldstyle.Register(JOURNAL, program=program) as register:
+        yield from worked(register)
+        yield from piped(register, program, options)
+        yield from faults(register, program, folder)
+        with contextlib.suppress(ImportError):
+            yield from in_frames(register)
+        if options.speed:
+            speed(register, program, options.speed)
+    yield from client_files.checks(options, folder)
+
+
+def main():
+    line = CommandLine(__doc__)
+    line.add_program()
+    line.add_number("--count", 20_000, "rows that are asked in one run")
+    line.add_seed()
+    line.add_number("--speed", None, "tells the seconds of that many rows too")
+    line.add_argument("--schema", type=file_at, metavar="FILE", help="TEI's schema, RELAX NG")
+    options = line.read()
+    held = differ = 0
+    with tempfile.TemporaryDirectory() as folder:
+        for what, holds in checks(options, folder):
+            held += 1
+            if not holds:
+                differ += 1
+                print(f"doesn't hold: {what}")
+    tried = ", ".join(client_files.tools_tried())
+    print(f"{held} checks of the clients, with {tried}: {differ} don't hold")
+    return 1 if differ else 0
+
+
+if __name__ == "__main__":
+    end(main)

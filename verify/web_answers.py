@@ -1,0 +1,135 @@
+"""What a fragment of the page says of a date, held against what `read` prints of it."""
+import re
+import subprocess
+from html.parser import HTMLParser
+
+DAY = re.compile(r"(from |to   )?(\w+day) (.+?)    (.+) Gregorian    (.+) Julian    day (\d+)    "
+                 r"JDN (\d+)( ok| not \w+)?$")
+COUNT = re.compile(r"(\d+) days?$")
+WAITING = re.compile(r"\d+ edits? (is|are) not published yet")
+FLAGS = {"approximate", "in doubt", "supplied by an editor"}
+ORDER = ", or say --order dmy or mdy"
+DAY_FACTS = ["As dated there", "Weekday", "Gregorian", "Julian", "Day number",
+             "Julian day number"]
+# `read` refuses a date with two weekdays; the query answers that its days have not both.
+TWO_WEEKDAYS = ": the date names "
+OTHER_CALENDAR = "by the calendar that the date names"
+OPEN = {"from any earlier day": ("From", "any earlier day"),
+        "to   any later day": ("To", "any later day")}
+
+
+class Fragment(HTMLParser):
+    """The lists of facts and the notes of a piece of HTML."""
+
+    def __init__(self, text):
+        super().__init__()
+        self.facts, self.notes, self.held, self.open = [], [], "", []
+        self.feed(text)
+        self.close()
+
+    def handle_starttag(self, tag, attrs):
+        self.open.append((tag, dict(attrs).get("class")))
+        if tag in ("dt", "dd", "li"):
+            self.held = ""
+        elif tag == "dl":
+            self.facts.append([])
+
+    def handle_data(self, data):
+        self.held += data
+
+    def handle_endtag(self, tag):
+        while self.open and self.open.pop()[0] != tag:
+            pass
+        text = " ".join(self.held.split())
+        if tag == "dt":
+            self.facts[-1].append((text, ""))
+        elif tag == "dd":
+            self.facts[-1][-1] = self.facts[-1][-1][0], text
+        elif tag == "li" and ("ul", "notes") in self.open:
+            self.notes.append(text)
+
+
+def read_page(program, journal, code, date, weekday="", order=""):
+    """What `read` prints, and what it tells where it prints nothing."""
+    words = [program, "read", journal, code]
+    words += (["--weekday", weekday] if weekday else []) + (["--order", order] if order else [])
+    done = subprocess.run([*words, "--", date], capture_output=True, text=True, check=False)
+    return done.stdout.splitlines(), done.stderr.strip()
+
+
+def days_told(lines):
+    """The days that `read` prints of a date of one day, as the page has them. A date that is
+    none has runs."""
+    found = []
+    if any(line in OPEN or COUNT.fullmatch(line) or line.startswith("from ") for line in lines):
+        return found
+    for line in lines:
+        if day := DAY.match(line):
+            _, weekday, dual, gregorian, julian, number, jdn, agrees = day.groups()
+            agrees = (agrees or "").strip()
+            text = weekday
+            if agrees == "ok":
+                text += ", as it is said"
+            elif agrees:
+                text += f", {agrees}"
+            found.append(dict(zip(DAY_FACTS, (dual, text, gregorian, julian, number, jdn))))
+    return found
+
+
+def runs_told(lines):
+    """The runs that `read` prints, as the page has them."""
+    found = []
+    for line in lines:
+        if line in OPEN:
+            found.append(OPEN[line])
+        elif day := DAY.match(line):
+            name = {"from ": "From", "to   ": "To", None: "Day"}[day[1]]
+            found.append((name, f"{day[2]} {day[3]} {day[4]} Gregorian, {day[5]} Julian, "
+                                f"JDN {day[7]}"))
+        elif count := COUNT.fullmatch(line):
+            found.append(("Days", count[1]))
+    return found
+
+
+def notes_told(lines, told):
+    """The lines of `read` that the page has as notes."""
+    if not lines:
+        text = told.removeprefix("oldstyle: ").removesuffix(ORDER)
+        return [text]
+    return [line for line in lines[1:] if line not in OPEN and not (
+        DAY.match(line) or COUNT.fullmatch(line) or WAITING.fullmatch(line)
+        or FLAGS.issuperset(line.split("; ")))]
+
+
+def bare(note):
+    """A note without its capital letter and full stop."""
+    return note[:1].lower() + note[1:].removesuffix(".")
+
+
+def days_shown(fragment):
+    """The days that a fragment shows, or its runs, in the form of what is told."""
+    shown = [dict(facts) for facts in fragment.facts]
+    if any("As dated there" in facts for facts in shown):
+        return [{name: facts[name] for name in DAY_FACTS} for facts in shown]
+    return [pair for facts in fragment.facts for pair in facts]
+
+
+def without_dual(shown):
+    return {**shown, "As dated there": ""} if isinstance(shown, dict) else shown
+
+
+def differences(html, program, journal, code, date, weekday="", order=""):
+    """Where a fragment says another thing than `read` prints."""
+    fragment = Fragment(html)
+    lines, told = read_page(program, journal, code, date, weekday, order)
+    found, wanted = days_shown(fragment), days_told(lines) or runs_told(lines)
+    if any(line.startswith(OTHER_CALENDAR) for line in lines):
+        # `read` dates the day by the calendar that is named, and the page as the place did.
+        found, wanted = ([without_dual(one) for one in days] for days in (found, wanted))
+    wrong = [] if found == wanted or TWO_WEEKDAYS in told else [f"days {found}, wanted {wanted}"]
+    notes = [bare(note) for note in fragment.notes if not note.startswith("The date is ")]
+    wanted = [bare(note) for note in notes_told(lines, told)]
+    holds = notes == wanted if lines else len(notes) == 1 and wanted[0].endswith(notes[0])
+    if not holds:
+        wrong.append(f"notes {notes}, wanted {wanted}")
+    return [f"{code} {date!r} {weekday} {order}: {what}" for what in wrong]

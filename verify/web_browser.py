@@ -1,0 +1,349 @@
+#!/usr/bin/env python3
+"""Works with the page in headless Chromium as its readers do, and holds what it shows against what
+the program prints.
+
+It types dates, by keyboard alone, chooses weekdays, follows links and goes back, walks through a
+month by its arrows, and looks at a place and a year. It drops tables of letters, mends a row in its
+place, and saves the table: what is saved has to be what `letters` writes. Then 100,000 rows come,
+while it is watched how long the page stands still. Without JavaScript the main question and a table
+are asked again. Each page is looked at for contrast, names of its fields, width, hosts, and what
+the browser tells, at three sizes, in light and in dark. `--pictures FOLDER` keeps the pictures.
+"""
+import os
+import subprocess
+import tempfile
+import time
+from urllib.parse import parse_qs, urlencode, urlsplit
+
+from common import TOP, CommandLine, end
+from keeping import verdict
+from web_answers import differences
+from web_browsing import SIZES, Browser, By, Keys, Select
+from web_runs import SAMPLES, Page, hold
+
+TYPED = [("GB", "11 February 1731", "Friday"), ("GB", "5 September 1752", ""),
+         ("GB", "11 Feb. 1731/32", ""), ("SE", "30 February 1712", "Friday"),
+         ("GB", "March 1731", ""), ("GB", "3-10 May 1640?", ""), ("GB", "before 1640", ""),
+         ("GB", "11 February 1752/3", ""), ("GB", "1751-01-10", ""), ("RU", "5 Feb. 1918", ""),
+         ("RM", "24 March 1582", "Monday"), ("GB", "11/2/1731", ""), ("GB", "xi May 1640", ""),
+         ("GB", "[about 1640?]", ""), ("GB", "11 May 1731/2", ""), ("GB", "1 June 1640 N.S.", "")]
+PAGES = ["/", "/?code=GB&date=11+February+1731&weekday=Friday", "/?code=GB&date=1752-09-05",
+         "/month?code=GB&year=1752&month=9", "/month?code=GB&year=1731&month=3", "/place?code=GB",
+         "/place?code=SE", "/place", "/year?code=GB&year=1752", "/letters",
+         "/day?code=SE&day=625000"]
+GAPS = """
+window.longest = 0;
+let last = performance.now();
+const look = (now) => {
+    window.longest = Math.max(window.longest, now - last);
+    last = now;
+    requestAnimationFrame(look);
+};
+requestAnimationFrame(look);
+"""
+DROP = """
+const words = new DataTransfer();
+words.items.add(new File([arguments[0]], arguments[1], {type: "text/csv"}));
+for (const type of ["dragover", "drop"]) {
+    document.getElementById("drop").dispatchEvent(
+        new DragEvent(type, {dataTransfer: words, bubbles: true, cancelable: true}));
+}
+"""
+
+
+def inner(browser, selector="#answer"):
+    return browser.one(selector).get_attribute("innerHTML")
+
+
+def hold_typed(browser, page, program):
+    """Types dates, and holds each answer against `read`. How long the slowest one took after its
+    command."""
+    slowest = 0.0
+    browser.driver.get(page.address)
+    for code, date, weekday in TYPED:
+        Select(browser.one("#code")).select_by_value(code)
+        Select(browser.one("#weekday")).select_by_value(weekday)
+        field = browser.one("#date")
+        field.clear()
+        field.send_keys(date)
+        began = time.monotonic()
+        browser.wait(f"the answer to {date}", lambda: browser.driver.title.startswith(
+            f"{date} in ") and f"({code})" in inner(browser))
+        wanted = {"code": [code], "date": [date]} | ({"weekday": [weekday]} if weekday else {})
+        browser.wait("its address", lambda: parse_qs(urlsplit(
+            browser.driver.current_url).query) == wanted)
+        took, began = time.monotonic() - began, time.monotonic()
+        wrong = differences(inner(browser), program, SAMPLES, code, date, weekday)
+        slowest = max(slowest, took - (time.monotonic() - began))
+        hold(f"the typed {date}", not wrong, *wrong)
+        hold(f"the citation of {date}", browser.one("#citation").text.endswith(
+            "by the calendar change register, edition 5 of samples.journal."))
+    hold("the page answers within a second of its command", slowest < 1, slowest)
+    return slowest
+
+
+def hold_links(browser, page):
+    """The address is the question: again, by its link, and by the button that goes back."""
+    address = page.address + "/?" + urlencode({"code": "GB", "date": "5 September 1752"})
+    browser.driver.get(address)
+    answer = browser.one("#answer").text
+    browser.driver.refresh()
+    hold("the same address again", browser.one("#answer").text == answer)
+    link = browser.one("#link").get_attribute("href")
+    hold("the link names the edition", "edition=5" in link, link)
+    browser.driver.get(link)
+    hold("the link answers the same", browser.one("#answer").text == answer)
+    browser.driver.get(link.replace("edition=5", "edition=4"))
+    hold("a link of another edition says so", "made of edition 4" in browser.one("#answer").text)
+    browser.driver.get(page.address + "/?code=GB&date=11+February+1731")
+    field = browser.one("#date")
+    field.clear()
+    field.send_keys("March 1731")
+    browser.wait("an answer", lambda: "25 March 1731" in browser.one("#answer").text)
+    browser.one("#answer .end").click()
+    browser.wait("the page of a day", lambda: "/day?" in browser.driver.current_url)
+    browser.driver.back()
+    browser.wait("the answer again", lambda: "25 March 1731" in browser.one("#answer").text)
+    hold("the field after going back", browser.one("#date").get_attribute("value") == "March 1731")
+
+
+def hold_order(browser, page, program):
+    """A date that is open between day and month, by the link that says the order."""
+    browser.driver.get(page.address + "/?code=GB&date=11%2F2%2F1731")
+    for order, place in (("dmy", 0), ("mdy", 1)):
+        browser.all(".choices a")[place].click()
+        browser.wait("the answer", lambda: browser.all(".found"))
+        wrong = differences(inner(browser), program, SAMPLES, "GB", "11/2/1731", order=order)
+        hold(f"11/2/1731 by {order}", not wrong, *wrong)
+        browser.driver.back()
+        browser.wait("the choices again", lambda: browser.all(".choices a"))
+
+
+def hold_copies(browser, page):
+    """The button that copies."""
+    browser.driver.execute_cdp_cmd("Browser.grantPermissions", {
+        "origin": page.address, "permissions": ["clipboardReadWrite",
+                                                "clipboardSanitizedWrite"]})
+    browser.driver.get(page.address + "/?code=GB&date=11+February+1731")
+    browser.one(".link button").click()
+    browser.wait("it is copied", lambda: browser.one(".link button").text == "Copied")
+    held = browser.driver.execute_async_script(
+        "navigator.clipboard.readText().then(arguments[0], (why) => arguments[0](String(why)))")
+    hold("the copied citation", held == browser.one("#citation").text, held)
+
+
+def hold_keyboard(browser, page, program):
+    """One question by keyboard alone, with a focus that is seen at each step."""
+    browser.driver.get(page.address)
+    browser.run("document.activeElement.blur(); window.getSelection().removeAllRanges();")
+    order = []
+    for _ in range(30):
+        browser.press(Keys.TAB)
+        at = browser.focused()
+        order.append(at.get_attribute("id") or at.text)
+        outline = at.value_of_css_property("outline-style")
+        hold(f"the focus on {order[-1]} is seen", outline != "none", outline)
+        if order[-1] == "code":
+            at.send_keys("Great")
+        elif order[-1] == "date":
+            at.send_keys("11 February 1731", Keys.ENTER)
+            break
+    hold("the date is reached by Tab", order[-1] == "date", order)
+    browser.wait("the answer", lambda: browser.all(".found"))
+    wrong = differences(inner(browser), program, SAMPLES, "GB", "11 February 1731")
+    hold("the answer by keyboard", not wrong, *wrong)
+    hold("the answer is told", browser.one("#answer").get_attribute("aria-live") == "polite")
+
+
+def hold_month(browser, page):
+    """September 1752 with its gap, by the arrows."""
+    browser.driver.get(page.address + "/month?code=GB&year=1752&month=September")
+    marked = [cell.text for cell in browser.all(".month .changed")]
+    hold("the day after the gap is marked", marked == ["14"], marked)
+    hold("the gap is told", "Wednesday 2 September 1752 was followed by Thursday 14 September 1752."
+         in browser.one(".gap-note").text)
+    browser.run("document.querySelector('.month td a').focus()")
+    for key, wanted in ((Keys.ARROW_RIGHT, "2"), (Keys.ARROW_RIGHT, "14"), (Keys.ARROW_DOWN, "21"),
+                        (Keys.HOME, "17"), (Keys.END, "23"), (Keys.ARROW_UP, "16")):
+        browser.press(key)
+        hold(f"the key to {wanted}", browser.focused().text == wanted, browser.focused().text)
+    browser.press(Keys.ENTER)
+    browser.wait("the page of the day", lambda: "/day?" in browser.driver.current_url)
+    hold("the day", "Saturday 16 September 1752" in browser.one("h1").text, browser.one("h1").text)
+
+
+def hold_place_and_year(browser, page, program):
+    """The line of time against `territory`, and the year against `almanac`."""
+    for code in ("GB", "SE", "RU", "RM"):
+        browser.driver.get(f"{page.address}/place?code={code}")
+        lines = subprocess.run([program, "territory", SAMPLES, code], check=True, text=True,
+                               capture_output=True).stdout.splitlines()[1:]
+        rows = browser.all("main tbody tr")
+        hold(f"the periods of {code}", len(rows) == len(lines), len(rows), lines)
+        for row, line in zip(rows, lines):
+            cells = [cell.text for cell in row.find_elements(By.CSS_SELECTOR, "th, td")]
+            spans = [cell for cell in cells[1:3] if cell.split()[0].endswith("day")]
+            words = [*spans, f"{cells[3].lower()} calendar", f"(years from {cells[4]})",
+                     f"{cells[5].lower()} rule"]
+            hold(f"a period of {code}", all(word in line for word in words), words, line)
+        hold(f"the drawing of {code}", len(browser.all("svg .period")) == len(lines))
+    browser.driver.get(f"{page.address}/year?code=GB&year=1752")
+    text = " ".join(browser.one("main").text.split())
+    almanac = subprocess.run([program, "almanac", SAMPLES, "GB", "1752"], check=True, text=True,
+                             capture_output=True).stdout.splitlines()
+    for line in almanac[7:13]:
+        name, weekday, number, dual = line[:13].strip(), *line[13:].split(maxsplit=2)
+        hold(f"{name} of 1752", f"{name} {weekday} {dual} {number}" in text, line)
+    hold("the figures of 1752", "Golden number 5 5" in text and "Sunday letter ED BA" in text)
+
+
+def letters_told(program, table, *options):
+    return subprocess.run([program, "letters", SAMPLES, *options], input=table, check=False,
+                          capture_output=True).stdout
+
+
+def mended_table(browser):
+    """Mends the rows that can be mended, and gives the table that letters is asked of."""
+    browser.one("[aria-label='Mend row 11']").click()
+    inputs = browser.all("[data-row='10'] input")
+    inputs[0].clear()
+    inputs[0].send_keys("SE")
+    inputs[2].clear()
+    inputs[2].send_keys("Friday", Keys.ENTER)
+    browser.wait("row 11 is mended", lambda: browser.one("#told").text.startswith("Row 11: "))
+
+
+def hold_letters(browser, page, program):
+    """A table that is dropped, mended in a row, and saved."""
+    with open(os.path.join(TOP, "examples", "letters.csv"), encoding="utf-8") as file:
+        table = file.read()
+    browser.driver.get(page.address + "/letters")
+    browser.run(DROP, table, "letters.csv")
+    browser.wait("the rows", lambda: "18 rows" in browser.one("#told").text)
+    shown = [row.text for row in browser.all("#rows tr[data-row]")]
+    hold("each row is shown", len(shown) == 18, len(shown))
+    browser.one("#save").click()
+    name, held = browser.saved()
+    hold("the saved table", (name, held) == ("letters-found.csv",
+                                             letters_told(program, table.encode())), name)
+    Select(browser.one("#remark")).select_by_value("*")
+    remarks = [row for row in letters_told(program, table.encode()).decode().splitlines()[1:]
+               if not row.endswith(",")]
+    browser.wait("the rows with a remark", lambda: len(browser.all("#rows tr[data-row]"))
+                 == len(remarks))
+    mended_table(browser)
+    browser.one("#save").click()
+    wanted = letters_told(program, table.replace("11,XX,1 May 1700,Fryday",
+                                                 "11,SE,1 May 1700,Friday").encode())
+    held = browser.saved()[1]
+    hold("the mended table", held == wanted, held[-900:], wanted[-900:])
+    browser.run(DROP, "a,b\n1,2\n", "wrong.csv")
+    browser.wait("the fault", lambda: "no column place" in browser.one("#fault").text)
+
+
+def hold_many_rows(browser, page, program):
+    """100,000 rows: how long the page stood still, and how long all took."""
+    rows = "".join(f"{row},GB,{1 + row % 28} March {1600 + row % 150},\n"
+                   for row in range(100_000))
+    table = "letter,place,date,weekday\n" + rows
+    path = os.path.join(browser.folder, ".many.csv")
+    with open(path, "w", encoding="utf-8") as file:
+        file.write(table)
+    browser.driver.get(page.address + "/letters")
+    browser.one("#table").send_keys(path)
+    browser.run(GAPS)
+    began = time.monotonic()
+    browser.one("#letters button[type=submit]").click()
+    browser.wait("100,000 rows", lambda: "100,000 rows," in browser.one("#told").text, 60)
+    took = time.monotonic() - began
+    browser.run("const view = document.getElementById('view'); view.scrollTop = view.scrollHeight;")
+    browser.wait("the last row", lambda: browser.all("[data-row='99999']"))
+    drawn = len(browser.all("#rows tr"))
+    hold("only the rows that are seen stand in the page", drawn < 80, drawn)
+    longest = browser.run("return window.longest") / 1000
+    hold("the page doesn't stand still for half a second", longest < 0.5, longest)
+    browser.one("#save").click()
+    held = browser.saved(30)[1]
+    hold("100,000 rows that are saved", held == letters_told(program, table.encode()))
+    return took, longest
+
+
+def hold_without_scripts(page, program):
+    """The main question and a table without JavaScript."""
+    browser = Browser(scripts=False)
+    try:
+        for code, date, weekday in TYPED[:8]:
+            browser.driver.get(page.address)
+            Select(browser.one("#code")).select_by_value(code)
+            Select(browser.one("#weekday")).select_by_value(weekday)
+            browser.one("#date").send_keys(date, Keys.ENTER)
+            browser.wait("the answer", lambda: browser.all("#citation"))
+            wrong = differences(inner(browser), program, SAMPLES, code, date, weekday)
+            hold(f"{date} without JavaScript", not wrong, *wrong)
+        hold("no script ran", not browser.all(".link button"))
+        path = os.path.join(TOP, "examples", "transcribed.csv")
+        browser.driver.get(page.address + "/letters")
+        browser.one("#table").send_keys(path)
+        browser.one("#letters button[type=submit]").click()
+        with open(path, "rb") as file:
+            hold("a table without JavaScript",
+                 browser.saved()[1] == letters_told(program, file.read()))
+    finally:
+        browser.close()
+
+
+def hold_looks(page, folder):
+    """Each page at three sizes, in light and in dark. How many were looked at."""
+    looked = 0
+    host = page.address.removeprefix("http://")
+    for dark in (False, True):
+        browser = Browser(dark=dark)
+        try:
+            for size in SIZES:
+                browser.resize(size)
+                for order, path in enumerate(PAGES):
+                    browser.driver.get(page.address + path)
+                    wrong = browser.looks(host)
+                    hold(f"{path} at {size}{' in dark' if dark else ''}", not wrong, *wrong)
+                    name = f"{order:02}-{size}{'-dark' if dark else ''}.png"
+                    browser.picture(os.path.join(folder, name))
+                    looked += 1
+        finally:
+            browser.close()
+    return looked
+
+
+def main():
+    line = CommandLine(__doc__)
+    line.add_program()
+    line.add_argument("--pictures", metavar="FOLDER", help="where the pictures are kept")
+    options = line.read()
+    if options.pictures:
+        os.makedirs(options.pictures, exist_ok=True)
+    program, browser = options.program, Browser()
+    page = Page(program, SAMPLES)
+    page.address = f"http://{page.host}:{page.port}"
+    try:
+        slowest = hold_typed(browser, page, program)
+        hold_links(browser, page)
+        hold_order(browser, page, program)
+        hold_copies(browser, page)
+        hold_keyboard(browser, page, program)
+        hold_month(browser, page)
+        hold_place_and_year(browser, page, program)
+        hold_letters(browser, page, program)
+        took, longest = hold_many_rows(browser, page, program)
+    finally:
+        browser.close()
+    hold_without_scripts(page, program)
+    with tempfile.TemporaryDirectory() as folder:
+        looked = hold_looks(page, options.pictures or folder)
+    hold("no process is left", not page.stop()[0])
+    return verdict(
+        f"{len(TYPED)} typed dates, {looked} pictures, tables mended and saved: all as the "
+        f"program's; the slowest answer {slowest:.2f} s after its command, 100,000 rows in "
+        f"{took:.1f} s, still for {longest:.2f} s at most")
+
+
+if __name__ == "__main__":
+    end(main)

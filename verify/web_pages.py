@@ -1,0 +1,187 @@
+#!/usr/bin/env python3
+"""Holds the page against the program, by requests: dates, months and tables of letters.
+
+A run of `python3 -m web` answers over the samples, and then over random territories. Each answer
+of a typed date, of the forms in docs/DATES.md and of random ones, is held against what `read`
+prints and what the query `written` answers; each month against `month`. Each table that is sent
+comes back as `letters` writes it, byte by byte, or with the fault that it tells.
+"""
+import os
+import random
+import subprocess
+import tempfile
+import time
+
+from common import TOP, CommandLine, end
+from keeping import verdict
+from samples import MALFORMED, date_text, journal_lines, label_near, middle_day, write_journal
+from web_answers import differences
+from web_runs import SAMPLES, Page, form_of, hold, written
+from written import Territory
+
+FORMS = ["11 Feb. 1731/32", "le 1er avril 1640", "1731 February 11", "11. 2. 1731", "25/12/1640",
+         "11 February 1752/3", "11 May 1731/2", "Monday 11 February 1731/2", "1752-09-05",
+         "1751-01-10", "1700-02-29", "1700-04-31", "29 8ber 1640", "March 1731", "1731", "1731/2",
+         "3-10 May 1640?", "1 to 5 September 1752", "between 3 and 10 May 1640", "before 1640",
+         "not before May 1640", "by 3 May 1640", "[about 11 February 1731?]", "1640-1645",
+         "11 February 1731 N.S.", "11 February 1731 O.S.", "3 May 1640 (?)", "n.d.", "11/2/1731",
+         "11/22 February 1731", "Easter 1640", "xi February 1731", "1731/3", "1731-13-11",
+         "11 February 31", "no text of a date", "--strict", "-5", "a <b>&amp;\"'", "ä 1640 é",
+         "1-10 March 1731", "February 1731/2", "10 to 3 May 1640", "Friday 11 February 1731"]
+
+
+def hold_dates(page, program, journal, dates):
+    """Typed dates against `read` and `written`. How many were held."""
+    for code, date, weekday in dates:
+        status, told = page.answer(code=code, date=date, weekday=weekday)
+        if status != 200:
+            hold(f"{code} {date!r} is answered", False, status, told)
+            continue
+        reply = written(program, journal, code, date, weekday)
+        hold(f"{code} {date!r}: the query's answer", told["written"] == reply["answer"])
+        hold(f"{code} {date!r}: the edition", told["edition"] == reply["edition"])
+        wrong = differences(told["html"], program, journal, code, date, weekday)
+        hold(f"the answer of {code} {date!r}", not wrong, *wrong)
+    return len(dates)
+
+
+def sample_dates():
+    places, weekdays = ["GB", "SE", "RU", "RM", "DE"], ["", "", "Friday", "Sunday"]
+    return [(places[order % 5] if order % 2 else "GB", date, weekdays[order % 4])
+            for order, date in enumerate(FORMS)]
+
+
+def random_dates(program, folder, chance, count):
+    """A journal of random territories, and dates near their changes."""
+    journal, middle = os.path.join(folder, f"{chance.random()}.journal"), middle_day(chance)
+    service = write_journal(journal, journal_lines(chance, middle))
+    lands = {code: Territory(land) for code, land in service.published.items()}
+    weekdays = ["", "", "Monday", "Friday"]
+    dates = []
+    for _ in range(count):
+        code = chance.choice(sorted(lands))
+        date = date_text(chance, label_near(chance, lands[code], middle)) \
+            if chance.random() < 0.9 else chance.choice(MALFORMED)
+        if date.strip() and date.isprintable():
+            dates.append((code, date, chance.choice(weekdays)))
+    return journal, dates
+
+
+def month_grids(text):
+    """The runs of a month as `month` prints them: a title, and weeks of seven days or gaps."""
+    runs, lines = [], text.splitlines()[1:]
+    for before, line in zip(lines, lines[1:]):
+        if line.startswith("Su Mo"):
+            runs.append([before.strip()])
+        elif runs and not any(sign.isalpha() for sign in line):
+            runs[-1].append([line[3 * place:3 * place + 2].strip() for place in range(7)])
+    return runs
+
+
+def page_grids(html):
+    """The runs of a month as the page has them."""
+    runs = []
+    for part in html.split('<table class="month"')[1:]:
+        part = part.partition("</table>")[0]
+        title = part.partition("<caption>")[2].partition("</caption>")[0]
+        weeks = [[cell.partition("</a>")[0].rpartition(">")[2] if "</a>" in cell else ""
+                  for cell in row.split("<td")[1:]]
+                 for row in part.partition("<tbody>")[2].split("<tr>")[1:]]
+        runs.append([title, *weeks])
+    return runs
+
+
+def hold_months(page, program, journal):
+    """Months of the samples against `month`. How many were held."""
+    asked = [("GB", year, month) for year in (1731, 1751, 1752) for month in range(1, 13)]
+    asked += [("SE", 1712, 2), ("SE", 1700, 2), ("SE", 1753, 2), ("RU", 1918, 2), ("RM", 4, 3),
+              ("GB", 0, 1), ("GB", 10_000, 1), ("GB", 9_999, 12), ("RM", 1, 1)]
+    for code, year, month in asked:
+        status, _, body = page.get(f"/month?code={code}&year={year}&month={month}")
+        done = subprocess.run([program, "month", journal, code, str(year), str(month)],
+                              capture_output=True, text=True, check=False)
+        hold(f"the month {code} {year}-{month}", status == 200 and month_grids(done.stdout)
+             == page_grids(body.decode()), status, page_grids(body.decode()))
+    return len(asked)
+
+
+def letters_told(program, journal, table, *options):
+    done = subprocess.run([program, "letters", journal, *options], input=table,
+                          capture_output=True, check=False)
+    return done.stdout, done.stderr.decode()
+
+
+def hold_tables(page, program, journal):
+    """Tables that are sent, against `letters`."""
+    def read(name):
+        with open(os.path.join(TOP, "examples", name), "rb") as file:
+            return file.read()
+    letters, places, typed = read("letters.csv"), read("places.csv"), read("transcribed.csv")
+    status, _, body = page.ask("POST", "/letters", letters)
+    hold("a table as it is", (status, body) == (200, letters_told(program, journal, letters)[0]))
+    form, headers = form_of({"order": "dmy"}, {"table": ("t.csv", typed),
+                                               "places": ("places.csv", places)})
+    status, told, body = page.ask("POST", "/letters", form, headers)
+    wanted = letters_told(program, journal, typed, "--order", "dmy", "--places",
+                          os.path.join(TOP, "examples", "places.csv"))[0]
+    hold("a table with places", (status, body) == (200, wanted), status, body[:200])
+    hold("its name", 'filename="t-found.csv"' in told.get("Content-Disposition", ""), told)
+    other = letters.replace(b",", b";").replace(b"place;", b"Ort;").replace(b"date;", b"Datum;")
+    form, headers = form_of({"column_place": "Ort", "column_date": "Datum"},
+                            {"table": ("x.csv", other)})
+    status, _, body = page.ask("POST", "/letters", form, headers)
+    wanted = letters_told(program, journal, other, "--place", "Ort", "--date", "Datum")[0]
+    hold("a table with semicolons", (status, body) == (200, wanted), status, body[:200])
+    many = letters + b"".join(b"%d,GB,11 February 1731,Friday\n" % row for row in range(100_000))
+    began = time.monotonic()
+    status, _, body = page.ask("POST", "/letters", many, seconds=60)
+    took = time.monotonic() - began
+    hold("a table of 100,000 rows", (status, body) == (200, letters_told(program, journal,
+                                                                          many)[0]))
+    return took
+
+
+def hold_bad_tables(page, program, journal):
+    """Tables that have a fault: the status and the program's own words, but for its options."""
+    bad = [(b"\x00\x01\x02\xff" * 20, 422), (b"a,b\n1,2\n", 422), (b"", 422),
+           (b"place,date\n\"GB,1731\n", 200)]
+    for table, wanted in bad:
+        status, _, body = page.ask("POST", "/letters", table)
+        told = letters_told(program, journal, table)[1].removeprefix("oldstyle: ").strip()
+        told = told.replace("by --place", "in the field “Column of places” (column_place)")
+        hold(f"the table {table[:10]!r}", status == wanted and told in
+             body.decode(errors="replace"), status, body[-100:], told)
+    form, headers = form_of({"order": "xyz"}, {"table": ("t.csv", b"place,date\n")})
+    hold("another order", page.ask("POST", "/letters", form, headers)[0] == 400)
+    form, headers = form_of({}, {})
+    hold("a form without a table", page.ask("POST", "/letters", form, headers)[0] == 400)
+    hold("a form that ends too early", page.ask("POST", "/letters", b"--x\r\nbroken",
+         {"Content-Type": "multipart/form-data; boundary=x"})[0] == 400)
+
+
+def main():
+    line = CommandLine(__doc__)
+    line.add_program()
+    line.add_count(300, "random dates")
+    line.add_seed()
+    options = line.read()
+    program, chance = options.program, random.Random(options.seed)
+    page = Page(program, SAMPLES)
+    dates = hold_dates(page, program, SAMPLES, sample_dates())
+    months = hold_months(page, program, SAMPLES)
+    took = hold_tables(page, program, SAMPLES)
+    hold_bad_tables(page, program, SAMPLES)
+    left = page.stop()[0]
+    with tempfile.TemporaryDirectory() as folder:
+        for _ in range(3):
+            journal, more = random_dates(program, folder, chance, options.count // 3)
+            page = Page(program, journal)
+            dates += hold_dates(page, program, journal, more)
+            left += page.stop()[0]
+    hold("no process is left", not left, left)
+    return verdict(f"{dates} dates and {months} months are answered as the program does, and "
+                   f"tables too; 100,000 rows in {took:.1f} s")
+
+
+if __name__ == "__main__":
+    end(main)

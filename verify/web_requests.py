@@ -1,0 +1,293 @@
+#!/usr/bin/env python3
+"""Tries the page by requests that go wrong, and looks at what it leaves.
+
+Requests that are broken, too long, too slow, too large or too many each have their status, and the
+next good one is answered. Processes of the program are killed beneath the page, readers go away in
+the midst of a table, and the journal is published anew, left unfinished and taken away. The page is
+ended by three signals: none of its processes is left. What its command tells of wrong words is
+tried too.
+"""
+import json
+import os
+import random
+import shutil
+import signal
+import socket
+import subprocess
+import sys
+import tempfile
+import threading
+import time
+from urllib.parse import urlencode
+
+from common import TOP, CommandLine, end
+from keeping import verdict
+from web_runs import SAMPLES, Page, first_line, free_port, hold
+
+MEBIBYTE = 1024 * 1024
+
+
+def hold_status(what, told, wanted):
+    wanted = wanted if isinstance(wanted, tuple) else (wanted,)
+    hold(what, any(f" {status} " in f" {told} " for status in wanted), f"it is {told!r}")
+
+
+def hold_statuses(page):
+    """Wrong requests, each with its status."""
+    wrong = [("/nowhere", 404), ("/static/../settings.py", 404), ("/static/none.css", 404),
+             ("/?code=GB&date=" + "x" * 201, 400), ("/?code=gb", 400), ("/?code=ZZ&date=1", 404),
+             ("/?code=GB&date=1731&weekday=Fryday", 400), ("/?code=GB&date=1&order=x", 400),
+             ("/?date=%ff", 400), ("/?date=%00&code=GB", 400), ("/?" + "x" * 5000, 414),
+             ("/month?code=GB&year=99999&month=1", 400), ("/month?code=GB&year=1&month=13", 400),
+             ("/year?code=GB&year=0", 400), ("/day?code=GB&day=0", 400), ("/day?code=GB", 400),
+             ("/day?code=GB&day=3652060", 400), ("/place?code=ZZ", 404), ("/?" + "&a=1" * 40, 400)]
+    for path, wanted in wrong:
+        status = page.get(path)[0]
+        hold(f"{path[:40]} has status {wanted}", status == wanted, status)
+    for method, path, wanted in (("PUT", "/", 405), ("POST", "/", 405), ("DELETE", "/letters", 405),
+                                 ("HEAD", "/", 200), ("BREW", "/", 405)):
+        hold(f"{method} {path} has status {wanted}", page.ask(method, path)[0] == wanted)
+    raw = [(b"nonsense\r\n\r\n", 400), (b"GET / HTTP/9.9\r\n\r\n", (400, 505)),
+           (b"GET /" + b"x" * 10_000 + b" HTTP/1.1\r\n\r\n", 414),
+           (b"GET / HTTP/1.1\r\n" + b"X: " + b"y" * 40_000 + b"\r\n\r\n", 431),
+           (b"GET / HTTP/1.1\r\n" + b"X: y\r\n" * 200 + b"\r\n", 431),
+           (b"POST /letters HTTP/1.1\r\nTransfer-Encoding: chunked\r\n\r\n0\r\n\r\n", 411),
+           (b"POST /letters HTTP/1.1\r\nContent-Length: many\r\n\r\n", 400),
+           (b"POST /letters HTTP/1.1\r\nContent-Length: 99999999999\r\n\r\n", 413),
+           (bytes(random.Random(1).randbytes(3000)) + b"\r\n\r\n", (400, 414, 505))]
+    for text, wanted in raw:
+        hold_status(f"{text[:30]!r}", page.raw(text), wanted)
+    return len(wrong) + 5 + len(raw)
+
+
+def hold_large(page, most):
+    """An upload over the limit is told so, while it is being sent."""
+    status = page.ask("POST", "/letters", b"x" * (most + 1))[0]
+    hold("a table over the limit has status 413", status == 413, status)
+    table = b"place,date\n" + b"GB,1731\n" * ((most - 100) // 8)
+    status, _, body = page.ask("POST", "/letters", table, seconds=120)
+    hold("a table of nearly the limit is answered", status == 200 and body.count(b"\n")
+         == table.count(b"\n"), status)
+
+
+def hold_slow(page):
+    """A client that sends a byte now and then is told 408, and others are answered meanwhile."""
+    def drip(text, told):
+        with socket.create_connection((page.host, page.port), 60) as connection:
+            try:
+                for sign in text:
+                    connection.sendall(bytes([sign]))
+                    time.sleep(0.4)
+            except OSError:
+                pass
+            told.append(first_line(connection))
+    told = []
+    texts = [b"GET / HTTP/1.1\r\n" + b"X: y\r\n" * 20] * 20
+    slow = [threading.Thread(target=drip, args=(text, told)) for text in texts]
+    for thread in slow:
+        thread.start()
+    began = time.monotonic()
+    hold("a reader beside slow ones", page.get("/?code=GB&date=1731-02-11")[0] == 200)
+    hold("it waits for none of them", time.monotonic() - began < 2)
+    for thread in slow:
+        thread.join()
+    hold("slow requests have status 408 or are cut off",
+         all(" 408 " in line or not line for line in told) and any(" 408 " in line
+                                                                   for line in told), told)
+
+
+def hold_many(program):
+    """More connections than are allowed: each one more is told 503."""
+    page = Page(program, SAMPLES, ["--connections", "20"])
+    held = [socket.create_connection((page.host, page.port), 30) for _ in range(20)]
+    time.sleep(0.3)
+    with socket.create_connection((page.host, page.port), 30) as one_more:
+        hold_status("a connection too many", first_line(one_more), 503)
+    for connection in held:
+        connection.close()
+    time.sleep(0.3)
+    hold("the next reader", page.get("/")[0] == 200)
+    return page.stop()
+
+
+def hold_killed(page):
+    """Processes of the program that are killed are started again, and no reader sees it."""
+    statuses = []
+    for _ in range(20):
+        for process in page.children():
+            try:
+                os.kill(process, signal.SIGKILL)
+            except ProcessLookupError:
+                pass
+        statuses.append(page.get("/?code=GB&date=3-10+May+1640")[0])
+    hold("readers while processes are killed", set(statuses) == {200}, statuses)
+    zombies = [process for process in page.children()
+               if state_of(process) == "Z"]
+    hold("no zombie is left", len(zombies) <= 3, zombies)
+
+
+def state_of(process):
+    try:
+        with open(f"/proc/{process}/stat", encoding="utf-8") as file:
+            return file.read().rpartition(")")[2].split()[0]
+    except OSError:
+        return ""
+
+
+def hold_cut(page):
+    """Readers that go away in the midst of a table leave no process."""
+    before = set(page.children())
+    table = b"place,date\n" + b"GB,11 February 1731\n" * 200_000
+    for _ in range(5):
+        with socket.create_connection((page.host, page.port), 30) as connection:
+            connection.sendall(b"POST /letters HTTP/1.1\r\nContent-Length: %d\r\n\r\n" % len(table)
+                               + table)
+            connection.recv(1000)
+    time.sleep(1)
+    hold("a table that nobody reads ends its process", set(page.children()) <= before)
+    hold("the next table", page.ask("POST", "/letters", b"place,date\nGB,1731\n")[0] == 200)
+
+
+def hold_headers(page):
+    """What each reply carries, and that a page that is held already is not sent again."""
+    _, headers, _ = page.get("/?code=GB&date=1731-02-11")
+    policy = headers.get("Content-Security-Policy", "")
+    hold("the policy of content", policy.startswith("default-src 'none'; script-src 'self'")
+         and "unsafe" not in policy and headers["X-Content-Type-Options"] == "nosniff"
+         and headers["Referrer-Policy"] == "no-referrer", headers)
+    status, _, body = page.get("/?code=GB&date=1731-02-11", **{"If-None-Match": headers["ETag"]})
+    hold("a page that is held", (status, body) == (304, b""), status)
+    body = page.get("/?" + urlencode({"code": "GB", "date": '"><script>alert(1)</script>'}))[2]
+    hold("what is typed is escaped", b"<script>alert" not in body)
+
+
+def hold_words(program, folder):
+    """What the command tells of wrong words."""
+    broken = os.path.join(folder, "broken.journal")
+    with open(broken, "w", encoding="utf-8") as file:
+        file.write("no journal\n")
+    port = free_port()
+    with socket.socket() as taken:
+        taken.bind(("127.0.0.1", port))
+        taken.listen()
+        tried = [(["none.journal"], "none.journal: no such file"), ([], "JOURNAL"),
+                 ([broken], "journal line 1"), ([SAMPLES, "--port", str(port)], "is in use"),
+                 ([SAMPLES, "--port", "x"], "--port: x is no whole number from 0 to 65535"),
+                 ([SAMPLES, "--port", "70000"], "--port: 70000 is no whole number"),
+                 ([SAMPLES, "--program", "/none"], "/none is no program"),
+                 ([SAMPLES, "--max-upload", "0"], "--max-upload: 0 is no whole number"),
+                 ([SAMPLES, "--address", "256.1.1.1"], "256.1.1.1")]
+        for words, wanted in tried:
+            given = words if "--program" in words else [*words, "--program", program]
+            done = subprocess.run([sys.executable, "-m", "web", *given], cwd=TOP, timeout=30,
+                                  capture_output=True, text=True, check=False)
+            hold(f"{words} is told", done.returncode != 0 and wanted in done.stderr
+                 and "Traceback" not in done.stderr, done.stderr)
+    return len(tried)
+
+
+def hold_ends(program, journal):
+    """The page ends by each signal, and no process of it is left."""
+    for number in (signal.SIGTERM, signal.SIGINT, signal.SIGKILL):
+        page = Page(program, journal)
+        page.get("/?code=GB&date=March+1731")
+        left, told = page.stop(number)
+        hold(f"the page ends by signal {number}", not left and "Traceback" not in told, left, told)
+
+
+def hold_journal(program, folder, follows):
+    """A journal that is published anew is seen at once. One that goes away, is cut or is broken is
+    told to those who ask, and no end: once it is right again so are the answers."""
+    journal = os.path.join(folder, "kept.journal")
+    shutil.copy(SAMPLES, journal)
+    page = Page(program, journal)
+    page.answer(code="GB", date="1731-02-11")
+    hold("how the program is started", runs_with(page, "--follow") == follows)
+    lines = json.dumps({"op": "add_land", "code": "VE", "name": "Venice", "calendar": "julian",
+                        "style": "january", "rule": "julian"}) + '\n{"op":"publish"}\n'
+    subprocess.run([program, "serve", "--journal", journal, "--save", journal], input=lines,
+                   text=True, check=True, capture_output=True)
+    told = page.answer(code="VE", date="1731-02-11")
+    hold("an edition that comes is seen", told[0] == 200 and told[1]["edition"] == 6, told)
+    with open(journal, "a", encoding="utf-8") as file:
+        file.write('{"op":"pub')
+    hold("a line that is not finished", page.answer(code="VE", date="1731-02-11")[0] == 200)
+    with open(journal, "rb") as file:
+        whole = file.read().rpartition(b"\n")[0] + b"\n"
+    for what, text in (("goes away", None), ("is cut", whole[:400]), ("is broken", b"broken\n"),
+                       ("is empty", b"")):
+        replace(journal, text)
+        hold_unanswered(page, f"a journal that {what}", follows)
+        replace(journal, whole)
+        told = page.answer(code="VE", date="1731-02-11")
+        hold(f"a journal that {what} and comes back", told[0] == 200 and told[1]["edition"] == 6,
+             told)
+    return page.stop()[0]
+
+
+def replace(path, text):
+    """Puts a new file at a path, or none."""
+    if os.path.exists(path):
+        os.remove(path)
+    if text is not None:
+        with open(path, "wb") as file:
+            file.write(text)
+
+
+def hold_unanswered(page, what, follows):
+    """Dates and tables are told 503 while there is no register: nobody is told that it lacks a
+    place. A process that doesn't follow may know the register still."""
+    status, told = page.answer(code="VE", date="1731-02-11")
+    hold(what, status == 503 or not follows and status == 200, status, told)
+    status, _, body = page.ask("POST", "/letters", b"place,date\nVE,1731-02-11\n")
+    hold(f"{what}, and a table", status == 503 and b"/" not in body or status == 200
+         and b"UnknownLand" in body and "is cut" in what, status, body)
+
+
+def runs_with(page, word):
+    """Whether a process of the page was started with a word."""
+    for process in page.children():
+        with open(f"/proc/{process}/cmdline", "rb") as file:
+            if word.encode() in file.read().split(b"\0"):
+                return True
+    return False
+
+
+def older(program, folder):
+    """The program without --follow, as older ones are."""
+    stand_in = os.path.join(folder, "older")
+    with open(stand_in, "w", encoding="utf-8") as file:
+        file.write(f'''#!/bin/sh
+[ "$1" = help ] && exit
+[ "$2" = --follow ] && exit 2
+exec {program} "$@"
+''')
+    os.chmod(stand_in, 0o755)
+    return stand_in
+
+
+def main():
+    line = CommandLine(__doc__)
+    line.add_program()
+    program = line.read().program
+    page = Page(program, SAMPLES, ["--max-upload", "8"])
+    wrong = hold_statuses(page)
+    hold_headers(page)
+    hold_large(page, 8 * MEBIBYTE)
+    hold_slow(page)
+    hold_killed(page)
+    hold_cut(page)
+    left = page.stop()[0]
+    with tempfile.TemporaryDirectory() as folder:
+        words = hold_words(program, folder)
+        left += hold_journal(program, folder, True)
+        left += hold_journal(older(program, folder), folder, False)
+    left += hold_many(program)[0]
+    hold_ends(program, SAMPLES)
+    hold("no process is left", not left, left)
+    return verdict(f"{wrong} wrong requests and {words} wrong words are told as they are to be, "
+                   "slow, large and many ones too; no process is left")
+
+
+if __name__ == "__main__":
+    end(main)

@@ -1,0 +1,71 @@
+"""The month as it was lived: its days by lines of the program, and the changes that it meets."""
+from dataclasses import dataclass, field
+
+from .words import WEEKDAYS, full, regime_text
+
+MOST_DAYS = 100
+
+
+@dataclass
+class MonthFound:
+    """A month of a territory: runs of weeks, each week seven days or gaps, and its changes."""
+    year: int
+    month: int
+    runs: list
+    changes: list
+    reason: str
+    marked: set = field(default_factory=set)
+
+
+@dataclass
+class Change:
+    """A change: the day before it, its day, and the regimes on both sides."""
+    before: dict
+    found: dict
+    old: dict
+    new: dict
+
+    def sentence(self):
+        return f"{full(self.before)} was followed by {full(self.found)}."
+
+    def difference(self):
+        return f"Until then: {regime_text(self.old)}. From then on: {regime_text(self.new)}."
+
+
+def changes_of(asking, code, periods):
+    """The changes of a territory, from its periods."""
+    pairs = list(zip(periods, periods[1:]))
+    ends = [number for old, new in pairs for number in (old["last"], new["first"])]
+    days = [answer["found"] for answer in asking.lines(*({"op": "day", "code": code, "day": number}
+                                                         for number in ends))]
+    return [Change(days[2 * place], days[2 * place + 1], old, new)
+            for place, (old, new) in enumerate(pairs)]
+
+
+def month_found(asking, code, year, month):
+    """The days that a territory dated in a month of its year."""
+    written, = asking.lines({"op": "written", "code": code, "date": f"{year:04}-{month:02}"})
+    ends = [(run["first"]["day"], run["last"]["day"]) for run in written["runs"]]
+    runs = []
+    for first, last in ends:
+        numbers = range(first, last + 1)[:MOST_DAYS]
+        answers = asking.lines(*({"op": "day", "code": code, "day": day} for day in numbers))
+        runs.append([answer["found"] for answer in answers])
+    periods = asking.lines({"op": "periods", "code": code})[0]["periods"]
+    held = {found["day"] for run in runs for found in run}
+    met = [change for change in changes_of(asking, code, periods)
+           if held & {change.before["day"], change.found["day"]}]
+    found = MonthFound(year, month, [weeks_of(run) for run in runs], met, written["reason"])
+    found.marked = {change.found["day"] for change in met}
+    return found
+
+
+def weeks_of(days):
+    """Days that follow one another, in weeks from Sunday; None where a week has no day of them."""
+    weeks = []
+    for found in days:
+        place = WEEKDAYS.index(found["weekday"])
+        if not weeks or place == 0:
+            weeks.append([None] * 7)
+        weeks[-1][place] = found
+    return weeks

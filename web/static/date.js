@@ -1,0 +1,94 @@
+// One date: asks as it is typed, keeps the address, and copies the citation.
+const form = document.getElementById("question");
+const answer = document.getElementById("answer");
+const WAIT = 180;
+let timer = 0;
+let asking = null;
+let shown = questionOf((field) => field.defaultValue ?? chosenFirst(field));
+
+// The question by the fields' words, as an address has it.
+function questionOf(word) {
+    const members = new URLSearchParams();
+    for (const field of form.elements) {
+        if (field.name) members.set(field.name, word(field).trim());
+    }
+    return members.toString();
+}
+
+// What a list had chosen when the page came.
+function chosenFirst(list) {
+    return [...list.options].find((option) => option.defaultSelected)?.value ?? "";
+}
+
+function later() {
+    clearTimeout(timer);
+    timer = setTimeout(ask, WAIT);
+}
+
+// Asks for the answer. One that is overtaken by a later question is thrown away.
+async function ask() {
+    const question = questionOf((field) => field.value);
+    if (question === shown) return;
+    asking?.abort();
+    asking = new AbortController();
+    try {
+        const reply = await fetch(`${form.dataset.answer}?${question}`,
+            {signal: asking.signal, headers: {Accept: "application/json"}});
+        const told = await reply.json();
+        if (reply.ok) {
+            show(told, question);
+        } else {
+            tell(told.told);
+        }
+    } catch (why) {
+        if (why.name !== "AbortError") tell("The page’s server doesn’t answer. Try again.");
+    }
+}
+
+function show(told, question) {
+    shown = question;
+    answer.innerHTML = told.html;
+    document.title = told.title;
+    history.replaceState(null, "", told.address);
+    offerCopy();
+}
+
+function tell(sentence) {
+    shown = null;
+    const line = document.createElement("p");
+    line.className = "reason";
+    line.textContent = sentence;
+    answer.replaceChildren(line);
+}
+
+// Puts buttons that copy beside the link, where the browser lets a page copy.
+function offerCopy() {
+    const link = document.getElementById("link");
+    if (!link || !navigator.clipboard) return;
+    const citation = document.getElementById("citation");
+    link.after(copyButton("Copy the citation", () => citation.textContent),
+        copyButton("Copy the link", () => link.href));
+}
+
+function copyButton(name, text) {
+    const button = document.createElement("button");
+    button.type = "button";
+    button.className = "plain";
+    button.textContent = name;
+    button.addEventListener("click", async () => {
+        try {
+            await navigator.clipboard.writeText(text());
+            button.textContent = "Copied";
+        } catch {
+            button.textContent = "Not allowed: mark it and copy";
+        }
+        setTimeout(() => { button.textContent = name; }, 2000);
+    });
+    return button;
+}
+
+form.addEventListener("input", later);
+form.addEventListener("change", later);
+// A page that comes back from the browser's memory may have other words in its fields.
+window.addEventListener("pageshow", ask);
+offerCopy();

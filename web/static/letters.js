@@ -1,0 +1,226 @@
+// A table of letters: sends it, shows its rows as they come, has them mended, and saves them.
+import {Records, fieldsOf, lastField, separatorOf} from "./csv.js";
+import {Mending} from "./mending.js";
+import {Sheet} from "./sheet.js";
+
+const MARK = "\u001e";
+const FIRST = ["remark", "dual", "weekday_found", "earliest", "latest", "kind"];
+const WORK = 12;
+const named = (id) => document.getElementById(id);
+const form = named("letters");
+const sheet = new Sheet(named("view"), named("head"), named("rows"), (row) => mending.begin(row));
+const mending = new Mending(sheet, form, tell, counted);
+let stopping = null;
+let isSaved = true;
+
+function tell(sentence) { named("told").textContent = sentence; }
+
+function fault(sentence) { named("fault").textContent = sentence; }
+
+const number = (count) => count.toLocaleString("en");
+
+// How many lines a file has, for the bar of progress.
+async function linesOf(file) {
+    let count = 0;
+    const reader = file.stream().getReader();
+    for (let piece; !(piece = await reader.read()).done;) {
+        for (let at = piece.value.indexOf(10); at >= 0; at = piece.value.indexOf(10, at + 1)) {
+            count += 1;
+        }
+    }
+    return count;
+}
+
+async function send(event) {
+    event.preventDefault();
+    const file = named("table").files[0];
+    if (!file) return fault("Choose a table first, or drop one on the page.");
+    const most = Number(form.dataset.most);
+    if (file.size > most) {
+        return fault(`The table has ${number(file.size)} bytes, and ${number(most)} are the most `
+            + "that is taken here. Send it in parts, or use oldstyle letters.");
+    }
+    begin();
+    const words = new FormData(form);
+    words.set("told", "1");
+    try {
+        named("progress").removeAttribute("value");
+        const lines = await linesOf(file);
+        const reply = await fetch(form.action, {method: "POST", body: words,
+            signal: stopping.signal, headers: {Accept: "application/json"}});
+        if (reply.ok) {
+            await take(reply.body.getReader(), Math.max(1, lines - 1));
+        } else {
+            fault(explained((await reply.json()).told));
+        }
+    } catch (why) {
+        fault(why.name === "AbortError" ? "It was stopped: the rows that came are here."
+            : "The connection ended before the table did. Send it again.");
+    }
+    finish();
+    return null;
+}
+
+function begin() {
+    stopping?.abort();
+    stopping = new AbortController();
+    fault("");
+    tell("The table is being sent.");
+    sheet.clear();
+    mending.keep(form);
+    isSaved = true;
+    named("running").hidden = false;
+    named("result").hidden = true;
+}
+
+// Takes the rows as they come, and gives the browser time between them.
+async function take(reader, total) {
+    const decoder = new TextDecoder();
+    const records = new Records();
+    let since = performance.now();
+    for (let piece; !(piece = await reader.read()).done;) {
+        add(records.take(decoder.decode(piece.value, {stream: true})));
+        if (performance.now() - since > WORK) {
+            progress(total);
+            await new Promise((resume) => { setTimeout(resume); });
+            since = performance.now();
+        }
+    }
+    const at = records.rest.lastIndexOf(MARK);
+    if (at < 0) throw new Error("the end is missing");
+    const end = JSON.parse(records.rest.slice(at + 1));
+    if (end.status !== 0) fault(explained(end.told));
+}
+
+function add(records) {
+    if (!sheet.columns.length && records.length) beginTable(records.shift());
+    for (const record of records) {
+        sheet.records.push(record);
+        sheet.remarks.push(lastField(record, sheet.separator));
+    }
+}
+
+function beginTable(header) {
+    const separators = {comma: ",", semicolon: ";", tab: "\t"};
+    const separator = separators[named("separator").value] ?? separatorOf(header);
+    sheet.begin(fieldsOf(header, separator), [], separator);
+    named("result").hidden = false;
+}
+
+function progress(total) {
+    const bar = named("progress");
+    bar.value = Math.min(1, sheet.records.length / total);
+    const tenth = Math.floor(bar.value * 10);
+    if (tenth !== progress.last) tell(`${number(sheet.records.length)} rows are answered.`);
+    progress.last = tenth;
+    if (!sheet.shown.length) setColumns();
+    sheet.later();
+}
+
+// What is told of a table, as a sentence of this page.
+function explained(told) {
+    const sentence = told.replace(/\.$/, "");
+    return `${sentence.replace(/ or rename it$/, " or rename it, and send the table again")}.`;
+}
+
+function finish() {
+    named("running").hidden = true;
+    if (!sheet.columns.length) {
+        tell("");
+        return;
+    }
+    setColumns();
+    counted();
+    tell(summary());
+}
+
+function summary() {
+    const remarks = sheet.remarks.filter((remark) => remark).length;
+    const count = sheet.records.length;
+    return `${number(count)} ${count === 1 ? "row" : "rows"}, ${number(remarks)} with a remark.`;
+}
+
+// Counts the remarks anew and offers each of them.
+function counted(row = null) {
+    if (row !== null) isSaved = false;
+    const counts = new Map();
+    for (const remark of sheet.remarks) {
+        for (const part of remark ? remark.split("; ") : []) {
+            counts.set(part, (counts.get(part) ?? 0) + 1);
+        }
+    }
+    const list = named("remark");
+    const held = list.value;
+    const remarked = sheet.remarks.filter((remark) => remark).length;
+    const choices = [["", `all rows (${number(sheet.records.length)})`],
+        ["*", `rows with a remark (${number(remarked)})`],
+        ...[...counts].sort().map(([remark, count]) => [remark, `${remark} (${number(count)})`])];
+    list.replaceChildren(...choices.map(([value, text]) => new Option(text, value)));
+    list.value = choices.some(([value]) => value === held) ? held : "";
+}
+
+function choose() {
+    const wanted = named("remark").value;
+    if (!wanted) return sheet.choose(null);
+    const has = wanted === "*" ? (remark) => remark
+        : (remark) => remark.split("; ").includes(wanted);
+    const chosen = [];
+    sheet.remarks.forEach((remark, row) => { if (has(remark)) chosen.push(row); });
+    return sheet.choose(chosen);
+}
+
+function setColumns() {
+    const all = sheet.columns.map((_, place) => place);
+    const read = mending.places();
+    const first = FIRST.map((name) => sheet.columns.lastIndexOf(name));
+    const shown = named("wide").checked ? all : [...read, ...first];
+    sheet.show(shown);
+}
+
+function save() {
+    const parts = [`${mending.header()}\n`];
+    for (let at = 0; at < sheet.records.length; at += 5000) {
+        parts.push(`${sheet.records.slice(at, at + 5000).join("\n")}\n`);
+    }
+    const link = document.createElement("a");
+    link.href = URL.createObjectURL(new Blob(parts, {type: "text/csv"}));
+    link.download = named("table").files[0].name.replace(/\.\w+$/, "") + "-found.csv";
+    link.click();
+    setTimeout(() => URL.revokeObjectURL(link.href), 60_000);
+    isSaved = true;
+}
+
+// The names of a table's columns, to choose from.
+async function offerColumns() {
+    const file = named("table").files[0];
+    if (!file) return;
+    const text = (await file.slice(0, 65_536).text()).replace(/^\uFEFF/, "").trimStart();
+    const header = text.split(/\r\n|\n|\r/)[0];
+    const names = fieldsOf(header, separatorOf(header)).slice(0, 60);
+    named("columns").replaceChildren(...names.map((name) => new Option(name, name)));
+}
+
+function drop(event) {
+    event.preventDefault();
+    named("drop").classList.remove("over");
+    if (!event.dataTransfer?.files.length) return;
+    named("table").files = event.dataTransfer.files;
+    offerColumns();
+    form.requestSubmit();
+}
+
+function over(event) {
+    event.preventDefault();
+    named("drop").classList.toggle("over", event.type === "dragover");
+}
+
+form.addEventListener("submit", send);
+named("table").addEventListener("change", offerColumns);
+named("stop").addEventListener("click", () => stopping.abort());
+named("remark").addEventListener("change", choose);
+named("wide").addEventListener("change", setColumns);
+named("save").addEventListener("click", save);
+document.addEventListener("dragover", over);
+document.addEventListener("dragleave", over);
+document.addEventListener("drop", drop);
+window.addEventListener("beforeunload", (event) => { if (!isSaved) event.preventDefault(); });
