@@ -104,7 +104,7 @@ def without(form, text):
 
 
 def set_of(text):
-    """The set that a text is, None where it is none. Its days have one sign, or none."""
+    """The set that a text is, or None. Its days have one sign, or none."""
     if not re.fullmatch(SET, text):
         return None
     members = []

@@ -79,7 +79,7 @@ def needs_page(written, date):
 
 
 def read_page(asking, code, date, weekday, order):
-    """The page of a date, and what is told where it is none."""
+    """The page of a date, and what is told where it has no page."""
     words = [code, *(["--weekday", weekday] if weekday else [])]
     return asking.page("read", *words, *(["--order", order] if order else []), "--", date)
 

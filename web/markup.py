@@ -17,7 +17,7 @@ def element(tag, *children, **attributes):
 
 
 def attribute(name, value):
-    """An attribute as it stands in a tag: True is a bare one, None and False are none."""
+    """An attribute as it stands in a tag: True stands bare, None and False are left out."""
     if value is None or value is False:
         return ""
     name = name.rstrip("_").replace("_", "-")

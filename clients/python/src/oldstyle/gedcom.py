@@ -106,7 +106,7 @@ class Tree:
         return ""
 
     def decoded(self, raw: str) -> Optional[str]:
-        """A text by the letters of the file, or None where its bytes are none."""
+        """A text by the letters of the file, or None where its bytes spell no text."""
         try:
             return raw.encode("latin-1").decode(self._charset)
         except UnicodeDecodeError:

@@ -135,7 +135,7 @@ def line_of(row: Row) -> bytes:
 
 
 def written_line(code: Optional[str], date: Optional[str], weekday: Optional[str] = None) -> bytes:
-    """The request line that asks for a date. An empty weekday is none."""
+    """The request line that asks for a date. An empty weekday is left out."""
     for text in (code, date, weekday or ""):
         if not isinstance(text, str):
             raise TypeError(f"{text!r} is no text: a code, a date and a weekday are texts")
