@@ -14,7 +14,8 @@ class Problem(Exception):
 
 def no_place(code):
     """The problem of a code that no territory has."""
-    return Problem(404, f"No territory of the register has the code {code}: choose one of the list.")
+    return Problem(404, f"No territory of the register has the code {code}: choose one of the "
+                        "list.")
 
 
 def busy(what):
