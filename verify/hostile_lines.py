@@ -29,8 +29,8 @@ LINES_A_FILE = 32
 OPS = ["add_land", "add_change", "alter_change", "drop_change", "add_exception", "drop_exception",
        "publish", "read", "day", "periods", "lands", "easter", "figures", "written", "fly"]
 NAMES = ["op", "reader", "code", "name", "year", "month", "day", "calendar", "style", "rule",
-         "date", "weekday", "step", "ask", "journal", "Op", "op ", "", "~", "é", "o\\u0070", "\\u006fp",
-         "co\\u0064e", "\\n"]
+         "date", "weekday", "step", "ask", "journal", "Op", "op ", "", "~", "é",
+         "o\\u0070", "\\u006fp", "co\\u0064e", "\\n"]
 TEXTS = OPS + ["GB", "RM", "A1B2C3D4", "gb", "TOOLONGCODE", "Great Britain", "julian", "gregorian",
                "swedish", "january", "annunciation", "easter", "pisan", "friday", "n.d.",
                "x" * 64, "x" * 65, "é", "", "G\\u0042", "\\u0047B", "a\\\"b", "\\\\", "\\/",

@@ -71,7 +71,7 @@ class Pointers:
 
 
 def code_of(date: Date, desk: Desk) -> Optional[str]:
-    """The territory of a date. Told is where it has none, or nothing to read."""
+    """The territory of a date. Says where it has none, or nothing to read."""
     if not date.text:
         if not date.attributes:
             desk.say(date.line, "a date has neither a text nor an attribute")
