@@ -9,7 +9,7 @@ use Rattle.osn_register.specs.declared.limits.Limits.{Limits}
 use Rattle.osn_register.specs.Plain.{LandModel, refusal, effect, applied_all}
 use Rattle.osn_core.specs.Sequential.{joined, AreLawful}
 use Rattle.osn_core.proofs.Lawful.{applied_all-append, applied-lawful, AreLawful-front}
-use Rattle.osn_core.proofs.Lawful.{AreLawful-behind}
+use Rattle.osn_core.proofs.Lawful.{AreLawful-after}
 
 -- the rest of a list from an element on
 pub left_from : {A : Type 0} (xs : List A) (i : ℕ) (x : A) → i < length xs → x ≡ get_or xs i x
@@ -49,7 +49,7 @@ next_batch_lawful limits old bs i b within is lawful =
     subst (λ cs. AreLawful newest_rules limits old (joined cs)) (left_from bs i b within is) lawful
     in (
       AreLawful-front newest_rules limits old b rest all,
-      AreLawful-behind newest_rules limits old b rest all,
+      AreLawful-after newest_rules limits old b rest all,
     )
 
 -- one batch more is applied
@@ -111,6 +111,6 @@ lawful_between limits bs from to old order was lawful =
     ∙ ap (λ es. es ++ last) (ap joined (sym (parts bs from to order))
     ∙ joined-append (take from bs) (slice_range bs from to)) in
     subst (λ ls. AreLawful newest_rules limits ls between) (sym was)
-    (AreLawful-behind newest_rules limits [] first between
+    (AreLawful-after newest_rules limits [] first between
     (AreLawful-front newest_rules limits [] (first ++ between) last
     (subst (AreLawful newest_rules limits []) whole lawful)))

@@ -27,9 +27,10 @@ use Rattle.osn_files.specs.declared.fault.LineFault.{LineFault}
 use Rattle.osn_files.specs.Turns.{on_read, go_on, in_turn}
 use Rattle.osn_audit.specs.Audit.{TranscriptLine, line_due, has_line, last_of, after_entry}
 use Rattle.osn_audit.specs.Audit.{entry_in}
-use Rattle.osn_audit.specs.Audit.{after_object, after_lines, no_replies, counted, agreed_lines}
-use Rattle.osn_audit.specs.Law.{Agrees, entry_of, IsAnswered, edition_told, editions_told}
-use Rattle.osn_audit.proofs.EntryLemmas.{CountedEntry, entry_counted}
+use Rattle.osn_audit.specs.Audit.{after_object, after_lines, no_replies, count_or_fault}
+use Rattle.osn_audit.specs.Audit.{agreed_lines}
+use Rattle.osn_audit.specs.Law.{Agrees, entry_of, IsAnswered, edition_of_reply, editions_of_replies}
+use Rattle.osn_audit.proofs.EntryLemmas.{EntryHasKnownReader, entry_known}
 
 -- what an entry that agrees shows
 record Holds (s : ObjectState) (last : List ℕ) (e : TranscriptLine) (next : List ℕ) : Type 0 where
@@ -89,7 +90,7 @@ All-cons P x xs h rest (suc k) d within = rest k d (omega (arith, within))
 abbrev Follows : ObjectState → List ℕ → List (List ℕ) → Type 0
 Follows s last ls =
     All (IsAnswered s) ls
-    × ((reader : ℕ) → NeverFalls (last_of last reader) (editions_told reader ls))
+    × ((reader : ℕ) → NeverFalls (last_of last reader) (editions_of_replies reader ls))
 
 -- a reader's editions don't fall by an entry
 forward_by : (reader : ℕ) (last : List ℕ) (e : TranscriptLine) (rest : List ℕ) (b : Bool)
@@ -114,7 +115,7 @@ with_entry : (s : ObjectState) (last next line : List ℕ) (ls : List (List ℕ)
     → length last ≡ 64 → entry_of line ≡ Ok e → Holds s last e next
     → Follows s next ls → Follows s last (line ∷ ls)
 with_entry s last next line ls e count says holds rest =
-    let known = subst CountedEntry says (entry_counted line) in
+    let known = subst EntryHasKnownReader says (entry_known line) in
     let within : e.reader - 1 < length last = omega (arith, count, known.0, known.1) in (
       All-cons (IsAnswered s) line ls
           (record {
@@ -130,10 +131,11 @@ with_entry s last next line ls e count says holds rest =
           rest.0,
       λ reader.
           subst
-          (λ r. NeverFalls (last_of last reader) (edition_told reader r ++ editions_told reader ls))
+          (λ r. NeverFalls (last_of last reader)
+          (edition_of_reply reader r ++ editions_of_replies reader ls))
           (sym says)
-          (forward_by reader last e (editions_told reader ls) _ refl within holds.forward
-          (subst (λ l. NeverFalls (last_of l reader) (editions_told reader ls))
+          (forward_by reader last e (editions_of_replies reader ls) _ refl within holds.forward
+          (subst (λ l. NeverFalls (last_of l reader) (editions_of_replies reader ls))
           (sym holds.next_is) (rest.1 reader))),
     )
 
@@ -187,14 +189,14 @@ follows s k last final (line ∷ ls) count h =
 
 agrees_by : (s : ObjectState) (ls : List (List ℕ)) (n : ℕ)
     (r : Result (List ℕ) (ℕ × LineFault)) → after_lines s ls ≡ r
-    → counted (length ls) r ≡ Ok n → (n ≡ length ls) × Agrees s ls
+    → count_or_fault (length ls) r ≡ Ok n → (n ≡ length ls) × Agrees s ls
 agrees_by s ls n (Err f) is h = absurd (cc)
 agrees_by s ls n (Ok final) is h =
     let all = follows s 1 no_replies final ls refl is in (
       cc,
       record {
         answered = all.0;
-        forward = λ reader. lower 0 (last_of no_replies reader) (editions_told reader ls)
+        forward = λ reader. lower 0 (last_of no_replies reader) (editions_of_replies reader ls)
             (omega arith) (all.1 reader);
       },
     )

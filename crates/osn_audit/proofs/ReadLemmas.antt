@@ -9,7 +9,8 @@ use Rattle.osn_files.specs.declared.fault.LineFault.{LineFault}
 use Rattle.osn_files.specs.Turns.{in_turn}
 use Rattle.osn_files.proofs.FileLemmas.{IsSameFault}
 use Rattle.osn_files.proofs.TurnLemmas.{faults_from_1}
-use Rattle.osn_audit.specs.Audit.{after_object, after_lines, no_replies, counted, agreed_lines}
+use Rattle.osn_audit.specs.Audit.{after_object, after_lines, no_replies, count_or_fault}
+use Rattle.osn_audit.specs.Audit.{agreed_lines}
 
 -- lines that are read by the newest version, where no reader has a reply
 pub lines_read : (object s : ObjectState) (version : Version) (last : List ℕ)
@@ -29,13 +30,13 @@ pub all_agreed : (object s : ObjectState) (version : Version) (last made : List 
     → IfSome input (λ bytes. agreed_lines s (lines bytes) ≡ Ok n)
 all_agreed object s version last made n None same newest none h count = tt
 all_agreed object s version last made n (Some bytes) same newest none h count =
-    ap (counted (length (lines bytes)))
+    ap (count_or_fault (length (lines bytes)))
     (sym (lines_read object s version last (lines bytes) same newest none) ∙ h)
     ∙ ap Ok (sym count)
 
-counted_too : (n : ℕ) (r : Result (List ℕ) (ℕ × LineFault)) → IsSameFault r (counted n r)
-counted_too n (Ok last) = tt
-counted_too n (Err f) = refl
+count_too : (n : ℕ) (r : Result (List ℕ) (ℕ × LineFault)) → IsSameFault r (count_or_fault n r)
+count_too n (Ok last) = tt
+count_too n (Err f) = refl
 
 -- they are refused by one as by the other
 pub refused_too : (object s : ObjectState) (version : Version) (last : List ℕ)
@@ -45,16 +46,16 @@ pub refused_too : (object s : ObjectState) (version : Version) (last : List ℕ)
 refused_too object s version last ls same newest none =
     subst (λ r. IsSameFault r (agreed_lines s ls))
     (sym (lines_read object s version last ls same newest none))
-    (counted_too (length ls) (after_lines s ls))
+    (count_too (length ls) (after_lines s ls))
 
-counted_fault : (n : ℕ) (r : Result (List ℕ) (ℕ × LineFault)) → IfErr r (λ e. 0 < e.0)
-    → IfErr (counted n r) (λ e. 0 < e.0)
-counted_fault n (Ok last) h = tt
-counted_fault n (Err f) h = h
+count_fault : (n : ℕ) (r : Result (List ℕ) (ℕ × LineFault)) → IfErr r (λ e. 0 < e.0)
+    → IfErr (count_or_fault n r) (λ e. 0 < e.0)
+count_fault n (Ok last) h = tt
+count_fault n (Err f) h = h
 
 -- and their lines are counted from 1
 pub agreed_from_1 : (s : ObjectState) (ls : List (List ℕ))
     → IfErr (agreed_lines s ls) (λ e. 0 < e.0)
 agreed_from_1 s ls =
-    counted_fault (length ls) (after_lines s ls)
+    count_fault (length ls) (after_lines s ls)
     (faults_from_1 (after_object s) (Some newest_version) no_replies ls)

@@ -105,10 +105,10 @@ no_replies = replicate most_readers 0
 abbrev pub after_lines : ObjectState → List (List ℕ) → Result (List ℕ) (ℕ × LineFault)
 after_lines s = in_turn (after_object s) 1 (Some newest_version) no_replies
 
-abbrev pub counted : ℕ → Result (List ℕ) (ℕ × LineFault) → Result ℕ (ℕ × LineFault)
-counted n (Ok last) = Ok n
-counted n (Err f) = Err f
+abbrev pub count_or_fault : ℕ → Result (List ℕ) (ℕ × LineFault) → Result ℕ (ℕ × LineFault)
+count_or_fault n (Ok last) = Ok n
+count_or_fault n (Err f) = Err f
 
 -- how many lines of a transcript agree, which is all of them, or the first fault
 abbrev pub agreed_lines : ObjectState → List (List ℕ) → Result ℕ (ℕ × LineFault)
-agreed_lines s transcript = counted (length transcript) (after_lines s transcript)
+agreed_lines s transcript = count_or_fault (length transcript) (after_lines s transcript)

@@ -5,8 +5,8 @@ use Rattle.osn_audit.specs.declared.transcript_line.TranscriptLine.{TranscriptLi
 use Rattle.osn_audit.specs.Audit as spec
 
 -- what a line that was read says
-abbrev pub entry_shown : TranscriptLine → spec.TranscriptLine
-entry_shown e =
+abbrev pub entry_model : TranscriptLine → spec.TranscriptLine
+entry_model e =
     record {
       reader = e.reader;
       query = as_query e.query;

@@ -25,17 +25,17 @@ pub record IsAnswered (s : ObjectState) (line : List ℕ) : Type 0 where
   pub no_float : has_float entry.reply ≡ false
   pub reply : line_of entry.reply ≡ line_due s entry
 
--- the editions that a reader is told in the lines, in order
-abbrev pub edition_told : ℕ → Result TranscriptLine WireFault → List ℕ
-edition_told reader (Ok e) = if e.reader == reader then e.edition ∷ [] else []
-edition_told reader (Err f) = []
+-- the editions of the replies to a reader in the lines, in order
+abbrev pub edition_of_reply : ℕ → Result TranscriptLine WireFault → List ℕ
+edition_of_reply reader (Ok e) = if e.reader == reader then e.edition ∷ [] else []
+edition_of_reply reader (Err f) = []
 
-abbrev pub editions_told : ℕ → List (List ℕ) → List ℕ
-editions_told reader [] = []
-editions_told reader (line ∷ rest) =
-    edition_told reader (entry_of line) ++ editions_told reader rest
+abbrev pub editions_of_replies : ℕ → List (List ℕ) → List ℕ
+editions_of_replies reader [] = []
+editions_of_replies reader (line ∷ rest) =
+    edition_of_reply reader (entry_of line) ++ editions_of_replies reader rest
 
 -- each line is answered, and no reader's editions fall
 pub record Agrees (s : ObjectState) (lines : List (List ℕ)) : Type 0 where
   pub answered : All (IsAnswered s) lines
-  pub forward : (reader : ℕ) → NeverFalls 0 (editions_told reader lines)
+  pub forward : (reader : ℕ) → NeverFalls 0 (editions_of_replies reader lines)

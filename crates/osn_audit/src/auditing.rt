@@ -10,7 +10,7 @@ ghost use Rattle.osn_reply.specs.declared.outcome.Outcome.TheVariants.{Replied};
 ghost use Rattle.osn_request.specs.Request.{Fails};
 ghost use Rattle.osn_request.specs.declared.request.RequestError.TheVariants.{NoMemory};
 ghost use Rattle.osn_audit.specs.Audit as spec;
-ghost use Rattle.osn_audit.specs.Inside.{entry_shown};
+ghost use Rattle.osn_audit.specs.Inside.{entry_model};
 
 use crate::float::has_float;
 use crate::followers::Followers;
@@ -34,7 +34,7 @@ fn has_line(alloc: Global, reply: &Value, line: &[u8]) -> Result<bool, AllocErro
 
 /// What the reader of an entry should be told, whose last edition is that of the entry then.
 fn outcome_due(followers: &mut Followers, entry: &TranscriptLine) -> Result<Outcome, AllocError>
-    requires counted { 0 < entry.now.reader }
+    requires from_one { 0 < entry.now.reader }
     requires known { entry.now.reader ≤ MOST_READERS }
     requires edition { spec.known_edition (length followers.old.object.batches)
         (spec.last_of followers.old.last entry.now.reader) entry.now.edition
@@ -61,13 +61,13 @@ fn put_line_due(
     line: &mut Vec<u8>,
     entry: &TranscriptLine,
 ) -> Result<(), AllocError>
-    requires counted { 0 < entry.now.reader }
+    requires from_one { 0 < entry.now.reader }
     requires known { entry.now.reader ≤ MOST_READERS }
     requires edition { spec.known_edition (length followers.old.object.batches)
         (spec.last_of followers.old.last entry.now.reader) entry.now.edition
         ≡ Ok entry.now.edition }
     ensures line { OnOk result (line.new.items
-        ≡ spec.line_due followers.old.object (entry_shown entry.now)) }
+        ≡ spec.line_due followers.old.object (entry_model entry.now)) }
     ensures last { OnOk result (followers.new.last
         ≡ slice_set followers.old.last (entry.now.reader - 1) entry.now.edition) }
     ensures object { followers.new.object ≡ followers.old.object }
@@ -80,12 +80,12 @@ fn put_line_due(
 /// Whether an entry may be compared with the journal: its reader may be told its edition now, and
 /// its reply has no float. This takes no memory.
 fn check_entry(followers: &Followers, entry: &TranscriptLine) -> Result<(), WireFault>
-    requires counted { 0 < entry.now.reader }
+    requires from_one { 0 < entry.now.reader }
     requires known { entry.now.reader ≤ MOST_READERS }
     ensures fault { IfErr result (λ f. spec.after_entry followers.now.object
-        followers.now.last (entry_shown entry.now) ≡ Err f) }
+        followers.now.last (entry_model entry.now) ≡ Err f) }
     ensures checked { OnOk result (is_ok (spec.checked followers.now.object followers.now.last
-        (entry_shown entry.now)) ≡ true) }
+        (entry_model entry.now)) ≡ true) }
     ensures edition { OnOk result (spec.known_edition (length followers.now.object.batches)
         (spec.last_of followers.now.last entry.now.reader) entry.now.edition
         ≡ Ok entry.now.edition) }
@@ -109,14 +109,14 @@ pub(crate) fn take_entry(
     due: &mut Vec<u8>,
     entry: &TranscriptLine,
 ) -> Result<(), RequestError>
-    requires counted { 0 < entry.now.reader }
+    requires from_one { 0 < entry.now.reader }
     requires known { entry.now.reader ≤ MOST_READERS }
     ensures ok { OnOk result (spec.after_entry followers.old.object followers.old.last
-        (entry_shown entry.now) ≡ Ok followers.new.last) }
+        (entry_model entry.now) ≡ Ok followers.new.last) }
     ensures err { IfErr result (λ e. Fails e (spec.after_entry followers.old.object
-        followers.old.last (entry_shown entry.now))) }
+        followers.old.last (entry_model entry.now))) }
     ensures memory { IfErr result (λ e. e ≡ NoMemory → is_ok (spec.checked followers.old.object
-        followers.old.last (entry_shown entry.now)) ≡ true) }
+        followers.old.last (entry_model entry.now)) ≡ true) }
     ensures object { OnOk result (followers.new.object ≡ followers.old.object) }
 {
     check_entry(followers, entry)?;

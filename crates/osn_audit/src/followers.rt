@@ -69,7 +69,7 @@ impl Followers {
 
     /// Whether a reader may be told an edition now.
     pub(crate) fn check(&self, reader: u32, edition: u32) -> Result<(), WireFault>
-        requires counted { 0 < reader }
+        requires from_one { 0 < reader }
         requires known { reader ≤ MOST_READERS }
         ensures { MatchResult result
             (λ _. known_edition (length self.now.object.batches) (last_of self.now.last reader)
@@ -89,7 +89,7 @@ impl Followers {
     /// The answer to a query under the edition of a reader's last reply, by the latest register
     /// where that is not after it, else by the reader's own.
     fn answer(&mut self, reader: u32, query: BorrowedQuery<'_>) -> Result<Answer, AllocError>
-        requires counted { 0 < reader }
+        requires from_one { 0 < reader }
         requires known { reader ≤ MOST_READERS }
         ensures answer { IfOk result (λ a. a ≡ (reply_at newest_rules self.old.object.limits
             (take (last_of self.old.last reader) self.old.object.batches)
@@ -112,7 +112,7 @@ impl Followers {
         edition: u32,
         query: BorrowedQuery<'_>,
     ) -> Result<Reply, AllocError>
-        requires counted { 0 < reader }
+        requires from_one { 0 < reader }
         requires known { reader ≤ MOST_READERS }
         requires edition { known_edition (length self.old.object.batches)
             (last_of self.old.last reader) edition ≡ Ok edition }

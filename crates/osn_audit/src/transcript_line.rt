@@ -3,7 +3,7 @@ ghost use Rattle.std.specs.Prelude.{◌≡◌, ◌<◌, ◌≤◌, MatchResult, 
 ghost use Rattle.serde_json.specs.View.{view};
 ghost use Rattle.osn_request.specs.LineObject.{line_data};
 ghost use Rattle.osn_audit.specs.Audit as spec;
-ghost use Rattle.osn_audit.specs.Inside.{entry_shown};
+ghost use Rattle.osn_audit.specs.Inside.{entry_model};
 
 use osn_core::MOST_READERS;
 use osn_files::borrowed_question_in;
@@ -48,7 +48,7 @@ pub(crate) struct TranscriptLine<'a> {
 #[tactic(auto, unfolding(crate::specs::Audit::entry_in))]
 pub(crate) fn entry_in<'a>(object: &'a LineObject<'_>) -> Result<TranscriptLine<'a>, WireFault>
     ensures entry { MatchResult result
-        (λ e. spec.entry_in (line_data object.now) ≡ Ok (entry_shown e))
+        (λ e. spec.entry_in (line_data object.now) ≡ Ok (entry_model e))
         (λ f. spec.entry_in (line_data object.now) ≡ Err f) }
     ensures reader { IfOk result (λ e. (0 < e.reader) × (e.reader ≤ MOST_READERS)) }
 {

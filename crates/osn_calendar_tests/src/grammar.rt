@@ -81,9 +81,9 @@ impl Display for ShownWritten {
 
 /// What a text says, or why it is no date.
 #[derive(Clone, Copy)]
-struct Shown(Result<Written, DateFault>);
+struct ReadText(Result<Written, DateFault>);
 
-impl Display for Shown {
+impl Display for ReadText {
     fn fmt<W: Write>(&self, f: &mut Formatter<W>) -> fmt::Result {
         match self.0 {
             Ok(Written::NoDate) => f.write_str("no date"),
@@ -103,7 +103,7 @@ fn are_read(
 ) -> Result<(), Fail> {
     for (text, wanted) in rows {
         let read = parse(alloc, text, order)?;
-        let mut shown = format!(in alloc; "{}", Shown(read))?;
+        let mut shown = format!(in alloc; "{}", ReadText(read))?;
         if let Ok(Written::Set) = read {
             for date in &members_of(alloc, text)? {
                 write!(shown, "; {}", ShownWritten(*date))?;

@@ -12,8 +12,6 @@ mod days;
 #[cfg(test)]
 mod easter_years;
 #[cfg(test)]
-mod found;
-#[cfg(test)]
 mod gaps;
 #[cfg(test)]
 mod grammar;
@@ -23,6 +21,8 @@ mod in_words;
 mod labels;
 #[cfg(test)]
 mod lands;
+#[cfg(test)]
+mod meanings;
 #[cfg(test)]
 mod meant;
 #[cfg(test)]

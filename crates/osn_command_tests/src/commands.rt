@@ -270,7 +270,7 @@ fn have_status<R: Files<File = fs::File> + Threads + Wait + AllocGlobal + Abort>
 ) -> Result<(), Fail> {
     for (line, status) in rows {
         let left = left_over(rt, line, "")?;
-        let (code, is_quiet) = (left.status.code(), left.told.is_empty());
+        let (code, is_quiet) = (left.status.code(), left.errors.is_empty());
         same(rt, (line, code, is_quiet), (line, *status, *status == 0));
     }
     Ok(())

@@ -147,7 +147,7 @@ fn a_pipe_takes_a_journal(rt: HostRuntime) -> Result<(), Fail> {
     let number = writer.as_raw_fd();
     let line = format!(in rt.alloc(); "oldstyle serve --save /dev/fd/{number}")?;
     let left = left_over(&rt, line.as_str(), "")?;
-    same(&rt, (left.status.code(), left.told.len()), (0, 0));
+    same(&rt, (left.status.code(), left.errors.len()), (0, 0));
     let mut bytes = [0; 64];
     let read = reader.read(&mut bytes)?;
     same(&rt, str::from_utf8(&bytes[..read])?, EMPTY);
@@ -191,7 +191,7 @@ fn told_of<R: Files<File = fs::File> + Threads + Wait + AllocGlobal + Abort>(
         Some(Plain::new(&mut told)),
     );
     let left = left_by(status, output, errors);
-    same(rt, (left.status, left.told.len()), (Status::Done, 0));
+    same(rt, (left.status, left.errors.len()), (Status::Done, 0));
     Ok(told)
 }
 

@@ -304,7 +304,7 @@ fn is_agreed<R: Files<File = fs::File> + Threads + Wait + AllocGlobal + Abort>(
     rt: &R,
 ) -> Result<(), Fail> {
     let left = left_over(rt, "oldstyle desk a.script a.questions", "")?;
-    same(rt, (left.status.code(), left.told.len()), (0, 0));
+    same(rt, (left.status.code(), left.errors.len()), (0, 0));
     fs::write(rt, "a.transcript", left.written.as_slice())?;
     are_run(rt, &AGREED)
 }

@@ -324,7 +324,7 @@ pub(crate) fn are_shown<R: Files<File = fs::File> + Threads + Wait + AllocGlobal
         let left = left_over(rt, line, "")?;
         same(
             rt,
-            (line, left.status.code(), left.told.len()),
+            (line, left.status.code(), left.errors.len()),
             (line, 0, 0),
         );
         same(rt, str::from_utf8(&left.written)?, text);

@@ -99,8 +99,8 @@ fn end(fault: &LettersFault) -> (&str, u64, &str) {
         LettersFault::LacksColumn {
             column,
             line,
-            found,
-        } => (lack(*column), *line, found.as_str()),
+            header,
+        } => (lack(*column), *line, header.as_str()),
         LettersFault::HasColumn { line, column } => ("a column of ours", *line, column.name()),
         LettersFault::BadRecord { line } => ("another number of fields", *line, ""),
         LettersFault::TooLong { line } => ("a long record", *line, ""),

@@ -27,7 +27,7 @@ mod journals;
 #[cfg(test)]
 mod keeping;
 #[cfg(test)]
-mod kept;
+mod kept_journals;
 #[cfg(test)]
 mod letter_dates;
 #[cfg(test)]

@@ -109,7 +109,7 @@ editions=N, with a comma between\n"
     )?;
     let left = left_over(rt, line.as_str(), "")?;
     same(rt, left.status.code(), 2);
-    same(rt, left.told.as_slice(), told.as_bytes());
+    same(rt, left.errors.as_slice(), told.as_bytes());
     Ok(())
 }
 

@@ -65,10 +65,10 @@ fn dates_without_a_day_have_a_reason(rt: HostRuntime) -> Result<(), Fail> {
 
 /// A day: its number, its year there and counted from 1 January, and whether it is a Tuesday. The
 /// last part is whether the date has both years and the place did not count it double.
-type Told = (u32, i32, i32, bool, bool);
+type Meaning = (u32, i32, i32, bool, bool);
 
 /// What is told of a day that a date means.
-fn told(date: WrittenDate, day: &DatedDay) -> Told {
+fn meaning_of(date: WrittenDate, day: &DatedDay) -> Meaning {
     (
         day.day.number(),
         day.label.year,
@@ -79,7 +79,7 @@ fn told(date: WrittenDate, day: &DatedDay) -> Told {
 }
 
 /// A code, a date, and its first day where a Tuesday is looked for.
-const FIRST_DAYS: [(&str, Parts, Told); 4] = [
+const FIRST_DAYS: [(&str, Parts, Meaning); 4] = [
     (
         "FR",
         (1543, 4, 1, false),
@@ -103,14 +103,14 @@ fn is_first_day(
     rt: &impl Abort,
     alloc: Global,
     register: &Register,
-    row: &(&str, Parts, Told),
+    row: &(&str, Parts, Meaning),
 ) -> Result<(), Fail> {
     let (code, parts, wanted) = row;
     let date = date_of(*parts);
     let (_, territory) = register.land(code)?;
     let given = Some(Weekday::Tuesday);
     let days = days_meant(alloc, territory, date, given)?;
-    let found = days.first().map(|day| told(date, day));
+    let found = days.first().map(|day| meaning_of(date, day));
     same(rt, found, Some(*wanted));
     let has = days.first().map(|day| has_weekday(date, given, day));
     same(rt, has, Some(wanted.3));

@@ -5,7 +5,7 @@ ghost use Rattle.osn_folder.specs.Folder.{Becomes, Opens};
 ghost use Rattle.osn_command_tests.specs.Memory.{holds, known_of};
 
 use crate::files::File;
-use crate::kept::MemoryFile;
+use crate::kept_journals::MemoryFile;
 use osn_folder::{
     ChangeFailed, Folder, FollowFault, FollowedFile, KeepFault, MoveFault, OpenFailed, SaveFault,
 };
@@ -101,7 +101,7 @@ impl<R: Abort + AllocGlobal> Folder for MemoryFolder<'_, R> {
 
     type Followed = NoFile;
 
-    type Kept = MemoryFile;
+    type Keeper = MemoryFile;
 
     type Lock = MemoryLock;
 

@@ -20,7 +20,7 @@ use std::thread::Threads;
 pub struct Left {
     pub status: Status,
     pub written: Vec<u8>,
-    pub told: Vec<u8>,
+    pub errors: Vec<u8>,
 }
 
 type Memory = Plain<Vec<u8>>;
@@ -33,7 +33,7 @@ pub fn left_by(status: Status, output: Memory, errors: Memory) -> Left {
     Left {
         status,
         written: output.into_inner(),
-        told: errors.into_inner(),
+        errors: errors.into_inner(),
     }
 }
 
@@ -51,7 +51,7 @@ pub fn is_left(rt: &impl Abort, alloc: Global, left: Left, wanted: &Wanted) -> R
     let written = joined(alloc, written)?;
     same(rt, left.status.code(), *status);
     is_text(rt, &left.written, written.as_str())?;
-    is_text(rt, &left.told, told)
+    is_text(rt, &left.errors, told)
 }
 
 const RM: &str = r#"{"journal":1}
@@ -133,7 +133,7 @@ fn an_almanac_is_printed(rt: HostRuntime) -> Result<(), Fail> {
     let text = str::from_utf8(&left.written)?;
     assert!(rt; text.starts_with("Almanac of Rome (RM) for 1500\nGolden number 19, indiction 3\n"));
     same(&rt, text.lines().count(), 23);
-    same(&rt, (left.status.code(), left.told.len()), (0, 0));
+    same(&rt, (left.status.code(), left.errors.len()), (0, 0));
     Ok(())
 }
 

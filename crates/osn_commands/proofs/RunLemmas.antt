@@ -37,13 +37,13 @@ shows_help kind given o e status text is help (inl printed) =
 shows_help kind given o e status text is help (inr memory) = inl memory
 
 -- what the grammar refuses was shown
-pub shown_ran : (args : List (List ℕ)) (error : Error) (CanFail : Bool → Type 0) (d : Folders)
+pub show_runs : (args : List (List ℕ)) (error : Error) (CanFail : Bool → Type 0) (d : Folders)
     (i : Input) (o e : Output) (status : Status)
     → HasKind (fault_of command_line args) error → d.after ≡ d.before
     → ShowsOrEnds (kind_of error) o e status
     → RunsArgs args CanFail d i o e status
-shown_ran args error CanFail d i o e status kind same (inl first) = inr (same, inl first)
-shown_ran args error CanFail d i o e status (inl memory) same (inr shown) =
+show_runs args error CanFail d i o e status kind same (inl first) = inr (same, inl first)
+show_runs args error CanFail d i o e status (inl memory) same (inr shown) =
     absurd (shown.0 memory)
-shown_ran args error CanFail d i o e status (inr among) same (inr shown) =
+show_runs args error CanFail d i o e status (inr among) same (inr shown) =
     inr (same, inr (kind_of error, among, shown.1))

@@ -4,7 +4,7 @@ use Rattle.osn_completions.specs.Completions.{completions, shell_named}
 use Rattle.osn_completions.specs.declared.shell.Shell.{Shell}
 use Rattle.osn_lines.specs.Streams.{Output}
 use Rattle.osn_report.specs.Printing.{PrintsIfMade}
-use Rattle.osn_report.specs.Told.{TellsMisuse}
+use Rattle.osn_report.specs.Messages.{TellsMisuse}
 use Rattle.osn_report.specs.declared.misuse.Misuse.TheVariants as misuses
 use Rattle.osn_report.specs.declared.status.Status.{Status}
 

@@ -58,6 +58,6 @@ with_settings limits (text ∷ texts) = do
   with_settings limits texts
 
 -- the limits that words ask for: the standard ones, with those set that the words name
-abbrev pub limits_asked : Option (List ℕ) → Result Limits Misuse
-limits_asked None = Ok standard_limits
-limits_asked (Some text) = ok_or (with_settings standard_limits (settings text)) misuses.Limits
+abbrev pub limits_of_words : Option (List ℕ) → Result Limits Misuse
+limits_of_words None = Ok standard_limits
+limits_of_words (Some text) = ok_or (with_settings standard_limits (settings text)) misuses.Limits

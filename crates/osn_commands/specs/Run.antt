@@ -22,14 +22,14 @@ use Rattle.osn_page_commands.specs.LettersFiles.{RunsLetters}
 use Rattle.osn_page_commands.specs.Page.{PrintsPage}
 use Rattle.osn_report.specs.Folders.{Folders, ReadsOne, ReadsTwo}
 use Rattle.osn_report.specs.Printing.{Prints}
-use Rattle.osn_report.specs.Told.{EndsBy, Tells, TellsIfMade, TellsLine, TellsMisuse}
+use Rattle.osn_report.specs.Messages.{EndsBy, Tells, TellsIfMade, TellsLine, TellsMisuse}
 use Rattle.osn_report.specs.declared.fault.CommandFault.TheVariants.{NotOpened, NoMemory}
 use Rattle.osn_report.specs.declared.status.Status.{Status}
 use Rattle.osn_report.specs.declared.status.Status.TheVariants as statuses
 use Rattle.osn_report.specs.Unopened.{unopened_line}
 use Rattle.osn_serve_commands.specs.InFolder.{RunsServing, opened_by}
 use Rattle.osn_commands.specs.Completions.{PrintsCompletions}
-use Rattle.osn_commands.specs.Limits.{limits_asked}
+use Rattle.osn_commands.specs.Limits.{limits_of_words}
 use Rattle.osn_commands.specs.Unopened.{named_file}
 
 -- ---- each command
@@ -106,9 +106,9 @@ RunsUnder limits command CanFail d i o e status =
     × (o.new ≡ o.old) × TellsUnopened (named_file command) e status)
 
 -- that, or the words of the limits are none
-abbrev pub RunsAsked : InvocationModel → (Bool → Type 0) → Folders → Input → Output → Output
+abbrev pub RunsInvocation : InvocationModel → (Bool → Type 0) → Folders → Input → Output → Output
     → Status → Type 0
-RunsAsked asked CanFail d i o e status = MatchResult (limits_asked asked.limits)
+RunsInvocation asked CanFail d i o e status = MatchResult (limits_of_words asked.limits)
     (λ limits. RunsUnder limits asked.command CanFail d i o e status)
     (λ misuse. (d.after ≡ d.before) × (o.new ≡ o.old)
     × TellsMisuse e misuse (unwrap_or asked.limits []) status)
@@ -119,6 +119,6 @@ abbrev pub RunsArgs : List (List ℕ) → (Bool → Type 0) → Folders → Inpu
     → Type 0
 RunsArgs args CanFail d i o e status =
     ((fault_of command_line args ≡ [])
-    × RunsAsked (invocation_in args) CanFail d i o e status)
+    × RunsInvocation (invocation_in args) CanFail d i o e status)
     ⊎ ((d.after ≡ d.before) × (HasNoMemory o e status
     ⊎ ((kind : ErrorKind) × IsAmong kind (fault_of command_line args) × Shows kind o e status)))

@@ -4,10 +4,10 @@
 #![tactic(auto)]
 
 mod completing;
+mod display;
 mod limits;
 mod program;
-mod shown;
 mod unopened;
 
+pub use display::tell_no_words;
 pub use program::run;
-pub use shown::tell_no_words;

@@ -52,8 +52,8 @@ fn limits_of(text: &str) -> Option<Limits>
 }
 
 /// The limits that words ask for: of no words the standard ones.
-pub(crate) fn asked_limits(words: Option<&str>) -> Result<Limits, Misuse>
-    ensures { result ≡ spec.limits_asked (option_map (λ words. words.now) words.entry) }
+pub(crate) fn limits_of_words(words: Option<&str>) -> Result<Limits, Misuse>
+    ensures { result ≡ spec.limits_of_words (option_map (λ words. words.now) words.entry) }
 {
     match words {
         None => Ok(Limits::standard()),

@@ -4,11 +4,11 @@ ghost use Rattle.osn_folder.specs.Folder.{CannotOpen, MayFail};
 ghost use Rattle.osn_invocation.specs.Invocation.{command_model, model_of};
 ghost use Rattle.osn_lines.specs.Streams.{input_of, output_of};
 ghost use Rattle.osn_report.specs.Folders.{folders_of};
-ghost use Rattle.osn_commands.specs.Run.{Runs, RunsArgs, RunsAsked, files_of};
+ghost use Rattle.osn_commands.specs.Run.{Runs, RunsArgs, RunsInvocation, files_of};
 
 use crate::completing::completions_command;
-use crate::limits::asked_limits;
-use crate::shown::show;
+use crate::display::show;
+use crate::limits::limits_of_words;
 use crate::unopened::{named_file, tell_unopened_file};
 use osn_file_commands::{audit_in_folder, desk_in_folder, replay_in_folder};
 use osn_folder::{Folder, OpenFailed};
@@ -47,8 +47,8 @@ where
 {
     let alloc = rt.alloc();
     match parse_args(alloc, args) {
-        Ok(invocation) => run_asked(rt, folder, invocation, input, output, errors, terminal),
-        Err(shown) => show(alloc, &shown, output, errors),
+        Ok(invocation) => run_invocation(rt, folder, invocation, input, output, errors, terminal),
+        Err(error) => show(alloc, &error, output, errors),
     }
 }
 
@@ -63,7 +63,7 @@ fn as_typed<'a>(word: Option<&'a str>) -> &'a str
 }
 
 /// Does what was asked for, under the limits that were.
-fn run_asked<F, D: Folder, R: Source, W: Sink, E: Sink, T: Sink + Drop>(
+fn run_invocation<F, D: Folder, R: Source, W: Sink, E: Sink, T: Sink + Drop>(
     rt: &F,
     folder: &mut D,
     invocation: Invocation,
@@ -74,14 +74,14 @@ fn run_asked<F, D: Folder, R: Source, W: Sink, E: Sink, T: Sink + Drop>(
 ) -> Status
 where
     F: Threads + Wait + AllocGlobal,
-    ensures { RunsAsked (model_of invocation.entry) (MayFail D.File.has_failed)
+    ensures { RunsInvocation (model_of invocation.entry) (MayFail D.File.has_failed)
         (folders_of D.known folder.old folder.new)
         (input_of R.remaining R.has_failed input.old input.new)
         (output_of W.contents W.has_failed W.holds_back output.old output.new)
         (output_of E.contents E.has_failed E.holds_back errors.old errors.new) result }
 {
     let alloc = rt.alloc();
-    let limits = match asked_limits(invocation.limits) {
+    let limits = match limits_of_words(invocation.limits) {
         Ok(limits) => limits,
         Err(misuse) => {
             let typed = as_typed(invocation.limits);

@@ -14,7 +14,7 @@ use Rattle.osn_days.specs.Line.{weekday, IsDay, IsYear}
 use Rattle.osn_days.specs.Chain.{is_leap, month_length, chain, date_of, days_with_date}
 use Rattle.osn_days.proofs.ChainFacts.{chain_apart, chain_rises}
 use Rattle.osn_days.proofs.LineFacts.{one_day}
-use Rattle.osn_days.proofs.RangeFacts.{Found, found_on_line}
+use Rattle.osn_days.proofs.RangeFacts.{PassingDay, found_on_line}
 use Rattle.osn_computus.specs.declared.letter.Letter.{Letter}
 use Rattle.osn_computus.specs.declared.letter.Letter.TheVariants.{A, B, C, D, E, F, G}
 use Rattle.osn_computus.specs.declared.letters.Letters.{Letters}
@@ -119,7 +119,7 @@ sunday_decides c y low high d =
 
 -- a Sunday of some months shows their letter
 pub letter_found : (c : Calendar) (y low high : ℕ) (l : Letter)
-    → Found newest_rules (is_sunday_of c y low high)
+    → PassingDay newest_rules (is_sunday_of c y low high)
     → ((d : ℕ) → IsDay newest_rules d → (date_of c d).year ≡ pos y → weekday d ≡ 0
     → low ≤ (date_of c d).month → (date_of c d).month ≤ high → letter_of c d ≡ l)
     → letter_of_sundays newest_rules c y low high ≡ Some l
@@ -180,7 +180,7 @@ january_sunday c months y year =
     }
 
 pub january_found : (c : Calendar) → c ≢ Swedish → (y : ℕ) → IsYear newest_rules y
-    → Found newest_rules (is_sunday_of c y 1 1)
+    → PassingDay newest_rules (is_sunday_of c y 1 1)
 january_found c months y year =
     let sunday = january_sunday c months y year in
     found_on_line newest_rules (is_sunday_of c y 1 1) sunday.day (sunday.low, sunday.high) sunday.is
@@ -213,7 +213,7 @@ march_sunday_is c months y year =
     )
 
 pub march_found : (c : Calendar) → c ≢ Swedish → (y : ℕ) → IsYear newest_rules y
-    → Found newest_rules (is_sunday_of c y 3 12)
+    → PassingDay newest_rules (is_sunday_of c y 3 12)
 march_found c months y year =
     let bound = march_1-bound c y year.0 year.1 in
     found_on_line newest_rules (is_sunday_of c y 3 12) (march_sunday c y)

@@ -4,5 +4,5 @@ pub mod TableFacts
 pub mod MoonFacts
 pub mod PlaceFacts
 pub mod LetterFacts
-pub mod KeptEasters
-pub mod KeptLetters
+pub mod EarlierEasters
+pub mod EarlierLetters

@@ -33,7 +33,7 @@ pub fn easter(rule: Rule, year: Year) -> Day
     ensures moon { IsSomeAnd (feast.paschal_moon newest_rules rule year)
         (λ moon. IsInWeekAfter moon result) }
     // as a law: a year of the first rules keeps its Easter, which is a day of their line
-    ensures kept { IsYear first_rules year
+    ensures earlier_rules { IsYear first_rules year
         → (easter_of first_rules rule year ≡ Some result) × (result ≤ first_rules.high) }
 {
     sunday_after(paschal_moon(rule, year))

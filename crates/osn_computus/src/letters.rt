@@ -54,7 +54,8 @@ fn letters_of_year(calendar: Calendar, year: Year) -> Letters
 pub fn sunday_letters(calendar: Calendar, year: Year) -> Option<Letters>
     ensures value { result ≡ letters_of newest_rules calendar year }
     // as a law: a year of the first rules keeps its letters
-    ensures kept { IsYear first_rules year → result ≡ letters_of first_rules calendar year }
+    ensures earlier_rules { IsYear first_rules year
+        → result ≡ letters_of first_rules calendar year }
     ensures none { IsNone result ↔ (calendar ≡ Swedish) }
     // each Sunday has its letter, and in a common year both letters are the same
     ensures sundays { IfSome result (AreSundayLetters newest_rules calendar year) }

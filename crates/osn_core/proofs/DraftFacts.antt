@@ -50,14 +50,14 @@ pub edits_with : (s : ObjectState) (e : Edit) → edits_in (with_pending s e) �
 edits_with s e = omega (arith, length-append s.pending (e ∷ []))
 
 -- it is the register of the next edition
-pub draft_shown : (p : Profile) (s : ObjectState) →
+pub draft_register : (p : Profile) (s : ObjectState) →
     draft_lands p s ≡ lands_of p s.limits (s.batches ++ s.pending ∷ [])
-draft_shown p s = ap (λ es. applied_all p s.limits [] es) (sym (joined-push s.batches s.pending))
+draft_register p s = ap (λ es. applied_all p s.limits [] es) (sym (joined-push s.batches s.pending))
 
 -- once that is published, it is the register of all edits still
 pub draft_published : (p : Profile) (s : ObjectState) →
     draft_lands p s ≡ draft_lands p (with_edition s)
-draft_published p s = draft_shown p s
+draft_published p s = draft_register p s
     ∙ ap (λ es. applied_all p s.limits [] es)
     (sym (append-nil (joined (s.batches ++ s.pending ∷ []))))
 

@@ -23,16 +23,16 @@ use Rattle.osn_core.specs.Control.{reader_at, look, pin, check, entering, leave,
 use Rattle.osn_core.specs.Control.{claim_out, absorb_out, out_at}
 use Rattle.osn_core.specs.Machine.{CoreState, answer, out_in, out_of, core_in, with_published}
 use Rattle.osn_core.specs.Machine.{core_after, outs_of}
-use Rattle.osn_core.specs.History.{Call, Looks, looks_after, call_of, calls_of, asked, told}
-use Rattle.osn_core.specs.History.{is_editors, told_editor}
+use Rattle.osn_core.specs.History.{Call, Looks, looks_after, call_of, calls_of, ask_of, outs_to}
+use Rattle.osn_core.specs.History.{is_editors, editor_outs}
 use Rattle.osn_core.proofs.Runs.{stage_calls, publish_calls}
 
 skips : (out : Out) (outs : List Out) → is_editors out ≡ false →
-    told_editor (out ∷ outs) ≡ told_editor outs
+    editor_outs (out ∷ outs) ≡ editor_outs outs
 skips out outs quiet = rw quiet refl
 
 keeps : (out : Out) (outs : List Out) → is_editors out ≡ true →
-    told_editor (out ∷ outs) ≡ out ∷ told_editor outs
+    editor_outs (out ∷ outs) ≡ out ∷ editor_outs outs
 keeps out outs loud = rw loud refl
 
 look_quiet : (live : ℕ) (q : Query) (at : Option ReaderState) →
@@ -104,13 +104,13 @@ publish_loud n (Some f) = refl
 
 -- an ask tells the editor nothing
 ask_skipped : (p : Profile) (s : ObjectState) (a : ℕ) (l : Option Query) (calls : List Call) →
-    told_editor (told p s (asked l a ++ calls)) ≡ told_editor (told p s calls)
+    editor_outs (outs_to p s (ask_of l a ++ calls)) ≡ editor_outs (outs_to p s calls)
 ask_skipped p s a None calls = refl
 ask_skipped p s a (Some q) calls = refl
 
 check_skipped : (p : Profile) (s : ObjectState) (looks : Looks) (a : ℕ) (out : Out)
-    (calls : List Call) → told_editor (told p s (call_of looks (Check a) out ++ calls))
-    ≡ told_editor (told p s calls)
+    (calls : List Call) → editor_outs (outs_to p s (call_of looks (Check a) out ++ calls))
+    ≡ editor_outs (outs_to p s calls)
 check_skipped p s looks a Says.NotNow calls = refl
 check_skipped p s looks a Says.Moved calls = refl
 check_skipped p s looks a Says.Again calls = refl
@@ -123,37 +123,38 @@ check_skipped p s looks a (Says.Replied to reply) calls = refl
 
 stage_same : (p : Profile) (looks : Looks) (c : CoreState) (e : Edit) (phase : Phase)
     (calls : List Call) (outs : List Out) →
-    told_editor outs
-    ≡ told_editor (told p (core_in phase (record c { object = stage_after p c.object e }) c).object
-    calls) →
-    told_editor (out_in phase (stage_out p c.object e) ∷ outs)
-    ≡ told_editor (told p c.object (call_of looks (Stage e) (out_in phase (stage_out p c.object e))
-    ++ calls))
+    editor_outs outs
+    ≡ editor_outs
+    (outs_to p (core_in phase (record c { object = stage_after p c.object e }) c).object calls) →
+    editor_outs (out_in phase (stage_out p c.object e) ∷ outs)
+    ≡ editor_outs (outs_to p c.object
+    (call_of looks (Stage e) (out_in phase (stage_out p c.object e)) ++ calls))
 stage_same p looks c e Ready calls outs h =
     let n = length c.object.pending + 1 in
     let f = stage_refusal p c.object e in
     let out = stage_out p c.object e in
     keeps out outs (stage_loud n f)
     ∙ ap (λ os. out ∷ os) h
-    ∙ sym (keeps out (told p (stage_after p c.object e) calls) (stage_loud n f))
-    ∙ sym (ap (λ cs. told_editor (told p c.object (cs ++ calls))) (stage_calls looks e n f))
+    ∙ sym (keeps out (outs_to p (stage_after p c.object e) calls) (stage_loud n f))
+    ∙ sym (ap (λ cs. editor_outs (outs_to p c.object (cs ++ calls))) (stage_calls looks e n f))
 stage_same p looks c e Draining calls outs h = h
 stage_same p looks c e Claimed calls outs h = h
 
 published_same : (p : Profile) (c : CoreState) (f : Option Refusal) → publish_refusal c.object ≡ f →
-    (calls : List Call) → told_editor (told p (with_published f c).object calls)
-    ≡ told_editor (told p (publish_after c.object) calls)
+    (calls : List Call) → editor_outs (outs_to p (with_published f c).object calls)
+    ≡ editor_outs (outs_to p (publish_after c.object) calls)
 published_same p c None is calls = refl
 published_same p c (Some g) is calls =
-    sym (ap (λ f. told_editor (told p (state_unless f (with_edition c.object) c.object) calls)) is)
+    sym (ap (λ f. editor_outs (outs_to p (state_unless f (with_edition c.object) c.object) calls))
+    is)
 
 publish_same : (p : Profile) (looks : Looks) (c : CoreState) (phase : Phase)
     (calls : List Call) (outs : List Out) →
-    told_editor outs
-    ≡ told_editor (told p (core_in phase (with_published (publish_refusal c.object) c) c).object
+    editor_outs outs
+    ≡ editor_outs (outs_to p (core_in phase (with_published (publish_refusal c.object) c) c).object
     calls) →
-    told_editor (out_in phase (publish_out c.object) ∷ outs)
-    ≡ told_editor (told p c.object (call_of looks Publish (out_in phase (publish_out c.object))
+    editor_outs (out_in phase (publish_out c.object) ∷ outs)
+    ≡ editor_outs (outs_to p c.object (call_of looks Publish (out_in phase (publish_out c.object))
     ++ calls))
 publish_same p looks c Ready calls outs h =
     let n = length c.object.batches + 1 in
@@ -161,16 +162,16 @@ publish_same p looks c Ready calls outs h =
     let out = publish_out c.object in
     keeps out outs (publish_loud n f)
     ∙ ap (λ os. out ∷ os) (h ∙ published_same p c f refl calls)
-    ∙ sym (keeps out (told p (publish_after c.object) calls) (publish_loud n f))
-    ∙ sym (ap (λ cs. told_editor (told p c.object (cs ++ calls))) (publish_calls looks n f))
+    ∙ sym (keeps out (outs_to p (publish_after c.object) calls) (publish_loud n f))
+    ∙ sym (ap (λ cs. editor_outs (outs_to p c.object (cs ++ calls))) (publish_calls looks n f))
 publish_same p looks c Draining calls outs h = h
 publish_same p looks c Claimed calls outs h = h
 
 step_same : (p : Profile) (looks : Looks) (c : CoreState) (step : Step) (calls : List Call)
     (outs : List Out) →
-    told_editor outs ≡ told_editor (told p (core_after p c step).object calls) →
-    told_editor (out_of p c step ∷ outs)
-    ≡ told_editor (told p c.object (call_of looks step (out_of p c step) ++ calls))
+    editor_outs outs ≡ editor_outs (outs_to p (core_after p c step).object calls) →
+    editor_outs (out_of p c step ∷ outs)
+    ≡ editor_outs (outs_to p c.object (call_of looks step (out_of p c step) ++ calls))
 step_same p looks c (Look a q) calls outs h =
     skips _ outs (look_quiet c.control.side q (reader_at c.control.readers a)) ∙ h
 step_same p looks c (Pin a) calls outs h =
@@ -194,13 +195,13 @@ step_same p looks c Absorb calls outs h =
     skips _ outs (absorb_quiet (c.control.lag == 0) c.control.phase) ∙ h
 
 -- whatever the steps, the editor is told what the sequential object tells it
-pub editor_told : (p : Profile) (looks : Looks) (c : CoreState) (steps : List Step) →
-    told_editor (outs_of p c steps)
-    ≡ told_editor (told p c.object (calls_of looks steps (outs_of p c steps)))
-editor_told p looks c [] = refl
-editor_told p looks c (s ∷ ss) =
+pub editor_outs_of_run : (p : Profile) (looks : Looks) (c : CoreState) (steps : List Step) →
+    editor_outs (outs_of p c steps)
+    ≡ editor_outs (outs_to p c.object (calls_of looks steps (outs_of p c steps)))
+editor_outs_of_run p looks c [] = refl
+editor_outs_of_run p looks c (s ∷ ss) =
     let out = out_of p c s in
     let after = core_after p c s in
     let later = looks_after looks s out in
     step_same p looks c s (calls_of later ss (outs_of p after ss)) (outs_of p after ss)
-    (editor_told p later after ss)
+    (editor_outs_of_run p later after ss)

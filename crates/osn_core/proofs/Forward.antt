@@ -14,11 +14,11 @@ use Rattle.osn_core.specs.Sequential.{with_pending, with_edition, state_unless}
 use Rattle.osn_core.specs.Sequential.{stage_after, publish_after, reply_at}
 use Rattle.osn_core.specs.Control.{reader_at, all_idle}
 use Rattle.osn_core.specs.Machine.{first_core, outs_of}
-use Rattle.osn_core.specs.History.{Call, Stages, Publishes, Asks, no_looks, history, told}
+use Rattle.osn_core.specs.History.{Call, Stages, Publishes, Asks, no_looks, history, outs_to}
 use Rattle.osn_core.specs.History.{replies_to, Begin, editions_to, NeverFalls}
 use Rattle.osn_core.proofs.Knows.{Knows, idle_at}
 use Rattle.osn_core.proofs.Owed.{owed}
-use Rattle.osn_core.proofs.Runs.{stage_silent, publish_silent, readers_told}
+use Rattle.osn_core.proofs.Runs.{stage_silent, publish_silent, replies_of_run}
 
 abbrev editions : List Reply → List ℕ
 editions replies = map (λ (reply : Reply). reply.edition) replies
@@ -33,29 +33,29 @@ published_batches : (s : ObjectState) (f : Option Refusal) →
 published_batches s None = omega (arith, length-append s.batches (s.pending ∷ []))
 published_batches s (Some f) = le_refl _
 
-told_rises : (p : Profile) (r : ℕ) (s : ObjectState) (calls : List Call) (floor : ℕ) →
-    floor ≤ length s.batches → NeverFalls floor (editions (replies_to r (told p s calls)))
-told_rises p r s [] floor low = tt
-told_rises p r s (Stages e ∷ cs) floor low =
+editions_rise : (p : Profile) (r : ℕ) (s : ObjectState) (calls : List Call) (floor : ℕ) →
+    floor ≤ length s.batches → NeverFalls floor (editions (replies_to r (outs_to p s calls)))
+editions_rise p r s [] floor low = tt
+editions_rise p r s (Stages e ∷ cs) floor low =
     let f = stage_refusal p s e in
     let after = stage_after p s e in
     let more : length s.batches ≤ length after.batches = staged_batches s e f in
-    subst (λ l. NeverFalls floor (editions (l ++ replies_to r (told p after cs))))
+    subst (λ l. NeverFalls floor (editions (l ++ replies_to r (outs_to p after cs))))
     (sym (stage_silent r (length s.pending + 1) f))
-    (told_rises p r after cs floor (omega (arith, low, more)))
-told_rises p r s (Publishes ∷ cs) floor low =
+    (editions_rise p r after cs floor (omega (arith, low, more)))
+editions_rise p r s (Publishes ∷ cs) floor low =
     let f = publish_refusal s in
     let after = publish_after s in
     let more : length s.batches ≤ length after.batches = published_batches s f in
-    subst (λ l. NeverFalls floor (editions (l ++ replies_to r (told p after cs))))
+    subst (λ l. NeverFalls floor (editions (l ++ replies_to r (outs_to p after cs))))
     (sym (publish_silent r (length s.batches + 1) f))
-    (told_rises p r after cs floor (omega (arith, low, more)))
-told_rises p r s (Asks a q ∷ cs) floor low =
+    (editions_rise p r after cs floor (omega (arith, low, more)))
+editions_rise p r s (Asks a q ∷ cs) floor low =
     let reply = reply_at p s.limits s.batches q in
     elim (a == r) as (λ b. NeverFalls floor
-    (editions ((if b then reply ∷ [] else []) ++ replies_to r (told p s cs)))) [
-      | true ↦ (low, told_rises p r s cs (length s.batches) (le_refl _))
-      | false ↦ told_rises p r s cs floor low
+    (editions ((if b then reply ∷ [] else []) ++ replies_to r (outs_to p s cs)))) [
+      | true ↦ (low, editions_rise p r s cs (length s.batches) (le_refl _))
+      | false ↦ editions_rise p r s cs floor low
     ]
 
 begin_rises : (floor : ℕ) (xs ys : List Reply) → NeverFalls floor (editions (xs ++ ys)) →
@@ -66,18 +66,18 @@ begin_rises floor (x ∷ xs) ys h = (h.0, begin_rises x.edition xs ys h.1)
 -- from the first state on
 pub outs_begin : (p : Profile) (limits : Limits) (readers : ℕ) (steps : List Step) (r : ℕ) →
     let outs = outs_of p (first_core limits readers) steps in
-    Begin (replies_to r outs) (replies_to r (told p (opened limits) (history steps outs)))
+    Begin (replies_to r outs) (replies_to r (outs_to p (opened limits) (history steps outs)))
 outs_begin p limits readers steps r =
     let first = first_core limits readers in
     let outs = outs_of p first steps in
     let known = λ (by : ℕ). idle_at (Knows no_looks 0 by) tt tt readers by in
-    let all = readers_told p r no_looks first steps known in
+    let all = replies_of_run p r no_looks first steps known in
     let none : owed p first.object (reader_at (all_idle readers) r) ≡ [] =
     idle_at (λ at. owed p first.object at ≡ []) refl refl readers r in
     record {
       rest = all.0;
       is = all.1
-          ∙ ap (λ l. l ++ replies_to r (told p (opened limits) (history steps outs))) none;
+          ∙ ap (λ l. l ++ replies_to r (outs_to p (opened limits) (history steps outs))) none;
     }
 
 pub outs_rise : (p : Profile) (limits : Limits) (readers : ℕ) (steps : List Step) (r : ℕ) →
@@ -87,4 +87,4 @@ outs_rise p limits readers steps r =
     let begin = outs_begin p limits readers steps r in
     begin_rises 0 (replies_to r outs) begin.rest
     (subst (λ rs. NeverFalls 0 (editions rs)) (sym begin.is)
-    (told_rises p r (opened limits) (history steps outs) 0 (omega arith)))
+    (editions_rise p r (opened limits) (history steps outs) 0 (omega arith)))

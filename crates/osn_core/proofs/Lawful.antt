@@ -39,11 +39,11 @@ AreLawful-front p limits lands (e ∷ es) fs lawful =
     (lawful.0, AreLawful-front p limits (effect lands e) es fs lawful.1)
 
 -- and so are those after them
-pub AreLawful-behind : (p : Profile) (limits : Limits) (lands : List LandModel) (es fs : List Edit)
+pub AreLawful-after : (p : Profile) (limits : Limits) (lands : List LandModel) (es fs : List Edit)
     → AreLawful p limits lands (es ++ fs) → AreLawful p limits (applied_all p limits lands es) fs
-AreLawful-behind p limits lands [] fs lawful = lawful
-AreLawful-behind p limits lands (e ∷ es) fs lawful =
-    AreLawful-behind p limits (applied p limits lands e) es fs
+AreLawful-after p limits lands [] fs lawful = lawful
+AreLawful-after p limits lands (e ∷ es) fs lawful =
+    AreLawful-after p limits (applied p limits lands e) es fs
     (subst (λ ls. AreLawful p limits ls (es ++ fs)) (sym (applied-lawful p limits lands e lawful.0))
     lawful.1)
 
@@ -52,7 +52,7 @@ pub lawful_at : (p : Profile) (limits : Limits) (lands : List LandModel) (es : L
     (e : Edit) → i < length es → get_or es i e ≡ e → AreLawful p limits lands es →
     refusal p limits (applied_all p limits lands (take i es)) e ≡ None
 lawful_at p limits lands es i e within is lawful =
-    let behind = AreLawful-behind p limits lands (take i es) (drop i es)
+    let behind = AreLawful-after p limits lands (take i es) (drop i es)
     (subst (AreLawful p limits lands) (sym (take-append-drop i es)) lawful) in
     let left : drop i es ≡ e ∷ drop (i + 1) es =
     drop_more es i e within ∙ ap (λ x. x ∷ drop (i + 1) es) is in

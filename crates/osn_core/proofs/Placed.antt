@@ -152,19 +152,19 @@ lagging_is : (s : ObjectState) (lag : ℕ) → s.pending ≡ [] →
 lagging_is s lag none = ap (λ es. applied_all newest_rules s.limits [] (without_last lag es))
     (ap (λ es. joined s.batches ++ es) none ∙ append-nil (joined s.batches))
 
-standby_shown : (s : ObjectState) (lag : ℕ) (phase : Phase) → IsLag s lag phase →
+standby_register : (s : ObjectState) (lag : ℕ) (phase : Phase) → IsLag s lag phase →
     lagging_lands newest_rules (record { object = s; lag = lag })
     ≡ standby_lands newest_rules s lag phase
-standby_shown s lag Ready h = ap (applied_all newest_rules s.limits [])
+standby_register s lag Ready h = ap (applied_all newest_rules s.limits [])
     (without_none (joined s.batches ++ s.pending) lag h)
-standby_shown s lag Draining h = lagging_is s lag h.0
-standby_shown s lag Claimed h = lagging_is s lag h
+standby_register s lag Draining h = lagging_is s lag h.0
+standby_register s lag Claimed h = lagging_is s lag h
 
 pub standby_side : (c : CoreState) (side : ℕ) → IsCore c → (side == c.control.side) ≡ false →
     lagging_lands newest_rules (record { object = c.object; lag = c.control.lag })
     ≡ side_lands newest_rules c side
 standby_side c side h other =
-    standby_shown c.object c.control.lag c.control.phase h.lag
+    standby_register c.object c.control.lag c.control.phase h.lag
     ∙ sym (ap (λ b. if b then lands_of newest_rules c.object.limits c.object.batches
     else standby_lands newest_rules c.object c.control.lag c.control.phase) other)
 

@@ -126,10 +126,10 @@ is_there readers (suc a) x is =
     omega (arith, within)
 
 -- a call that may find no memory has changed what it says, or nothing
-pub taken_or_not : {A E X : Type 0} (r : Result A E) (new old next : X) → OnOk r (new ≡ next) →
+pub next_or_old : {A E X : Type 0} (r : Result A E) (new old next : X) → OnOk r (new ≡ next) →
     OnErr r (new ≡ old) → (new ≡ next) ⊎ (new ≡ old)
-taken_or_not (Ok a) new old next ok err = inl ok
-taken_or_not (Err e) new old next ok err = inr err
+next_or_old (Ok a) new old next ok err = inl ok
+next_or_old (Err e) new old next ok err = inr err
 
 -- the reader whose place was found
 found_at : (readers : List ReaderState) (reader i : ℕ) (x : ReaderState) {states : List ReaderState}

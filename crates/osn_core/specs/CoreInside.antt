@@ -44,5 +44,5 @@ pub record IsCore (c : CoreState) : Type 0 where
   pub readers : (reader : ℕ) → IsPlaced c.control.side c.control.phase (length c.object.batches)
       (reader_at c.control.readers reader)
 
-abbrev pub IsKept : Inside → Type 0
-IsKept c = IsCore (core_in c)
+abbrev pub HoldsCore : Inside → Type 0
+HoldsCore c = IsCore (core_in c)

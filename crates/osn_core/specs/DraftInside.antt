@@ -12,5 +12,5 @@ draft_in d = record {
 }
 
 -- the pending edits are counted
-abbrev pub IsCounted : Inside → Type 0
-IsCounted d = length d.pending.items ≤ d.edits
+abbrev pub CountsPending : Inside → Type 0
+CountsPending d = length d.pending.items ≤ d.edits

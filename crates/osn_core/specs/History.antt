@@ -21,21 +21,21 @@ pub data Call : Type 0 where
   Publishes : Call
   Asks : ℕ → Query → Call
 
--- what the sequential object tells a call, and what it leaves
-abbrev pub told_of : Profile → ObjectState → Call → Out
-told_of p s (Stages edit) = stage_out p s edit
-told_of p s Publishes = publish_out s
-told_of p s (Asks reader query) = Replied reader (reply_at p s.limits s.batches query)
+-- what the sequential object answers a call, and what it leaves
+abbrev pub out_to : Profile → ObjectState → Call → Out
+out_to p s (Stages edit) = stage_out p s edit
+out_to p s Publishes = publish_out s
+out_to p s (Asks reader query) = Replied reader (reply_at p s.limits s.batches query)
 
 abbrev pub state_after : Profile → ObjectState → Call → ObjectState
 state_after p s (Stages edit) = stage_after p s edit
 state_after p s Publishes = publish_after s
 state_after p s (Asks reader query) = s
 
--- what the sequential object tells the calls, run on them in order
-abbrev pub told : Profile → ObjectState → List Call → List Out
-told p s [] = []
-told p s (call ∷ calls) = told_of p s call ∷ told p (state_after p s call) calls
+-- what it answers the calls, run on them in order
+abbrev pub outs_to : Profile → ObjectState → List Call → List Out
+outs_to p s [] = []
+outs_to p s (call ∷ calls) = out_to p s call ∷ outs_to p (state_after p s call) calls
 
 -- the query of each reader's last look that moved
 abbrev pub Looks : Type 0
@@ -49,9 +49,9 @@ looks_after looks (Look reader query) Moved =
     λ other. if reader == other then Some query else looks other
 looks_after looks step out = looks
 
-abbrev pub asked : Option Query → ℕ → List Call
-asked (Some query) reader = Asks reader query ∷ []
-asked None reader = []
+abbrev pub ask_of : Option Query → ℕ → List Call
+ask_of (Some query) reader = Asks reader query ∷ []
+ask_of None reader = []
 
 -- the call, if any, that a step with this out is: a stage or a publish, taken or refused, or a
 -- check that entered. The check asks for the query of the reader's last look that moved
@@ -60,7 +60,7 @@ call_of looks (Stage edit) (Staged n) = Stages edit ∷ []
 call_of looks (Stage edit) (Refused f) = Stages edit ∷ []
 call_of looks Publish (Published n) = Publishes ∷ []
 call_of looks Publish (Refused f) = Publishes ∷ []
-call_of looks (Check reader) Entered = asked (looks reader) reader
+call_of looks (Check reader) Entered = ask_of (looks reader) reader
 call_of looks step out = []
 
 abbrev pub calls_of : Looks → List Step → List Out → List Call
@@ -72,21 +72,21 @@ calls_of looks (step ∷ steps) (out ∷ outs) =
 abbrev pub history : List Step → List Out → List Call
 history steps outs = calls_of no_looks steps outs
 
--- the outs that the editor was told, in order
+-- the outs to the editor, in order
 abbrev pub is_editors : Out → Bool
 is_editors (Staged n) = true
 is_editors (Published n) = true
 is_editors (Refused f) = true
 is_editors out = false
 
-abbrev pub told_editor : List Out → List Out
-told_editor outs = filter is_editors outs
+abbrev pub editor_outs : List Out → List Out
+editor_outs outs = filter is_editors outs
 
 abbrev pub reply_to : ℕ → Out → List Reply
 reply_to reader (Replied to reply) = if to == reader then reply ∷ [] else []
 reply_to reader out = []
 
--- the replies that a reader was told, in order
+-- the replies to a reader, in order
 abbrev pub replies_to : ℕ → List Out → List Reply
 replies_to reader [] = []
 replies_to reader (out ∷ outs) = reply_to reader out ++ replies_to reader outs

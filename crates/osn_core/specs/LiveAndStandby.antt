@@ -12,13 +12,13 @@ use Rattle.osn_core.specs.Sequential.{ObjectState, joined, lands_of, draft_lands
 use Rattle.osn_core.specs.Machine.{CoreState}
 
 -- the territories of the published edits, without the last ones
-abbrev pub behind_lands : Profile → ObjectState → ℕ → List LandModel
-behind_lands p s lag = applied_all p s.limits [] (without_last lag (joined s.batches))
+abbrev pub published_but_last : Profile → ObjectState → ℕ → List LandModel
+published_but_last p s lag = applied_all p s.limits [] (without_last lag (joined s.batches))
 
 -- in Ready the standby has all edits, published and pending; else it lacks the lag
 abbrev pub standby_lands : Profile → ObjectState → ℕ → Phase → List LandModel
 standby_lands p s lag Ready = draft_lands p s
-standby_lands p s lag phase = behind_lands p s lag
+standby_lands p s lag phase = published_but_last p s lag
 
 -- what a side shows
 abbrev pub side_lands : Profile → CoreState → ℕ → List LandModel

@@ -40,5 +40,5 @@ pub record AreInStep (d : DraftState) (batches : List (List Edit)) (lag : ℕ) (
   pub caught_up : (d.pending ≡ []) ⊎ (lag ≡ 0)
   pub sound : IsSound newest_rules (object_of d batches)
 
-abbrev pub AreKept : Inside → Type 0
-AreKept c = AreInStep c.draft c.batches.items c.lag c.other
+abbrev pub AreCopiesInStep : Inside → Type 0
+AreCopiesInStep c = AreInStep c.draft c.batches.items c.lag c.other

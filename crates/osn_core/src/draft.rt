@@ -23,13 +23,13 @@ pub struct Draft {
 
 impl Model for Draft {
     ghost use Rattle.osn_core.specs.Draft.{DraftState};
-    ghost use Rattle.osn_core.specs.DraftInside.{draft_in, IsCounted};
+    ghost use Rattle.osn_core.specs.DraftInside.{draft_in, CountsPending};
 
     ghost Value = { DraftState };
 
     ghost view = { draft_in };
 
-    ghost invariant = { IsCounted };
+    ghost invariant = { CountsPending };
 }
 
 impl Draft {

@@ -29,13 +29,13 @@ pub struct LiveAndStandby {
 }
 
 impl Model for LiveAndStandby {
-    ghost use Rattle.osn_core.specs.LiveAndStandbyInside.{CopiesState, copies_in, AreKept};
+    ghost use Rattle.osn_core.specs.LiveAndStandbyInside.{CopiesState, copies_in, AreCopiesInStep};
 
     ghost Value = { CopiesState };
 
     ghost view = { copies_in };
 
-    ghost invariant = { AreKept };
+    ghost invariant = { AreCopiesInStep };
 }
 
 impl LiveAndStandby {

@@ -35,13 +35,13 @@ pub struct Core {
 
 impl Model for Core {
     ghost use Rattle.osn_core.specs.Machine.{CoreState};
-    ghost use Rattle.osn_core.specs.CoreInside.{core_in, IsKept};
+    ghost use Rattle.osn_core.specs.CoreInside.{core_in, HoldsCore};
 
     ghost Value = { CoreState };
 
     ghost view = { core_in };
 
-    ghost invariant = { IsKept };
+    ghost invariant = { HoldsCore };
 }
 
 impl Core {

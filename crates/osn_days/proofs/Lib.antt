@@ -6,6 +6,6 @@ pub mod GregorianFacts
 pub mod JulianFacts
 pub mod LineFacts
 pub mod SwedishFacts
-pub mod KeptYears
+pub mod EarlierYears
 pub mod AsciiFacts
 pub mod DateDigits

@@ -365,22 +365,22 @@ find_any test (a ∷ xs) =
     any_found (test a) a (find test xs) (list_any test xs) (find_any test xs)
 
 -- a day of the line that the search finds
-pub record Found (p : Profile) (test : ℕ → Bool) : Type 0 where
+pub record PassingDay (p : Profile) (test : ℕ → Bool) : Type 0 where
   pub day : ℕ
   pub on : IsDay p day
   pub passes : test day ≡ true
   pub is : find test (line p) ≡ Some day
 
-found_by : (p : Profile) (test : ℕ → Bool) (d : ℕ) (found : Option ℕ) → IsDay p d → test d ≡ true →
-    find test (line p) ≡ found → Found p test
+passing_day_by : (p : Profile) (test : ℕ → Bool) (d : ℕ) (found : Option ℕ) → IsDay p d →
+    test d ≡ true → find test (line p) ≡ found → PassingDay p test
 unfolding line
-found_by p test d None on passes is =
+passing_day_by p test d None on passes is =
     absurd (false≢true (ap is_some (sym is) ∙ find_any test (range_with_len 1 p.high)
     ∙ some_in_row test 1 p.high d on.0 (omega (arith, on.1)) passes))
-found_by p test d (Some e) on passes is =
+passing_day_by p test d (Some e) on passes is =
     let at = find_in test 1 p.high e is in
     record { day = e; on = (at.0, omega (arith, at.1)); passes = at.2; is = is }
 
 pub found_on_line : (p : Profile) (test : ℕ → Bool) (d : ℕ) → IsDay p d → test d ≡ true →
-    Found p test
-found_on_line p test d on passes = found_by p test d (find test (line p)) on passes refl
+    PassingDay p test
+found_on_line p test d on passes = passing_day_by p test d (find test (line p)) on passes refl

@@ -3,7 +3,7 @@ use Rattle.std.proofs.Common.{◌≡◌, refl}
 use Rattle.osn_lines.specs.Streams.{Output}
 use Rattle.osn_live.specs.declared.faults.DeskFault.{DeskFault}
 use Rattle.osn_live.specs.declared.faults.DeskFault.TheVariants as desk_faults
-use Rattle.osn_report.specs.Told.{TellsIfMade}
+use Rattle.osn_report.specs.Messages.{TellsIfMade}
 use Rattle.osn_report.specs.declared.status.Status.{Status}
 use Rattle.osn_report.specs.declared.status.Status.TheVariants.{Refused}
 use Rattle.osn_file_commands.specs.DeskFault.{TellsDesk, desk_line}

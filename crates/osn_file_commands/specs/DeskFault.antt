@@ -5,7 +5,7 @@ use Rattle.osn_live.specs.Faults.{desk_fault_number, desk_fault_name}
 use Rattle.osn_live.specs.declared.faults.DeskFault.{DeskFault}
 use Rattle.osn_live.specs.declared.faults.DeskFault.TheVariants as desk_faults
 use Rattle.osn_report.specs.Fault.{refusal_end}
-use Rattle.osn_report.specs.Told.{EndsBy, TellsIfMade}
+use Rattle.osn_report.specs.Messages.{EndsBy, TellsIfMade}
 use Rattle.osn_report.specs.declared.fault.CommandFault.TheVariants.{NoMemory}
 use Rattle.osn_report.specs.declared.status.Status.{Status}
 use Rattle.osn_report.specs.declared.status.Status.TheVariants.{Refused}

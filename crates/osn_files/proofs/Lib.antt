@@ -4,7 +4,7 @@ pub mod LoadFacts
 pub mod VersionFacts
 mod ReadLemmas
 mod QuestionLemmas
-mod AskedLemmas
+mod QuestionListLemmas
 mod ByteFacts
 mod TextFacts
 mod EditFacts
@@ -14,7 +14,7 @@ mod LawFacts
 mod Utf8Facts
 mod OldFacts
 mod NewerFacts
-mod KeptFacts
+mod RuleFacts
 mod GreaterFacts
 mod Greater
 mod WholeLemmas

@@ -62,8 +62,8 @@ module _ {S : Type 0} (step : Version → S → Data → Result S LineFault) whe
       ∙ line_more (n + 1) version first.now t u ls line first.rest one
 
   -- the value that the lines after a head make
-  abbrev behind : ℕ → S → List (List ℕ) → Result Version WireFault → Result S (ℕ × LineFault)
-  behind n s ls r =
+  abbrev after_head : ℕ → S → List (List ℕ) → Result Version WireFault → Result S (ℕ × LineFault)
+  after_head n s ls r =
       go_on n (on_read r Ok) (λ version. in_turn step (n + 1) (Some version) s ls)
 
   -- and with the head
@@ -73,8 +73,8 @@ module _ {S : Type 0} (step : Version → S → Data → Result S LineFault) whe
       → in_turn step n None s (ls ++ line ∷ []) ≡ Ok u
   file_more n version s t u [] line head h one = absurd head
   file_more n version s t u (l ∷ ls) line head h one =
-      ap (behind n s (ls ++ line ∷ [])) head
-      ∙ line_more (n + 1) version s t u ls line (sym (ap (behind n s ls) head) ∙ h) one
+      ap (after_head n s (ls ++ line ∷ [])) head
+      ∙ line_more (n + 1) version s t u ls line (sym (ap (after_head n s ls) head) ∙ h) one
 
 -- ---- a text with a line more
 

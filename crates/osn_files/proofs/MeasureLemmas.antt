@@ -8,16 +8,16 @@ use Rattle.osn_lines.specs.Ended.{ended_length, unended_bytes}
 use Rattle.osn_lines.proofs.EndedLemmas.{ended-before, ended-within, ended-le}
 
 -- a piece with no line feed goes after what stood after the last line feed
-pub piece_behind : (before piece : List ℕ) → ended_length (before ++ piece) ≤ length before
+pub piece_after : (before piece : List ℕ) → ended_length (before ++ piece) ≤ length before
     → unended_bytes (before ++ piece) ≡ unended_bytes before ++ piece
-piece_behind before piece low = behind (ended_length piece) refl
+piece_after before piece low = without_feed (ended_length piece) refl
   where
-    behind : (n : ℕ) → ended_length piece ≡ n
+    without_feed : (n : ℕ) → ended_length piece ≡ n
         → unended_bytes (before ++ piece) ≡ unended_bytes before ++ piece
-    behind zero none =
+    without_feed zero none =
         ap (λ k. drop k (before ++ piece)) (ended-before before piece none)
         ∙ drop-append-le (ended_length before) before piece (ended-le before)
-    behind (suc k) some = absurd (omega (arith, low, ended-within before piece k some))
+    without_feed (suc k) some = absurd (omega (arith, low, ended-within before piece k some))
 
 -- where a piece has a line feed, the end of the piece stands after the last one
 pub piece_end : (before piece : List ℕ) (n : ℕ)

@@ -56,10 +56,10 @@ abbrev read_as : {B : Type 0} → B → Result B WireFault
 read_as b = Ok b
 
 -- what holds of whatever the second of two readings gives holds of what both give
-behind_ok : {A B : Type 0} (P : B → Type 0) (r : Result A WireFault) (f : A → Result B WireFault)
+then_ok : {A B : Type 0} (P : B → Type 0) (r : Result A WireFault) (f : A → Result B WireFault)
     → ((a : A) → r ≡ Ok a → (b : B) → f a ≡ Ok b → P b) → (b : B) → r >>= f ≡ Ok b → P b
-behind_ok P (Ok a) f each b e = each a refl b e
-behind_ok P (Err x) f each b e = absurd (cc)
+then_ok P (Ok a) f each b e = each a refl b e
+then_ok P (Err x) f each b e = absurd (cc)
 
 -- the last reading
 at_ok : {B : Type 0} (P : B → Type 0) (made b : B) → P made → read_as made ≡ Ok b → P b
@@ -85,16 +85,16 @@ fixed_named None s e = absurd (cc)
 
 fixed_style_at : (d : Data) (s : Style) → style_at first_rules d ≡ Ok s → is_from_easter s ≡ false
 fixed_style_at d s e =
-    behind_ok (λ t. is_from_easter t ≡ false) (text_at members.Style d)
+    then_ok (λ t. is_from_easter t ≡ false) (text_at members.Style d)
     (λ word. or_fault (BadField members.Style) (style_named first_rules word))
     (λ word is t f. fixed_named (style_written word) t f) s e
 
 fixed_regime : (d : Data) (r : Regime) → regime_of first_rules d ≡ Ok r → IsFixed r
 unfolding regime_of
 fixed_regime d r e =
-    behind_ok IsFixed (word_at members.Calendar calendar_named d) _
-    (λ calendar _ a ea. behind_ok IsFixed (style_at first_rules d) _
-    (λ style is b eb. behind_ok IsFixed (word_at members.Rule rule_named d) _
+    then_ok IsFixed (word_at members.Calendar calendar_named d) _
+    (λ calendar _ a ea. then_ok IsFixed (style_at first_rules d) _
+    (λ style is b eb. then_ok IsFixed (word_at members.Rule rule_named d) _
     (λ rule _ c ec. at_ok IsFixed _ c (fixed_style_at d style is) ec)
     b eb)
     a ea)
@@ -103,9 +103,9 @@ fixed_regime d r e =
 fixed_add_land : (d : Data) (e : Edit) → add_land_of first_rules d ≡ Ok e → HasFixed e
 unfolding add_land_of
 fixed_add_land d e is =
-    behind_ok HasFixed (text_at members.Code d) _
-    (λ code _ a ea. behind_ok HasFixed (text_at members.Name d) _
-    (λ name _ b eb. behind_ok HasFixed (regime_of first_rules d) _
+    then_ok HasFixed (text_at members.Code d) _
+    (λ code _ a ea. then_ok HasFixed (text_at members.Name d) _
+    (λ name _ b eb. then_ok HasFixed (regime_of first_rules d) _
     (λ r is_r c ec. at_ok HasFixed _ c (fixed_regime d r is_r) ec)
     b eb)
     a ea)
@@ -114,9 +114,9 @@ fixed_add_land d e is =
 fixed_add_change : (d : Data) (e : Edit) → add_change_of first_rules d ≡ Ok e → HasFixed e
 unfolding add_change_of
 fixed_add_change d e is =
-    behind_ok HasFixed (text_at members.Code d) _
-    (λ code _ a ea. behind_ok HasFixed (whole_at members.Day d) _
-    (λ day _ b eb. behind_ok HasFixed (regime_of first_rules d) _
+    then_ok HasFixed (text_at members.Code d) _
+    (λ code _ a ea. then_ok HasFixed (whole_at members.Day d) _
+    (λ day _ b eb. then_ok HasFixed (regime_of first_rules d) _
     (λ r is_r c ec. at_ok HasFixed _ c (fixed_regime d r is_r) ec)
     b eb)
     a ea)
@@ -125,9 +125,9 @@ fixed_add_change d e is =
 fixed_alter_change : (d : Data) (e : Edit) → alter_change_of first_rules d ≡ Ok e → HasFixed e
 unfolding alter_change_of
 fixed_alter_change d e is =
-    behind_ok HasFixed (text_at members.Code d) _
-    (λ code _ a ea. behind_ok HasFixed (whole_at members.Day d) _
-    (λ day _ b eb. behind_ok HasFixed (regime_of first_rules d) _
+    then_ok HasFixed (text_at members.Code d) _
+    (λ code _ a ea. then_ok HasFixed (whole_at members.Day d) _
+    (λ day _ b eb. then_ok HasFixed (regime_of first_rules d) _
     (λ r is_r c ec. at_ok HasFixed _ c (fixed_regime d r is_r) ec)
     b eb)
     a ea)
@@ -136,8 +136,8 @@ fixed_alter_change d e is =
 fixed_drop_change : (d : Data) (e : Edit) → drop_change_of d ≡ Ok e → HasFixed e
 unfolding drop_change_of
 fixed_drop_change d e is =
-    behind_ok HasFixed (text_at members.Code d) _
-    (λ code _ a ea. behind_ok HasFixed (whole_at members.Day d) _
+    then_ok HasFixed (text_at members.Code d) _
+    (λ code _ a ea. then_ok HasFixed (whole_at members.Day d) _
     (λ day _ b eb. at_ok HasFixed _ b tt eb)
     a ea)
     e is
@@ -145,9 +145,9 @@ fixed_drop_change d e is =
 fixed_add_exception : (d : Data) (e : Edit) → add_exception_of d ≡ Ok e → HasFixed e
 unfolding add_exception_of
 fixed_add_exception d e is =
-    behind_ok HasFixed (text_at members.Code d) _
-    (λ code _ a ea. behind_ok HasFixed (whole_at members.Year d) _
-    (λ year _ b eb. behind_ok HasFixed (whole_at members.Day d) _
+    then_ok HasFixed (text_at members.Code d) _
+    (λ code _ a ea. then_ok HasFixed (whole_at members.Year d) _
+    (λ year _ b eb. then_ok HasFixed (whole_at members.Day d) _
     (λ day _ c ec. at_ok HasFixed _ c tt ec)
     b eb)
     a ea)
@@ -156,8 +156,8 @@ fixed_add_exception d e is =
 fixed_drop_exception : (d : Data) (e : Edit) → drop_exception_of d ≡ Ok e → HasFixed e
 unfolding drop_exception_of
 fixed_drop_exception d e is =
-    behind_ok HasFixed (text_at members.Code d) _
-    (λ code _ a ea. behind_ok HasFixed (whole_at members.Year d) _
+    then_ok HasFixed (text_at members.Code d) _
+    (λ code _ a ea. then_ok HasFixed (whole_at members.Year d) _
     (λ year _ b eb. at_ok HasFixed _ b tt eb)
     a ea)
     e is
@@ -173,7 +173,7 @@ fixed_edit edit_ops.DropException d e is = fixed_drop_exception d e is
 fixed_command_by : (d : Data) (op : Op) (c : Command) → command_by first_rules d op ≡ Ok c
     → CommandHasFixed c
 fixed_command_by d (ops.Edit op) c is =
-    behind_ok CommandHasFixed (edit_of first_rules op d) (λ e. Ok (Stage e))
+    then_ok CommandHasFixed (edit_of first_rules op d) (λ e. Ok (Stage e))
     (λ e is_e b eb. at_ok CommandHasFixed (Stage e) b (fixed_edit op d e is_e) eb)
     c is
 fixed_command_by d ops.Publish c is = at_ok CommandHasFixed Publish c tt is
@@ -182,6 +182,6 @@ fixed_command_by d (ops.Query op) c is = absurd (cc)
 -- a command that is read by the first rules
 pub fixed_command : (d : Data) (c : Command) → command_in first_rules d ≡ Ok c → CommandHasFixed c
 fixed_command d c is =
-    behind_ok CommandHasFixed (op_of d) (command_by first_rules d)
+    then_ok CommandHasFixed (op_of d) (command_by first_rules d)
     (λ op _ a ea. fixed_command_by d op a ea)
     c is

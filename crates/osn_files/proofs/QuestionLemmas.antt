@@ -38,8 +38,8 @@ with_query_at-put (u ∷ vs) v w (suc n) q long at more =
     ap (λ l. u.items ∷ l) (with_query_at-put vs v w n q (omega arith) at more)
 
 -- readers are counted from 1
-pub with_query-counted : (lists : List (List Query)) (reader : ℕ) (q : Query) → 0 < reader
+pub with_query-from_one : (lists : List (List Query)) (reader : ℕ) (q : Query) → 0 < reader
     → with_query lists reader q ≡ with_query_at lists (reader - 1) q
-with_query-counted lists zero q counted = absurd (omega (arith, counted))
-with_query-counted lists (suc n) q counted =
+with_query-from_one lists zero q counted = absurd (omega (arith, counted))
+with_query-from_one lists (suc n) q counted =
     ap (λ k. with_query_at lists k q) (omega arith)

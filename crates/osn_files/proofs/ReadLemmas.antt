@@ -28,7 +28,8 @@ use Rattle.osn_files.specs.declared.stop.LineStop.{LineStop}
 use Rattle.osn_files.specs.declared.stop.LineStop.TheVariants.{NoMemory, Fault}
 use Rattle.osn_files.specs.Files.{ReadsFile}
 use Rattle.osn_files.specs.Loaded.{IsOfVersion}
-use Rattle.osn_files.specs.ReadingInside.{taken, with_version, goes_on, IsKnownOf, Reads, Faults}
+use Rattle.osn_files.specs.ReadingInside.{after_line, with_version, goes_on, IsKnownOf, Reads}
+use Rattle.osn_files.specs.ReadingInside.{Faults}
 use Rattle.osn_files.specs.ReadingInside.{Spares, StaysKnown, StopsReading}
 use Rattle.osn_files.specs.Stops.{Stops, stop_of, file_fault}
 use Rattle.osn_files.specs.Turns.{on_read, go_on, in_turn}
@@ -44,13 +45,13 @@ Rule S A = S → Version → A → Data → Result A LineFault
 in_turn-line : {A : Type 0} (step : Version → A → Data → Result A LineFault) (n : ℕ)
     (version : Option Version) (a : A) (line : List ℕ) (more : List (List ℕ))
     → in_turn step n version a (line ∷ more)
-    ≡ go_on n (on_read (object_of line) (taken step version a))
+    ≡ go_on n (on_read (object_of line) (after_line step version a))
     (λ t. in_turn step (n + 1) t.0 t.1 more)
 in_turn-line {A = A} step n None a line more =
     elim (object_of line) as (λ r.
     go_on n (on_read (r >>= λ d. or_fault BadHead (version_in d)) Ok)
     (λ v. in_turn step (n + 1) (Some v) a more)
-    ≡ go_on n (on_read r (taken step None a)) (λ t. in_turn step (n + 1) t.0 t.1 more)) [
+    ≡ go_on n (on_read r (after_line step None a)) (λ t. in_turn step (n + 1) t.0 t.1 more)) [
       | Ok d ↦ elim (version_in d) as (λ o.
           go_on n (on_read (or_fault BadHead o) Ok) (λ v. in_turn step (n + 1) (Some v) a more)
           ≡ go_on {S = Option Version × A} n
@@ -64,7 +65,7 @@ in_turn-line {A = A} step n None a line more =
 in_turn-line {A = A} step n (Some version) a line more =
     elim (object_of line) as (λ r.
     go_on n (on_read r (step version a)) (λ t. in_turn step (n + 1) (Some version) t more)
-    ≡ go_on n (on_read r (taken step (Some version) a))
+    ≡ go_on n (on_read r (after_line step (Some version) a))
     (λ t. in_turn step (n + 1) t.0 t.1 more)) [
       | Ok d ↦ elim (step version a d) as (λ r.
           go_on n r (λ t. in_turn step (n + 1) (Some version) t more)
@@ -83,13 +84,13 @@ version_read (Err f) = None
 -- of a line that is a head
 head_says : {A : Type 0} (line : List ℕ) (a b : A) (new : Option Version)
     (step : Version → A → Data → Result A LineFault)
-    → on_read (object_of line) (taken step None a) ≡ Ok (new, b)
+    → on_read (object_of line) (after_line step None a) ≡ Ok (new, b)
     → IsKnownOf (line ∷ []) new
 head_says {A = A} line a b new step =
     elim (object_of line) as (λ r.
-    on_read r (taken step None a) ≡ Ok (new, b)
+    on_read r (after_line step None a) ≡ Ok (new, b)
     → KnownBy (r >>= λ d. or_fault BadHead (version_in d)) new) [
-      | Ok d ↦ said (version_in d)
+      | Ok d ↦ version_of_head (version_in d)
       | Err f ↦ λ h. absurd (cc)
     ]
   where
@@ -97,31 +98,32 @@ head_says {A = A} line a b new step =
     KnownBy r None = line ∷ [] ≡ []
     KnownBy r (Some v) = r ≡ Ok v
 
-    said : (o : Option Version)
+    version_of_head : (o : Option Version)
         → on_read {S = Option Version × A} (or_fault BadHead o) (λ v. Ok (Some v, a)) ≡ Ok (new, b)
         → KnownBy (or_fault BadHead o) new
-    said (Some v) h = subst (KnownBy (Ok v)) (ap version_read h) refl
-    said None h = absurd (cc)
+    version_of_head (Some v) h = subst (KnownBy (Ok v)) (ap version_read h) refl
+    version_of_head None h = absurd (cc)
 
 -- of one after a head
 is_same : {A : Type 0} (line : List ℕ) (a b : A) (version : Version) (new : Option Version)
     (step : Version → A → Data → Result A LineFault)
-    → on_read (object_of line) (taken step (Some version) a) ≡ Ok (new, b) → Some version ≡ new
+    → on_read (object_of line) (after_line step (Some version) a) ≡ Ok (new, b) → Some version ≡ new
 is_same {A = A} line a b version new step =
     elim (object_of line) as (λ r.
-    on_read r (taken step (Some version) a) ≡ Ok (new, b) → Some version ≡ new) [
-      | Ok d ↦ kept (step version a d)
+    on_read r (after_line step (Some version) a) ≡ Ok (new, b) → Some version ≡ new) [
+      | Ok d ↦ version_stays (step version a d)
       | Err f ↦ λ h. absurd (cc)
     ]
   where
-    kept : (r : Result A LineFault) → with_version version r ≡ Ok (new, b) → Some version ≡ new
-    kept (Ok t) h = ap version_read h
-    kept (Err f) h = absurd (cc)
+    version_stays : (r : Result A LineFault) → with_version version r ≡ Ok (new, b)
+        → Some version ≡ new
+    version_stays (Ok t) h = ap version_read h
+    version_stays (Err f) h = absurd (cc)
 
 -- the version is known by one line more
 known-line : {A : Type 0} (step : Version → A → Data → Result A LineFault)
     (old new : Option Version) (a b : A) (before : List (List ℕ)) (line : List ℕ)
-    → on_read (object_of line) (taken step old a) ≡ Ok (new, b)
+    → on_read (object_of line) (after_line step old a) ≡ Ok (new, b)
     → IsKnownOf before old → IsKnownOf (before ++ line ∷ []) new
 known-line step None new a b before line one h =
     subst (λ ls. IsKnownOf (ls ++ line ∷ []) new) (sym h) (head_says line a b new step one)
@@ -132,7 +134,7 @@ known-line step (Some version) new a b (head ∷ rest) line one h =
 -- a version that is known stays by one line more
 stays-line : {A : Type 0} (step : Version → A → Data → Result A LineFault)
     (begun old new : Option Version) (a b : A) (line : List ℕ)
-    → on_read (object_of line) (taken step old a) ≡ Ok (new, b)
+    → on_read (object_of line) (after_line step old a) ≡ Ok (new, b)
     → StaysKnown begun old → StaysKnown begun new
 stays-line step None old new a b line one h = tt
 stays-line step (Some v) None new a b line one h = absurd (cc)
@@ -156,7 +158,7 @@ Reads-spares step state begun now lines h = λ more.
 -- a line was taken
 pub Reads-line : {S A : Type 0} (step : Rule S A) (state : S → A) (begun old new : Reading S)
     (before : List (List ℕ)) (line : List ℕ) → Reads step state begun before old
-    → on_read (object_of line) (taken (step old.fold) old.version (state old.fold))
+    → on_read (object_of line) (after_line (step old.fold) old.version (state old.fold))
     ≡ Ok (new.version, state new.fold)
     → step new.fold ≡ step old.fold
     → Reads step state begun (before ++ line ∷ []) new
@@ -179,7 +181,7 @@ Reads-line step state begun old new before line h one same = (
 -- a line stopped the reading
 pub StopsReading-line : {S A : Type 0} (step : Rule S A) (state : S → A) (begun old : Reading S)
     (before : List (List ℕ)) (line : List ℕ) (why : LineStop) → Reads step state begun before old
-    → Stops (on_read (object_of line) (taken (step old.fold) old.version (state old.fold))) why
+    → Stops (on_read (object_of line) (after_line (step old.fold) old.version (state old.fold))) why
     → StopsReading step state begun before (Some line) why
 StopsReading-line step state begun old before line NoMemory h stop =
     Reads-spares step state begun old before h
@@ -215,10 +217,11 @@ pub passed : (P Q : Type 0) (b : Bool) → b ≡ false → MatchBool b P Q → Q
 passed P Q true is h = absurd (cc)
 passed P Q false is h = h
 
-pub same-taken : {A : Type 0} (t s : Version → A → Data → Result A LineFault)
-    (version : Option Version) (b a : A) → t ≡ s → b ≡ a → taken t version b ≡ taken s version a
-same-taken t s version b a rule kept =
-    ap (λ r. taken r version b) rule ∙ ap (taken s version) kept
+pub same-after_line : {A : Type 0} (t s : Version → A → Data → Result A LineFault)
+    (version : Option Version) (b a : A) → t ≡ s → b ≡ a
+    → after_line t version b ≡ after_line s version a
+same-after_line t s version b a rule kept =
+    ap (λ r. after_line r version b) rule ∙ ap (after_line s version) kept
 
 stays_so : (version : Option Version) → StaysKnown version version
 stays_so None = tt
@@ -238,8 +241,8 @@ ended : {S A : Type 0} (step : Rule S A) (state : S → A) (begun now : Reading 
     → IfSome input (λ bytes. goes_on step state begun 1 (lines bytes) ≡ r)
 ended step state begun now input n r h is =
     if_some input
-    (λ bytes all. ap (goes_on step state begun 1) (all ∙ sym (append-nil h.taken))
-    ∙ ((h.takes begun [] (begun_so step state begun)).0 [] ∙ is (length h.taken + 1)))
+    (λ bytes all. ap (goes_on step state begun 1) (all ∙ sym (append-nil h.lines_taken))
+    ∙ ((h.takes begun [] (begun_so step state begun)).0 [] ∙ is (length h.lines_taken + 1)))
     h.all
 
 pub made-all : {S A : Type 0} (step : Rule S A) (state : S → A) (begun now : Reading S)
@@ -259,34 +262,27 @@ no-head step state begun now input n none h =
     (λ k. ap (λ v. in_turn (step now.fold) k v (state now.fold) []) none)
 
 -- the version is the one that the first line says, where none was given
-pub said_first : {S A : Type 0} (step : Rule S A) (state : S → A) (begun now : Reading S)
+pub first_version : {S A : Type 0} (step : Rule S A) (state : S → A) (begun now : Reading S)
     (input : Option (List ℕ)) (n : ℕ) (version : Version) → now.version ≡ Some version
     → TakesAll (Reads step state) begun now input n → begun.version ≡ None
     → IfSome input (λ bytes. IsOfVersion version (lines bytes))
-said_first step state begun now input n version known h none =
+first_version step state begun now input n version known h none =
     let said =
-    subst (IsKnownOf h.taken) known ((h.takes begun [] (begun_so step state begun)).1 none) in
+    subst (IsKnownOf h.lines_taken) known ((h.takes begun [] (begun_so step state begun)).1 none) in
     if_some input (λ bytes all. subst (IsOfVersion version) (sym all) said) h.all
 
 -- the version that was given stays
-pub said_same : {S A : Type 0} (step : Rule S A) (state : S → A) (begun now : Reading S)
+pub given_version : {S A : Type 0} (step : Rule S A) (state : S → A) (begun now : Reading S)
     (input : Option (List ℕ)) (n : ℕ) (version : Version) → now.version ≡ Some version
     → TakesAll (Reads step state) begun now input n
     → IfSome begun.version (λ known. version ≡ known)
-said_same step state begun now input n version is h =
+given_version step state begun now input n version is h =
     same begun.version now.version is (h.takes begun [] (begun_so step state begun)).2
   where
     same : (old new : Option Version) → new ≡ Some version → StaysKnown old new
         → IfSome old (λ known. version ≡ known)
     same None new is stays = tt
     same (Some known) new is stays = ap (λ o. unwrap_or o known) (sym is ∙ stays)
-
--- they were counted
-pub counted : {S A : Type 0} (step : Rule S A) (state : S → A) (begun now : Reading S)
-    (input : Option (List ℕ)) (n : ℕ) → TakesAll (Reads step state) begun now input n
-    → IfSome input (λ bytes. n ≡ length (lines bytes))
-counted step state begun now input n h =
-    if_some input (λ bytes all. h.count ∙ ap length (sym all)) h.all
 
 -- a list from the element at a place
 split_at : (xs : List (List ℕ)) (n : ℕ) (x : List ℕ) → slice_get xs n ≡ Some x
@@ -347,8 +343,9 @@ interrupted step state begun now view role n ends.NoMemory remaining has_failed 
       sound = tt;
       fault =
           spares_most (goes_on step state begun 1) (remaining old) (remaining new) n recent
-          (spared_first step state begun (remaining old) n h.taken
-          (Reads-spares step state begun now h.taken (h.takes begun [] (begun_so step state begun)))
+          (spared_first step state begun (remaining old) n h.lines_taken
+          (Reads-spares step state begun now h.lines_taken
+          (h.takes begun [] (begun_so step state begun)))
           h.count h.first);
       reason = reason;
     }
@@ -360,8 +357,8 @@ interrupted step state begun now view role n ends.ReadFault remaining has_failed
       sound = tt;
       fault =
           spares_all (goes_on step state begun 1) (remaining old) (remaining new) n h.read
-          (spared_first step state begun (remaining old) n h.first.taken
-          (Reads-spares step state begun now h.first.taken
+          (spared_first step state begun (remaining old) n h.first.lines_taken
+          (Reads-spares step state begun now h.first.lines_taken
           (h.first.takes begun [] (begun_so step state begun))) h.first.count h.first.first);
       reason = reason;
     }
@@ -373,7 +370,7 @@ interrupted step state begun now view role n (ends.Stopped NoMemory) remaining h
       sound = tt;
       fault =
           spares_most (goes_on step state begun 1) (remaining old) (remaining new) n recent
-          (spared_first step state begun (remaining old) n h.taken
+          (spared_first step state begun (remaining old) n h.lines_taken
           (h.stops begun [] (begun_so step state begun)) h.count h.first);
       reason = reason;
     }
@@ -385,7 +382,7 @@ interrupted step state begun now view role n (ends.Stopped (Fault f)) remaining 
       sound = tt;
       fault = (
         refl,
-        stopped_at step state begun (remaining old) n h.taken h.at f
+        stopped_at step state begun (remaining old) n h.lines_taken h.at f
             (h.stops begun [] (begun_so step state begun)) h.count h.first h.next,
       );
       reason = reason;

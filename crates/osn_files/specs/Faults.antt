@@ -26,6 +26,6 @@ MatchFileFault (BadLine role line fault) P Q R = R role line fault
 
 -- the source failed where a read fault says so, or gives no end in 4,294,967,295 reads, and nowhere
 -- else
-abbrev pub FailsAsTold : Bool → Bool → Option (List ℕ) → FileFault → Type 0
-FailsAsTold old new input fault =
+abbrev pub FailsByFault : Bool → Bool → Option (List ℕ) → FileFault → Type 0
+FailsByFault old new input fault =
     MatchFileFault fault (new ≡ old) (IsReadFault new input) (λ _ _ _. new ≡ old)

@@ -6,7 +6,7 @@ use Rattle.osn_lines.specs.Lines.{lines}
 use Rattle.osn_files.specs.declared.fault.FileFault.{FileFault}
 use Rattle.osn_files.specs.declared.fault.LineFault.{LineFault}
 use Rattle.osn_files.specs.declared.fault.Role.{Role}
-use Rattle.osn_files.specs.Faults.{MatchFileFault, FailsAsTold}
+use Rattle.osn_files.specs.Faults.{MatchFileFault, FailsByFault}
 
 -- The rule refuses no line that ended in the earlier bytes of those that were read of a source. The
 -- last ones are at most this many.
@@ -41,4 +41,4 @@ pub record ReadsFile {A T S : Type 0} (role : Role)
       × IfSome (remaining old) (λ input. rule (lines input) ≡ Err (line, why))))
   -- the source failed where a read fault says so, or gave no end in 4,294,967,295 reads, and
   -- nowhere else
-  pub reason : IfErr result (FailsAsTold (has_failed old) (has_failed new) (remaining old))
+  pub reason : IfErr result (FailsByFault (has_failed old) (has_failed new) (remaining old))

@@ -11,7 +11,7 @@ pub mod Schedule
 pub mod Stops
 pub mod ReadingInside
 pub mod QuestionsInside
-pub mod Kept
+pub mod EarlierRules
 pub mod Loaded
 pub mod GreaterLimits
 pub mod LastLine

@@ -19,11 +19,11 @@ with_version version (Ok a) = Ok (Some version, a)
 with_version version (Err f) = Err f
 
 -- the version that is known, and the value that is made, by the object of one line
-abbrev pub taken : {A : Type 0} → (Version → A → Data → Result A LineFault) → Option Version → A
-    → Data → Result (Option Version × A) LineFault
-taken step None a d =
+abbrev pub after_line : {A : Type 0} → (Version → A → Data → Result A LineFault) → Option Version
+    → A → Data → Result (Option Version × A) LineFault
+after_line step None a d =
     on_read (or_fault BadHead (version_in d)) (λ version. Ok (Some version, a))
-taken step (Some version) a d = with_version version (step version a d)
+after_line step (Some version) a d = with_version version (step version a d)
 
 -- what comes of the file by these lines, where the first has this number
 abbrev pub goes_on : {S A : Type 0} → (S → Version → A → Data → Result A LineFault) → (S → A)

@@ -5,7 +5,7 @@ ghost use Rattle.osn_lines.specs.Lines.{lines};
 ghost use Rattle.osn_files.specs.Files.{ReadsFile};
 ghost use Rattle.osn_files.specs.GreaterLimits.{LoadsUnderGreater};
 ghost use Rattle.osn_files.specs.Journal.{after_object, load};
-ghost use Rattle.osn_files.specs.Kept.{KeepsEditions};
+ghost use Rattle.osn_files.specs.EarlierRules.{KeepsEditions};
 ghost use Rattle.osn_files.specs.Loaded.{IsOfVersion};
 ghost use Rattle.osn_files.specs.Turns.{in_turn};
 ghost use Rattle.osn_files.specs.declared.fault.Role.TheVariants.{Journal};
@@ -29,7 +29,7 @@ use std::alloc::Global;
 /// `BadLine` for the first line that is refused, or for line 1 where there is no line. `ReadFault`
 /// where the source failed, or gave no end within 4,294,967,295 reads. `NoMemory` where memory ran
 /// out.
-#[tactic(auto, using(crate::proofs::KeptFacts::keeps_editions, crate::proofs::Greater::loads_same))]
+#[tactic(auto, using(crate::proofs::RuleFacts::keeps_editions, crate::proofs::Greater::loads_same))]
 pub fn load_journal<R: Source>(
     alloc: Global,
     limits: Limits,
@@ -40,7 +40,7 @@ pub fn load_journal<R: Source>(
 
     // Whatever the lines: a journal of the first version that the first rules load, the newest
     // rules load too. Each of its editions is the same register under both.
-    ensures kept { (journal : List (List ℕ)) → KeepsEditions limits journal }
+    ensures earlier_rules { (journal : List (List ℕ)) → KeepsEditions limits journal }
 
     // Whatever the lines: a journal that these limits load, greater ones load too, as the same
     // object but for its limits. Each of its editions has the same territories under both.

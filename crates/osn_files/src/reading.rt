@@ -73,7 +73,7 @@ pub trait LineFold {
         _scratch: &mut Scratch,
         text: &str,
     ) -> Result<bool, AllocError>
-        ensures taken { IfOk result (λ is_taken. MatchBool is_taken
+        ensures takes { IfOk result (λ is_taken. MatchBool is_taken
             (on_read (spec.object_in (read text.now)) (step self.old version (state self.old))
             ≡ Ok (state self.new))
             (state self.new ≡ state self.old)) }
@@ -96,7 +96,7 @@ pub(crate) struct Reading<F> {
 }
 
 impl<F: LineFold> Reading<F> {
-    ghost use Rattle.osn_files.specs.ReadingInside.{taken};
+    ghost use Rattle.osn_files.specs.ReadingInside.{after_line};
 
     /// Takes the object of a line: it says the version, where none is known.
     fn take_object(
@@ -105,11 +105,11 @@ impl<F: LineFold> Reading<F> {
         fold: &mut F,
         object: &LineObject<'_>,
     ) -> Result<(), LineStop>
-        ensures ok { OnOk result ((taken (F.step fold.old) version.old (F.state fold.old)
+        ensures ok { OnOk result ((after_line (F.step fold.old) version.old (F.state fold.old)
             (line_data object.now) ≡ Ok (version.new, F.state fold.new))
             × (F.step fold.new ≡ F.step fold.old)) }
-        ensures err { IfErr result (Stops (taken (F.step fold.old) version.old (F.state fold.old)
-            (line_data object.now))) }
+        ensures err { IfErr result (Stops (after_line (F.step fold.old) version.old
+            (F.state fold.old) (line_data object.now))) }
     {
         match *version {
             Some(version) => fold.take_object(alloc, version, object),
@@ -128,9 +128,10 @@ impl<F: LineFold> Reading<F> {
         fold: &mut F,
         text: &str,
     ) -> Result<bool, AllocError>
-        ensures taken { IfOk result (λ is_taken. MatchBool is_taken
+        ensures takes { IfOk result (λ is_taken. MatchBool is_taken
             (on_read (spec.object_in (read text.now))
-            (taken (F.step fold.old) version (F.state fold.old)) ≡ Ok (version, F.state fold.new))
+            (after_line (F.step fold.old) version (F.state fold.old))
+            ≡ Ok (version, F.state fold.new))
             (F.state fold.new ≡ F.state fold.old)) }
         ensures same { OnOk result (F.step fold.new ≡ F.step fold.old) }
     {
@@ -149,11 +150,11 @@ impl<F: LineFold> Reading<F> {
         text: &str,
     ) -> Result<(), LineStop>
         ensures ok { OnOk result ((on_read (spec.object_in (read text.now))
-            (taken (F.step fold.old) version.old (F.state fold.old))
+            (after_line (F.step fold.old) version.old (F.state fold.old))
             ≡ Ok (version.new, F.state fold.new))
             × (F.step fold.new ≡ F.step fold.old)) }
         ensures err { IfErr result (Stops (on_read (spec.object_in (read text.now))
-            (taken (F.step fold.old) version.old (F.state fold.old)))) }
+            (after_line (F.step fold.old) version.old (F.state fold.old)))) }
     {
         if Reading::is_taken(alloc, scratch, *version, fold, text)? {
             return Ok(());
@@ -170,12 +171,13 @@ impl<F: LineFold> Reading<F> {
         line: Line<'_>,
     ) -> Result<(), LineStop>
         ensures ok { OnOk result (((whole : List ℕ) → IsLine line.entry whole →
-            on_read (spec.object_of whole) (taken (F.step fold.old) version.old (F.state fold.old))
+            on_read (spec.object_of whole)
+            (after_line (F.step fold.old) version.old (F.state fold.old))
             ≡ Ok (version.new, F.state fold.new))
             × (F.step fold.new ≡ F.step fold.old)) }
         ensures err { IfErr result (λ why. (whole : List ℕ) → IsLine line.entry whole →
             Stops (on_read (spec.object_of whole)
-            (taken (F.step fold.old) version.old (F.state fold.old))) why) }
+            (after_line (F.step fold.old) version.old (F.state fold.old))) why) }
     {
         let text = text_of(line)?;
         Reading::take_text(alloc, scratch, version, fold, text)

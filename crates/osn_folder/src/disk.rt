@@ -30,7 +30,7 @@ impl<'a, R> Disk<'a, R> {
 impl<'a, R: Files<File = File> + AllocGlobal> Folder for Disk<'a, R> {
     type File = Plain<File>;
 
-    type Kept = DiskFile<'a, R>;
+    type Keeper = DiskFile<'a, R>;
 
     type Lock = DiskLock;
 

@@ -20,7 +20,7 @@ pub trait Folder {
     type File: Source + Drop;
 
     /// A file that is kept. No other run keeps it or saves to it before it is dropped.
-    type Kept: KeptFile + Drop;
+    type Keeper: KeptFile + Drop;
 
     /// The lock of a file that a text will be saved to. No other run keeps the file or saves to it
     /// before the lock is dropped.
@@ -51,20 +51,20 @@ pub trait Folder {
     ///
     /// `Held` where another open of the file keeps it or saves to it, `NotOpened` where it can't be
     /// kept.
-    fn keep(&mut self, path: &str) -> Result<(Self::Kept, Self::File), KeepFault>
+    fn keep(&mut self, path: &str) -> Result<(Self::Keeper, Self::File), KeepFault>
         ensures contents { IfOk result
-            (λ kept. IsKeptAt (known self.old) path.now (Self.Kept.contents kept.0)) }
+            (λ kept. IsKeptAt (known self.old) path.now (Self.Keeper.contents kept.0)) }
         ensures source { IfOk result
-            (λ kept. Self.File.remaining kept.1 ≡ Self.Kept.contents kept.0) }
-        ensures sound { IfOk result (λ kept. (Self.Kept.fault kept.0 ≡ None)
+            (λ kept. Self.File.remaining kept.1 ≡ Self.Keeper.contents kept.0) }
+        ensures sound { IfOk result (λ kept. (Self.Keeper.fault kept.0 ≡ None)
             × (Self.File.has_failed kept.1 ≡ false)) }
         ensures ok { OnOk result (Changes (Keeps path.now) (known self.old) (known self.new)) }
         ensures err { IfErr result
             (λ why. Changes (CannotKeep path.now why) (known self.old) (known self.new)) };
 
     /// Gives back a file that was kept, by its path: other runs may keep it from now on.
-    fn release(&mut self, path: &str, kept: Self::Kept)
-        ensures { Changes (Leaves path.now (Self.Kept.contents kept))
+    fn release(&mut self, path: &str, kept: Self::Keeper)
+        ensures { Changes (Leaves path.now (Self.Keeper.contents kept))
             (known self.old) (known self.new) };
 
     /// The file of a path, to be read while another run appends to it. It need not be there yet.

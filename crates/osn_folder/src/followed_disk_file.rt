@@ -30,7 +30,7 @@ pub struct FollowedDiskFile<'a, R> {
     files: &'a R,
     path: String,
     /// The file, once one was at the path.
-    found: Option<FoundFile>,
+    current: Option<FoundFile>,
     /// How many bytes the lines have that were read.
     length: u64,
 }
@@ -66,7 +66,7 @@ impl<'a, R: Files<File = File>> FollowedDiskFile<'a, R> {
         FollowedDiskFile {
             files,
             path,
-            found: None,
+            current: None,
             length: 0,
         }
     }
@@ -89,7 +89,7 @@ impl<'a, R: Files<File = File>> FollowedDiskFile<'a, R> {
                 self.check(&found)?;
                 Ok(Some(found.len()))
             }
-            Err(error) if error.kind() == ErrorKind::NotFound && self.found.is_none() => Ok(None),
+            Err(error) if error.kind() == ErrorKind::NotFound && self.current.is_none() => Ok(None),
             Err(error) => Err(read_fault(&error)),
         }
     }
@@ -99,7 +99,7 @@ impl<'a, R: Files<File = File>> FollowedDiskFile<'a, R> {
         if !found.is_file() {
             return Err(FollowFault::NotRead);
         }
-        match &self.found {
+        match &self.current {
             Some(file) if file.device != found.dev() || file.inode != found.ino() => {
                 Err(FollowFault::Replaced)
             }
@@ -107,7 +107,7 @@ impl<'a, R: Files<File = File>> FollowedDiskFile<'a, R> {
             Some(_) => Ok(()),
             None => match self.open() {
                 Ok(file) => {
-                    self.found = Some(file);
+                    self.current = Some(file);
                     Ok(())
                 }
                 Err(error) => Err(read_fault(&error)),
@@ -120,12 +120,12 @@ impl<'a, R: Files<File = File>> FollowedDiskFile<'a, R> {
         ensures lines { IfOk result (λ gained. IsOfWholeLines gained.items) }
         ensures few { IfOk result (λ gained. length gained.items < 4294967295) }
     {
-        let Some(found) = &self.found else {
+        let Some(current) = &self.current else {
             return Ok(Vec::new(alloc));
         };
         let size = end.saturating_sub(self.length).min(MOST_BYTES);
         let mut gained = vec![in alloc; 0u8; size as usize]?;
-        match read_on(&found.file, &mut gained, self.length) {
+        match read_on(&current.file, &mut gained, self.length) {
             Ok(count) => {
                 gained.truncate(count);
                 let ended = ended_length(&gained);

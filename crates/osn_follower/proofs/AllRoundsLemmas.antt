@@ -34,8 +34,8 @@ use Rattle.osn_follower.specs.Follows.{WritesAll, WritesFirst}
 use Rattle.osn_follower.specs.RoundInside.{Answers, Comes, ComesNot, EndsAfter}
 use Rattle.osn_follower.specs.RoundInside.{RefusesLine, is_end, waiting_after, GoesOn}
 use Rattle.osn_follower.specs.RoundInside.{IsOver, IsInterrupted, IsReadOf, IsUnloaded, LoadsNot}
-use Rattle.osn_follower.specs.Told.{outcomes, told}
-use Rattle.osn_follower.proofs.ToldLemmas.{Arrive-then, Arrive-nothing, round_of}
+use Rattle.osn_follower.specs.Outcomes.{outcomes, outcomes_of}
+use Rattle.osn_follower.proofs.OutcomeLemmas.{Arrive-then, Arrive-nothing, round_of}
 use Rattle.osn_follower.proofs.RoundLemmas.{Round, next-following, ends-all, ends-refused}
 use Rattle.osn_follower.proofs.RoundLemmas.{ends-early}
 
@@ -151,7 +151,8 @@ module _ (rules : ServeRules) (f m g : Follower) (before after : Option (List Ar
           × (rules.stop_at_refusal ≡ true))
           done.lines
           → Ends rules f.journal.limits (arrivals ++ round_of h.bytes h.gained)
-          (told rules f.journal.limits [] [] (arrivals ++ round_of h.bytes h.gained)) begun now
+          (outcomes_of rules f.journal.limits [] [] (arrivals ++ round_of h.bytes h.gained))
+          begun now
           (Ok (record { lines = f.lines + done.lines; refused = b }))
       by_end false is begun arrivals all following answers =
           ends-all rules f g h.bytes h.gained lines.text.items
@@ -195,7 +196,7 @@ IsFollowing-none rules begun f journal requests lines = record {
         is = inl requests;
       };
   goes_on = λ more. refl;
-  found = refl;
+  file_is = refl;
   written = Appends-nothing begun;
   count = lines;
   spared = λ stop. All-nil (λ outcome. is_refused outcome ≡ false);
@@ -214,9 +215,9 @@ Follows-after rules limits before mid after o old f arrivals next all result sam
       arrivals = arrivals ++ next;
       arrive = Arrive-then before mid after arrivals next first last;
       ended =
-          subst (λ (l : Limits). Ends rules l (arrivals ++ next) (told rules l [] [] (arrivals ++ next))
-          o.old
-          o.new result) same (ends o.old arrivals all following);
+          subst (λ (l : Limits). Ends rules l (arrivals ++ next)
+          (outcomes_of rules l [] [] (arrivals ++ next)) o.old o.new result) same
+          (ends o.old arrivals all following);
     }
 
 -- there was no memory to begin with

@@ -34,7 +34,7 @@ use Rattle.osn_service.specs.declared.service.Served.{Served}
 use Rattle.osn_follower.specs.Follows.{WritesAll, WritesFirst, WritesInPart, IsFirstRefused}
 use Rattle.osn_follower.specs.Follows.{HasNoRefusal}
 use Rattle.osn_follower.specs.RoundInside.{Answers}
-use Rattle.osn_follower.specs.Told.{outcomes, texts}
+use Rattle.osn_follower.specs.Outcomes.{outcomes, texts}
 
 -- ---- lines that change nothing
 
@@ -54,40 +54,40 @@ module _ (rules : ServeRules) (s : ObjectState) (reads : rules.read_only ≡ tru
   stays_all [] = refl
   stays_all (l ∷ ls) = ap (λ t. after_lines rules t ls) (stays l) ∙ stays_all ls
 
-  abbrev told : List (List ℕ) → List Outcome
-  told ls = map (line_outcome rules s) ls
+  abbrev line_outcomes : List (List ℕ) → List Outcome
+  line_outcomes ls = map (line_outcome rules s) ls
 
   -- the output is the text of what each line is told
-  output : (ls : List (List ℕ)) → outputs rules s ls ≡ texts (told ls)
+  output : (ls : List (List ℕ)) → outputs rules s ls ≡ texts (line_outcomes ls)
   output [] = refl
   output (l ∷ ls) =
       ap (λ t. reply_line (line_outcome rules s l) ++ outputs rules t ls) (stays l)
       ∙ (ap (λ t. reply_line (line_outcome rules s l) ++ t) (output ls)
-      ∙ sym (flat_map-cons reply_line (line_outcome rules s l) (told ls)))
+      ∙ sym (flat_map-cons reply_line (line_outcome rules s l) (line_outcomes ls)))
 
   first_output : (ls : List (List ℕ)) (n : ℕ)
-      → outputs rules s (take n ls) ≡ texts (take n (told ls))
+      → outputs rules s (take n ls) ≡ texts (take n (line_outcomes ls))
   first_output ls n =
       output (take n ls) ∙ ap texts (sym (take-map (line_outcome rules s) n ls))
 
-  count : (ls : List (List ℕ)) → length (told ls) ≡ length ls
+  count : (ls : List (List ℕ)) → length (line_outcomes ls) ≡ length ls
   count ls = length-map ls (line_outcome rules s)
 
   none_refused : (ls : List (List ℕ)) → NoneRefused rules s ls
-      → All (λ outcome. is_refused outcome ≡ false) (told ls)
+      → All (λ outcome. is_refused outcome ≡ false) (line_outcomes ls)
   none_refused [] h = All-nil (λ outcome. is_refused outcome ≡ false)
   none_refused (l ∷ ls) h =
-      All-cons (λ outcome. is_refused outcome ≡ false) (line_outcome rules s l) (told ls) h.0
-      (none_refused ls (subst (λ (t : ObjectState). NoneRefused rules t ls) (stays l) h.1))
+      All-cons (λ outcome. is_refused outcome ≡ false) (line_outcome rules s l) (line_outcomes ls)
+      h.0 (none_refused ls (subst (λ (t : ObjectState). NoneRefused rules t ls) (stays l) h.1))
 
   first_refused : (ls : List (List ℕ)) (n : ℕ) → IsFirst rules s ls n
-      → IsFirstRefused (told ls) n
+      → IsFirstRefused (line_outcomes ls) n
   first_refused ls n h = record {
-    before = told h.before;
+    before = line_outcomes h.before;
     last = line_outcome rules s h.line;
     split =
         take-map (line_outcome rules s) n ls
-        ∙ (ap told h.split ∙ map-append (line_outcome rules s) h.before (h.line ∷ []));
+        ∙ (ap line_outcomes h.split ∙ map-append (line_outcome rules s) h.before (h.line ∷ []));
     none = none_refused h.before h.none;
     refused =
         subst (λ (t : ObjectState). is_refused (line_outcome rules t h.line) ≡ true)
@@ -97,21 +97,21 @@ module _ (rules : ServeRules) (s : ObjectState) (reads : rules.read_only ≡ tru
   -- ---- what was written
 
   all : (ls : List (List ℕ)) (old new : Option (List ℕ)) (n : ℕ)
-      → served.WritesAll rules s old new ls n → WritesAll (told ls) old new n
+      → served.WritesAll rules s old new ls n → WritesAll (line_outcomes ls) old new n
   all ls old new n h = record {
     count = h.count ∙ sym (count ls);
     written = subst (Appends old new) (output ls) h.written;
   }
 
   first : (ls : List (List ℕ)) (old new : Option (List ℕ)) (n : ℕ)
-      → served.WritesFirst rules s old new ls n → WritesFirst (told ls) old new n
+      → served.WritesFirst rules s old new ls n → WritesFirst (line_outcomes ls) old new n
   first ls old new n h = record {
     enough = omega (arith, h.enough, count ls);
     written = subst (Appends old new) (first_output ls n) h.written;
   }
 
   in_part : (ls : List (List ℕ)) (old new : Option (List ℕ)) (n : ℕ)
-      → served.WritesInPart rules s old new ls n → WritesInPart (told ls) old new n
+      → served.WritesInPart rules s old new ls n → WritesInPart (line_outcomes ls) old new n
   in_part ls old new n h = record {
     bytes = h.bytes;
     enough = omega (arith, h.enough, count ls);
@@ -162,7 +162,7 @@ module _ (rules : ServeRules) (s : ObjectState) (reads : rules.read_only ≡ tru
         by_end true h = (
           first (lines text) o.old o.new done.lines (of_text _ h.written),
           first_refused (lines text) done.lines (of_text _ h.first),
-          h.asked,
+          h.stops_at_refusal,
         )
 
     pub same_err : (n : ℕ) (why : ServeFault)

@@ -7,8 +7,8 @@ use Rattle.osn_lines.specs.Ended.{ended_bytes, ended_length, unended_bytes}
 use Rattle.osn_lines.specs.Lines.{longest_line}
 use Rattle.osn_follower.specs.declared.line_front.LineFront.{LineFront}
 use Rattle.osn_follower.specs.FollowerInside.{HasFew, StandsFor, StandsForLines}
-use Rattle.osn_follower.specs.Told.{with_feed}
-use Rattle.osn_follower.proofs.LineLemmas.{rest-add, told-add, unended-last, unended-le}
+use Rattle.osn_follower.specs.Outcomes.{with_feed}
+use Rattle.osn_follower.proofs.LineLemmas.{rest-add, lines-add, unended-last, unended-le}
 use Rattle.osn_follower.proofs.LineLemmas.{with_feed-some}
 
 module _ {T E : Type 0} (old new : LineFront) (bytes : List ℕ) where
@@ -19,7 +19,7 @@ module _ {T E : Type 0} (old new : LineFront) (bytes : List ℕ) where
       → StandsForLines (items ended) (ended_bytes (waiting ++ bytes)))
   ended-added items (Ok ended) is = λ waiting h.
       subst (λ (l : List ℕ). StandsForLines l (ended_bytes (waiting ++ bytes))) (sym is)
-      (told-add waiting bytes old h)
+      (lines-add waiting bytes old h)
   ended-added items (Err e) is = tt
 
   pub rest-added : (r : Result T E)
@@ -69,7 +69,7 @@ module _ {T E : Type 0} (old new : LineFront) (some : 0 < length old.bytes.items
       subst (λ (l : List ℕ). StandsForLines (items ended) (ended_bytes l))
       (sym (with_feed-some waiting old h some))
       (subst (λ (l : List ℕ). StandsForLines l (ended_bytes (waiting ++ 10 ∷ []))) (sym is)
-      (told-add waiting (10 ∷ []) old h))
+      (lines-add waiting (10 ∷ []) old h))
   ended-front items (Err e) is = tt
 
   pub rest-front : (r : Result T E)

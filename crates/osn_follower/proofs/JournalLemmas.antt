@@ -30,9 +30,9 @@ use Rattle.osn_folder.specs.FollowedFile.{IsOfWholeLines}
 use Rattle.osn_follower.specs.declared.journal.FollowedJournal.{FollowedJournal}
 use Rattle.osn_follower.specs.FollowerInside.{IsJournalOf}
 use Rattle.osn_follower.specs.Follows.{IsRefused}
-use Rattle.osn_follower.specs.JournalInside.{later, taken, up_to_most}
-use Rattle.osn_follower.specs.Told as told
-use Rattle.osn_follower.specs.Told.{shown}
+use Rattle.osn_follower.specs.JournalInside.{later, journal_after, up_to_most}
+use Rattle.osn_follower.specs.Outcomes as specs
+use Rattle.osn_follower.specs.Outcomes.{journal_object}
 
 -- ---- lines in turn
 
@@ -148,9 +148,9 @@ some_lines (b ∷ bs) some = by_byte (b == 10)
 
 -- such lines are loaded
 loaded : (limits : Limits) (xs ys : List (List ℕ)) → Some_lines ys
-    → told.object_of limits (xs ++ ys) ≡ load newest_rules limits (xs ++ ys)
+    → specs.object_of limits (xs ++ ys) ≡ load newest_rules limits (xs ++ ys)
 loaded limits [] ys some =
-    ap (told.object_of limits) some.is ∙ sym (ap (load newest_rules limits) some.is)
+    ap (specs.object_of limits) some.is ∙ sym (ap (load newest_rules limits) some.is)
 loaded limits (x ∷ xs) ys some = refl
 
 -- ---- numbers
@@ -240,7 +240,7 @@ pub IsJournalOf-more : (limits : Limits) (file gained : List ℕ) (j : FollowedJ
     → part.lines ≡ length (lines gained)
     → (j.version ≡ None → IsOfVersion part.version (lines gained))
     → IfSome j.version (λ known. part.version ≡ known)
-    → IsJournalOf limits (file ++ gained) (taken j part)
+    → IsJournalOf limits (file ++ gained) (journal_after j part)
 IsJournalOf-more limits file gained j part h whole some made count head same =
     let ls = some_lines gained some in
     let step = after_object newest_rules in
@@ -258,7 +258,7 @@ IsJournalOf-more limits file gained j part h whole some made count head same =
     record {
       whole = whole-append file gained h.whole whole;
       object =
-          ap (told.object_of limits) cut
+          ap (specs.object_of limits) cut
           ∙ (loaded limits (lines file) (lines gained) ls
           ∙ (ap (load newest_rules limits) (sym cut)
           ∙ (ap (load newest_rules limits) (sym (append-nil (lines (file ++ gained))))
@@ -284,7 +284,7 @@ IsRefused-more limits file gained j line why h some refused =
     let n = length (lines file) in (
       refl,
       line + n,
-      ap (told.object_of limits) cut
+      ap (specs.object_of limits) cut
           ∙ (loaded limits (lines file) (lines gained) ls
           ∙ (h.goes_on (lines gained) ∙ by_version j.version (λ none. h.fresh none) refused)),
       most_later n line j.lines h.count,

@@ -21,7 +21,7 @@ use Rattle.osn_files.specs.Turns.{on_read, go_on, in_turn}
 use Rattle.osn_files.specs.Version.{version_of}
 use Rattle.osn_files.specs.declared.fault.LineFault.{LineFault}
 use Rattle.osn_follower.specs.Law.{BeginsWith, DoEditionsNeverFall}
-use Rattle.osn_follower.specs.Told as told
+use Rattle.osn_follower.specs.Outcomes as specs
 use Rattle.osn_follower.proofs.JournalLemmas.{goes_on_from, lines-whole}
 
 same : (s : ObjectState) → BeginsWith s s
@@ -84,7 +84,7 @@ by_lines n version s t (l ∷ ls) h =
 
 -- those after lines that have a head
 by_file : (limits : Limits) (s t : ObjectState) (xs ys : List (List ℕ))
-    → told.object_of limits xs ≡ Ok s → told.object_of limits (xs ++ ys) ≡ Ok t → BeginsWith s t
+    → specs.object_of limits xs ≡ Ok s → specs.object_of limits (xs ++ ys) ≡ Ok t → BeginsWith s t
 by_file limits s t [] ys h k =
     let is : opened limits ≡ s = cc in
     subst (λ (u : ObjectState). BeginsWith u t) is (record { later = t.batches; batches = refl })
@@ -107,4 +107,4 @@ pub editions_never_fall : DoEditionsNeverFall
 unfolding DoEditionsNeverFall
 editions_never_fall limits file more s t whole h k =
     by_file limits s t (lines file) (lines more) h
-    (sym (ap (told.object_of limits) (lines-whole file more whole)) ∙ k)
+    (sym (ap (specs.object_of limits) (lines-whole file more whole)) ∙ k)

@@ -2,7 +2,7 @@ mod LineLemmas
 mod FrontLemmas
 mod JournalLemmas
 mod AnswerLemmas
-mod ToldLemmas
+mod OutcomeLemmas
 mod RoundLemmas
 mod AllRoundsLemmas
 mod LawLemmas

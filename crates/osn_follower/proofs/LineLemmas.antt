@@ -18,7 +18,7 @@ use Rattle.osn_service.specs.Session.{allowed, line_outcome, outcome_of}
 use Rattle.osn_service.specs.declared.rules.ServeRules.{ServeRules}
 use Rattle.osn_follower.specs.declared.line_front.LineFront.{LineFront}
 use Rattle.osn_follower.specs.FollowerInside.{HasNoLine, StandsFor, StandsForLines}
-use Rattle.osn_follower.specs.Told.{outcomes, with_feed, missing_feed}
+use Rattle.osn_follower.specs.Outcomes.{outcomes, with_feed, missing_feed}
 
 -- ---- bytes with no line that has ended
 
@@ -105,21 +105,21 @@ same_outcome rules s x y long other = too_long rules s x long ∙ sym (too_long 
 
 -- two beginnings of a line that is too long, and the same bytes after them
 record Alike (x y bytes : List ℕ) : Type 0 where
-  told : StandsForLines (ended_bytes (x ++ bytes)) (ended_bytes (y ++ bytes))
+  same_outcomes : StandsForLines (ended_bytes (x ++ bytes)) (ended_bytes (y ++ bytes))
   is : (unended_bytes (x ++ bytes) ≡ unended_bytes (y ++ bytes))
       ⊎ (IsLong (unended_bytes (x ++ bytes)) × IsLong (unended_bytes (y ++ bytes)))
 
 alike_feed : (x y rest : List ℕ) → HasNoLine x → HasNoLine y → IsLong x → IsLong y
     → Alike x y (10 ∷ rest)
 alike_feed x y rest none_x none_y long_x long_y = record {
-  told = λ rules s.
+  same_outcomes = λ rules s.
       let more = map (line_outcome rules s) (lines (ended_bytes rest)) in
-      let told : (z : List ℕ) → HasNoLine z
+      let with_first : (z : List ℕ) → HasNoLine z
       → outcomes rules s (ended_bytes (z ++ 10 ∷ rest)) ≡ line_outcome rules s z ∷ more =
       λ z none. ap (λ t. map (line_outcome rules s) (lines t)) (ended-feed z rest)
       ∙ ap (map (line_outcome rules s)) (lines-feed z (ended_bytes rest) none) in
-      told x none_x
-      ∙ (ap (λ o. o ∷ more) (same_outcome rules s x y long_x long_y) ∙ sym (told y none_y));
+      with_first x none_x
+      ∙ (ap (λ o. o ∷ more) (same_outcome rules s x y long_x long_y) ∙ sym (with_first y none_y));
   is = inl (unended-feed x rest ∙ sym (unended-feed y rest));
 }
 
@@ -130,7 +130,7 @@ alike [] x y none_x none_y long_x long_y =
     let long : (z : List ℕ) → HasNoLine z → IsLong z → IsLong (unended_bytes (z ++ [])) =
     λ z h l. subst IsLong (sym (all_unended (z ++ []) (none z h) ∙ append-nil z)) l in
     record {
-      told = λ rules s.
+      same_outcomes = λ rules s.
           ap (outcomes rules s) (none_ended (x ++ []) (none x none_x))
           ∙ sym (ap (outcomes rules s) (none_ended (y ++ []) (none y none_y)));
       is = inr (long x none_x long_x, long y none_y long_y);
@@ -156,11 +156,11 @@ alike (b ∷ bs) x y none_x none_y long_x long_y =
         let cut : (z : List ℕ) → (z ++ b ∷ []) ++ bs ≡ z ++ b ∷ bs =
         λ z. append_assoc z (b ∷ []) bs in
         record {
-          told =
+          same_outcomes =
               subst (λ (v : List ℕ). StandsForLines (ended_bytes v) (ended_bytes (y ++ b ∷ bs)))
               (cut x)
               (subst (λ (w : List ℕ). StandsForLines (ended_bytes ((x ++ b ∷ []) ++ bs))
-              (ended_bytes w)) (cut y) one.told);
+              (ended_bytes w)) (cut y) one.same_outcomes);
           is =
               subst (λ (v : List ℕ). (unended_bytes v ≡ unended_bytes (y ++ b ∷ bs))
               ⊎ (IsLong (unended_bytes v) × IsLong (unended_bytes (y ++ b ∷ bs)))) (cut x)
@@ -172,15 +172,15 @@ alike (b ∷ bs) x y none_x none_y long_x long_y =
 -- ---- the front of a line
 
 -- bytes were added to a front, and to what waits
-pub told-add : (waiting bytes : List ℕ) (old : LineFront) → StandsFor waiting old
+pub lines-add : (waiting bytes : List ℕ) (old : LineFront) → StandsFor waiting old
     → StandsForLines (ended_bytes (old.bytes.items ++ bytes)) (ended_bytes (waiting ++ bytes))
-told-add waiting bytes old h = by_front h.is
+lines-add waiting bytes old h = by_front h.is
   where
     by_front : (old.bytes.items ≡ waiting) ⊎ (IsLong old.bytes.items × IsLong waiting)
         → StandsForLines (ended_bytes (old.bytes.items ++ bytes)) (ended_bytes (waiting ++ bytes))
     by_front (inl same) = λ rules s. ap (λ l. outcomes rules s (ended_bytes (l ++ bytes))) same
     by_front (inr long) =
-        (alike bytes old.bytes.items waiting h.none_here h.none long.0 long.1).told
+        (alike bytes old.bytes.items waiting h.none_here h.none long.0 long.1).same_outcomes
 
 pub rest-add : (waiting bytes : List ℕ) (old new : LineFront) → StandsFor waiting old
     → new.bytes.items ≡ unended_bytes (old.bytes.items ++ bytes)
@@ -207,9 +207,9 @@ still_none : (waiting bytes : List ℕ) → HasNoLine waiting → HasNoLine byte
     → HasNoLine (waiting ++ bytes)
 still_none waiting bytes none more = ended-before waiting bytes more ∙ none
 
-pub told-pass : (waiting bytes : List ℕ) (old : LineFront) → StandsFor waiting old
+pub no_line-pass : (waiting bytes : List ℕ) (old : LineFront) → StandsFor waiting old
     → HasNoLine bytes → StandsForLines [] (ended_bytes (waiting ++ bytes))
-told-pass waiting bytes old h more = λ rules s.
+no_line-pass waiting bytes old h more = λ rules s.
     sym (ap (outcomes rules s)
     (none_ended (waiting ++ bytes) (still_none waiting bytes h.none more)))
 

@@ -31,10 +31,10 @@ use Rattle.osn_follower.specs.Follows.{WritesAll, WritesFirst, WritesInPart}
 use Rattle.osn_follower.specs.RoundInside.{Answers, ComesNot, EndsAfter}
 use Rattle.osn_follower.specs.RoundInside.{RefusesLine, is_end, waiting_after}
 use Rattle.osn_follower.specs.RoundInside.{IsInterrupted}
-use Rattle.osn_follower.specs.Told.{outcomes, shown, told, texts}
-use Rattle.osn_follower.proofs.ToldLemmas.{file-append, round_of, file-round, told-read, told-round}
-use Rattle.osn_follower.proofs.ToldLemmas.{told-refused, all-after, first-after, in_part-after}
-use Rattle.osn_follower.proofs.ToldLemmas.{first_refused-after}
+use Rattle.osn_follower.specs.Outcomes.{outcomes, journal_object, outcomes_of, texts}
+use Rattle.osn_follower.proofs.OutcomeLemmas.{file-append, round_of, file-round, outcomes-read}
+use Rattle.osn_follower.proofs.OutcomeLemmas.{outcomes-round, outcomes-refused, all-after}
+use Rattle.osn_follower.proofs.OutcomeLemmas.{first-after, in_part-after, first_refused-after}
 
 -- ---- a round
 
@@ -65,30 +65,31 @@ module _ (rules : ServeRules) (f g : Follower) (bytes gained text : List ℕ)
     journal_now : IsJournalOf limits (h.file ++ gained) g.journal
     journal_now = round.journal h.file h.journal
 
-    same_told : more ≡ outcomes rules g.journal.object (ended_bytes (waiting_after h.waiting bytes))
+    same_outcomes : more
+        ≡ outcomes rules g.journal.object (ended_bytes (waiting_after h.waiting bytes))
     unfolding more
-    same_told = round.stand h.waiting h.requests rules g.journal.object
+    same_outcomes = round.stand h.waiting h.requests rules g.journal.object
 
     -- by the round and whatever comes next
-    told-next : (next : List Arrival)
-        → told rules limits [] [] ((arrivals ++ round_of bytes gained) ++ next)
-        ≡ (all ++ more) ++ told rules limits (h.file ++ gained)
+    outcomes-next : (next : List Arrival)
+        → outcomes_of rules limits [] [] ((arrivals ++ round_of bytes gained) ++ next)
+        ≡ (all ++ more) ++ outcomes_of rules limits (h.file ++ gained)
         (unended_bytes (waiting_after h.waiting bytes)) next
-    told-next next =
+    outcomes-next next =
         let w = waiting_after h.waiting bytes in
-        let rest = told rules limits (h.file ++ gained) (unended_bytes w) next in
-        ap (told rules limits [] []) (append_assoc arrivals (round_of bytes gained) next)
+        let rest = outcomes_of rules limits (h.file ++ gained) (unended_bytes w) next in
+        ap (outcomes_of rules limits [] []) (append_assoc arrivals (round_of bytes gained) next)
         ∙ (h.goes_on (round_of bytes gained ++ next)
         ∙ (ap (λ l. all ++ l)
-        (told-round rules limits h.file h.waiting bytes gained g.journal.object next
+        (outcomes-round rules limits h.file h.waiting bytes gained g.journal.object next
         journal_now.object
-        ∙ ap (λ l. l ++ rest) (sym same_told))
+        ∙ ap (λ l. l ++ rest) (sym same_outcomes))
         ∙ sym (append_assoc all more rest)))
 
-    told-now : told rules limits [] [] (arrivals ++ round_of bytes gained) ≡ all ++ more
-    told-now =
-        ap (told rules limits [] []) (sym (append-nil (arrivals ++ round_of bytes gained)))
-        ∙ (told-next [] ∙ append-nil (all ++ more))
+    outcomes-now : outcomes_of rules limits [] [] (arrivals ++ round_of bytes gained) ≡ all ++ more
+    outcomes-now =
+        ap (outcomes_of rules limits [] []) (sym (append-nil (arrivals ++ round_of bytes gained)))
+        ∙ (outcomes-next [] ∙ append-nil (all ++ more))
 
     pub next-following : (now : Option (List ℕ)) (n : ℕ) → g.lines ≡ f.lines + n
         → WritesAll (outcomes rules g.journal.object text) old now n
@@ -101,9 +102,9 @@ module _ (rules : ServeRules) (f g : Follower) (bytes gained text : List ℕ)
       waiting = unended_bytes (waiting_after h.waiting bytes);
       journal = journal_now;
       requests = round.rest h.waiting h.requests;
-      goes_on = told-next;
-      found =
-          ap (λ l. l ++ gained) h.found
+      goes_on = outcomes-next;
+      file_is =
+          ap (λ l. l ++ gained) h.file_is
           ∙ (ap (λ l. file_of arrivals ++ l) (sym (file-round bytes gained))
           ∙ sym (file-append arrivals (round_of bytes gained)));
       written = (all-after begun old now all h.written more n wrote).written;
@@ -122,12 +123,12 @@ module _ (rules : ServeRules) (f g : Follower) (bytes gained text : List ℕ)
         → WritesAll (outcomes rules g.journal.object text) old now n
         → HasNoRefusal rules (outcomes rules g.journal.object text)
         → Ends rules limits (arrivals ++ round_of bytes gained)
-        (told rules limits [] [] (arrivals ++ round_of bytes gained)) begun now
+        (outcomes_of rules limits [] [] (arrivals ++ round_of bytes gained)) begun now
         (Ok (record { lines = f.lines + n; refused = false }))
     unfolding more
     ends-all now n last wrote spared =
         subst (λ (l : List Outcome). Ends rules limits (arrivals ++ round_of bytes gained) l begun now
-        (Ok (record { lines = f.lines + n; refused = false }))) (sym told-now) (
+        (Ok (record { lines = f.lines + n; refused = false }))) (sym outcomes-now) (
           subst (λ (k : ℕ). WritesAll (all ++ more) begun now (k + n)) (sym h.count)
               (all-after begun old now all h.written more n wrote),
           (arrivals, gained, at_end bytes last),
@@ -145,12 +146,12 @@ module _ (rules : ServeRules) (f g : Follower) (bytes gained text : List ℕ)
         → WritesFirst (outcomes rules g.journal.object text) old now n
         → IsFirstRefused (outcomes rules g.journal.object text) n
         → Ends rules limits (arrivals ++ round_of bytes gained)
-        (told rules limits [] [] (arrivals ++ round_of bytes gained)) begun now
+        (outcomes_of rules limits [] [] (arrivals ++ round_of bytes gained)) begun now
         (Ok (record { lines = f.lines + n; refused = true }))
     unfolding more
     ends-refused now n stop wrote refused =
         subst (λ (l : List Outcome). Ends rules limits (arrivals ++ round_of bytes gained) l begun now
-        (Ok (record { lines = f.lines + n; refused = true }))) (sym told-now)
+        (Ok (record { lines = f.lines + n; refused = true }))) (sym outcomes-now)
         (subst (λ (k : ℕ). WritesFirst (all ++ more) begun now (k + n)
         × IsFirstRefused (all ++ more) (k + n)
         × (rules.stop_at_refusal ≡ true)) (sym h.count) (
@@ -162,12 +163,12 @@ module _ (rules : ServeRules) (f g : Follower) (bytes gained text : List ℕ)
     pub ends-early : (now : Option (List ℕ)) (n : ℕ) (why : ServeFault)
         → Answers rules g.journal.object text old now (Err (record { lines = n; cause = why }))
         → Ends rules limits (arrivals ++ round_of bytes gained)
-        (told rules limits [] [] (arrivals ++ round_of bytes gained)) begun now
+        (outcomes_of rules limits [] [] (arrivals ++ round_of bytes gained)) begun now
         (Err (record { lines = f.lines + n; cause = Serve why }))
     unfolding more
     ends-early now n why h2 =
         subst (λ (l : List Outcome). Ends rules limits (arrivals ++ round_of bytes gained) l begun now
-        (Err (record { lines = f.lines + n; cause = Serve why }))) (sym told-now)
+        (Err (record { lines = f.lines + n; cause = Serve why }))) (sym outcomes-now)
         (subst (λ (k : ℕ). MatchFault why (WritesFirst (all ++ more) begun now (k + n))
         (WritesAll (all ++ more) begun now (k + n))
         (WritesInPart (all ++ more) begun now (k + n))) (sym h.count)
@@ -192,7 +193,7 @@ module _ (rules : ServeRules) (f : Follower) (old : Option (List ℕ)) where
       (h : IsFollowing rules its_limits begun arrivals all f old) where
     -- nothing more is told by what arrived
     abbrev IsSilent : List Arrival → Type 0
-    IsSilent next = told rules its_limits [] [] (arrivals ++ next) ≡ all
+    IsSilent next = outcomes_of rules its_limits [] [] (arrivals ++ next) ≡ all
 
     silent_none : IsSilent []
     silent_none = h.goes_on [] ∙ append-nil all
@@ -200,14 +201,14 @@ module _ (rules : ServeRules) (f : Follower) (old : Option (List ℕ)) where
     silent_read : (bytes : List ℕ) → IsSilent (arrival_of bytes ∷ [])
     silent_read bytes =
         h.goes_on (arrival_of bytes ∷ [])
-        ∙ (ap (λ l. all ++ l) (told-read rules its_limits h.file h.waiting bytes [])
+        ∙ (ap (λ l. all ++ l) (outcomes-read rules its_limits h.file h.waiting bytes [])
         ∙ append-nil all)
 
     silent_refused : (bytes gained : List ℕ) (e : ℕ × LineFault)
-        → shown its_limits (h.file ++ gained) ≡ Err e → IsSilent (round_of bytes gained)
+        → journal_object its_limits (h.file ++ gained) ≡ Err e → IsSilent (round_of bytes gained)
     silent_refused bytes gained e is =
         h.goes_on (round_of bytes gained)
-        ∙ (ap (λ l. all ++ l) (told-refused rules its_limits h.file h.waiting bytes gained e is)
+        ∙ (ap (λ l. all ++ l) (outcomes-refused rules its_limits h.file h.waiting bytes gained e is)
         ∙ append-nil all)
 
     wrote_all : WritesAll all begun old f.lines
@@ -215,9 +216,9 @@ module _ (rules : ServeRules) (f : Follower) (old : Option (List ℕ)) where
 
     -- of what may be told more, nothing was written
     wrote_first : (next : List Arrival)
-        → WritesFirst (told rules its_limits [] [] (arrivals ++ next)) begun old f.lines
+        → WritesFirst (outcomes_of rules its_limits [] [] (arrivals ++ next)) begun old f.lines
     wrote_first next =
-        let rest = told rules its_limits h.file h.waiting next in
+        let rest = outcomes_of rules its_limits h.file h.waiting next in
         subst (λ (l : List Outcome). WritesFirst l begun old f.lines) (sym (h.goes_on next))
         (subst (λ (k : ℕ). WritesFirst (all ++ rest) begun old k) (sym h.count)
         (record {
@@ -227,7 +228,7 @@ module _ (rules : ServeRules) (f : Follower) (old : Option (List ℕ)) where
         }))
 
     all_silent : (next : List Arrival) → IsSilent next
-        → WritesAll (told rules its_limits [] [] (arrivals ++ next)) begun old f.lines
+        → WritesAll (outcomes_of rules its_limits [] [] (arrivals ++ next)) begun old f.lines
     all_silent next is =
         subst (λ (l : List Outcome). WritesAll l begun old f.lines) (sym is) wrote_all
 
@@ -256,19 +257,19 @@ module _ (rules : ServeRules) (f : Follower) (old : Option (List ℕ)) where
       (Err (record { lines = f.lines; cause = Journal why }))
   refused bytes gained why is = λ begun arrivals all h.
       let at = is h.file h.journal in
-      let found : h.file ++ gained ≡ file_of (arrivals ++ round_of bytes gained) =
-      ap (λ l. l ++ gained) h.found
+      let file_is : h.file ++ gained ≡ file_of (arrivals ++ round_of bytes gained) =
+      ap (λ l. l ++ gained) h.file_is
       ∙ (ap (λ l. file_of arrivals ++ l) (sym (file-round bytes gained))
       ∙ sym (file-append arrivals (round_of bytes gained))) in (
         all_silent begun arrivals all h (round_of bytes gained)
             (by_fault why begun arrivals all h at),
-        subst (λ (l : List ℕ). IsRefused its_limits l why) found at,
+        subst (λ (l : List ℕ). IsRefused its_limits l why) file_is at,
       )
     where
       by_fault : (w : FileFault) (begun : Option (List ℕ)) (arrivals : List Arrival)
           (all : List Outcome) (h : IsFollowing rules its_limits begun arrivals all f old)
           → IsRefused its_limits (h.file ++ gained) w
-          → told rules its_limits [] [] (arrivals ++ round_of bytes gained) ≡ all
+          → outcomes_of rules its_limits [] [] (arrivals ++ round_of bytes gained) ≡ all
       by_fault files.NoMemory begun arrivals all h at = absurd at
       by_fault files.ReadFault begun arrivals all h at = absurd at
       by_fault (files.BadLine role line said) begun arrivals all h at =

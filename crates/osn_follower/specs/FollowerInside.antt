@@ -21,7 +21,7 @@ use Rattle.osn_follower.specs.declared.journal.FollowedJournal.{FollowedJournal}
 use Rattle.osn_follower.specs.declared.line_front.LineFront.{LineFront}
 use Rattle.osn_follower.specs.declared.follower.Follower.{Follower}
 use Rattle.osn_follower.specs.Arrivals.{Arrival, file_of}
-use Rattle.osn_follower.specs.Told.{outcomes, shown, told, texts}
+use Rattle.osn_follower.specs.Outcomes.{outcomes, journal_object, outcomes_of, texts}
 
 -- ---- the next request line
 
@@ -51,7 +51,7 @@ StandsForLines given text = (rules : ServeRules) (s : ObjectState) →
 -- come next go on from it
 pub record IsJournalOf (limits : Limits) (file : List ℕ) (j : FollowedJournal) : Type 0 where
   pub whole : IsOfWholeLines file
-  pub object : shown limits file ≡ Ok j.object
+  pub object : journal_object limits file ≡ Ok j.object
   pub fresh : j.version ≡ None → lines file ≡ []
   pub goes_on : (more : List (List ℕ)) → load newest_rules limits (lines file ++ more)
       ≡ in_turn (after_object newest_rules) (length (lines file) + 1) j.version j.object more
@@ -59,8 +59,8 @@ pub record IsJournalOf (limits : Limits) (file : List ℕ) (j : FollowedJournal)
 
 -- ---- the follower
 
--- What was told by these arrivals is `all`, its replies were written, and the follower stands where
--- what comes next goes on.
+-- The outcomes of these arrivals are `all`, their replies were written, and the follower stands
+-- where what comes next goes on.
 pub record IsFollowing (rules : ServeRules) (limits : Limits) (old : Option (List ℕ))
     (arrivals : List Arrival) (all : List Outcome) (f : Follower) (now : Option (List ℕ)) : Type 0
   where
@@ -68,9 +68,9 @@ pub record IsFollowing (rules : ServeRules) (limits : Limits) (old : Option (Lis
     pub waiting : List ℕ
     pub journal : IsJournalOf limits file f.journal
     pub requests : StandsFor waiting f.requests
-    pub goes_on : (more : List Arrival) → told rules limits [] [] (arrivals ++ more)
-        ≡ all ++ told rules limits file waiting more
-    pub found : file ≡ file_of arrivals
+    pub goes_on : (more : List Arrival) → outcomes_of rules limits [] [] (arrivals ++ more)
+        ≡ all ++ outcomes_of rules limits file waiting more
+    pub file_is : file ≡ file_of arrivals
     pub written : Appends old now (texts all)
     pub count : f.lines ≡ length all
     pub spared : rules.stop_at_refusal ≡ true → All (λ outcome. is_refused outcome ≡ false) all

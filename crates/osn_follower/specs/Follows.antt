@@ -21,7 +21,7 @@ use Rattle.osn_follower.specs.declared.fault.FollowerFault.{FollowerFault}
 use Rattle.osn_follower.specs.declared.fault.FollowerFault.TheVariants.{Serve, Journal as Refused}
 use Rattle.osn_follower.specs.declared.fault.FollowerFault.TheVariants.{File}
 use Rattle.osn_follower.specs.Arrivals.{Arrival, Arrive, Ended, Gained, file_of}
-use Rattle.osn_follower.specs.Told.{told, texts, shown}
+use Rattle.osn_follower.specs.Outcomes.{outcomes_of, texts, journal_object}
 
 -- ---- what is written
 
@@ -63,7 +63,7 @@ IsAtEnd arrivals =
 abbrev pub IsRefused : Limits → List ℕ → FileFault → Type 0
 IsRefused limits file fault =
     MatchFileFault fault ⊥ ⊥ (λ role line why.
-    (role ≡ Journal) × (n : ℕ) × (shown limits file ≡ Err (n, why))
+    (role ≡ Journal) × (n : ℕ) × (journal_object limits file ≡ Err (n, why))
     × (line ≡ min n 18446744073709551615))
 
 -- a fact for each cause for which not all lines were answered
@@ -99,10 +99,11 @@ Ends rules limits arrivals all old new (Ok served) =
 Ends rules limits arrivals all old new (Err end) =
     EndsEarly limits arrivals all old new end.lines end.cause
 
--- A follower was at work by these rules. What arrived, in order, is `arrivals`, and exactly what is
--- told by that was written.
+-- A follower was at work by these rules. What arrived, in order, is `arrivals`, and exactly the
+-- outcomes of that were written.
 pub record Follows (rules : ServeRules) (limits : Limits) (before after : Option (List Arrival))
     (o : Output) (result : Result Served (Interrupted FollowerFault)) : Type 0 where
   pub arrivals : List Arrival
   pub arrive : Arrive before after arrivals
-  pub ended : Ends rules limits arrivals (told rules limits [] [] arrivals) o.old o.new result
+  pub ended : Ends rules limits arrivals (outcomes_of rules limits [] [] arrivals)
+      o.old o.new result

@@ -16,8 +16,8 @@ later ReadFault lines = ReadFault
 later (BadLine role line why) lines = BadLine role (up_to_most (lines + line)) why
 
 -- the journal with the lines of a part
-abbrev pub taken : FollowedJournal → JournalPart → FollowedJournal
-taken old part = record {
+abbrev pub journal_after : FollowedJournal → JournalPart → FollowedJournal
+journal_after old part = record {
   limits = old.limits;
   version = Some part.version;
   lines = up_to_most (old.lines + part.lines);

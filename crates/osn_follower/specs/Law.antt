@@ -4,7 +4,7 @@ use Rattle.osn_register.specs.declared.edit.Edit.{Edit}
 use Rattle.osn_register.specs.declared.limits.Limits.{Limits}
 use Rattle.osn_core.specs.Sequential.{ObjectState}
 use Rattle.osn_folder.specs.FollowedFile.{IsOfWholeLines}
-use Rattle.osn_follower.specs.Told.{shown}
+use Rattle.osn_follower.specs.Outcomes.{journal_object}
 
 -- the batches of one object are the first of another's
 pub record BeginsWith (s t : ObjectState) : Type 0 where
@@ -15,4 +15,5 @@ pub record BeginsWith (s t : ObjectState) : Type 0 where
 unfoldable pub DoEditionsNeverFall : Type 0
 DoEditionsNeverFall =
     (limits : Limits) (file more : List ℕ) (s t : ObjectState) → IsOfWholeLines file
-    → shown limits file ≡ Ok s → shown limits (file ++ more) ≡ Ok t → BeginsWith s t
+    → journal_object limits file ≡ Ok s → journal_object limits (file ++ more) ≡ Ok t
+    → BeginsWith s t

@@ -1,5 +1,5 @@
 pub mod Arrivals
-pub mod Told
+pub mod Outcomes
 pub mod Follows
 pub mod Law
 pub mod FollowerInside

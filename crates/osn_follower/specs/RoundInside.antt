@@ -30,7 +30,7 @@ use Rattle.osn_follower.specs.Follows.{WritesAll, WritesFirst, WritesInPart, IsF
 use Rattle.osn_follower.specs.Follows.{IsRefused, IsAtEnd, MatchFollower, Ends}
 use Rattle.osn_follower.specs.Follows.{HasNoRefusal}
 use Rattle.osn_follower.specs.FollowerInside.{StandsFor, StandsForLines, IsJournalOf, IsFollowing}
-use Rattle.osn_follower.specs.Told.{outcomes, told, with_feed}
+use Rattle.osn_follower.specs.Outcomes.{outcomes, outcomes_of, with_feed}
 
 -- ---- a read
 
@@ -90,9 +90,9 @@ LoadsNot old before after fault = MatchFollower fault
 
 -- want of memory is told as that, and each other fault of the journal as it is
 abbrev pub IsUnloaded : FileFault → FollowerFault → Type 0
-IsUnloaded files.NoMemory told = told ≡ Serve NoMemory
-IsUnloaded files.ReadFault told = told ≡ Journal files.ReadFault
-IsUnloaded (files.BadLine role line why) told = told ≡ Journal (files.BadLine role line why)
+IsUnloaded files.NoMemory fault = fault ≡ Serve NoMemory
+IsUnloaded files.ReadFault fault = fault ≡ Journal files.ReadFault
+IsUnloaded (files.BadLine role line why) fault = fault ≡ Journal (files.BadLine role line why)
 
 -- ---- a read and a look
 
@@ -163,7 +163,7 @@ EndsAfter rules old new f next result =
     (begun : Option (List ℕ)) (arrivals : List Arrival) (all : List Outcome)
     → IsFollowing rules f.journal.limits begun arrivals all f old
     → Ends rules f.journal.limits (arrivals ++ next)
-    (told rules f.journal.limits [] [] (arrivals ++ next)) begun new result
+    (outcomes_of rules f.journal.limits [] [] (arrivals ++ next)) begun new result
 
 -- all lines were answered, or one was refused that was to be the last
 abbrev pub IsOver : ServeRules → Option (List Arrival) → Option (List Arrival) → Option (List ℕ)

@@ -11,7 +11,7 @@ ghost use Rattle.osn_follower.specs.Law.{DoEditionsNeverFall};
 ghost use Rattle.osn_follower.specs.RoundInside.{Answers, Comes, ComesNot, IsReadOf, IsUnreadOf};
 ghost use Rattle.osn_follower.specs.RoundInside.{Loads, LoadsNot, IsUnloaded, GoesOn, IsOver};
 ghost use Rattle.osn_follower.specs.RoundInside.{IsInterrupted};
-ghost use Rattle.osn_follower.specs.Told.{following};
+ghost use Rattle.osn_follower.specs.Outcomes.{following};
 
 use crate::arrivals::Arrivals;
 use crate::fault::FollowerFault;

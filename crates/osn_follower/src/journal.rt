@@ -56,7 +56,7 @@ impl FollowedJournal {
 
     /// Takes lines that have come, and were loaded.
     fn take(&mut self, part: JournalPart)
-        ensures { self.new ≡ spec.taken self.old part }
+        ensures { self.new ≡ spec.journal_after self.old part }
     {
         self.version = Some(part.version);
         self.lines = self.lines.saturating_add(part.lines);

@@ -2,7 +2,7 @@
 ghost use Rattle.std.specs.Prelude.{◌≡◌, ◌++◌, ◌≤◌, ◌<◌, ◌+◌, ℕ, List, [], length, IfOk, OnOk};
 ghost use Rattle.osn_lines.specs.Ended.{ended_bytes, unended_bytes};
 ghost use Rattle.osn_follower.specs.FollowerInside.{HasFew, HasNoLine, StandsFor, StandsForLines};
-ghost use Rattle.osn_follower.specs.Told.{with_feed};
+ghost use Rattle.osn_follower.specs.Outcomes.{with_feed};
 
 use osn_lines::{LONGEST_LINE, ended_length};
 use std::alloc::{AllocError, Global};

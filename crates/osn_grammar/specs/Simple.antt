@@ -17,8 +17,7 @@ use Rattle.osn_grammar.specs.declared.written.Year.{Year}
 
 -- one reading after another, where the first one is there
 infixl 10 ◌>>=◌
-abbrev pub ◌>>=◌ : {A B : Type 0} → Result A DateFault → (A → Result B DateFault)
-    → Result B DateFault
+abbrev pub ◌>>=◌ : {A B E : Type 0} → Result A E → (A → Result B E) → Result B E
 (Ok x) >>= f = f x
 (Err e) >>= f = Err e
 

@@ -181,7 +181,7 @@ pub fn parse(
     // as a law: it has the English months and weekdays
     ensures english { AreEnglishNamesKnown }
     // as a law: it has `8ber` and its like, which count the months from March on
-    ensures counted { AreCountedNamesKnown }
+    ensures counted_names { AreCountedNamesKnown }
     // as a law: it has the months, weekdays, ordinals and other words of each language
     ensures words { AreWordsKnown }
     // as a law: a date in digits is read as its day, with `?`, `~` and `%` after it, in a range and

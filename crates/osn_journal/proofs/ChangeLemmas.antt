@@ -15,7 +15,7 @@ use Rattle.osn_files.proofs.LoadFacts.{loads_by_lines}
 use Rattle.osn_service.specs.Change.{change_refusal, changed}
 use Rattle.osn_service.specs.declared.store.Change.{Change}
 use Rattle.osn_service.specs.declared.store.Change.TheVariants.{Stage, Publish}
-use Rattle.osn_journal.specs.KeptInside.{change_line}
+use Rattle.osn_journal.specs.ChangeInside.{change_line}
 use Rattle.osn_journal.proofs.JournalLemmas.{grows_by_lines}
 
 -- the journal grows by the line of a change

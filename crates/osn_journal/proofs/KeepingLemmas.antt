@@ -10,8 +10,8 @@ use Rattle.osn_files.specs.Loaded.{IsJournalOf}
 use Rattle.osn_service.specs.Change.{change_refusal, changed}
 use Rattle.osn_service.specs.declared.store.Change.{Change}
 use Rattle.osn_service.specs.declared.store.Change.TheVariants.{Stage, Publish}
-use Rattle.osn_journal.specs.Kept.{IsOnDisk, Keeps, FileState, KeepsAll, KeepsUntil}
-use Rattle.osn_journal.specs.KeptInside.{change_line, FailsAtLine, HasLine}
+use Rattle.osn_journal.specs.KeptJournal.{IsOnDisk, Keeps, FileState, KeepsAll, KeepsUntil}
+use Rattle.osn_journal.specs.ChangeInside.{change_line, FailsAtLine, HasLine}
 use Rattle.osn_journal.proofs.ChangeLemmas.{grows_by_line, loads_by_line, HasEdits-before}
 use Rattle.osn_journal.proofs.JournalLemmas.{edits_more}
 
@@ -133,7 +133,7 @@ pub KeepsUntil-from : (s t : ObjectState) (change : Change) (why : KeptFileFault
     → KeepsUntil s t (changed t change) a c why
 KeepsUntil-from s t change why a b c before h = record {
   keeps = record {
-    kept = b.contents;
+    contents = b.contents;
     keeps =
         subst (λ (o : Option (List ℕ)). Keeps s t a.contents b.contents a.synced o) (sym h.disk)
         before.keeps;

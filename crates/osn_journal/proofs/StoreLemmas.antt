@@ -17,8 +17,8 @@ use Rattle.osn_service.specs.Faults.{MatchServed}
 use Rattle.osn_service.specs.Serves.{KeepsStore}
 use Rattle.osn_service.specs.Store.{Makes, MatchStoreFault, FailsToKeep}
 use Rattle.osn_journal.specs.declared.kept_object.KeptObject.{KeptObject}
-use Rattle.osn_journal.specs.Kept.{FileState, KeepsAll, KeepsFile, KeepsUntil, file_of}
-use Rattle.osn_journal.specs.KeptInside.{Keeping}
+use Rattle.osn_journal.specs.KeptJournal.{FileState, KeepsAll, KeepsFile, KeepsUntil, file_of}
+use Rattle.osn_journal.specs.ChangeInside.{Keeping}
 use Rattle.osn_journal.specs.KeptObjectInside.{HasKept, HasLost}
 use Rattle.osn_journal.proofs.KeepingLemmas.{KeepsAll-nothing, KeepsAll-change, KeepsAll-then}
 use Rattle.osn_journal.proofs.KeepingLemmas.{KeepsUntil-from}
@@ -33,18 +33,18 @@ module _ {K : Type 0} (contents synced : K → Option (List ℕ))
   file_at s = file_of contents synced fault s.keeper.now
 
   -- what of it is kept, and is not
-  abbrev kept : KeptObject K → KeptObject K → Type 0
-  kept = HasKept contents synced fault
+  abbrev has_kept : KeptObject K → KeptObject K → Type 0
+  has_kept = HasKept contents synced fault
 
-  abbrev lost : KeptObject K → ObjectState → KeptObject K → KeptFileFault → Type 0
-  lost = HasLost contents synced fault
+  abbrev has_lost : KeptObject K → ObjectState → KeptObject K → KeptFileFault → Type 0
+  has_lost = HasLost contents synced fault
 
   module _ (change : Change) (old new : KeptObject K)
       (lawful : change_refusal (object_of old) change ≡ None) where
     -- a change was made and kept
     pub Makes-changed : {A : Type 0} (result : Result A (StoreFault KeptFileFault))
         → Keeping change (object_of old) (object_of new) (file_at old) (file_at new) result
-        → OnOk result (Makes object_of kept old new (changed (object_of old) change))
+        → OnOk result (Makes object_of has_kept old new (changed (object_of old) change))
     Makes-changed (Ok done) h = record {
       is = h.0;
       keeps = λ begun before.
@@ -61,8 +61,8 @@ module _ {K : Type 0} (contents synced : K → Option (List ℕ))
     pub Faults-changed : {A : Type 0} (result : Result A (StoreFault KeptFileFault))
         → Keeping change (object_of old) (object_of new) (file_at old) (file_at new) result
         → IfErr result (λ why. MatchStoreFault why
-        (Makes object_of kept old new (object_of old))
-        (FailsToKeep object_of kept lost old new (changed (object_of old) change)))
+        (Makes object_of has_kept old new (object_of old))
+        (FailsToKeep object_of has_kept has_lost old new (changed (object_of old) change)))
     Faults-changed (Ok done) h = tt
     Faults-changed (Err store_faults.NoMemory) h = record {
       is = h.0;
@@ -89,21 +89,22 @@ module _ {K : Type 0} (contents synced : K → Option (List ℕ))
     begun = KeepsAll-nothing (object_of old) (file_at old)
 
     -- the file was kept from its first state on, or from any since which it was
-    abbrev KeptFrom : Type 0
-    KeptFrom = KeepsAll (object_of old) (object_of new) (file_at old) (file_at new)
+    abbrev KeepsFromFirst : Type 0
+    KeepsFromFirst = KeepsAll (object_of old) (object_of new) (file_at old) (file_at new)
 
-    abbrev KeptSince : Type 0
-    KeptSince = (first : KeptObject K) → kept first old → kept first new
+    abbrev KeepsFromAny : Type 0
+    KeepsFromAny = (first : KeptObject K) → has_kept first old → has_kept first new
 
     -- where the service ended without a fault
-    served : (refused : Bool) (n : ℕ) → MatchServed refused (λ _. KeptSince) (λ _. KeptSince) n
-        → MatchServed refused (λ _. KeptFrom) (λ _. KeptFrom) n
+    served : (refused : Bool) (n : ℕ)
+        → MatchServed refused (λ _. KeepsFromAny) (λ _. KeepsFromAny) n
+        → MatchServed refused (λ _. KeepsFromFirst) (λ _. KeepsFromFirst) n
     served false n h = h old begun
     served true n h = h old begun
 
     -- where it ended by a fault
     ended : (n : ℕ) (cause : ServiceFault KeptFileFault)
-        → KeepsStore kept lost rules (object_of old) old new i
+        → KeepsStore has_kept has_lost rules (object_of old) old new i
         (Err (record { lines = n; cause = cause }))
         → KeepsFile rules (object_of old) (object_of new) i.bytes (file_at old) (file_at new)
         (Err (record { lines = n; cause = cause }))
@@ -112,7 +113,7 @@ module _ {K : Type 0} (contents synced : K → Option (List ℕ))
 
     -- what the store has kept since it began
     pub KeepsFile-begun : (result : Result Served (Interrupted (ServiceFault KeptFileFault)))
-        → KeepsStore kept lost rules (object_of old) old new i result
+        → KeepsStore has_kept has_lost rules (object_of old) old new i result
         → KeepsFile rules (object_of old) (object_of new) i.bytes (file_at old) (file_at new) result
     KeepsFile-begun (Ok done) h = served done.refused done.lines h
     KeepsFile-begun (Err end) h = ended end.lines end.cause h

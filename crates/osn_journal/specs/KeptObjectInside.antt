@@ -3,7 +3,7 @@ use Rattle.std.specs.Prelude.{◌≡◌, ℕ, List, Option}
 use Rattle.osn_core.specs.Sequential.{ObjectState}
 use Rattle.osn_folder.specs.declared.fault.KeptFileFault.{KeptFileFault}
 use Rattle.osn_journal.specs.declared.kept_object.KeptObject.{KeptObject}
-use Rattle.osn_journal.specs.Kept.{KeepsAll, KeepsUntil, file_of}
+use Rattle.osn_journal.specs.KeptJournal.{KeepsAll, KeepsUntil, file_of}
 
 -- what one lends, another does
 pub record IsSame {K : Type 0} (begun now : KeptObject K) : Type 0 where

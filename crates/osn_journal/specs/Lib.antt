@@ -1,4 +1,4 @@
-pub mod Kept
-pub mod KeptInside
+pub mod KeptJournal
+pub mod ChangeInside
 pub mod KeptObjectInside
 pub mod Laws

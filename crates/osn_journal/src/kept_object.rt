@@ -2,8 +2,8 @@
 ghost use Rattle.std.specs.Prelude.{◌≡◌, None, MatchResult};
 ghost use Rattle.osn_days.specs.Profile.{newest_rules};
 ghost use Rattle.osn_core.specs.Sequential.{stage_refusal, publish_refusal};
-ghost use Rattle.osn_journal.specs.Kept.{file_of};
-ghost use Rattle.osn_journal.specs.KeptInside.{FailsAtLine, IsSynced, Keeping};
+ghost use Rattle.osn_journal.specs.KeptJournal.{file_of};
+ghost use Rattle.osn_journal.specs.ChangeInside.{FailsAtLine, IsSynced, Keeping};
 ghost use Rattle.osn_service.specs.declared.store.Change.TheVariants as changes;
 
 use osn_core::{Object, Reply};
@@ -90,9 +90,9 @@ impl<'a, K: KeptFile> Store for KeptObject<'a, K> {
 
     ghost lends = { IsSame };
 
-    ghost kept = { HasKept K.contents K.synced K.fault };
+    ghost has_kept = { HasKept K.contents K.synced K.fault };
 
-    ghost not_kept = { HasLost K.contents K.synced K.fault };
+    ghost has_lost = { HasLost K.contents K.synced K.fault };
 
     fn check(&self, change: &Change) -> Result<u32, Refusal> {
         Store::check(self.object, change)

@@ -1,7 +1,7 @@
 //! The service that keeps its journal in a file.
 ghost use Rattle.osn_lines.specs.Streams.{input_of, output_of};
 ghost use Rattle.osn_service.specs.Serves.{ServesStore};
-ghost use Rattle.osn_journal.specs.Kept.{KeepsFile, file_of};
+ghost use Rattle.osn_journal.specs.KeptJournal.{KeepsFile, file_of};
 ghost use Rattle.osn_journal.specs.Laws.{DoesEachJournalGrowByLines};
 
 use crate::kept_object::KeptObject;
@@ -39,7 +39,7 @@ pub fn serve_kept<R: Source, W: Sink, K: KeptFile>(
     ensures serves { ServesStore rules object.old object.new
         (input_of R.remaining R.has_failed source.old source.new)
         (output_of W.contents W.has_failed W.holds_back sink.old sink.new) result }
-    ensures kept { KeepsFile rules object.old object.new (R.remaining source.old)
+    ensures keeps { KeepsFile rules object.old object.new (R.remaining source.old)
         (file_of K.contents K.synced K.fault keeper.old)
         (file_of K.contents K.synced K.fault keeper.new) result }
     // as a law: what a change adds to a journal is a line, by which it is loaded with that change

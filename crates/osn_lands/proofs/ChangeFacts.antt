@@ -42,13 +42,13 @@ same_after (p ∷ ps) first last d regime covers low =
     ∙ ap (λ ss. start_of p ∷ ss) (same_after ps (p.last + 1) last d regime covers.2
     (omega (arith, covers.0, covers.1)))
 
-kept_after : (ps : List Period) (first last d : ℕ) → Covers first last ps → d < first →
+starts_after : (ps : List Period) (first last d : ℕ) → Covers first last ps → d < first →
     filter (is_off d) (map start_of ps) ≡ map start_of ps
-kept_after [] first last d covers low = refl
-kept_after (p ∷ ps) first last d covers low =
+starts_after [] first last d covers low = refl
+starts_after (p ∷ ps) first last d covers low =
     ap (λ b. if not b then start_of p ∷ filter (is_off d) (map start_of ps)
     else filter (is_off d) (map start_of ps)) (ne_eqb p.first d (λ e. omega (arith, covers.0)))
-    ∙ ap (λ ss. start_of p ∷ ss) (kept_after ps (p.last + 1) last d covers.2 (omega (
+    ∙ ap (λ ss. start_of p ∷ ss) (starts_after ps (p.last + 1) last d covers.2 (omega (
       arith,
       covers.0,
       covers.1,
@@ -120,7 +120,7 @@ pub without-is : (front rest : List Period) (p : Period) (first last d : ℕ) �
     map start_of (front ++ rest) ≡ filter (is_off d) (map start_of (front ++ p ∷ rest))
 without-is [] rest p first last d covers on =
     let starts = map start_of rest in
-    sym (kept_after rest (p.last + 1) last d covers.2 (omega (arith, covers.1)))
+    sym (starts_after rest (p.last + 1) last d covers.2 (omega (arith, covers.1)))
     ∙ ap (λ b. if not b then start_of p ∷ filter (is_off d) starts else filter (is_off d) starts)
     (sym (eq-eqb p.first d on))
 without-is (q ∷ front) rest p first last d covers on =

@@ -16,7 +16,7 @@ pub mod ExplainedFacts
 pub mod TableFacts
 pub mod SearchFacts
 pub mod ExceptionFacts
-pub mod KeptFacts
+pub mod EarlierRulesFacts
 pub mod DatedFacts
 pub mod GapFacts
 pub mod MonthDayFacts

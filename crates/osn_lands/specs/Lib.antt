@@ -15,5 +15,5 @@ pub mod Easters
 pub mod PeriodList
 pub mod LabelSearch
 pub mod EasterSearch
-pub mod Kept
+pub mod EarlierRules
 pub mod JulianCalendar

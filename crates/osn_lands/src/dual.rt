@@ -61,7 +61,7 @@ fn push_year(text: &mut String, style_year: u32, year: u32) -> Result<(), AllocE
 pub fn dual_text(alloc: Global, regime: Regime, day: Day) -> Result<String, AllocError>
     ensures value { IfOk result (λ s. string_bytes s ≡ dual.dual_text newest_rules regime day) }
     // as a law: a day of the first rules' line keeps its text
-    ensures kept { day ≤ first_rules.high → IfOk result (λ s.
+    ensures earlier_rules { day ≤ first_rules.high → IfOk result (λ s.
         string_bytes s ≡ dual.dual_text first_rules regime day) }
 {
     let (date, year) = date_and_year(regime, day);

@@ -23,7 +23,7 @@ pub struct Label {
 pub fn label_of(regime: Regime, day: Day) -> Label
     ensures value { result ≡ local_label newest_rules regime day }
     // as a law: a day of the first rules' line keeps its label
-    ensures kept { day ≤ first_rules.high → result ≡ local_label first_rules regime day }
+    ensures earlier_rules { day ≤ first_rules.high → result ≡ local_label first_rules regime day }
 {
     let (date, year) = date_and_year(regime, day);
     Label {

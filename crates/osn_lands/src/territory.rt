@@ -8,7 +8,7 @@ ghost use Rattle.osn_lands.specs.Changes as changes;
 ghost use Rattle.osn_lands.specs.Easters as feast;
 ghost use Rattle.osn_lands.specs.EasterSearch.{easters_in_force};
 ghost use Rattle.osn_lands.specs.Exceptions as exceptions;
-ghost use Rattle.osn_lands.specs.Kept.{KeepsEasters};
+ghost use Rattle.osn_lands.specs.EarlierRules.{KeepsEasters};
 ghost use Rattle.osn_lands.specs.Faults.{IsTestOf, IsFaultOrNoMemory};
 
 mod calendar;
@@ -322,7 +322,8 @@ impl Territory {
         ensures value { IfOk result (λ days.
             days.items ≡ feast.easters newest_rules self.now year) }
         // as a law: a year of the first rules keeps its Easters
-        ensures kept { IfOk result (λ days. KeepsEasters first_rules self.now year days.items) }
+        ensures earlier_rules { IfOk result
+            (λ days. KeepsEasters first_rules self.now year days.items) }
     {
         let mut days = Vec::new(self.alloc);
         if let Some(day) = self.exception(year) {

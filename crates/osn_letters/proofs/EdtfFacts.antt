@@ -17,6 +17,7 @@ use Rattle.osn_days.specs.Weekday.{weekday_numbered}
 use Rattle.osn_grammar.specs.declared.written.DateOrder.{DateOrder}
 use Rattle.osn_grammar.specs.declared.written.Written.TheVariants as say
 use Rattle.osn_grammar.specs.InDigits.{HasFourDigits, sign, signed}
+use Rattle.osn_grammar.specs.Simple.{◌>>=◌}
 use Rattle.osn_grammar.specs.SetsInDigits.{AreSetsRead, Days, HaveFourDigits, days_text, set_text}
 use Rattle.osn_grammar.proofs.SetLaw.{sets_law}
 use Rattle.osn_lands.specs.declared.dated.DatedDay.{DatedDay}
@@ -28,8 +29,8 @@ use Rattle.osn_letters.specs.EdtfLaw.{days_of_run}
 use Rattle.osn_written.specs.declared.written_date.DateFault.{DateFault}
 use Rattle.osn_written.specs.declared.written_date.DateFault.TheVariants as faults
 use Rattle.osn_written.specs.declared.written_date.WrittenDate.{WrittenDate}
-use Rattle.osn_written.specs.Said.{form_said, or_said, said}
-use Rattle.osn_written.specs.WrittenDate.{◌>>=◌, date_after, date_in, date_of_numbers}
+use Rattle.osn_written.specs.ReadDate.{grammar_date, usual_or_other, read_date}
+use Rattle.osn_written.specs.WrittenDate.{date_after, date_in, date_of_numbers}
 use Rattle.osn_written.specs.WrittenDate.{has_long_year, weekday_named}
 use Rattle.osn_written.specs.WrittenDate.{number_of, of_year_in_numbers, parts_at, plain_date_in}
 use Rattle.osn_written.specs.WrittenDate.{usual_date, with_first, years_in, years_of}
@@ -183,7 +184,7 @@ not_usual : (t : List ℕ) → is_err (usual_date (91 ∷ t)) ≡ true
 not_usual t = not_usual_by t (parts_at 32 t)
 
 set_said : (usual : Result WrittenDate DateFault) → is_err usual ≡ true
-    → or_said usual (Ok say.Set) ≡ Ok say.Set
+    → usual_or_other usual (Ok say.Set) ≡ Ok say.Set
 set_said (Ok date) wrong = absurd (cc)
 set_said (Err fault) wrong = refl
 
@@ -192,13 +193,13 @@ set_said (Err fault) wrong = refl
 read_as : (o : DateOrder) (a u : Bool) (text : List ℕ) (first next : Days) (rest : List Days)
     → text ≡ set_text a u (first ∷ next ∷ rest) → All HaveFourDigits (first ∷ next ∷ rest)
     → IsReadAs o a u text (first ∷ next ∷ rest)
-unfolding AreSetsRead said
+unfolding AreSetsRead read_date
 read_as o a u text first next rest same all =
     let read = sets_law o a u first next rest all in
     let inside = join_by (days_text a u) (codes ",") (first ∷ next ∷ rest) ++ codes "]" in
     subst (λ t. IsReadAs o a u t (first ∷ next ∷ rest)) (sym same)
     (record {
-      is = ap (λ r. or_said (usual_date (91 ∷ inside)) (form_said r)) read.is
+      is = ap (λ r. usual_or_other (usual_date (91 ∷ inside)) (grammar_date r)) read.is
           ∙ set_said (usual_date (91 ∷ inside)) (not_usual inside);
       dates = read.dates;
     })

@@ -37,9 +37,9 @@ use Rattle.osn_letters.specs.TableInside.{heading_of, written_of, RefusesRecord}
 use Rattle.osn_letters.specs.WriterInside.{waiting}
 
 -- the fault that a `?` passes on
-pub told : {T E : Type 0} (P : E → Type 0) (r : Result T E) (fault : E)
+pub err_of_fault : {T E : Type 0} (P : E → Type 0) (r : Result T E) (fault : E)
     → IsErrAnd r (λ e. e ≡ fault) → P fault → IfErr r P
-told {T} {E} P r fault made h =
+err_of_fault {T} {E} P r fault made h =
     let err = err_from_is_err_and r made in
     subst (λ (o : Result T E). IfErr o P) (sym (err.1 ∙ ap Err err.2)) h
 

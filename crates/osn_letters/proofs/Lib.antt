@@ -21,7 +21,6 @@ pub mod QuietFacts
 pub mod RowFacts
 pub mod SeamFacts
 pub mod SeparatorFacts
-pub mod SpanFacts
 pub mod StartFacts
 pub mod StreamFacts
 pub mod TableFacts

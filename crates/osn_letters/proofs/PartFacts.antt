@@ -66,7 +66,7 @@ header_heads s header h =
           record {
             clear = IsClear-after_all start (strip_bom header) (clear_start s.separator);
             between = h.ends;
-            found = found.1;
+            separator_is = found.1;
           };
       goes = λ part.
           ap (table_written s)
@@ -192,7 +192,7 @@ parts_go s heading x r q (part ∷ parts) last h k past each =
     let stands : Stands x next = record {
       clear = IsClear-after_all q part k.clear;
       between = seam_between x r q part h k past first.between;
-      found = found_stays q part x k.found;
+      separator_is = found_stays q part x k.separator_is;
     } in
     let rest = parts_go s heading x r next parts last h stands (IsPast-after_all r q part past)
     (All-tail (IsPart s heading r) part parts each) in

@@ -9,7 +9,7 @@ use Rattle.osn_letters.specs.declared.place_columns.PlaceColumns.{PlaceColumns}
 use Rattle.osn_letters.specs.declared.places_fault.PlacesFault.{PlacesFault}
 use Rattle.osn_letters.specs.declared.places_fault.PlacesFault.TheVariants as faults
 use Rattle.osn_letters.specs.declared.places_fault.PlacesColumn.TheVariants as column
-use Rattle.osn_letters.specs.Chain.{◌>>=◌}
+use Rattle.osn_grammar.specs.Simple.{◌>>=◌}
 use Rattle.osn_letters.specs.Columns.{index_of}
 use Rattle.osn_letters.specs.Faults.{EndsStream}
 use Rattle.osn_letters.specs.PlaceEntries.{PlaceEntry, code_of}

@@ -18,13 +18,13 @@ use Rattle.osn_written.specs.declared.written_date.DateFault.{DateFault}
 use Rattle.osn_written.specs.declared.written_date.DateFault.TheVariants as faults
 use Rattle.osn_written.specs.declared.written_date.WrittenDate.{WrittenDate}
 use Rattle.osn_written.specs.Absence.{absence}
-use Rattle.osn_written.specs.Finding.{found, is_by_other_calendar, reckoned}
+use Rattle.osn_written.specs.Finding.{extent_meant, is_by_other_calendar, reckoned}
 use Rattle.osn_written.specs.Meaning.{meaning}
-use Rattle.osn_written.specs.Said.{one_day}
+use Rattle.osn_written.specs.ReadDate.{one_day}
 use Rattle.osn_letters.specs.declared.columns.Columns.{Columns}
 use Rattle.osn_letters.specs.declared.fault.LettersFault.{LettersFault}
 use Rattle.osn_letters.specs.declared.remark.Remark.{Remark}
-use Rattle.osn_letters.specs.declared.remark.Remark.TheVariants as told
+use Rattle.osn_letters.specs.declared.remark.Remark.TheVariants as remark
 use Rattle.osn_letters.specs.declared.separator.Separator.{Separator}
 use Rattle.osn_letters.specs.Columns.{columns_of}
 use Rattle.osn_letters.specs.DateParts.{date_in}
@@ -34,7 +34,7 @@ use Rattle.osn_letters.specs.Fields.{fields_of_found_set, fields_of_members}
 use Rattle.osn_letters.specs.Remarks.{remarks_beside_set}
 use Rattle.osn_letters.specs.RowFields.{members_in}
 use Rattle.osn_written.specs.declared.set.AbsentMember.{AbsentMember}
-use Rattle.osn_written.specs.SetsMeant.{found_of_set}
+use Rattle.osn_written.specs.SetsMeant.{set_meant}
 use Rattle.osn_letters.specs.Records.{PlacedRecord, records_of}
 use Rattle.osn_letters.specs.Remarks.{are_on_weekday, remark_words, remarks_beside}
 use Rattle.osn_letters.specs.Remarks.{remarks_on_days, those_that_apply}
@@ -90,11 +90,11 @@ beside_apart : (b : Beside) → AreApart (remarks_in (beside b))
 beside_apart b = (refl, (refl, (refl, (refl, tt))))
 
 place_apart : (applies : Bool) (b : Beside)
-    → AreApart (remarks_in ((applies, told.UnknownPlace) ∷ beside b))
+    → AreApart (remarks_in ((applies, remark.UnknownPlace) ∷ beside b))
 place_apart applies b = (refl, beside_apart b)
 
 absence_apart : (applies : Bool) (reason : NoDay) (b : Beside)
-    → AreApart (remarks_in ((applies, told.NoDay reason) ∷ beside b))
+    → AreApart (remarks_in ((applies, remark.NoDay reason) ∷ beside b))
 absence_apart applies (none.Absent why.NotWithBothYears) b = (refl, beside_apart b)
 absence_apart applies (none.Absent why.NotOfItsCalendar) b = (refl, beside_apart b)
 absence_apart applies (none.Absent why.OffTheLine) b = (refl, beside_apart b)
@@ -109,8 +109,8 @@ absence_apart applies none.OutOfOrder b = (refl, beside_apart b)
 absence_apart applies none.OffTheLine b = (refl, beside_apart b)
 
 several_apart : (one : Bool) (b : Beside)
-    → AreApart ((if one then told.ByItsWeekday else told.SeveralDays)
-    ∷ told.WeekdayDiffers ∷ told.NotCountedDouble ∷ remarks_in (beside b))
+    → AreApart ((if one then remark.ByItsWeekday else remark.SeveralDays)
+    ∷ remark.WeekdayDiffers ∷ remark.NotCountedDouble ∷ remarks_in (beside b))
 several_apart true b = (refl, (refl, (refl, beside_apart b)))
 several_apart false b = (refl, (refl, (refl, beside_apart b)))
 
@@ -119,8 +119,8 @@ days_apart : (day : WrittenDate) (given : Option Weekday) (days : List DatedDay)
 days_apart day given days b = several_apart (are_on_weekday 1 day given days) b
 
 date_apart : (applies lacks malformed : Bool) (fault : DateFault)
-    → AreApart (remarks_in ((applies, told.NotRead fault) ∷ (lacks, told.UnknownPlace)
-    ∷ (malformed, told.MalformedWeekday) ∷ []))
+    → AreApart (remarks_in ((applies, remark.NotRead fault) ∷ (lacks, remark.UnknownPlace)
+    ∷ (malformed, remark.MalformedWeekday) ∷ []))
 date_apart a l m faults.Malformed = (refl, (refl, (refl, tt)))
 date_apart a l m faults.LaterYear = (refl, (refl, (refl, tt)))
 date_apart a l m faults.Year = (refl, (refl, (refl, tt)))
@@ -136,11 +136,11 @@ date_apart a l m faults.Feast = (refl, (refl, (refl, tt)))
 date_apart a l m faults.RomanNumeral = (refl, (refl, (refl, tt)))
 
 fault_apart : (lacks malformed : Bool) (fault : DateFault)
-    → AreApart (those_that_apply ((true, told.NotRead fault) ∷ (lacks, told.UnknownPlace)
-    ∷ (malformed, told.MalformedWeekday) ∷ []))
+    → AreApart (those_that_apply ((true, remark.NotRead fault) ∷ (lacks, remark.UnknownPlace)
+    ∷ (malformed, remark.MalformedWeekday) ∷ []))
 fault_apart lacks malformed fault =
-    apart_those ((true, told.NotRead fault) ∷ (lacks, told.UnknownPlace)
-    ∷ (malformed, told.MalformedWeekday) ∷ []) (date_apart true lacks malformed fault)
+    apart_those ((true, remark.NotRead fault) ∷ (lacks, remark.UnknownPlace)
+    ∷ (malformed, remark.MalformedWeekday) ∷ []) (date_apart true lacks malformed fault)
 
 -- ---- of a date in its territory
 
@@ -148,7 +148,7 @@ meaning_apart : (edition : ℕ) (w : AnyDate) (day : WrittenDate) (given : Optio
     (reason : NoDay) (b : Beside) (days : List DatedDay)
     → AreApart (fields_of_meaning edition w day given reason (beside b) days).remarks
 meaning_apart edition w day given reason b [] =
-    apart_those ((true, told.NoDay reason) ∷ beside b) (absence_apart true reason b)
+    apart_those ((true, remark.NoDay reason) ∷ beside b) (absence_apart true reason b)
 meaning_apart edition w day given reason b (first ∷ rest) =
     apart_those (remarks_on_days day given (first ∷ rest) ++ beside b)
     (days_apart day given (first ∷ rest) b)
@@ -157,14 +157,14 @@ found_apart : (edition : ℕ) (w : AnyDate) (b : Beside) (r : Result (List Run) 
     → AreApart (fields_of_found edition w (beside b) r).remarks
 found_apart edition w b (Ok runs) = apart_those (beside b) (beside_apart b)
 found_apart edition w b (Err reason) =
-    apart_those ((true, told.NoDay reason) ∷ beside b) (absence_apart true reason b)
+    apart_those ((true, remark.NoDay reason) ∷ beside b) (absence_apart true reason b)
 
 either_apart : (p : Profile) (edition : ℕ) (t : TerritoryModel) (w : AnyDate)
     (given : Option Weekday) (b : Beside) (one : Option WrittenDate)
     → AreApart (fields_of_either p edition t w given (beside b) one).remarks
 either_apart p edition t w given b (Some day) =
     meaning_apart edition w day given (none.Absent (absence p t day)) b (meaning p t day given)
-either_apart p edition t w given b None = found_apart edition w b (found p t w.extent)
+either_apart p edition t w given b None = found_apart edition w b (extent_meant p t w.extent)
 
 -- ---- of a set of dates
 
@@ -175,7 +175,7 @@ set_apart : (b : Option Weekday × Bool) → AreApart (remarks_in (beside_set b)
 set_apart b = (refl, (refl, tt))
 
 no_set_apart : (reason : NoDay) (b : Option Weekday × Bool)
-    → AreApart (remarks_in ((true, told.NoDay reason) ∷ beside_set b))
+    → AreApart (remarks_in ((true, remark.NoDay reason) ∷ beside_set b))
 no_set_apart (none.Absent why.NotWithBothYears) b = (refl, set_apart b)
 no_set_apart (none.Absent why.NotOfItsCalendar) b = (refl, set_apart b)
 no_set_apart (none.Absent why.OffTheLine) b = (refl, set_apart b)
@@ -194,14 +194,14 @@ found_set_apart : (edition : ℕ) (ws : List AnyDate) (b : Option Weekday × Boo
     → AreApart (fields_of_found_set edition ws (beside_set b) r).remarks
 found_set_apart edition ws b (Ok runs) = apart_those (beside_set b) (set_apart b)
 found_set_apart edition ws b (Err absent) =
-    apart_those ((true, told.NoDay absent.reason) ∷ beside_set b) (no_set_apart absent.reason b)
+    apart_those ((true, remark.NoDay absent.reason) ∷ beside_set b) (no_set_apart absent.reason b)
 
 members_apart : (p : Profile) (edition : ℕ) (t : Option TerritoryModel) (ws : List AnyDate)
     (b : Option Weekday × Bool)
     → AreApart (fields_of_members p edition t ws (beside_set b)).remarks
-members_apart p edition (Some t) ws b = found_set_apart edition ws b (found_of_set p t ws)
+members_apart p edition (Some t) ws b = found_set_apart edition ws b (set_meant p t ws)
 members_apart p edition None ws b =
-    apart_those ((true, told.UnknownPlace) ∷ beside_set b) (refl, set_apart b)
+    apart_those ((true, remark.UnknownPlace) ∷ beside_set b) (refl, set_apart b)
 
 reading_apart : (p : Profile) (edition : ℕ) (t : Option TerritoryModel) (named : Option (List ℕ))
     (ws : List AnyDate) (r : Result Written DateFault)
@@ -211,7 +211,7 @@ reading_apart p edition (Some t) named ws (Ok (written.Date w)) =
     (w, weekday_in named, is_by_other_calendar p t w, is_malformed_weekday named) (one_day w)
 reading_apart p edition None named ws (Ok (written.Date w)) =
     let b : Beside = (w, weekday_in named, false, is_malformed_weekday named) in
-    apart_those ((true, told.UnknownPlace) ∷ beside b) (place_apart true b)
+    apart_those ((true, remark.UnknownPlace) ∷ beside b) (place_apart true b)
 reading_apart p edition t named ws (Ok written.Set) =
     members_apart p edition t ws (weekday_in named, is_malformed_weekday named)
 reading_apart p edition t named ws (Ok written.NoDate) =
@@ -264,11 +264,11 @@ table_apart s (r ∷ rest) = first_apart s r.line r.fields rest
 -- ---- the tally
 
 -- the tally that comes of the rows, one after the other, is that of the table
-pub told_tally : (s : TableBasis) (input : Option (List ℕ)) (tally : TallyModel)
+pub tally_of_rows : (s : TableBasis) (input : Option (List ℕ)) (tally : TallyModel)
     → IfSome input (λ text. letters_tally s text ≡ tally)
     → IfSome input (λ text. IsTallyOf s text tally)
-told_tally s None tally is = tt
-told_tally s (Some text) tally is =
+tally_of_rows s None tally is = tt
+tally_of_rows s (Some text) tally is =
     subst (IsTally (letters_remarks s text)) is
     (rows_tallied [] (letters_remarks s text) no_rows
     (table_apart s (records_of s.separator text)) none_tallied)

@@ -154,14 +154,14 @@ begun_later n i j k l false false false u v e line x y = x ∙ line ∙ ap (λ m
 pub record Stands (x : Separator) (r : Reading) : Type 0 where
   pub clear : IsClear r
   pub between : is_between r.state ≡ true
-  pub found : r.separator ≡ Some x
+  pub separator_is : r.separator ≡ Some x
 
 -- from the first byte on one is as many lines further on
 first_later : (x : Separator) (r q : Reading) (b n : ℕ) → Stands x r → Stands x q
     → (after q b).line ≡ (after r b).line + n → IsLater n (after r b) (after q b)
 first_later x r q b n h k line =
     let s = read_byte r.separator r.state b in
-    let separator = k.found ∙ sym h.found in
+    let separator = k.separator_is ∙ sym h.separator_is in
     let steps : read_byte q.separator q.state b ≡ s =
     between_step q.separator q.state k.between b
     ∙ ap (λ f. read_byte f st.StartRecord b) separator

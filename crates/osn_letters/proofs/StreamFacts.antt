@@ -123,9 +123,9 @@ both_ways P Q (Ok x) ok err = ok
 both_ways P Q (Err e) ok err = err
 
 -- the same of a fault that a `?` passes on
-pub told_ends : {T E : Type 0} (P : Type 0) (Q : E → Type 0) (r : Result T E) (fault : E)
+pub ends_by_fault : {T E : Type 0} (P : Type 0) (Q : E → Type 0) (r : Result T E) (fault : E)
     → IsErrAnd r (λ e. e ≡ fault) → Q fault → MatchResult r (λ _. P) Q
-told_ends {T} {E} P Q r fault made h =
+ends_by_fault {T} {E} P Q r fault made h =
     let err = err_from_is_err_and r made in
     subst (λ (o : Result T E). MatchResult o (λ _. P) Q) (sym (err.1 ∙ ap Err err.2)) h
 

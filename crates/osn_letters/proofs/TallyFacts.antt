@@ -21,7 +21,7 @@ use Rattle.std.specs.Ordering.{ordering_reverse}
 use Rattle.std.specs.Str.{bytes_eq}
 use Rattle.osn_letters.specs.declared.remark.Remark.{Remark}
 use Rattle.osn_letters.specs.Remarks.{remark_words}
-use Rattle.osn_letters.specs.Tally.{AreInOrder, counted, has_words, if_any, is_remarked}
+use Rattle.osn_letters.specs.Tally.{AreInOrder, up_to_most, has_words, if_any, is_remarked}
 use Rattle.osn_letters.specs.Tally.{IsTally, TallyModel, count_line, remark_lines, tally_text}
 use Rattle.osn_letters.specs.TallyInside.{count_before, no_rows, remarked_with, with_remarks}
 use Rattle.osn_letters.specs.TallyInside.{with_row, with_rows, with_words}
@@ -140,8 +140,8 @@ sorted_remarks (r ∷ rest) counts sorted =
 
 -- ---- the counts
 
-counted_more : (n : ℕ) → counted (counted n + 1) ≡ counted (n + 1)
-counted_more n = grind (arith)
+most_more : (n : ℕ) → up_to_most (up_to_most n + 1) ≡ up_to_most (n + 1)
+most_more n = grind (arith)
 
 -- no two of these remarks have the same words
 abbrev pub AreApart : List Remark → Type 0
@@ -149,18 +149,18 @@ AreApart [] = Unit {0}
 AreApart (r ∷ rest) = (has_words (remark_words r) rest ≡ false) × AreApart rest
 
 one_remark : (has here : Bool) (n : ℕ) (old new : Option ℕ) → (here ≡ true → has ≡ false)
-    → (here ≡ true → n ≡ unwrap_or old 0) → new ≡ cond here (Some (counted (n + 1))) old
-    → (if has then Some (counted (unwrap_or new 0 + 1)) else new)
-    ≡ (if here || has then Some (counted (unwrap_or old 0 + 1)) else old)
+    → (here ≡ true → n ≡ unwrap_or old 0) → new ≡ cond here (Some (up_to_most (n + 1))) old
+    → (if has then Some (up_to_most (unwrap_or new 0 + 1)) else new)
+    ≡ (if here || has then Some (up_to_most (unwrap_or old 0 + 1)) else old)
 one_remark true true n old new apart count is = absurd (cc (apart refl))
 one_remark false true n old new apart count is =
-    is ∙ ap (λ m. Some (counted (m + 1))) (count refl)
+    is ∙ ap (λ m. Some (up_to_most (m + 1))) (count refl)
 one_remark has false n old new apart count is =
-    ap (λ o. if has then Some (counted (unwrap_or o 0 + 1)) else o) is
+    ap (λ o. if has then Some (up_to_most (unwrap_or o 0 + 1)) else o) is
 
 found_remarks : (q : List ℕ) (remarks : List Remark) (counts : Counts) → AreApart remarks
     → lookup (bytes_eq q) (with_remarks counts remarks)
-    ≡ (if has_words q remarks then Some (counted (unwrap_or (lookup (bytes_eq q) counts) 0 + 1))
+    ≡ (if has_words q remarks then Some (up_to_most (unwrap_or (lookup (bytes_eq q) counts) 0 + 1))
     else lookup (bytes_eq q) counts)
 found_remarks q [] counts apart = refl
 found_remarks q (r ∷ rest) counts (first, apart) =
@@ -173,11 +173,11 @@ found_remarks q (r ∷ rest) counts (first, apart) =
     ∙ ap (λ x. unwrap_or (lookup (bytes_eq x) counts) 0) (sym (same_words q w here)))
     (found_inserted q w _ counts)
 
-more_of : (n : ℕ) → Some (counted (unwrap_or (if_any n) 0 + 1)) ≡ if_any (n + 1)
+more_of : (n : ℕ) → Some (up_to_most (unwrap_or (if_any n) 0 + 1)) ≡ if_any (n + 1)
 more_of zero = refl
 more_of (suc n) =
-    ap Some (counted_more (suc n))
-    ∙ (ap (λ m. Some (counted m)) (add-one (suc n)) ∙ sym (ap if_any (add-one (suc n))))
+    ap Some (most_more (suc n))
+    ∙ (ap (λ m. Some (up_to_most m)) (add-one (suc n)) ∙ sym (ap if_any (add-one (suc n))))
 
 -- the rows that pass a test, with one row more
 one_passes : {X : Type 0} (test : X → Bool) (rows : List X) (x : X)
@@ -185,29 +185,29 @@ one_passes : {X : Type 0} (test : X → Bool) (rows : List X) (x : X)
     else count_by test rows)
 one_passes test rows x = grind (arith, sum_by-append (λ y. cond (test y) 1 0) rows (x ∷ []))
 
-count_told : (q : List ℕ) (rows : List (List Remark)) (remarks : List Remark) (has : Bool)
+count_with_row : (q : List ℕ) (rows : List (List Remark)) (remarks : List Remark) (has : Bool)
     (found : Option ℕ) → found ≡ if_any (count_by (has_words q) rows) → has_words q remarks ≡ has
-    → (if has then Some (counted (unwrap_or found 0 + 1)) else found)
+    → (if has then Some (up_to_most (unwrap_or found 0 + 1)) else found)
     ≡ if_any (count_by (has_words q) (rows ++ remarks ∷ []))
-count_told q rows remarks true found is has =
-    ap (λ o. Some (counted (unwrap_or o 0 + 1))) is
+count_with_row q rows remarks true found is has =
+    ap (λ o. Some (up_to_most (unwrap_or o 0 + 1))) is
     ∙ (more_of (count_by (has_words q) rows)
     ∙ ap if_any (sym (one_passes (has_words q) rows remarks
     ∙ ap (λ b. if b then count_by (has_words q) rows + 1 else count_by (has_words q) rows) has)))
-count_told q rows remarks false found is has =
+count_with_row q rows remarks false found is has =
     is ∙ ap if_any (sym (one_passes (has_words q) rows remarks
     ∙ ap (λ b. if b then count_by (has_words q) rows + 1 else count_by (has_words q) rows) has))
 
-remarked_told : (rows : List (List Remark)) (remarks : List Remark) (n : ℕ)
-    → n ≡ counted (count_by is_remarked rows)
+remarked_with_row : (rows : List (List Remark)) (remarks : List Remark) (n : ℕ)
+    → n ≡ up_to_most (count_by is_remarked rows)
     → remarked_with n remarks
-    ≡ counted (count_by is_remarked (rows ++ remarks ∷ []))
-remarked_told rows [] n is =
-    is ∙ ap counted (sym (one_passes is_remarked rows []))
-remarked_told rows (r ∷ rest) n is =
-    ap (λ m. counted (m + 1)) is
-    ∙ (counted_more (count_by is_remarked rows)
-    ∙ ap counted (sym (one_passes is_remarked rows (r ∷ rest))))
+    ≡ up_to_most (count_by is_remarked (rows ++ remarks ∷ []))
+remarked_with_row rows [] n is =
+    is ∙ ap up_to_most (sym (one_passes is_remarked rows []))
+remarked_with_row rows (r ∷ rest) n is =
+    ap (λ m. up_to_most (m + 1)) is
+    ∙ (most_more (count_by is_remarked rows)
+    ∙ ap up_to_most (sym (one_passes is_remarked rows (r ∷ rest))))
 
 -- ---- the tally
 
@@ -220,12 +220,12 @@ row_tallied : (rows : List (List Remark)) (tally : TallyModel) (remarks : List R
 unfolding with_row
 row_tallied rows tally remarks apart is = record {
   rows =
-      ap (λ n. counted (n + 1)) is.rows
-      ∙ (counted_more (length rows) ∙ ap counted (sym (length-append rows (remarks ∷ []))));
-  remarked = remarked_told rows remarks tally.remarked is.remarked;
+      ap (λ n. up_to_most (n + 1)) is.rows
+      ∙ (most_more (length rows) ∙ ap up_to_most (sym (length-append rows (remarks ∷ []))));
+  remarked = remarked_with_row rows remarks tally.remarked is.remarked;
   by_remark =
       λ words. found_remarks words remarks tally.by_remark apart
-      ∙ count_told words rows remarks (has_words words remarks)
+      ∙ count_with_row words rows remarks (has_words words remarks)
       (lookup (bytes_eq words) tally.by_remark) (is.by_remark words) refl;
   order = sorted_remarks remarks tally.by_remark is.order;
 }
@@ -278,13 +278,13 @@ mapped_found q (e ∷ es) =
 pub words_counted : (counts : Counts) (es new : List (Bor (List ℕ) × ℕ)) (words : Bor (List ℕ))
     (n : ℕ) → counts ≡ map plain_entry es
     → new ≡ insert_entry (λ x y. slice_cmp nat_cmp x.now y.now) es words n
-    → n ≡ counted (unwrap_or (lookup (λ k. is_eq (slice_cmp nat_cmp words.now k.now)) es) 0 + 1)
+    → n ≡ up_to_most (unwrap_or (lookup (λ k. is_eq (slice_cmp nat_cmp words.now k.now)) es) 0 + 1)
     → map plain_entry new ≡ with_words counts words.now
 words_counted counts es new words n seen is count =
     ap (map plain_entry) is
     ∙ (mapped_inserted words n es
     ∙ (ap (insert_entry compare (map plain_entry es) words.now)
-    (count ∙ ap (λ o. counted (unwrap_or o 0 + 1)) (mapped_found words.now es))
+    (count ∙ ap (λ o. up_to_most (unwrap_or o 0 + 1)) (mapped_found words.now es))
     ∙ ap (λ cs. with_words cs words.now) (sym seen)))
 
 -- one remark more
@@ -318,7 +318,7 @@ remark_taken old now new remarks i d words low so_far words_are is =
 
 -- whether a row has a remark
 pub some_remarked : (n : ℕ) (remarks : List Remark) → (length remarks == 0) ≡ false
-    → counted (n + 1) ≡ remarked_with n remarks
+    → up_to_most (n + 1) ≡ remarked_with n remarks
 some_remarked n [] some = absurd (cc some)
 some_remarked n (r ∷ rest) some = refl
 
@@ -329,7 +329,7 @@ none_remarked n (r ∷ rest) none = absurd (omega (arith, eqb-true (length (r �
 
 -- one row more
 pub row_counted : (old : TallyModel) (remarks : List Remark) (rows remarked : ℕ) (counts : Counts)
-    → rows ≡ counted (old.rows + 1) → remarked ≡ remarked_with old.remarked remarks
+    → rows ≡ up_to_most (old.rows + 1) → remarked ≡ remarked_with old.remarked remarks
     → counts ≡ with_remarks old.by_remark remarks
     → record { rows = rows; remarked = remarked; by_remark = counts } ≡ with_row old remarks
 unfolding with_row

@@ -19,7 +19,7 @@ use Rattle.osn_letters.specs.declared.fault.Column.TheVariants as column
 use Rattle.osn_letters.specs.declared.fault.LettersFault.{LettersFault}
 use Rattle.osn_letters.specs.declared.fault.LettersFault.TheVariants.{LacksColumn, HasColumn}
 use Rattle.osn_letters.specs.AddedColumns.{added_columns, added_name}
-use Rattle.osn_letters.specs.Chain.{◌>>=◌}
+use Rattle.osn_grammar.specs.Simple.{◌>>=◌}
 
 -- the name of the column of the weekdays, and whether it has to be there
 abbrev pub weekday_name : WeekdayName → List ℕ

@@ -12,7 +12,7 @@ use Rattle.osn_grammar.specs.Reading.{members}
 use Rattle.osn_grammar.specs.SetsInDigits.{Days, member}
 use Rattle.osn_lands.specs.declared.dated.DatedDay.{DatedDay}
 use Rattle.osn_lands.specs.declared.runs.Run.{Run}
-use Rattle.osn_written.specs.Said.{said}
+use Rattle.osn_written.specs.ReadDate.{read_date}
 use Rattle.osn_letters.specs.Edtf.{edtf_of_days, edtf_of_runs, sign_of}
 
 -- a run, and a day by itself
@@ -28,7 +28,7 @@ days_of_day day = (date_of Gregorian day.day, None)
 -- a text is read as the set of these days, each with the signs
 pub record IsReadAs (o : DateOrder) (approximate uncertain : Bool) (text : List ℕ)
     (days : List Days) : Type 0 where
-  pub is : said o text ≡ Ok say.Set
+  pub is : read_date o text ≡ Ok say.Set
   pub dates : members text ≡ map (member approximate uncertain) days
 
 -- a run of days of the line

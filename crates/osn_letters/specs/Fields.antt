@@ -30,17 +30,17 @@ use Rattle.osn_written.specs.declared.written_date.DateFault.{DateFault}
 use Rattle.osn_written.specs.declared.written_date.DateFault.TheVariants.{NoDate}
 use Rattle.osn_written.specs.declared.written_date.WrittenDate.{WrittenDate}
 use Rattle.osn_written.specs.Absence.{absence}
-use Rattle.osn_written.specs.Finding.{found, is_by_other_calendar, reckoned}
+use Rattle.osn_written.specs.Finding.{extent_meant, is_by_other_calendar, reckoned}
 use Rattle.osn_written.specs.Kind.{kind_of, kind_word}
 use Rattle.osn_written.specs.Meaning.{meaning}
-use Rattle.osn_written.specs.Said.{one_day}
-use Rattle.osn_written.specs.SetsMeant.{found_of_set, is_set_approximate, is_set_uncertain}
+use Rattle.osn_written.specs.ReadDate.{one_day}
+use Rattle.osn_written.specs.SetsMeant.{set_meant, is_set_approximate, is_set_uncertain}
 use Rattle.osn_letters.specs.declared.added_fields.Summary.{Summary}
 use Rattle.osn_letters.specs.declared.day_field.DayField.{DayField}
 use Rattle.osn_letters.specs.declared.day_field.DayField.TheVariants as field
 use Rattle.osn_letters.specs.declared.letter.LetterFields.{LetterFields}
 use Rattle.osn_letters.specs.declared.remark.Remark.{Remark}
-use Rattle.osn_letters.specs.declared.remark.Remark.TheVariants as told
+use Rattle.osn_letters.specs.declared.remark.Remark.TheVariants as remark
 use Rattle.osn_letters.specs.declared.span.Span.{Span}
 use Rattle.osn_letters.specs.Edtf.{edtf_of_days, edtf_of_runs, edtf_of_span, sign, sign_of}
 use Rattle.osn_letters.specs.PlaceEntries.{PlaceEntry}
@@ -128,7 +128,7 @@ fields_of_none edition kind remarks =
 -- of a date that means no day
 abbrev pub fields_of_absence : ℕ → AnyDate → NoDay → List (Bool × Remark) → FieldsAndRemarks
 fields_of_absence edition w reason beside =
-    fields_of_none edition (Some (kind_of w.extent)) ((true, told.NoDay reason) ∷ beside)
+    fields_of_none edition (Some (kind_of w.extent)) ((true, remark.NoDay reason) ∷ beside)
 
 -- of days
 abbrev pub fields_of_days : ℕ → AnyDate → List DatedDay → List (Bool × Remark) → FieldsAndRemarks
@@ -169,7 +169,7 @@ fields_of_found edition w beside (Err reason) = fields_of_absence edition w reas
 abbrev pub fields_of_many_days : Profile → ℕ → TerritoryModel → AnyDate → List (Bool × Remark)
     → FieldsAndRemarks
 fields_of_many_days p edition t w beside =
-    fields_of_found edition w beside (found p t w.extent)
+    fields_of_found edition w beside (extent_meant p t w.extent)
 
 -- of either
 abbrev pub fields_of_either : Profile → ℕ → TerritoryModel → AnyDate → Option Weekday
@@ -209,14 +209,14 @@ abbrev pub fields_of_found_set : ℕ → List AnyDate → List (Bool × Remark)
     → Result (List Run) AbsentMember → FieldsAndRemarks
 fields_of_found_set edition ws beside (Ok runs) = fields_of_set_runs edition ws runs beside
 fields_of_found_set edition ws beside (Err absent) =
-    fields_of_no_set edition (told.NoDay absent.reason) beside
+    fields_of_no_set edition (remark.NoDay absent.reason) beside
 
 -- in its place, if that is known
 abbrev pub fields_of_members : Profile → ℕ → Option TerritoryModel → List AnyDate
     → List (Bool × Remark) → FieldsAndRemarks
 fields_of_members p edition (Some t) ws beside =
-    fields_of_found_set edition ws beside (found_of_set p t ws)
-fields_of_members p edition None ws beside = fields_of_no_set edition told.UnknownPlace beside
+    fields_of_found_set edition ws beside (set_meant p t ws)
+fields_of_members p edition None ws beside = fields_of_no_set edition remark.UnknownPlace beside
 
 -- with the field of the weekday
 abbrev pub fields_of_set : Profile → ℕ → Option TerritoryModel → List AnyDate
@@ -231,7 +231,7 @@ fields_of_set p edition t ws named =
 abbrev pub fields_without_place : ℕ → AnyDate → Option (List ℕ) → FieldsAndRemarks
 fields_without_place edition w named =
     fields_of_none edition (Some (kind_of w.extent))
-    ((true, told.UnknownPlace)
+    ((true, remark.UnknownPlace)
     ∷ remarks_beside w (weekday_in named) false (is_malformed_weekday named))
 
 -- of a date in its place, if that is known
@@ -244,9 +244,9 @@ fields_of_date p edition None w named = fields_without_place edition w named
 abbrev pub fields_without_date : ℕ → DateFault → Bool → Option (List ℕ) → FieldsAndRemarks
 fields_without_date edition fault lacks_place named =
     fields_of_none edition None
-    ((true, told.NotRead fault)
-    ∷ (lacks_place, told.UnknownPlace)
-    ∷ (is_malformed_weekday named, told.MalformedWeekday)
+    ((true, remark.NotRead fault)
+    ∷ (lacks_place, remark.UnknownPlace)
+    ∷ (is_malformed_weekday named, remark.MalformedWeekday)
     ∷ [])
 
 -- of what the field of the date says, where it is a set of these dates

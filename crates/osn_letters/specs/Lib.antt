@@ -7,7 +7,6 @@ pub mod EdtfLaw
 pub mod Remarks
 pub mod Fields
 pub mod AddedColumns
-pub mod Chain
 pub mod Columns
 pub mod DateParts
 pub mod PlacesFaults

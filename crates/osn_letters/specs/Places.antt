@@ -11,7 +11,7 @@ use Rattle.osn_letters.specs.declared.places_fault.PlacesFault.{PlacesFault}
 use Rattle.osn_letters.specs.declared.places_fault.PlacesFault.TheVariants.{NoHeader, LacksColumn}
 use Rattle.osn_letters.specs.declared.places_fault.PlacesFault.TheVariants.{BadRecord, NotUtf8}
 use Rattle.osn_letters.specs.declared.places_fault.PlacesFault.TheVariants.{TwoCodes}
-use Rattle.osn_letters.specs.Chain.{◌>>=◌}
+use Rattle.osn_grammar.specs.Simple.{◌>>=◌}
 use Rattle.osn_letters.specs.Columns.{index_of, names_text}
 use Rattle.osn_letters.specs.PlaceEntries.{PlaceEntry, code_of}
 use Rattle.osn_letters.specs.PlacesFaults.{column_name, of_record}

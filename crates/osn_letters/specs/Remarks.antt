@@ -7,24 +7,24 @@ use Rattle.osn_grammar.specs.declared.written.WrittenDate.{WrittenDate as AnyDat
 use Rattle.osn_lands.specs.declared.dated.DatedDay.{DatedDay}
 use Rattle.osn_written.specs.declared.written_date.WrittenDate.{WrittenDate}
 use Rattle.osn_written.specs.Meaning.{has_weekday, is_not_counted_double}
-use Rattle.osn_written.specs.Said.{one_day}
+use Rattle.osn_written.specs.ReadDate.{one_day}
 use Rattle.osn_written.specs.Words.{fault_words, no_day_words}
 use Rattle.osn_letters.specs.declared.remark.Remark.{Remark}
-use Rattle.osn_letters.specs.declared.remark.Remark.TheVariants as told
+use Rattle.osn_letters.specs.declared.remark.Remark.TheVariants as remark
 
 -- a remark in words
 abbrev pub remark_words : Remark → List ℕ
-remark_words (told.NotRead fault) = fault_words fault
-remark_words told.UnknownPlace = codes "unknown place"
-remark_words (told.NoDay reason) = no_day_words reason
-remark_words told.ByItsWeekday = codes "by its weekday"
-remark_words told.SeveralDays = codes "several days"
-remark_words told.WeekdayDiffers = codes "weekday differs"
-remark_words told.NotCountedDouble = codes "not counted double there"
-remark_words told.Supplied = codes "supplied by an editor"
-remark_words told.ByAnotherCalendar = codes "by another calendar"
-remark_words told.WeekdayNotLookedFor = codes "weekday not looked for"
-remark_words told.MalformedWeekday = codes "malformed weekday"
+remark_words (remark.NotRead fault) = fault_words fault
+remark_words remark.UnknownPlace = codes "unknown place"
+remark_words (remark.NoDay reason) = no_day_words reason
+remark_words remark.ByItsWeekday = codes "by its weekday"
+remark_words remark.SeveralDays = codes "several days"
+remark_words remark.WeekdayDiffers = codes "weekday differs"
+remark_words remark.NotCountedDouble = codes "not counted double there"
+remark_words remark.Supplied = codes "supplied by an editor"
+remark_words remark.ByAnotherCalendar = codes "by another calendar"
+remark_words remark.WeekdayNotLookedFor = codes "weekday not looked for"
+remark_words remark.MalformedWeekday = codes "malformed weekday"
 
 -- of remarks, each with whether it applies, those that do, in their order
 abbrev pub those_that_apply : List (Bool × Remark) → List Remark
@@ -46,26 +46,26 @@ are_on_weekday count w given days =
 -- what is said of several days: whether the weekday that is given tells one of them
 abbrev pub several_remark : WrittenDate → Option Weekday → List DatedDay → Remark
 several_remark w given days =
-    if are_on_weekday 1 w given days then told.ByItsWeekday else told.SeveralDays
+    if are_on_weekday 1 w given days then remark.ByItsWeekday else remark.SeveralDays
 
 -- what is said of days
 abbrev pub remarks_on_days : WrittenDate → Option Weekday → List DatedDay → List (Bool × Remark)
 remarks_on_days w given days =
     (nat_lt 1 (length days), several_remark w given days)
-    ∷ (are_on_weekday 0 w given days, told.WeekdayDiffers)
-    ∷ (list_any (is_not_counted_double w) days, told.NotCountedDouble)
+    ∷ (are_on_weekday 0 w given days, remark.WeekdayDiffers)
+    ∷ (list_any (is_not_counted_double w) days, remark.NotCountedDouble)
     ∷ []
 
 -- what is said beside the days, of a date that is read
 abbrev pub remarks_beside : AnyDate → Option Weekday → Bool → Bool → List (Bool × Remark)
 remarks_beside w given is_by_other_calendar is_malformed =
-    (w.is_supplied, told.Supplied)
-    ∷ (is_by_other_calendar, told.ByAnotherCalendar)
-    ∷ (is_none (one_day w) && is_weekday_given w.weekday given, told.WeekdayNotLookedFor)
-    ∷ (is_malformed, told.MalformedWeekday)
+    (w.is_supplied, remark.Supplied)
+    ∷ (is_by_other_calendar, remark.ByAnotherCalendar)
+    ∷ (is_none (one_day w) && is_weekday_given w.weekday given, remark.WeekdayNotLookedFor)
+    ∷ (is_malformed, remark.MalformedWeekday)
     ∷ []
 
 -- of a set of dates
 abbrev pub remarks_beside_set : Option Weekday → Bool → List (Bool × Remark)
 remarks_beside_set given is_malformed =
-    (is_some given, told.WeekdayNotLookedFor) ∷ (is_malformed, told.MalformedWeekday) ∷ []
+    (is_some given, remark.WeekdayNotLookedFor) ∷ (is_malformed, remark.MalformedWeekday) ∷ []

@@ -17,7 +17,7 @@ use Rattle.osn_register.specs.Code.{is_code}
 use Rattle.osn_register.specs.Plain.{LandModel, territory_of}
 use Rattle.osn_written.specs.declared.written_date.DateFault.{DateFault}
 use Rattle.osn_written.specs.declared.written_date.DateFault.TheVariants.{Malformed}
-use Rattle.osn_written.specs.Said.{said}
+use Rattle.osn_written.specs.ReadDate.{read_date}
 use Rattle.osn_written.specs.WrittenDate.{weekday_named}
 
 -- bytes without the white space of ASCII before them
@@ -39,7 +39,7 @@ text_in_field bytes = if is_utf8 (trimmed bytes) then Some (trimmed bytes) else 
 -- what the text of a field says of a date, or why it says nothing of one
 abbrev pub date_of_text : DateOrder → Option (List ℕ) → Result Written DateFault
 date_of_text order None = Err Malformed
-date_of_text order (Some text) = said order text
+date_of_text order (Some text) = read_date order text
 
 abbrev pub date_of_field : DateOrder → List ℕ → Result Written DateFault
 date_of_field order field = date_of_text order (text_in_field field)

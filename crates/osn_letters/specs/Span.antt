@@ -1,10 +1,11 @@
 -- The first and the last day that a date may mean. This project's profile.
-use Rattle.std.specs.Prelude.{ℕ, List, [], ◌∷◌, map, Option, Some, None, min, max}
+use Rattle.std.specs.Prelude.{ℕ, List, map, Option, None, min, max}
 use Rattle.std.specs.List.{reduce}
 use Rattle.osn_grammar.specs.declared.written.Extent.{Extent}
 use Rattle.osn_grammar.specs.declared.written.Extent.TheVariants as extent
 use Rattle.osn_lands.specs.declared.dated.DatedDay.{DatedDay}
 use Rattle.osn_lands.specs.declared.runs.Run.{Run}
+use Rattle.osn_written.specs.Spans.{first_of, last_of}
 use Rattle.osn_letters.specs.declared.span.Span.{Span}
 
 abbrev pub span : Option ℕ → Option ℕ → Span
@@ -26,16 +27,6 @@ abbrev pub span_of_days : List DatedDay → Span
 span_of_days days = span (earliest days) (latest days)
 
 -- ---- of runs in order
-
--- their first and their last day
-abbrev pub first_of : List Run → Option ℕ
-first_of [] = None
-first_of (r ∷ rs) = Some r.first
-
-abbrev pub last_of : List Run → Option ℕ
-last_of [] = None
-last_of (r ∷ []) = Some r.last
-last_of (r ∷ next ∷ rest) = last_of (next ∷ rest)
 
 -- of a set
 abbrev pub span_of_set : List Run → Span

@@ -21,8 +21,8 @@ pub record TallyModel : Type 0 where
   pub by_remark : List (List ℕ × ℕ)
 
 -- a count as it is told: one that is above 18446744073709551615 as that
-abbrev pub counted : ℕ → ℕ
-counted n = min n 18446744073709551615
+abbrev pub up_to_most : ℕ → ℕ
+up_to_most n = min n 18446744073709551615
 
 -- a row that has these remarks has one
 abbrev pub is_remarked : List Remark → Bool
@@ -36,7 +36,7 @@ has_words words remarks = list_any (λ r. bytes_eq words (remark_words r)) remar
 -- a count, unless it is of none
 abbrev pub if_any : ℕ → Option ℕ
 if_any zero = None
-if_any (suc n) = Some (counted (suc n))
+if_any (suc n) = Some (up_to_most (suc n))
 
 -- each of these words is before those after it, byte by byte
 abbrev pub AreInOrder : List (List ℕ) → Type 0
@@ -46,8 +46,8 @@ AreInOrder (words ∷ rest) =
 
 -- the tally of a table whose rows have these remarks
 pub record IsTally (table : List (List Remark)) (tally : TallyModel) : Type 0 where
-  pub rows : tally.rows ≡ counted (length table)
-  pub remarked : tally.remarked ≡ counted (count_by is_remarked table)
+  pub rows : tally.rows ≡ up_to_most (length table)
+  pub remarked : tally.remarked ≡ up_to_most (count_by is_remarked table)
   -- under each words it has how many rows have the remark with them, if any row has
   pub by_remark : (words : List ℕ)
       → lookup (bytes_eq words) tally.by_remark ≡ if_any (count_by (has_words words) table)

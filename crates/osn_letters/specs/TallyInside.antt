@@ -7,7 +7,7 @@ use Rattle.std.specs.Ordering.{nat_cmp}
 use Rattle.osn_letters.specs.declared.remark.Remark.{Remark}
 use Rattle.osn_letters.specs.declared.tally.Tally.TheInside.{Inside}
 use Rattle.osn_letters.specs.Remarks.{remark_words}
-use Rattle.osn_letters.specs.Tally.{TallyModel, counted}
+use Rattle.osn_letters.specs.Tally.{TallyModel, up_to_most}
 
 -- what was counted
 abbrev pub tally_in : Inside → TallyModel
@@ -23,7 +23,7 @@ count_before counts words = unwrap_or (lookup (is_at (slice_cmp nat_cmp words)) 
 
 abbrev pub with_words : List (List ℕ × ℕ) → List ℕ → List (List ℕ × ℕ)
 with_words counts words =
-    insert_entry (slice_cmp nat_cmp) counts words (counted (count_before counts words + 1))
+    insert_entry (slice_cmp nat_cmp) counts words (up_to_most (count_before counts words + 1))
 
 -- the same for each of these remarks
 abbrev pub with_remarks : List (List ℕ × ℕ) → List Remark → List (List ℕ × ℕ)
@@ -33,7 +33,7 @@ with_remarks counts (r ∷ rest) = with_remarks (with_words counts (remark_words
 -- one row more with a remark, where it has one
 abbrev pub remarked_with : ℕ → List Remark → ℕ
 remarked_with n [] = n
-remarked_with n (r ∷ rest) = counted (n + 1)
+remarked_with n (r ∷ rest) = up_to_most (n + 1)
 
 -- of no rows
 abbrev pub no_rows : TallyModel
@@ -42,7 +42,7 @@ no_rows = record { rows = 0; remarked = 0; by_remark = [] }
 -- one row more, which has these remarks
 unfoldable pub with_row : TallyModel → List Remark → TallyModel
 with_row tally remarks = record {
-  rows = counted (tally.rows + 1);
+  rows = up_to_most (tally.rows + 1);
   remarked = remarked_with tally.remarked remarks;
   by_remark = with_remarks tally.by_remark remarks;
 }

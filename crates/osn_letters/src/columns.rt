@@ -139,7 +139,7 @@ fn lacks(
     Ok(LettersFault::LacksColumn {
         column,
         line,
-        found: names_found(alloc, header)?,
+        header: names_found(alloc, header)?,
     })
 }
 

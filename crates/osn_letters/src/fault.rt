@@ -30,12 +30,12 @@ pub enum Column {
 pub enum LettersFault {
     /// The table has no record, and so no header. Nothing was written.
     NoHeader,
-    /// The header, on that line, lacks a column. Found were these names, with a comma and a space
+    /// The header, on that line, lacks a column. It has these names, with a comma and a space
     /// between two. Nothing was written.
     LacksColumn {
         column: Column,
         line: u64,
-        found: Text,
+        header: Text,
     },
     /// The header, on that line, has a column already that is put after its own. Nothing was
     /// written.

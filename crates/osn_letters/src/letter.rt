@@ -7,7 +7,9 @@ ghost use Rattle.osn_letters.specs.Fields as spec;
 use crate::added_fields::{Summary, added_fields};
 use crate::edtf::{edtf_of_days, edtf_of_span, sign};
 use crate::places::Places;
-use crate::remark::{Remark, Told, remark_text, remarks_beside, remarks_on_days, those_that_apply};
+use crate::remark::{
+    PossibleRemark, Remark, remark_text, remarks_beside, remarks_on_days, those_that_apply,
+};
 use crate::row_field::{date_of_field, is_malformed_weekday, territory_in, weekday_in};
 use crate::set::fields_of_set;
 use crate::span::{NO_SPAN, span_of_days, span_of_runs};
@@ -52,8 +54,8 @@ pub(crate) fn fields_of_none(
     alloc: Global,
     edition: usize,
     kind: Option<Kind>,
-    reasons: &[Told],
-    beside: &[Told],
+    reasons: &[PossibleRemark],
+    beside: &[PossibleRemark],
 ) -> Result<LetterFields, AllocError>
     ensures { IfOk result (λ made. spec.fields_and_remarks made
         ≡ spec.fields_of_none edition kind (reasons.now ++ beside.now)) }
@@ -73,8 +75,8 @@ fn fields_of_days(
     edition: usize,
     date: AnyDate,
     days: &[DatedDay],
-    on_days: &[Told],
-    beside: &[Told],
+    on_days: &[PossibleRemark],
+    beside: &[PossibleRemark],
 ) -> Result<LetterFields, AllocError>
     ensures { IfOk result (λ made. spec.fields_and_remarks made
         ≡ spec.fields_of_days edition date days.now (on_days.now ++ beside.now)) }
@@ -95,7 +97,7 @@ fn fields_of_runs(
     edition: usize,
     date: AnyDate,
     runs: &[Run],
-    beside: &[Told],
+    beside: &[PossibleRemark],
 ) -> Result<LetterFields, AllocError>
     ensures { IfOk result (λ made. spec.fields_and_remarks made
         ≡ spec.fields_of_runs edition date runs.now beside.now) }
@@ -116,7 +118,7 @@ fn fields_of_absence(
     edition: usize,
     date: AnyDate,
     reason: NoDay,
-    beside: &[Told],
+    beside: &[PossibleRemark],
 ) -> Result<LetterFields, AllocError>
     ensures { IfOk result (λ made. spec.fields_and_remarks made
         ≡ spec.fields_of_absence edition date reason beside.now) }
@@ -139,7 +141,7 @@ fn fields_of_one_day(
     date: AnyDate,
     day: WrittenDate,
     given: Option<Weekday>,
-    beside: &[Told],
+    beside: &[PossibleRemark],
 ) -> Result<LetterFields, AllocError>
     ensures { IfOk result (λ made. spec.fields_and_remarks made
         ≡ spec.fields_of_one_day newest_rules
@@ -160,7 +162,7 @@ fn fields_of_many_days(
     edition: usize,
     territory: &Territory,
     date: AnyDate,
-    beside: &[Told],
+    beside: &[PossibleRemark],
 ) -> Result<LetterFields, AllocError>
     ensures { IfOk result (λ made. spec.fields_and_remarks made
         ≡ spec.fields_of_many_days newest_rules

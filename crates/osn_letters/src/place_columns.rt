@@ -29,7 +29,7 @@ fn lacks(
     Ok(PlacesFault::LacksColumn {
         column,
         line,
-        found: names_found(alloc, header)?,
+        header: names_found(alloc, header)?,
     })
 }
 

@@ -36,7 +36,7 @@ impl PlaceReader {
     fn new(alloc: Global) -> PlaceReader
         ensures partial { partial_of result.parser.fields ≡ [] }
         ensures line { result.parser.line ≡ 1 }
-        ensures found { (text : List ℕ) → inside.found_from result text
+        ensures entries { (text : List ℕ) → inside.found_from result text
             ≡ spec.entries_of [] (records_from (at_start None) text) }
     {
         PlaceReader {

@@ -35,12 +35,12 @@ impl PlacesColumn {
 pub enum PlacesFault {
     /// The table has no record, and so no header.
     NoHeader,
-    /// The header, on that line, lacks a column. Found were these names, with a comma and a space
+    /// The header, on that line, lacks a column. It has these names, with a comma and a space
     /// between two.
     LacksColumn {
         column: PlacesColumn,
         line: u64,
-        found: Text,
+        header: Text,
     },
     /// The record on that line has another number of fields than the header.
     BadRecord {

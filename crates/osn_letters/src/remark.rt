@@ -70,13 +70,13 @@ impl fmt::Display for Remark {
 }
 
 /// A remark, and whether it applies.
-pub(crate) type Told = (bool, Remark);
+pub(crate) type PossibleRemark = (bool, Remark);
 
 /// The remarks that apply: those on the days, and then those beside them, in their order.
 pub(crate) fn those_that_apply(
     alloc: Global,
-    on_days: &[Told],
-    beside: &[Told],
+    on_days: &[PossibleRemark],
+    beside: &[PossibleRemark],
 ) -> Result<Vec<Remark>, AllocError>
     ensures { IfOk result (λ remarks.
         remarks.items ≡ spec.those_that_apply (on_days.now ++ beside.now)) }
@@ -147,7 +147,7 @@ pub(crate) fn remarks_on_days(
     date: WrittenDate,
     given: Option<Weekday>,
     days: &[DatedDay],
-) -> [Told; 3]
+) -> [PossibleRemark; 3]
     ensures { result ≡ spec.remarks_on_days date given days.now }
 {
     [
@@ -158,7 +158,7 @@ pub(crate) fn remarks_on_days(
 }
 
 /// What is said beside the days of a set.
-pub(crate) fn remarks_beside_set(given: Option<Weekday>, is_malformed: bool) -> [Told; 2]
+pub(crate) fn remarks_beside_set(given: Option<Weekday>, is_malformed: bool) -> [PossibleRemark; 2]
     ensures { result ≡ spec.remarks_beside_set given is_malformed }
 {
     [
@@ -173,7 +173,7 @@ pub(crate) fn remarks_beside(
     given: Option<Weekday>,
     is_by_other_calendar: bool,
     is_malformed: bool,
-) -> [Told; 4]
+) -> [PossibleRemark; 4]
     ensures { result ≡ spec.remarks_beside date given is_by_other_calendar is_malformed }
 {
     let is_one_day = WrittenDate::of_one_day(date).is_some();

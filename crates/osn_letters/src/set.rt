@@ -8,7 +8,7 @@ ghost use Rattle.osn_written.specs.SetsMeant.{set_list_of};
 use crate::added_fields::Summary;
 use crate::edtf::{edtf_of_runs, sign_of};
 use crate::letter::{LetterFields, fields_of_none, fields_with};
-use crate::remark::{Remark, Told, remarks_beside_set, those_that_apply};
+use crate::remark::{PossibleRemark, Remark, remarks_beside_set, those_that_apply};
 use crate::row_field::{is_malformed_weekday, members_in, weekday_in};
 use crate::span::span_of_set;
 use osn_grammar::WrittenDate as AnyDate;
@@ -22,7 +22,7 @@ fn fields_of_set_runs(
     edition: usize,
     members: &[AnyDate],
     runs: &[Run],
-    beside: &[Told],
+    beside: &[PossibleRemark],
 ) -> Result<LetterFields, AllocError>
     ensures { IfOk result (λ made. spec.fields_and_remarks made
         ≡ spec.fields_of_set_runs edition members.now runs.now beside.now) }
@@ -43,7 +43,7 @@ fn fields_of_no_set(
     alloc: Global,
     edition: usize,
     reason: Remark,
-    beside: &[Told],
+    beside: &[PossibleRemark],
 ) -> Result<LetterFields, AllocError>
     ensures { IfOk result (λ made. spec.fields_and_remarks made
         ≡ spec.fields_of_no_set edition reason beside.now) }
@@ -57,7 +57,7 @@ fn fields_of_found_set(
     edition: usize,
     members: &[AnyDate],
     found: Result<Vec<Run>, AbsentMember>,
-    beside: &[Told],
+    beside: &[PossibleRemark],
 ) -> Result<LetterFields, AllocError>
     ensures { IfOk result (λ made. spec.fields_and_remarks made
         ≡ spec.fields_of_found_set edition members.now beside.now (set_list_of found)) }
@@ -74,7 +74,7 @@ fn fields_of_members(
     edition: usize,
     territory: Option<&Territory>,
     members: &[AnyDate],
-    beside: &[Told],
+    beside: &[PossibleRemark],
 ) -> Result<LetterFields, AllocError>
     ensures { IfOk result (λ made. spec.fields_and_remarks made
         ≡ spec.fields_of_members newest_rules edition

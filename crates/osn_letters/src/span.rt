@@ -5,6 +5,7 @@ ghost use Rattle.osn_letters.specs.Span as spec;
 use osn_days::Day;
 use osn_grammar::Extent;
 use osn_lands::{DatedDay, Run};
+use osn_written::{first_of, last_of};
 
 /// The first and the last day that a date may mean. A bound has one of them, and a date that means
 /// no day has none.
@@ -41,26 +42,6 @@ pub(crate) fn span_of_days(days: &[DatedDay]) -> Span
     Span {
         earliest: earliest(days),
         latest: latest(days),
-    }
-}
-
-/// The first day of runs in order.
-fn first_of(runs: &[Run]) -> Option<Day>
-    ensures { result ≡ spec.first_of runs.now }
-{
-    match runs {
-        [] => None,
-        [first, ..] => Some(first.first),
-    }
-}
-
-/// The last day of runs in order.
-fn last_of(runs: &[Run]) -> Option<Day>
-    ensures { result ≡ spec.last_of runs.now }
-{
-    match runs {
-        [] => None,
-        [.., last] => Some(last.last),
     }
 }
 

@@ -8,9 +8,9 @@ use Rattle.std.specs.Io.KnownBytes.{Consumes, IsAtEnd}
 use Rattle.std.proofs.lemmas.List.{take_at}
 use Rattle.osn_lines.specs.declared.fault.TakeFault.{TakeFault}
 use Rattle.osn_lines.specs.declared.fault.TakeFault.TheVariants.{NoMemory, ReadFault, Stopped}
-use Rattle.osn_lines.specs.declared.kept.Kept.{Kept}
+use Rattle.osn_lines.specs.declared.unended_line.UnendedLine.{UnendedLine}
 use Rattle.osn_lines.specs.Faults.{MatchFault}
-use Rattle.osn_lines.specs.Inside.{IsKept, IsTaken, IsStopped}
+use Rattle.osn_lines.specs.Inside.{IsUnended, IsTaken, IsStopped}
 use Rattle.osn_lines.specs.Lines.{lines}
 use Rattle.osn_lines.specs.Taking.{Takes, Stops, TakesAll, TakesFirst, StopsAfter, HasRead}
 use Rattle.osn_lines.specs.Taking.{TakesEnded, HasKeptUp}
@@ -66,33 +66,34 @@ pub TakesFirst-from : {S : Type 0} (after : S → List (List ℕ) → S → Type
     (a b : Option (List ℕ)) (bytes : List ℕ) (n : ℕ) (Left : List ℕ → Type 0) →
     IsTaken after s t bytes 0 n Left → Consumes a b bytes → TakesFirst after s t a n
 TakesFirst-from after s t a b bytes n Left h consumed = record {
-  taken = h.taken;
+  lines_taken = h.lines_taken;
   takes = h.takes;
   count = from_none n _ h.count;
   first =
-      known (λ input. take n (lines input) ≡ h.taken) a b bytes consumed
-      (λ more. take_front _ h.taken _ n (from_none n _ h.count) (h.cuts.whole more));
+      known (λ input. take n (lines input) ≡ h.lines_taken) a b bytes consumed
+      (λ more. take_front _ h.lines_taken _ n (from_none n _ h.count) (h.cuts.whole more));
 }
 
 -- this many lines have ended of the bytes that were read
 ended_of : {S : Type 0} (after : S → List (List ℕ) → S → Type 0) (s t : S) (bytes : List ℕ)
-    (kept : Kept) (n : ℕ) → IsTaken after s t bytes 0 n (IsKept kept) →
+    (unended : UnendedLine) (n : ℕ) → IsTaken after s t bytes 0 n (IsUnended unended) →
     length (lines (bytes ++ 10 ∷ [])) ≡ n + 1
-ended_of after s t bytes kept n h =
+ended_of after s t bytes unended n h =
     omega (
       arith,
       h.count,
-      ap length (h.cuts.whole (10 ∷ []) ∙ ap (λ l. h.taken ++ l) (lines-feed h.left [] h.rest.1)),
-      length-append h.taken (h.left ∷ []),
+      ap length
+          (h.cuts.whole (10 ∷ []) ∙ ap (λ l. h.lines_taken ++ l) (lines-feed h.left [] h.rest.1)),
+      length-append h.lines_taken (h.left ∷ []),
     )
 
 pub HasRead-from : {S : Type 0} (after : S → List (List ℕ) → S → Type 0) (s t : S)
-    (a b : Option (List ℕ)) (bytes : List ℕ) (kept : Kept) (n : ℕ) →
-    IsTaken after s t bytes 0 n (IsKept kept) → Consumes a b bytes → HasRead a b n
-HasRead-from after s t a b bytes kept n h consumed = record {
+    (a b : Option (List ℕ)) (bytes : List ℕ) (unended : UnendedLine) (n : ℕ) →
+    IsTaken after s t bytes 0 n (IsUnended unended) → Consumes a b bytes → HasRead a b n
+HasRead-from after s t a b bytes unended n h consumed = record {
   read = bytes;
   consumed = consumed;
-  ended = ended_of after s t bytes kept n h;
+  ended = ended_of after s t bytes unended n h;
 }
 
 -- each of them was taken
@@ -112,15 +113,15 @@ HasKeptUp-at_end a b m n h same =
 
 -- and of one read more some may be
 pub HasKeptUp-more : {S : Type 0} (after : S → List (List ℕ) → S → Type 0) (s t : S)
-    (a b : Option (List ℕ)) (bytes more : List ℕ) (kept : Kept) (m n : ℕ) →
-    IsTaken after s t bytes 0 m (IsKept kept) → Consumes a b (bytes ++ more) →
+    (a b : Option (List ℕ)) (bytes more : List ℕ) (unended : UnendedLine) (m n : ℕ) →
+    IsTaken after s t bytes 0 m (IsUnended unended) → Consumes a b (bytes ++ more) →
     length more ≤ 65536 → m ≤ n → HasKeptUp a b n
-HasKeptUp-more after s t a b bytes more kept m n h consumed few le = record {
+HasKeptUp-more after s t a b bytes more unended m n h consumed few le = record {
   earlier = bytes;
   last = more;
   consumed = consumed;
   few = few;
-  ended = omega (arith, ended_of after s t bytes kept m h, le);
+  ended = omega (arith, ended_of after s t bytes unended m h, le);
 }
 
 -- of the causes for which lines that were read may end, one
@@ -132,71 +133,72 @@ counts_on (Stopped why) n m h = h
 
 -- where no more is read than was taken and kept
 pub TakesEnded-from : {S : Type 0} (after : S → List (List ℕ) → S → Type 0) (s t : S)
-    (a b : Option (List ℕ)) (bytes : List ℕ) (kept : Kept) (n : ℕ) →
-    IsTaken after s t bytes 0 n (IsKept kept) → Consumes a b bytes → TakesEnded after s t a b n
-TakesEnded-from after s t a b bytes kept n h consumed = record {
-  first = TakesFirst-from after s t a b bytes n (IsKept kept) h consumed;
-  read = HasRead-from after s t a b bytes kept n h consumed;
+    (a b : Option (List ℕ)) (bytes : List ℕ) (unended : UnendedLine) (n : ℕ) →
+    IsTaken after s t bytes 0 n (IsUnended unended) → Consumes a b bytes →
+    TakesEnded after s t a b n
+TakesEnded-from after s t a b bytes unended n h consumed = record {
+  first = TakesFirst-from after s t a b bytes n (IsUnended unended) h consumed;
+  read = HasRead-from after s t a b bytes unended n h consumed;
 }
 
 -- at the end all lines were taken
 lines_at_end : {S : Type 0} (after : S → List (List ℕ) → S → Type 0) (s t : S) (bytes : List ℕ)
-    (kept : Kept) (n : ℕ) (h : IsTaken after s t bytes 0 n (IsKept kept)) →
-    lines bytes ≡ h.taken ++ lines h.left
-lines_at_end after s t bytes kept n h =
+    (unended : UnendedLine) (n : ℕ) (h : IsTaken after s t bytes 0 n (IsUnended unended)) →
+    lines bytes ≡ h.lines_taken ++ lines h.left
+lines_at_end after s t bytes unended n h =
     ap lines (sym (append-nil bytes))
-    ∙ (h.cuts.whole [] ∙ ap (λ l. h.taken ++ lines l) (append-nil h.left))
+    ∙ (h.cuts.whole [] ∙ ap (λ l. h.lines_taken ++ lines l) (append-nil h.left))
 
 pub TakesAll-from : {S : Type 0} (after : S → List (List ℕ) → S → Type 0) (s t u : S)
-    (a b : Option (List ℕ)) (bytes : List ℕ) (kept : Kept) (m n : ℕ) →
-    IsTaken after s t bytes 0 m (IsKept kept) → Consumes a b bytes → IsAtEnd b →
-    ((part : List ℕ) → IsKept kept part →
+    (a b : Option (List ℕ)) (bytes : List ℕ) (unended : UnendedLine) (m n : ℕ) →
+    IsTaken after s t bytes 0 m (IsUnended unended) → Consumes a b bytes → IsAtEnd b →
+    ((part : List ℕ) → IsUnended unended part →
     Takes after t u (lines part) × (n ≡ m + length (lines part))) → TakesAll after s u a n
-TakesAll-from after s t u a b bytes kept m n h consumed end next =
+TakesAll-from after s t u a b bytes unended m n h consumed end next =
     let k = next h.left h.rest in
     record {
-      taken = h.taken ++ lines h.left;
-      takes = Takes-then after s t u h.taken (lines h.left) h.takes k.0;
-      count = omega (arith, h.count, k.1, length-append h.taken (lines h.left));
+      lines_taken = h.lines_taken ++ lines h.left;
+      takes = Takes-then after s t u h.lines_taken (lines h.left) h.takes k.0;
+      count = omega (arith, h.count, k.1, length-append h.lines_taken (lines h.left));
       all =
-          known_whole (λ input. lines input ≡ h.taken ++ lines h.left) a b bytes consumed end
-          (lines_at_end after s t bytes kept m h);
+          known_whole (λ input. lines input ≡ h.lines_taken ++ lines h.left) a b bytes consumed end
+          (lines_at_end after s t bytes unended m h);
     }
 
 -- where memory runs out at the last line
 pub TakesFirst-at_end : {S : Type 0} (after : S → List (List ℕ) → S → Type 0) (s t u : S)
-    (a b : Option (List ℕ)) (bytes : List ℕ) (kept : Kept) (m n : ℕ) →
-    IsTaken after s t bytes 0 m (IsKept kept) → Consumes a b bytes → n ≡ m → u ≡ t →
+    (a b : Option (List ℕ)) (bytes : List ℕ) (unended : UnendedLine) (m n : ℕ) →
+    IsTaken after s t bytes 0 m (IsUnended unended) → Consumes a b bytes → n ≡ m → u ≡ t →
     TakesFirst after s u a n
-TakesFirst-at_end {S} after s t u a b bytes kept m n h consumed same still =
+TakesFirst-at_end {S} after s t u a b bytes unended m n h consumed same still =
     subst (λ (v : S). TakesFirst after s v a n) (sym still)
     (subst (λ (i : ℕ). TakesFirst after s t a i) (sym same)
-    (TakesFirst-from after s t a b bytes m (IsKept kept) h consumed))
+    (TakesFirst-from after s t a b bytes m (IsUnended unended) h consumed))
 
 -- where the taker stops at the last line
 pub StopsAfter-at_end : {S W : Type 0} (after : S → List (List ℕ) → S → Type 0)
     (stopped : S → List (List ℕ) → Option (List ℕ) → S → W → Type 0) (s t u : S)
-    (a b : Option (List ℕ)) (bytes : List ℕ) (kept : Kept) (m n : ℕ) (why : W) →
-    IsTaken after s t bytes 0 m (IsKept kept) → Consumes a b bytes → IsAtEnd b → n ≡ m →
-    ((part : List ℕ) → IsKept kept part →
+    (a b : Option (List ℕ)) (bytes : List ℕ) (unended : UnendedLine) (m n : ℕ) (why : W) →
+    IsTaken after s t bytes 0 m (IsUnended unended) → Consumes a b bytes → IsAtEnd b → n ≡ m →
+    ((part : List ℕ) → IsUnended unended part →
     (lines part ≡ part ∷ []) × Stops after stopped t u (Some part) why) →
     StopsAfter after stopped s u a n why
-StopsAfter-at_end after stopped s t u a b bytes kept m n why h consumed end same next =
+StopsAfter-at_end after stopped s t u a b bytes unended m n why h consumed end same next =
     let k = next h.left h.rest in
     let count = from_none n _ (same ∙ h.count) in
-    let all : lines bytes ≡ h.taken ++ h.left ∷ [] =
-    lines_at_end after s t bytes kept m h ∙ ap (λ l. h.taken ++ l) k.0 in
+    let all : lines bytes ≡ h.lines_taken ++ h.left ∷ [] =
+    lines_at_end after s t bytes unended m h ∙ ap (λ l. h.lines_taken ++ l) k.0 in
     record {
-      taken = h.taken;
+      lines_taken = h.lines_taken;
       at = Some h.left;
-      stops = λ begun before x. k.1 begun (before ++ h.taken) (h.takes begun before x);
+      stops = λ begun before x. k.1 begun (before ++ h.lines_taken) (h.takes begun before x);
       count = count;
       first =
-          known_whole (λ input. take n (lines input) ≡ h.taken) a b bytes consumed end
-          (take_front _ h.taken (h.left ∷ []) n count all);
+          known_whole (λ input. take n (lines input) ≡ h.lines_taken) a b bytes consumed end
+          (take_front _ h.lines_taken (h.left ∷ []) n count all);
       next =
           known_whole (λ input. slice_get (lines input) n ≡ Some h.left) a b bytes consumed end
-          (slice_get_at _ h.taken h.left [] n count all);
+          (slice_get_at _ h.lines_taken h.left [] n count all);
     }
 
 -- where the taker stops at a line that has ended
@@ -206,19 +208,20 @@ pub StopsAfter-from : {S W : Type 0} (after : S → List (List ℕ) → S → Ty
     IsStopped after stopped s t bytes 0 n why → Consumes a b bytes →
     StopsAfter after stopped s t a n why
 StopsAfter-from after stopped s t a b bytes n why h consumed =
-    let all : (more : List ℕ) → lines (bytes ++ more) ≡ h.taken ++ h.line ∷ lines (h.left ++ more) =
-    λ more. h.cuts.whole more ∙ append_assoc h.taken (h.line ∷ []) (lines (h.left ++ more)) in
+    let all : (more : List ℕ) →
+    lines (bytes ++ more) ≡ h.lines_taken ++ h.line ∷ lines (h.left ++ more) =
+    λ more. h.cuts.whole more ∙ append_assoc h.lines_taken (h.line ∷ []) (lines (h.left ++ more)) in
     record {
-      taken = h.taken;
+      lines_taken = h.lines_taken;
       at = Some h.line;
       stops = h.stops;
       count = from_none n _ h.count;
       first =
-          known (λ input. take n (lines input) ≡ h.taken) a b bytes consumed
-          (λ more. take_front _ h.taken _ n (from_none n _ h.count) (all more));
+          known (λ input. take n (lines input) ≡ h.lines_taken) a b bytes consumed
+          (λ more. take_front _ h.lines_taken _ n (from_none n _ h.count) (all more));
       next =
           known (λ input. slice_get (lines input) n ≡ Some h.line) a b bytes consumed
-          (λ more. slice_get_at _ h.taken h.line _ n (from_none n _ h.count) (all more));
+          (λ more. slice_get_at _ h.lines_taken h.line _ n (from_none n _ h.count) (all more));
     }
 
 -- where the taker stops before a read
@@ -228,12 +231,12 @@ pub StopsAfter-between : {S W : Type 0} (after : S → List (List ℕ) → S →
     IsTaken after s t bytes 0 n Left → Consumes a b bytes → Stops after stopped t u None why →
     StopsAfter after stopped s u a n why
 StopsAfter-between after stopped s t u a b bytes n Left why h consumed stops = record {
-  taken = h.taken;
+  lines_taken = h.lines_taken;
   at = None;
-  stops = λ begun before x. stops begun (before ++ h.taken) (h.takes begun before x);
+  stops = λ begun before x. stops begun (before ++ h.lines_taken) (h.takes begun before x);
   count = from_none n _ h.count;
   first =
-      known (λ input. take n (lines input) ≡ h.taken) a b bytes consumed
-      (λ more. take_front _ h.taken _ n (from_none n _ h.count) (h.cuts.whole more));
+      known (λ input. take n (lines input) ≡ h.lines_taken) a b bytes consumed
+      (λ more. take_front _ h.lines_taken _ n (from_none n _ h.count) (h.cuts.whole more));
   next = known (λ input. Unit {0}) a b bytes consumed (λ more. tt);
 }

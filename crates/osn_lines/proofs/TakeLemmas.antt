@@ -3,8 +3,8 @@ use Rattle.std.proofs.Common.{◌≡◌, ◌<◌, ◌≤◌, ◌==◌, ℕ, ◌+
 use Rattle.std.proofs.Common.{length-drop, length, subst, arith, List, [], ◌∷◌, ◌++◌, ap, sym, ◌∙◌}
 use Rattle.std.proofs.Common.{append_assoc, append-nil, length-append, Option, Some}
 use Rattle.std.proofs.lemmas.List.{take-append-drop, take_all}
-use Rattle.osn_lines.specs.declared.kept.Kept.{Kept}
-use Rattle.osn_lines.specs.Inside.{HasNoFeed, Holds, IsKept, Cuts, IsTaken, IsStopped}
+use Rattle.osn_lines.specs.declared.unended_line.UnendedLine.{UnendedLine}
+use Rattle.osn_lines.specs.Inside.{HasNoFeed, Holds, IsUnended, Cuts, IsTaken, IsStopped}
 use Rattle.osn_lines.specs.Taking.{Takes, Rests, Stops}
 use Rattle.osn_lines.proofs.LineLemmas.{HasNoFeed-append, HasNoFeed-take, seen_line, Cuts-nothing}
 use Rattle.osn_lines.proofs.LineLemmas.{Cuts-line, Cuts-more, Cuts-then}
@@ -23,12 +23,12 @@ Takes-then {S} after s t u xs ys h k =
 
 -- nothing is taken yet
 pub IsTaken-nothing : {S : Type 0} (after : S → List (List ℕ) → S → Type 0) (s : S)
-    (part : List ℕ) (kept : Kept) (n : ℕ) → IsKept kept part →
-    IsTaken after s s (part ++ []) n n (IsKept kept)
-IsTaken-nothing after s part kept n h =
-    subst (λ (l : List ℕ). IsTaken after s s l n n (IsKept kept)) (sym (append-nil part))
+    (part : List ℕ) (unended : UnendedLine) (n : ℕ) → IsUnended unended part →
+    IsTaken after s s (part ++ []) n n (IsUnended unended)
+IsTaken-nothing after s part unended n h =
+    subst (λ (l : List ℕ). IsTaken after s s l n n (IsUnended unended)) (sym (append-nil part))
     (record {
-      taken = [];
+      lines_taken = [];
       left = part;
       cuts = Cuts-nothing part;
       takes = Takes-nothing after s;
@@ -56,14 +56,14 @@ cut_bytes part piece end from place is_end long here =
     ∙ sym (seen_line piece from place long here))
 
 -- what a search for a line feed found after `from`
-pub record Found (piece hay end : List ℕ) (from place : ℕ) : Type 0 where
+pub record FeedAt (piece hay end : List ℕ) (from place : ℕ) : Type 0 where
   pub is_hay : hay ≡ drop from piece
   pub is_end : end ≡ take place (drop from piece)
   pub before : (i : ℕ) → 0 ≤ i → i < place → (slice_index hay i == 10) ≡ true → ⊥
   pub within : place < length hay
   pub feed : (slice_index hay place == 10) ≡ true
 
-found_no_feed : (piece hay end : List ℕ) (from place : ℕ) → Found piece hay end from place →
+found_no_feed : (piece hay end : List ℕ) (from place : ℕ) → FeedAt piece hay end from place →
     HasNoFeed end
 found_no_feed piece hay end from place f =
     subst HasNoFeed (sym f.is_end)
@@ -71,7 +71,7 @@ found_no_feed piece hay end from place f =
     (λ i lt. subst (λ (l : List ℕ). (slice_index l i == 10) ≡ true → ⊥) f.is_hay
     (f.before i (omega arith) lt)))
 
-found_bytes : (part piece hay end : List ℕ) (from place : ℕ) → Found piece hay end from place →
+found_bytes : (part piece hay end : List ℕ) (from place : ℕ) → FeedAt piece hay end from place →
     (part ++ take from piece) ++ (end ++ 10 ∷ []) ≡ part ++ take (from + place + 1) piece
 found_bytes part piece hay end from place f =
     let long : from + place < length piece =
@@ -82,22 +82,24 @@ found_bytes part piece hay end from place f =
 
 -- the line that ends at `place` of the rest is taken next
 pub IsTaken-next : {S : Type 0} (after : S → List (List ℕ) → S → Type 0) (s t u : S)
-    (part piece hay end : List ℕ) (kept kept' : Kept) (n m from place : ℕ) →
-    IsTaken after s t (part ++ take from piece) n m (IsKept kept) →
-    ((p : List ℕ) → Holds kept p → Takes after t u ((p ++ end) ∷ [])) →
-    Found piece hay end from place → Holds kept' [] →
-    IsTaken after s u (part ++ take (from + place + 1) piece) n (m + 1) (IsKept kept')
-IsTaken-next after s t u part piece hay end kept kept' n m from place h line f empty =
-    subst (λ (l : List ℕ). IsTaken after s u l n (m + 1) (IsKept kept'))
+    (part piece hay end : List ℕ) (unended unended' : UnendedLine) (n m from place : ℕ) →
+    IsTaken after s t (part ++ take from piece) n m (IsUnended unended) →
+    ((p : List ℕ) → Holds unended p → Takes after t u ((p ++ end) ∷ [])) →
+    FeedAt piece hay end from place → Holds unended' [] →
+    IsTaken after s u (part ++ take (from + place + 1) piece) n (m + 1) (IsUnended unended')
+IsTaken-next after s t u part piece hay end unended unended' n m from place h line f empty =
+    subst (λ (l : List ℕ). IsTaken after s u l n (m + 1) (IsUnended unended'))
     (found_bytes part piece hay end from place f)
     (record {
-      taken = h.taken ++ (h.left ++ end) ∷ [];
+      lines_taken = h.lines_taken ++ (h.left ++ end) ∷ [];
       left = [];
       cuts =
-          Cuts-next (part ++ take from piece) h.left end h.taken h.cuts h.rest.1
+          Cuts-next (part ++ take from piece) h.left end h.lines_taken h.cuts h.rest.1
           (found_no_feed piece hay end from place f);
-      takes = Takes-then after s t u h.taken ((h.left ++ end) ∷ []) h.takes (line h.left h.rest.0);
-      count = omega (arith, h.count, length-append h.taken ((h.left ++ end) ∷ []));
+      takes =
+          Takes-then after s t u h.lines_taken ((h.left ++ end) ∷ []) h.takes
+          (line h.left h.rest.0);
+      count = omega (arith, h.count, length-append h.lines_taken ((h.left ++ end) ∷ []));
       rest = (empty, tt);
     })
 
@@ -110,17 +112,17 @@ rest_bytes part piece from =
 
 -- no line ends in the rest, or memory ran out at the next
 pub IsTaken-rest : {S : Type 0} (after : S → List (List ℕ) → S → Type 0) (s t u : S)
-    (part piece : List ℕ) (kept : Kept) (n m from : ℕ) (Left : List ℕ → Type 0) →
-    IsTaken after s t (part ++ take from piece) n m (IsKept kept) → u ≡ t →
-    ((left : List ℕ) → IsKept kept left → Left (left ++ drop from piece)) →
+    (part piece : List ℕ) (unended : UnendedLine) (n m from : ℕ) (Left : List ℕ → Type 0) →
+    IsTaken after s t (part ++ take from piece) n m (IsUnended unended) → u ≡ t →
+    ((left : List ℕ) → IsUnended unended left → Left (left ++ drop from piece)) →
     IsTaken after s u (part ++ piece) n m Left
-IsTaken-rest {S} after s t u part piece kept n m from Left h same rest =
+IsTaken-rest {S} after s t u part piece unended n m from Left h same rest =
     subst (λ (v : S). IsTaken after s v (part ++ piece) n m Left) (sym same)
     (subst (λ (l : List ℕ). IsTaken after s t l n m Left) (rest_bytes part piece from)
     (record {
-      taken = h.taken;
+      lines_taken = h.lines_taken;
       left = h.left ++ drop from piece;
-      cuts = Cuts-more (part ++ take from piece) h.left (drop from piece) h.taken h.cuts;
+      cuts = Cuts-more (part ++ take from piece) h.left (drop from piece) h.lines_taken h.cuts;
       takes = h.takes;
       count = h.count;
       rest = rest h.left h.rest;
@@ -129,87 +131,90 @@ IsTaken-rest {S} after s t u part piece kept n m from Left h same rest =
 -- the taker stopped at the line that ends at `place` of the rest
 pub IsStopped-next : {S W : Type 0} (after : S → List (List ℕ) → S → Type 0)
     (stopped : S → List (List ℕ) → Option (List ℕ) → S → W → Type 0) (s t u : S)
-    (part piece hay end : List ℕ) (kept : Kept) (n m q from place : ℕ) (why : W) →
-    IsTaken after s t (part ++ take from piece) n m (IsKept kept) →
-    ((p : List ℕ) → Holds kept p → Stops after stopped t u (Some (p ++ end)) why) →
-    Found piece hay end from place → q ≡ m → IsStopped after stopped s u (part ++ piece) n q why
-IsStopped-next after stopped s t u part piece hay end kept n m q from place why h stops f same =
+    (part piece hay end : List ℕ) (unended : UnendedLine) (n m q from place : ℕ) (why : W) →
+    IsTaken after s t (part ++ take from piece) n m (IsUnended unended) →
+    ((p : List ℕ) → Holds unended p → Stops after stopped t u (Some (p ++ end)) why) →
+    FeedAt piece hay end from place → q ≡ m → IsStopped after stopped s u (part ++ piece) n q why
+IsStopped-next after stopped s t u part piece hay end unended n m q from place why h stops f same =
     let k = from + place + 1 in
-    let here : Cuts (part ++ take k piece) (h.taken ++ (h.left ++ end) ∷ []) [] =
-    subst (λ (l : List ℕ). Cuts l (h.taken ++ (h.left ++ end) ∷ []) [])
+    let here : Cuts (part ++ take k piece) (h.lines_taken ++ (h.left ++ end) ∷ []) [] =
+    subst (λ (l : List ℕ). Cuts l (h.lines_taken ++ (h.left ++ end) ∷ []) [])
     (found_bytes part piece hay end from place f)
-    (Cuts-next (part ++ take from piece) h.left end h.taken h.cuts h.rest.1
+    (Cuts-next (part ++ take from piece) h.left end h.lines_taken h.cuts h.rest.1
     (found_no_feed piece hay end from place f)) in
     record {
-      taken = h.taken;
+      lines_taken = h.lines_taken;
       line = h.left ++ end;
       left = drop k piece;
       cuts =
-          subst (λ (l : List ℕ). Cuts l (h.taken ++ (h.left ++ end) ∷ []) (drop k piece))
+          subst (λ (l : List ℕ). Cuts l (h.lines_taken ++ (h.left ++ end) ∷ []) (drop k piece))
           (rest_bytes part piece k)
-          (Cuts-more (part ++ take k piece) [] (drop k piece) (h.taken ++ (h.left ++ end) ∷ [])
+          (Cuts-more (part ++ take k piece) [] (drop k piece)
+          (h.lines_taken ++ (h.left ++ end) ∷ [])
           here);
       stops =
-          λ begun before b. stops h.left h.rest.0 begun (before ++ h.taken)
+          λ begun before b. stops h.left h.rest.0 begun (before ++ h.lines_taken)
           (h.takes begun before b);
       count = same ∙ h.count;
     }
 
 -- what the rest adds to the bytes that are kept
-pub IsKept-more : (kept kept' : Kept) (hay rest left : List ℕ) → hay ≡ rest →
-    ((line : List ℕ) → Holds kept line → Holds kept' (line ++ hay)) →
-    ((i : ℕ) → 0 ≤ i → i < length hay → (slice_index hay i == 10) ≡ true → ⊥) → IsKept kept left →
-    IsKept kept' (left ++ rest)
-IsKept-more kept kept' hay rest left is_hay more none h =
+pub IsUnended-more : (unended unended' : UnendedLine) (hay rest left : List ℕ) → hay ≡ rest →
+    ((line : List ℕ) → Holds unended line → Holds unended' (line ++ hay)) →
+    ((i : ℕ) → 0 ≤ i → i < length hay → (slice_index hay i == 10) ≡ true → ⊥) →
+    IsUnended unended left → IsUnended unended' (left ++ rest)
+IsUnended-more unended unended' hay rest left is_hay more none h =
     let no_feed : HasNoFeed rest =
     subst HasNoFeed (take_all (length hay) hay (omega arith) ∙ is_hay)
     (HasNoFeed-take hay (length hay) (λ i lt. none i (omega arith) lt)) in (
-      subst (λ (l : List ℕ). Holds kept' (left ++ l)) is_hay (more left h.0),
+      subst (λ (l : List ℕ). Holds unended' (left ++ l)) is_hay (more left h.0),
       HasNoFeed-append left rest h.1 no_feed,
     )
 
 -- a further piece was read
 pub IsTaken-then : {S : Type 0} (after : S → List (List ℕ) → S → Type 0) (s t u : S)
-    (bytes given piece : List ℕ) (kept : Kept) (n m q : ℕ) (Left : List ℕ → Type 0) →
-    IsTaken after s t bytes n m (IsKept kept) → given ≡ piece →
-    ((part : List ℕ) → IsKept kept part → IsTaken after t u (part ++ given) m q Left) →
+    (bytes given piece : List ℕ) (unended : UnendedLine) (n m q : ℕ) (Left : List ℕ → Type 0) →
+    IsTaken after s t bytes n m (IsUnended unended) → given ≡ piece →
+    ((part : List ℕ) → IsUnended unended part → IsTaken after t u (part ++ given) m q Left) →
     IsTaken after s u (bytes ++ piece) n q Left
-IsTaken-then after s t u bytes given piece kept n m q Left h same next =
+IsTaken-then after s t u bytes given piece unended n m q Left h same next =
     let k =
     subst (λ (l : List ℕ). IsTaken after t u (h.left ++ l) m q Left) same (next h.left h.rest) in
     record {
-      taken = h.taken ++ k.taken;
+      lines_taken = h.lines_taken ++ k.lines_taken;
       left = k.left;
-      cuts = Cuts-then bytes h.left piece k.left h.taken k.taken h.cuts k.cuts;
-      takes = Takes-then after s t u h.taken k.taken h.takes k.takes;
-      count = omega (arith, h.count, k.count, length-append h.taken k.taken);
+      cuts = Cuts-then bytes h.left piece k.left h.lines_taken k.lines_taken h.cuts k.cuts;
+      takes = Takes-then after s t u h.lines_taken k.lines_taken h.takes k.takes;
+      count = omega (arith, h.count, k.count, length-append h.lines_taken k.lines_taken);
       rest = k.rest;
     }
 
 -- and the taker stopped in it
 pub IsStopped-then : {S W : Type 0} (after : S → List (List ℕ) → S → Type 0)
     (stopped : S → List (List ℕ) → Option (List ℕ) → S → W → Type 0) (s t u : S)
-    (bytes given piece : List ℕ) (kept : Kept) (n m q : ℕ) (why : W) →
-    IsTaken after s t bytes n m (IsKept kept) → given ≡ piece →
-    ((part : List ℕ) → IsKept kept part → IsStopped after stopped t u (part ++ given) m q why) →
+    (bytes given piece : List ℕ) (unended : UnendedLine) (n m q : ℕ) (why : W) →
+    IsTaken after s t bytes n m (IsUnended unended) → given ≡ piece →
+    ((part : List ℕ) → IsUnended unended part →
+    IsStopped after stopped t u (part ++ given) m q why) →
     IsStopped after stopped s u (bytes ++ piece) n q why
-IsStopped-then {S} {W} after stopped s t u bytes given piece kept n m q why h same next =
+IsStopped-then {S} {W} after stopped s t u bytes given piece unended n m q why h same next =
     let k =
     subst (λ (l : List ℕ). IsStopped after stopped t u (h.left ++ l) m q why) same
     (next h.left h.rest) in
     record {
-      taken = h.taken ++ k.taken;
+      lines_taken = h.lines_taken ++ k.lines_taken;
       line = k.line;
       left = k.left;
       cuts =
           subst (λ (l : List (List ℕ)). Cuts (bytes ++ piece) l k.left)
-          (sym (append_assoc h.taken k.taken (k.line ∷ [])))
-          (Cuts-then bytes h.left piece k.left h.taken (k.taken ++ k.line ∷ []) h.cuts k.cuts);
+          (sym (append_assoc h.lines_taken k.lines_taken (k.line ∷ [])))
+          (Cuts-then bytes h.left piece k.left h.lines_taken (k.lines_taken ++ k.line ∷ [])
+          h.cuts k.cuts);
       stops = λ begun before b.
           subst (λ (l : List (List ℕ)). stopped begun l (Some k.line) u why)
-          (append_assoc before h.taken k.taken)
-          (k.stops begun (before ++ h.taken) (h.takes begun before b));
-      count = omega (arith, h.count, k.count, length-append h.taken k.taken);
+          (append_assoc before h.lines_taken k.lines_taken)
+          (k.stops begun (before ++ h.lines_taken) (h.takes begun before b));
+      count = omega (arith, h.count, k.count, length-append h.lines_taken k.lines_taken);
     }
 
 -- a rest before a read takes nothing
@@ -217,10 +222,10 @@ pub IsTaken-rests : {S : Type 0} (after : S → List (List ℕ) → S → Type 0
     (bytes : List ℕ) (n m : ℕ) (Left : List ℕ → Type 0) → IsTaken after s t bytes n m Left →
     Rests after t u → IsTaken after s u bytes n m Left
 IsTaken-rests after s t u bytes n m Left h r = record {
-  taken = h.taken;
+  lines_taken = h.lines_taken;
   left = h.left;
   cuts = h.cuts;
-  takes = λ begun before b. r begun (before ++ h.taken) (h.takes begun before b);
+  takes = λ begun before b. r begun (before ++ h.lines_taken) (h.takes begun before b);
   count = h.count;
   rest = h.rest;
 }

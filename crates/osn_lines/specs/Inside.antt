@@ -1,7 +1,7 @@
 -- What holds between two reads, inside the loop over lines.
 use Rattle.std.specs.Prelude.{◌≡◌, ◌<◌, ◌≤◌, ℕ, ◌+◌, List, [], ◌∷◌, ◌++◌, ◌==◌, Bool, true, false}
 use Rattle.std.specs.Prelude.{length, Option, Some}
-use Rattle.osn_lines.specs.declared.kept.Kept.{Kept}
+use Rattle.osn_lines.specs.declared.unended_line.UnendedLine.{UnendedLine}
 use Rattle.osn_lines.specs.Lines.{lines, longest_line}
 use Rattle.osn_lines.specs.Taking.{Takes}
 
@@ -20,34 +20,33 @@ abbrev pub HoldsBytes : Bool → List ℕ → List ℕ → Type 0
 HoldsBytes false bytes line = (bytes ≡ line) × (length line ≤ longest_line)
 HoldsBytes true bytes line = longest_line < length line
 
--- what has come of a line is kept, or that it is too long
-abbrev pub Holds : Kept → List ℕ → Type 0
-Holds kept line = HoldsBytes kept.is_too_long kept.bytes.items line
+-- what has come of a line, or that it is too long
+abbrev pub Holds : UnendedLine → List ℕ → Type 0
+Holds unended line = HoldsBytes unended.is_too_long unended.bytes.items line
 
 -- this has come of a line that hasn't ended yet
-abbrev pub IsKept : Kept → List ℕ → Type 0
-IsKept kept line = Holds kept line × HasNoFeed line
+abbrev pub IsUnended : UnendedLine → List ℕ → Type 0
+IsUnended unended line = Holds unended line × HasNoFeed line
 
--- of these bytes the lines `taken` were taken, which made n lines into m, and Left holds of the
--- bytes that are left
+-- of these bytes lines were taken, which made n lines into m, and Left holds of the bytes that are
+-- left
 pub record IsTaken {S : Type 0} (after : S → List (List ℕ) → S → Type 0) (s t : S) (bytes : List ℕ)
     (n m : ℕ) (Left : List ℕ → Type 0) : Type 0 where
-  pub taken : List (List ℕ)
+  pub lines_taken : List (List ℕ)
   pub left : List ℕ
-  pub cuts : Cuts bytes taken left
-  pub takes : Takes after s t taken
-  pub count : m ≡ n + length taken
+  pub cuts : Cuts bytes lines_taken left
+  pub takes : Takes after s t lines_taken
+  pub count : m ≡ n + length lines_taken
   pub rest : Left left
 
--- of these bytes the lines `taken` were taken, which made n lines into m, and the taker stopped at
--- the next
+-- of these bytes lines were taken, which made n lines into m, and the taker stopped at the next
 pub record IsStopped {S W : Type 0} (after : S → List (List ℕ) → S → Type 0)
     (stopped : S → List (List ℕ) → Option (List ℕ) → S → W → Type 0) (s t : S) (bytes : List ℕ)
     (n m : ℕ) (why : W) : Type 0 where
-  pub taken : List (List ℕ)
+  pub lines_taken : List (List ℕ)
   pub line : List ℕ
   pub left : List ℕ
-  pub cuts : Cuts bytes (taken ++ line ∷ []) left
+  pub cuts : Cuts bytes (lines_taken ++ line ∷ []) left
   pub stops : (begun : S) (before : List (List ℕ)) → after begun before s →
-      stopped begun (before ++ taken) (Some line) t why
-  pub count : m ≡ n + length taken
+      stopped begun (before ++ lines_taken) (Some line) t why
+  pub count : m ≡ n + length lines_taken

@@ -6,8 +6,8 @@ use Rattle.osn_lines.specs.Lines.{lines}
 
 -- whatever lines it had taken, it has taken these after them
 abbrev pub Takes : {S : Type 0} → (S → List (List ℕ) → S → Type 0) → S → S → List (List ℕ) → Type 0
-Takes {S} after s t taken =
-    (begun : S) (before : List (List ℕ)) → after begun before s → after begun (before ++ taken) t
+Takes {S} after s t more =
+    (begun : S) (before : List (List ℕ)) → after begun before s → after begun (before ++ more) t
 
 -- whatever lines it had taken, it has taken no other
 abbrev pub Rests : {S : Type 0} → (S → List (List ℕ) → S → Type 0) → S → S → Type 0
@@ -23,30 +23,30 @@ Stops {S} {W} after stopped s t at why =
 -- n lines were taken, and they are all lines of the input, where that is known
 pub record TakesAll {S : Type 0} (after : S → List (List ℕ) → S → Type 0) (s t : S)
     (input : Option (List ℕ)) (n : ℕ) : Type 0 where
-  pub taken : List (List ℕ)
-  pub takes : Takes after s t taken
-  pub count : n ≡ length taken
-  pub all : IfSome input (λ bytes. lines bytes ≡ taken)
+  pub lines_taken : List (List ℕ)
+  pub takes : Takes after s t lines_taken
+  pub count : n ≡ length lines_taken
+  pub all : IfSome input (λ bytes. lines bytes ≡ lines_taken)
 
 -- n lines were taken, and they are the first n of the input, where that is known
 pub record TakesFirst {S : Type 0} (after : S → List (List ℕ) → S → Type 0) (s t : S)
     (input : Option (List ℕ)) (n : ℕ) : Type 0 where
-  pub taken : List (List ℕ)
-  pub takes : Takes after s t taken
-  pub count : n ≡ length taken
-  pub first : IfSome input (λ bytes. take n (lines bytes) ≡ taken)
+  pub lines_taken : List (List ℕ)
+  pub takes : Takes after s t lines_taken
+  pub count : n ≡ length lines_taken
+  pub first : IfSome input (λ bytes. take n (lines bytes) ≡ lines_taken)
 
 -- n lines were taken, the first n of the input where that is known. The taker stopped after them:
 -- at the next line of the input, or between two lines
 pub record StopsAfter {S W : Type 0} (after : S → List (List ℕ) → S → Type 0)
     (stopped : S → List (List ℕ) → Option (List ℕ) → S → W → Type 0) (s t : S)
     (input : Option (List ℕ)) (n : ℕ) (why : W) : Type 0 where
-  pub taken : List (List ℕ)
+  pub lines_taken : List (List ℕ)
   pub at : Option (List ℕ)
   pub stops : (begun : S) (before : List (List ℕ)) → after begun before s →
-      stopped begun (before ++ taken) at t why
-  pub count : n ≡ length taken
-  pub first : IfSome input (λ bytes. take n (lines bytes) ≡ taken)
+      stopped begun (before ++ lines_taken) at t why
+  pub count : n ≡ length lines_taken
+  pub first : IfSome input (λ bytes. take n (lines bytes) ≡ lines_taken)
   pub next : IfSome input (λ bytes. IfSome at (λ line. slice_get (lines bytes) n ≡ Some line))
 
 -- of the bytes that were read n lines have ended: with one line feed more they would have n + 1

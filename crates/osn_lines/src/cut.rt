@@ -2,43 +2,43 @@
 ghost use Rattle.std.specs.Prelude.{◌≡◌, ◌+◌, ◌^◌, ◌<◌, ◌≤◌, ℕ, List, [], ◌∷◌, ◌++◌, ⊤, Some};
 ghost use Rattle.std.specs.Prelude.{length, OnOk, IfErr};
 ghost use Rattle.osn_lines.specs.Faults.{MatchFault};
-ghost use Rattle.osn_lines.specs.Inside.{Holds, IsKept, IsTaken, IsStopped};
+ghost use Rattle.osn_lines.specs.Inside.{Holds, IsUnended, IsTaken, IsStopped};
 ghost use Rattle.osn_lines.specs.Taking.{Takes, Stops};
 
 use crate::fault::TakeFault;
-use crate::kept::Kept;
 use crate::line::{LONGEST_LINE, Line};
 use crate::taker::LineTaker;
+use crate::unended_line::UnendedLine;
 use memchr::memchr;
 
-/// Has a line taken of which `kept` is the beginning and `end` the end.
+/// Has a line taken of which `unended` is the beginning and `end` the end.
 pub(crate) fn take_line<T: LineTaker>(
     taker: &mut T,
-    kept: &mut Kept,
+    unended: &mut UnendedLine,
     end: &[u8],
 ) -> Result<(), TakeFault<T::Stop>>
     requires { length end.now ≤ LONGEST_LINE }
-    ensures taken { OnOk result ((part : List ℕ) → Holds kept.old part →
+    ensures takes { OnOk result ((part : List ℕ) → Holds unended.old part →
         Takes T.after taker.old taker.new ((part ++ end.now) ∷ [])) }
-    ensures kept { OnOk result (Holds kept.new []) }
+    ensures empty { OnOk result (Holds unended.new []) }
     ensures fault { IfErr result (λ fault. MatchFault fault
         (taker.new ≡ taker.old)
         ⊥
-        (λ why. (part : List ℕ) → Holds kept.old part →
+        (λ why. (part : List ℕ) → Holds unended.old part →
         Stops T.after T.stopped taker.old taker.new (Some (part ++ end.now)) why)) }
 {
-    if kept.is_empty() {
+    if unended.is_empty() {
         return match taker.take(Line::Whole(end)) {
             Ok(()) => Ok(()),
             Err(why) => Err(TakeFault::Stopped(why)),
         };
     }
-    let Ok(()) = kept.add(end) else {
+    let Ok(()) = unended.add(end) else {
         return Err(TakeFault::NoMemory);
     };
-    match taker.take(kept.as_line()) {
+    match taker.take(unended.as_line()) {
         Ok(()) => {
-            kept.clear();
+            unended.clear();
             Ok(())
         }
         Err(why) => Err(TakeFault::Stopped(why)),
@@ -49,32 +49,32 @@ pub(crate) fn take_line<T: LineTaker>(
 /// that is taken.
 pub(crate) fn take_piece<T: LineTaker>(
     taker: &mut T,
-    kept: &mut Kept,
+    unended: &mut UnendedLine,
     piece: &[u8],
     lines: &mut u64,
 ) -> Result<(), TakeFault<T::Stop>>
     requires piece { length piece.now ≤ LONGEST_LINE }
     requires count { lines.old + length piece.now < 2 ^ 64 }
-    ensures taken { OnOk result ((part : List ℕ) → IsKept kept.old part →
+    ensures takes { OnOk result ((part : List ℕ) → IsUnended unended.old part →
         IsTaken T.after taker.old taker.new (part ++ piece.now) lines.old lines.new
-        (IsKept kept.new)) }
+        (IsUnended unended.new)) }
     ensures count { lines.new ≤ lines.old + length piece.now }
     ensures fault { IfErr result (λ fault. MatchFault fault
-        ((part : List ℕ) → IsKept kept.old part →
+        ((part : List ℕ) → IsUnended unended.old part →
         IsTaken T.after taker.old taker.new (part ++ piece.now) lines.old lines.new (λ _. ⊤))
         ⊥
-        (λ why. (part : List ℕ) → IsKept kept.old part →
+        (λ why. (part : List ℕ) → IsUnended unended.old part →
         IsStopped T.after T.stopped taker.old taker.new (part ++ piece.now) lines.old lines.new
         why)) }
 {
     let mut from = 0;
     while let Some(place) = memchr(b'\n', &piece[from..]) {
         let end = from + place;
-        take_line(taker, kept, &piece[from..end])?;
+        take_line(taker, unended, &piece[from..end])?;
         *lines += 1;
         from = end + 1;
     }
-    match kept.add(&piece[from..]) {
+    match unended.add(&piece[from..]) {
         Ok(()) => Ok(()),
         Err(_) => Err(TakeFault::NoMemory),
     }

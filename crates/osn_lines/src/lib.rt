@@ -8,7 +8,6 @@ mod bytes;
 mod cut;
 mod ended;
 mod fault;
-mod kept;
 mod line;
 mod plain;
 mod progress;
@@ -16,6 +15,7 @@ mod sink;
 mod source;
 mod stream;
 mod taker;
+mod unended_line;
 mod whole;
 
 pub use bytes::Bytes;

@@ -3,38 +3,38 @@ ghost use Rattle.std.specs.Prelude.{◌≡◌, ◌+◌, ◌^◌, ◌<◌, ◌≤
 ghost use Rattle.std.specs.Prelude.{IfOk, IfErr, IfSome, OnOk, ⊤, [], ◌∷◌};
 ghost use Rattle.std.specs.Io.KnownBytes.{IsAtEnd};
 ghost use Rattle.osn_lines.specs.Faults.{MatchFault, IsReadFault};
-ghost use Rattle.osn_lines.specs.Inside.{IsKept};
+ghost use Rattle.osn_lines.specs.Inside.{IsUnended};
 ghost use Rattle.osn_lines.specs.Lines.{lines};
 ghost use Rattle.osn_lines.specs.Taking.{Takes, Stops, TakesAll, TakesFirst, TakesEnded};
 ghost use Rattle.osn_lines.specs.Taking.{HasKeptUp, StopsAfter};
 
 use crate::cut::{take_line, take_piece};
 use crate::fault::{Interrupted, TakeFault};
-use crate::kept::Kept;
 use crate::source::{Source, buffer_of};
 use crate::taker::LineTaker;
+use crate::unended_line::UnendedLine;
 use std::alloc::Global;
 
 /// Has the bytes after the last line feed taken as a line, if there are any, after this many lines.
 fn take_rest<T: LineTaker>(
     taker: &mut T,
-    kept: &mut Kept,
+    unended: &mut UnendedLine,
     count: u64,
 ) -> Result<u64, Interrupted<TakeFault<T::Stop>>>
     requires { count + 1 < 2 ^ 64 }
-    ensures taken { IfOk result (λ n. (part : List ℕ) → IsKept kept.old part →
+    ensures takes { IfOk result (λ n. (part : List ℕ) → IsUnended unended.old part →
         Takes T.after taker.old taker.new (lines part) × (n ≡ count + length (lines part))) }
     ensures fault { IfErr result (λ end. (end.lines ≡ count) × MatchFault end.cause
         (taker.new ≡ taker.old)
         ⊥
-        (λ why. (part : List ℕ) → IsKept kept.old part →
+        (λ why. (part : List ℕ) → IsUnended unended.old part →
         (lines part ≡ part ∷ [])
         × Stops T.after T.stopped taker.old taker.new (Some part) why)) }
 {
-    if kept.is_empty() {
+    if unended.is_empty() {
         return Ok(count);
     }
-    match take_line(taker, kept, &[]) {
+    match take_line(taker, unended, &[]) {
         Ok(()) => Ok(count + 1),
         Err(cause) => Err(Interrupted {
             lines: count,
@@ -61,7 +61,7 @@ pub fn take_lines<T: LineTaker, R: Source>(
     taker: &mut T,
     source: &mut R,
 ) -> Result<u64, Interrupted<TakeFault<T::Stop>>>
-    ensures taken { IfOk result (TakesAll T.after taker.old taker.new (R.remaining source.old)) }
+    ensures takes { IfOk result (TakesAll T.after taker.old taker.new (R.remaining source.old)) }
     ensures end { OnOk result (IsAtEnd (R.remaining source.new)) }
     ensures fault { IfErr result (λ end. MatchFault end.cause
         (TakesFirst T.after taker.old taker.new (R.remaining source.old) end.lines)
@@ -90,7 +90,7 @@ pub fn take_lines<T: LineTaker, R: Source>(
             cause: TakeFault::NoMemory,
         });
     };
-    let mut kept = Kept::new(alloc);
+    let mut unended = UnendedLine::new(alloc);
     let mut lines = 0;
     for _call in 0..u32::MAX {
         if let Err(why) = taker.before_read() {
@@ -106,9 +106,9 @@ pub fn take_lines<T: LineTaker, R: Source>(
             });
         };
         if read == 0 {
-            return take_rest(taker, &mut kept, lines);
+            return take_rest(taker, &mut unended, lines);
         }
-        if let Err(cause) = take_piece(taker, &mut kept, &buffer[..read], &mut lines) {
+        if let Err(cause) = take_piece(taker, &mut unended, &buffer[..read], &mut lines) {
             return Err(Interrupted { lines, cause });
         }
     }

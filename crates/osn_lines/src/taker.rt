@@ -24,7 +24,7 @@ pub trait LineTaker {
     ///
     /// Why it stops here. No further line is given to it then.
     fn take(&mut self, line: Line<'_>) -> Result<(), Self::Stop>
-        ensures taken { OnOk result ((whole : List ℕ) → IsLine line.entry whole →
+        ensures takes { OnOk result ((whole : List ℕ) → IsLine line.entry whole →
             Takes after self.old self.new (whole ∷ [])) }
         ensures stop { IfErr result (λ why. (whole : List ℕ) → IsLine line.entry whole →
             Stops after stopped self.old self.new (Some whole) why) };

@@ -7,7 +7,7 @@ use mathlib.Core.List.{IsPrefix}
 use prog.Atomic.{either}
 use Rattle.logbook.specs.Pages.{Cell, cell, keeps, no_nib, step, Moves, Goes}
 use Rattle.osn_register.specs.declared.edit.Edit.{Edit}
-use Rattle.osn_live.specs.InsideHistory.{IsCounted, Adds}
+use Rattle.osn_live.specs.InsideHistory.{HoldsLength, Adds}
 use Rattle.osn_live.proofs.Prefixes.{prefix_whole}
 
 abbrev pub no_batches : List (List Edit) → List (List Edit)
@@ -18,7 +18,7 @@ moved xs ys n = Unit {0}
 
 adds_goes : (log v : List (List Edit)) (e : List Edit) (old : ℕ) → length v ≡ old →
     IsPrefix v log → (b : Bool) → (length log == old) ≡ b →
-    Goes IsCounted no_batches moved 0 (v, (no_nib, None)) (λ n. either (n == old) (old + 1) n)
+    Goes HoldsLength no_batches moved 0 (v, (no_nib, None)) (λ n. either (n == old) (old + 1) n)
     (Adds (step 0 old (old + 1) e) (v, (no_nib, None))) ((length log, true) ∷ (0, true) ∷ []) log
 adds_goes log v e old len pre true is =
     let here : length log ≡ old = grind (arith, nat_tests) in
@@ -49,11 +49,11 @@ adds_goes log v e old len pre false is =
 -- whatever the book is, the exchange adds the batch to all that was seen, where the number found is
 -- the one expected
 pub add_moves : (v : List (List Edit)) (e : List Edit) (old : ℕ) → length v ≡ old →
-    Moves IsCounted no_batches moved 0 (v, (no_nib, None)) (λ n. either (n == old) (old + 1) n)
+    Moves HoldsLength no_batches moved 0 (v, (no_nib, None)) (λ n. either (n == old) (old + 1) n)
     (Adds (step 0 old (old + 1) e) (v, (no_nib, None)))
 add_moves v e old len cs log rule pre away =
     let P : List Cell → Type 0 = λ c. (0 < length c) × ((cell c 0).1 ≡ true)
-    × Goes IsCounted no_batches moved 0 (v, (no_nib, None)) (λ n. either (n == old) (old + 1) n)
+    × Goes HoldsLength no_batches moved 0 (v, (no_nib, None)) (λ n. either (n == old) (old + 1) n)
     (Adds (step 0 old (old + 1) e) (v, (no_nib, None))) c log in
     subst P (sym rule.words)
     (omega arith, refl, adds_goes log v e old len pre (length log == old) refl)

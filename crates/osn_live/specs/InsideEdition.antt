@@ -10,6 +10,6 @@ abbrev pub edition_in : Inside → EditionState
 edition_in e = edition_of e.limits e.certificate
 
 -- the register is that of the batches
-abbrev pub IsKept : Inside → Type 0
-IsKept e = arc_value e.register ≡
+abbrev pub HasRegister : Inside → Type 0
+HasRegister e = arc_value e.register ≡
     record { limits = e.limits; lands = lands_of newest_rules e.limits e.certificate.batches }

@@ -4,7 +4,7 @@ use Rattle.std.specs.Prelude.{ℕ, ◌≡◌, true, List, [], ◌∷◌, ◌++�
 use Rattle.logbook.specs.Pages.{Cell, Step, View, Book, Named}
 use Rattle.osn_register.specs.declared.edit.Edit.{Edit}
 
-pub record IsCounted (cells : List Cell) (log : List (List Edit)) : Type 0 where
+pub record HoldsLength (cells : List Cell) (log : List (List Edit)) : Type 0 where
   pub words : cells ≡ (length log, true) ∷ (0, true) ∷ []
 
 abbrev pub head_of : Book → Named

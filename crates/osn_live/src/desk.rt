@@ -69,7 +69,7 @@ fn edit_all<R: Wait, G: Gate>(
 ) -> Result<(), WorkFault>
     requires begun { turns.old.begun ≡ 0 }
     requires ended { turns.old.ended ≡ 0 }
-    ensures told { OnOk result (HasTold turns.old turns.new (length commands.now)) }
+    ensures tells { OnOk result (HasTold turns.old turns.new (length commands.now)) }
     ensures origin { editor.new.origin ≡ editor.old.origin }
     ensures ok { OnOk result
         (editor.new.object ≡ script_after newest_rules editor.old.object commands.now) }

@@ -26,11 +26,11 @@ impl Model for Edition {
 
     ghost Value = { EditionState };
 
-    ghost use Rattle.osn_live.specs.InsideEdition.{edition_in, IsKept};
+    ghost use Rattle.osn_live.specs.InsideEdition.{edition_in, HasRegister};
 
     ghost view = { edition_in };
 
-    ghost invariant = { IsKept };
+    ghost invariant = { HasRegister };
 }
 
 /// What is done to a copy: it becomes the next edition.

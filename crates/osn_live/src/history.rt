@@ -13,14 +13,14 @@ use std::marker::Model;
 pub type HistoryCell = [Edit; 0];
 
 /// The rule of the history: it is as long as its first word says.
-pub struct Counted;
+pub struct HistoryRule;
 
-impl Rule<HistoryCell, u64> for Counted {
+impl Rule<HistoryCell, u64> for HistoryRule {
     ghost use Rattle.std.specs.Prelude.{[]};
     ghost use base.Fml.{ftrue};
-    ghost use Rattle.osn_live.specs.InsideHistory.{IsCounted};
+    ghost use Rattle.osn_live.specs.InsideHistory.{HoldsLength};
 
-    ghost holds = { λ cells log. IsCounted cells log };
+    ghost holds = { λ cells log. HoldsLength cells log };
 
     ghost first = { [] };
 
@@ -62,7 +62,7 @@ impl Plain<Vec<Edit>, HistoryCell, u64> for Add {
 /// The right to add to the history. Whoever has none cannot make a batch known.
 #[derive(Drop)]
 pub struct History {
-    head: Word<HistoryCell, u64, Counted>,
+    head: Word<HistoryCell, u64, HistoryRule>,
 }
 
 impl Model for History {
@@ -81,7 +81,7 @@ impl Model for History {
 #[derive(Drop)]
 pub struct Certificate {
     count: u32,
-    seen: Seen<HistoryCell, u64, Counted>,
+    seen: Seen<HistoryCell, u64, HistoryRule>,
 }
 
 impl Model for Certificate {
@@ -118,7 +118,7 @@ impl History {
             c ≡ record known.now { batches = known.now.batches ++ batch.now.items ∷ [] }) }
     {
         let mut seen = known.seen.again();
-        let mut offer: Offer<HistoryCell, u64, Counted, Nothing> = seen.plain::<
+        let mut offer: Offer<HistoryCell, u64, HistoryRule, Nothing> = seen.plain::<
             Nothing,
             Vec<Edit>,
             Add,

@@ -55,7 +55,7 @@ fn answer_all<G: Gate>(
 ) -> Result<Vec<Reply>, WorkFault>
     requires begun { turns.old.begun ≡ 0 }
     requires ended { turns.old.ended ≡ 0 }
-    ensures told { OnOk result (HasTold turns.old turns.new (length questions.now)) }
+    ensures tells { OnOk result (HasTold turns.old turns.new (length questions.now)) }
     ensures origin { reader.new.origin ≡ reader.old.origin }
     ensures replies { IfOk result (λ rs.
         AreReplies newest_rules reader.old.origin.limits reader.new.seen 0 questions.now rs.items) }

@@ -4,7 +4,7 @@ use Rattle.osn_days.specs.declared.weekday.Weekday.{Weekday}
 use Rattle.osn_lines.specs.Streams.{Output}
 use Rattle.osn_page_commands.specs.Conversion.{PrintsConversion}
 use Rattle.osn_page_commands.specs.PageWords.{conversion_of_words}
-use Rattle.osn_report.specs.Told.{EndsBy}
+use Rattle.osn_report.specs.Messages.{EndsBy}
 use Rattle.osn_report.specs.declared.fault.CommandFault.TheVariants.{NoMemory}
 use Rattle.osn_report.specs.declared.misuse.Misuse.{Misuse}
 use Rattle.osn_report.specs.declared.status.Status.{Status}

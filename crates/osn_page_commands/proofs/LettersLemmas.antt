@@ -13,7 +13,7 @@ use Rattle.osn_page_commands.specs.Letters.{TellsIfAsked}
 use Rattle.osn_page_commands.specs.Letters.{table_of}
 use Rattle.osn_page_commands.specs.Page.{published}
 use Rattle.osn_page_commands.specs.declared.letters.EndRules.{EndRules}
-use Rattle.osn_report.specs.Told.{TellsIfMade, TellsNothing}
+use Rattle.osn_report.specs.Messages.{TellsIfMade, TellsNothing}
 use Rattle.osn_report.specs.declared.status.Status.{Status}
 
 -- by what a table is made, of these territories and this edition

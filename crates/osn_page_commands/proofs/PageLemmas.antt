@@ -14,7 +14,7 @@ use Rattle.osn_page_commands.specs.Page.{topic_refusal, topic_text, published, r
 use Rattle.osn_page_commands.specs.Page.{ended, lacks_strict_day}
 use Rattle.osn_page_commands.specs.declared.page_words.Topic.{Topic}
 use Rattle.osn_report.specs.Printing.{PrintsIfMade}
-use Rattle.osn_report.specs.Told.{EndsBy, TellsIfMade}
+use Rattle.osn_report.specs.Messages.{EndsBy, TellsIfMade}
 use Rattle.osn_report.specs.declared.fault.CommandFault.TheVariants.{NoMemory}
 use Rattle.osn_report.specs.declared.status.Status.{Status}
 use Rattle.osn_report.specs.declared.status.Status.TheVariants as statuses

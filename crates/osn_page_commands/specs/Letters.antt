@@ -29,7 +29,7 @@ use Rattle.osn_page_commands.specs.declared.letters.EndRules.{EndRules}
 use Rattle.osn_page_commands.specs.Page.{published}
 use Rattle.osn_report.specs.Journal.{MakesObject, MakesNoObject}
 use Rattle.osn_report.specs.Printing.{PrintsNone}
-use Rattle.osn_report.specs.Told.{EndsBy, Tells, TellsIfMade, TellsNothing}
+use Rattle.osn_report.specs.Messages.{EndsBy, Tells, TellsIfMade, TellsNothing}
 use Rattle.osn_report.specs.declared.fault.CommandFault.TheVariants.{File, WriteFault, NoMemory}
 use Rattle.osn_report.specs.declared.status.Status.{Status}
 use Rattle.osn_report.specs.declared.status.Status.TheVariants as statuses

@@ -15,7 +15,7 @@ use Rattle.osn_page_commands.specs.Places.{IsPlacesFault, TellsPlaces}
 use Rattle.osn_page_commands.specs.TableWords.{settings_of_options}
 use Rattle.osn_page_commands.specs.declared.letters.EndRules.{EndRules}
 use Rattle.osn_report.specs.Folders.{Folders, IsReadOf, ReadsOne}
-use Rattle.osn_report.specs.Told.{TellsIfMade, TellsMisuse}
+use Rattle.osn_report.specs.Messages.{TellsIfMade, TellsMisuse}
 use Rattle.osn_report.specs.Unopened.{unopened_line}
 use Rattle.osn_report.specs.declared.status.Status.{Status}
 use Rattle.osn_report.specs.declared.status.Status.TheVariants as statuses

@@ -18,7 +18,7 @@ use Rattle.osn_lines.specs.Streams.{Input, Output}
 use Rattle.osn_files.specs.declared.fault.FileFault.{FileFault}
 use Rattle.osn_invocation.specs.Invocation.{PageWordsModel}
 use Rattle.osn_pages.specs.DateLines.{has_no_day}
-use Rattle.osn_written.specs.SetsMeant.{found_of_set}
+use Rattle.osn_written.specs.SetsMeant.{set_meant}
 use Rattle.osn_pages.specs.Page.{page_text}
 use Rattle.osn_pages.specs.SetPage.{set_page_text}
 use Rattle.osn_pages.specs.Territory.{territories_page}
@@ -32,7 +32,7 @@ use Rattle.osn_page_commands.specs.declared.page_words.Topic.TheVariants.{Year, 
 use Rattle.osn_report.specs.Fault.{numbered_line}
 use Rattle.osn_report.specs.Journal.{MakesObject, MakesNoObject}
 use Rattle.osn_report.specs.Printing.{PrintsIfMade, PrintsNone}
-use Rattle.osn_report.specs.Told.{EndsBy, TellsIfMade, TellsMisuse}
+use Rattle.osn_report.specs.Messages.{EndsBy, TellsIfMade, TellsMisuse}
 use Rattle.osn_report.specs.declared.fault.CommandFault.TheVariants.{File, NoMemory}
 use Rattle.osn_report.specs.declared.status.Status.{Status}
 use Rattle.osn_report.specs.declared.status.Status.TheVariants as statuses
@@ -82,7 +82,7 @@ lacks_day lands code pages.Periods = false
 abbrev pub is_set_without_day : Option (List ℕ × TerritoryModel) → List ℕ → Bool
 is_set_without_day None date = false
 is_set_without_day (Some named) date =
-    is_err (found_of_set newest_rules named.1 (members date))
+    is_err (set_meant newest_rules named.1 (members date))
 
 abbrev pub lacks_set : List LandModel → List ℕ → List ℕ → Bool
 lacks_set lands code date = is_set_without_day (named_of code lands) date

@@ -18,7 +18,7 @@ use Rattle.osn_register.specs.Plain.{is_off_line}
 use Rattle.osn_pages.specs.Conversion.{days_of_written}
 use Rattle.osn_pages.specs.declared.page.Page.{Page}
 use Rattle.osn_pages.specs.declared.page.Page.TheVariants as pages
-use Rattle.osn_written.specs.Said.{said}
+use Rattle.osn_written.specs.ReadDate.{read_date}
 use Rattle.osn_written.specs.WrittenDate.{written_date, usual_date, number_of, weekday_named}
 use Rattle.osn_written.specs.declared.written_date.DateFault.{DateFault}
 use Rattle.osn_written.specs.declared.written_date.DateFault.TheVariants as faults
@@ -101,7 +101,7 @@ abbrev pub topic_of_reading : List ℕ → Option (List ℕ) → Option (List �
     → Result Topic Misuse
 topic_of_reading text name word is_strict = do
   order ← order_of_word word
-  topic_of_read (said order text) name is_strict
+  topic_of_read (read_date order text) name is_strict
 
 -- ---- a day
 

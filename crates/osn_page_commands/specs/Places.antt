@@ -9,7 +9,7 @@ use Rattle.osn_letters.specs.declared.places_fault.PlacesColumn.{PlacesColumn}
 use Rattle.osn_letters.specs.declared.places_fault.PlacesFault.{PlacesFault}
 use Rattle.osn_letters.specs.declared.places_fault.PlacesFault.TheVariants as faults
 use Rattle.osn_lines.specs.Streams.{Input, Output}
-use Rattle.osn_report.specs.Told.{EndsBy, TellsIfMade}
+use Rattle.osn_report.specs.Messages.{EndsBy, TellsIfMade}
 use Rattle.osn_report.specs.Unopened.{unopened_line}
 use Rattle.osn_report.specs.declared.fault.CommandFault.TheVariants.{NoMemory}
 use Rattle.osn_report.specs.declared.status.Status.{Status}

@@ -2,7 +2,7 @@
 ghost use Rattle.std.specs.Prelude.{◌≡◌, IfOk, string_bytes};
 ghost use Rattle.osn_lines.specs.Streams.{output_of};
 ghost use Rattle.osn_page_commands.specs.Places as spec;
-ghost use Rattle.osn_report.specs.Told.{TellsIfMade};
+ghost use Rattle.osn_report.specs.Messages.{TellsIfMade};
 ghost use Rattle.osn_report.specs.declared.status.Status.{Status};
 
 use osn_folder::OpenFailed;
@@ -36,14 +36,15 @@ fn lacks_line(
     path: &str,
     column: PlacesColumn,
     line: u64,
-    found: &str,
+    header: &str,
 ) -> Result<String, AllocError>
     ensures { IfOk result (λ told. string_bytes told
-        ≡ spec.lacks_line path.now column line found.now) }
+        ≡ spec.lacks_line path.now column line header.now) }
 {
     let name = column.name();
     format!(in alloc;
-        "oldstyle: {path} line {line}: no column {name}: the columns are {found}: name one {name}\n"
+        "oldstyle: {path} line {line}: no column {name}: the columns are {header}: name one \
+{name}\n"
     )
 }
 
@@ -85,9 +86,9 @@ pub(crate) fn tell_places<E: Sink>(
         PlacesFault::LacksColumn {
             column,
             line,
-            found,
+            header,
         } => {
-            let told = lacks_line(alloc, path, *column, *line, found.as_str());
+            let told = lacks_line(alloc, path, *column, *line, header.as_str());
             tell_line(errors, Status::Refused, told)
         }
         PlacesFault::TwoCodes { line, place } => {

@@ -3,7 +3,7 @@ ghost use Rattle.std.specs.Prelude.{◌≡◌, IfOk, string_bytes};
 ghost use Rattle.osn_letters.specs.Columns.{dates_of, names_of};
 ghost use Rattle.osn_lines.specs.Streams.{output_of};
 ghost use Rattle.osn_page_commands.specs.Letters as spec;
-ghost use Rattle.osn_report.specs.Told.{TellsIfMade};
+ghost use Rattle.osn_report.specs.Messages.{TellsIfMade};
 ghost use Rattle.osn_report.specs.declared.status.Status.{Status};
 
 use osn_files::FileFault;
@@ -83,15 +83,15 @@ fn lacks_line(
     names: ColumnNames<'_>,
     column: Column,
     line: u64,
-    found: &str,
+    header: &str,
 ) -> Result<String, AllocError>
     ensures { IfOk result (λ told. string_bytes told
-        ≡ spec.lacks_line (names_of names.entry) column line found.now) }
+        ≡ spec.lacks_line (names_of names.entry) column line header.now) }
 {
     let name = name_of(names, column);
     let option = option_of(column);
     format!(in alloc;
-        "oldstyle: letters line {line}: no column {name}: the columns are {found}: name yours by \
+        "oldstyle: letters line {line}: no column {name}: the columns are {header}: name yours by \
 {option}\n"
     )
 }
@@ -140,9 +140,9 @@ pub(crate) fn tell_table<E: Sink>(
         LettersFault::LacksColumn {
             column,
             line,
-            found,
+            header,
         } => {
-            let told = lacks_line(alloc, names, *column, *line, found.as_str());
+            let told = lacks_line(alloc, names, *column, *line, header.as_str());
             tell_line(errors, Status::Refused, told)
         }
         LettersFault::HasColumn { line, column } => {

@@ -17,10 +17,10 @@ use Rattle.osn_written.specs.declared.finding.NoDay.TheVariants.{OffTheLine}
 use Rattle.osn_written.specs.declared.kind.Kind.{Kind}
 use Rattle.osn_written.specs.declared.kind.Kind.TheVariants as kinds
 use Rattle.osn_written.specs.declared.written_date.WrittenDate.{WrittenDate}
-use Rattle.osn_written.specs.Finding.{found, reckoned, ends_of, first_day_of}
+use Rattle.osn_written.specs.Finding.{extent_meant, reckoned, ends_of, first_day_of}
 use Rattle.osn_written.specs.Kind.{kind_of}
 use Rattle.osn_written.specs.Meaning.{meaning}
-use Rattle.osn_written.specs.Said.{one_day}
+use Rattle.osn_written.specs.ReadDate.{one_day}
 use Rattle.osn_pages.specs.Reading.{days_text}
 use Rattle.osn_pages.specs.Runs.{runs_text}
 use Rattle.osn_pages.specs.Why.{why_lines, why_text}
@@ -64,7 +64,7 @@ found_lines p own t e (Err reason) = no_day_lines p t e reason
 abbrev pub lines_of : Profile → TerritoryModel → TerritoryModel → AnyDate → Option Weekday
     → Option WrittenDate → List ℕ
 lines_of p own t w given (Some day) = reading_lines p t day given (meaning p t day given)
-lines_of p own t w given None = found_lines p own t w.extent (found p t w.extent)
+lines_of p own t w given None = found_lines p own t w.extent (extent_meant p t w.extent)
 
 -- where the date names a calendar it is read as if the place had gone by that one
 abbrev pub date_lines : Profile → TerritoryModel → AnyDate → Option Weekday → List ℕ
@@ -72,4 +72,4 @@ date_lines p t w given = lines_of p t (reckoned t w.reckoning) w given (one_day 
 
 -- the date means no day
 abbrev pub has_no_day : Profile → TerritoryModel → AnyDate → Bool
-has_no_day p t w = is_err (found p (reckoned t w.reckoning) w.extent)
+has_no_day p t w = is_err (extent_meant p (reckoned t w.reckoning) w.extent)

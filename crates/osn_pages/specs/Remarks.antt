@@ -13,7 +13,7 @@ use Rattle.osn_written.specs.declared.written_date.WrittenDate.{WrittenDate}
 use Rattle.osn_written.specs.DateInWords.{words_of}
 use Rattle.osn_written.specs.Finding.{is_by_other_calendar}
 use Rattle.osn_written.specs.OtherForms.{plain_day}
-use Rattle.osn_written.specs.Said.{one_day}
+use Rattle.osn_written.specs.ReadDate.{one_day}
 use Rattle.osn_written.specs.Text.{written_text}
 
 -- ---- the name of a date

@@ -10,7 +10,7 @@ use Rattle.osn_register.specs.Named.{named_of}
 use Rattle.osn_register.specs.Plain.{LandModel}
 use Rattle.osn_written.specs.declared.kind.Kind.TheVariants as kinds
 use Rattle.osn_written.specs.declared.set.AbsentMember.{AbsentMember}
-use Rattle.osn_written.specs.SetsMeant.{found_of_set, is_set_approximate, is_set_uncertain}
+use Rattle.osn_written.specs.SetsMeant.{set_meant, is_set_approximate, is_set_uncertain}
 use Rattle.osn_pages.specs.declared.page.Published.{Published}
 use Rattle.osn_pages.specs.DateLines.{no_day_lines}
 use Rattle.osn_pages.specs.Heading.{heading, pending_line}
@@ -29,7 +29,7 @@ set_sureness approximate uncertain = sureness approximate uncertain false
 -- both, and that a weekday is not looked for
 unfoldable pub set_lines : Profile → TerritoryModel → List WrittenDate → Option Weekday → List ℕ
 set_lines p t ws given =
-    found_set_lines p t (found_of_set p t ws)
+    found_set_lines p t (set_meant p t ws)
     ++ (set_sureness (is_set_approximate ws) (is_set_uncertain ws) ++ not_sought_line given)
 
 -- the page of a text, of the name and the territory of the code, and how many edits wait. The text

@@ -91,7 +91,7 @@ pub fn conversion_page(
 pub fn day_of_written(calendar: Calendar, date: WrittenDate) -> Option<Day>
     ensures value { option_to_list result ≡ spec.days_of_written newest_rules calendar date }
     // as a law: what a page says of a day of the line, by each calendar, is read as that day
-    ensures found { AreCalendarWordsWritten newest_rules }
+    ensures calendar_words { AreCalendarWordsWritten newest_rules }
 {
     if date.is_double {
         return None;

@@ -1,9 +1,9 @@
 //! The lines of a date with all that is written of it: its days, or why it has none.
 ghost use Rattle.std.specs.Prelude.{◌≡◌, ◌++◌, IfOk, OnOk, string_bytes, is_err};
 ghost use Rattle.osn_days.specs.Profile.{newest_rules};
-ghost use Rattle.osn_written.specs.Finding.{found};
+ghost use Rattle.osn_written.specs.Finding.{extent_meant};
 ghost use Rattle.osn_written.specs.Meaning.{meaning};
-ghost use Rattle.osn_written.specs.Said.{one_day};
+ghost use Rattle.osn_written.specs.ReadDate.{one_day};
 ghost use Rattle.osn_pages.specs.DateLines as spec;
 
 use crate::reading::push_days;
@@ -97,7 +97,7 @@ fn push_found(
 ) -> Result<(), AllocError>
     ensures { OnOk result (string_bytes out.new ≡ string_bytes out.old
         ++ spec.found_lines newest_rules own.now territory.now extent
-        (found newest_rules territory.now extent)) }
+        (extent_meant newest_rules territory.now extent)) }
 {
     match find_runs(alloc, territory, extent)? {
         Ok(runs) => push_runs(out, own, kind_of(extent), runs.as_slice()),
@@ -147,7 +147,7 @@ pub(crate) fn push_date(
 /// Whether an extent means no day by the reckoning of a territory.
 fn is_without_day(alloc: Global, territory: &Territory, extent: Extent) -> Result<bool, AllocError>
     ensures { IfOk result (λ without.
-        without ≡ is_err (found newest_rules territory.now extent)) }
+        without ≡ is_err (extent_meant newest_rules territory.now extent)) }
 {
     Ok(find_runs(alloc, territory, extent)?.is_err())
 }

@@ -6,7 +6,7 @@ ghost use Rattle.osn_pages.specs.Heading.{heading, pending_line};
 ghost use Rattle.osn_pages.specs.SetPage as spec;
 ghost use Rattle.osn_register.specs.Plain.{code_refusal};
 ghost use Rattle.osn_register.specs.Refusal.{IsRefusalOrNoMemory};
-ghost use Rattle.osn_written.specs.SetsMeant.{found_of_set, set_list_of};
+ghost use Rattle.osn_written.specs.SetsMeant.{set_meant, set_list_of};
 
 use crate::date_lines::push_no_day;
 use crate::heading::{push_land_heading, push_pending};
@@ -143,7 +143,7 @@ pub fn set_page_text(
 /// `AllocError` where there is no memory for the list of days.
 pub fn set_has_no_day(alloc: Global, territory: &Territory, text: &str) -> Result<bool, AllocError>
     ensures { IfOk result (λ none.
-        none ≡ is_err (found_of_set newest_rules territory.now (members text.now))) }
+        none ≡ is_err (set_meant newest_rules territory.now (members text.now))) }
 {
     let members = members_of(alloc, text)?;
     Ok(find_set(alloc, territory, members.as_slice())?.is_err())

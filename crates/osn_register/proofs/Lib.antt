@@ -1,7 +1,7 @@
 pub mod CoverFacts
 pub mod FoundFacts
-pub mod Kept
+pub mod LandFacts
 pub mod PeriodCount
-pub mod KeptAnswers
+pub mod EarlierAnswers
 pub mod TerritoryFacts
 pub mod NamedFacts

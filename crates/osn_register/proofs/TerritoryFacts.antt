@@ -32,7 +32,7 @@ use Rattle.osn_register.specs.InsideChange.{change_refusal, territory_after}
 use Rattle.osn_register.proofs.CoverFacts.{covers-with_change, covers-with_altered}
 use Rattle.osn_register.proofs.CoverFacts.{covers-without_change}
 use Rattle.osn_register.specs.Inside.{land_in}
-use Rattle.osn_register.proofs.Kept.{apart_first}
+use Rattle.osn_register.proofs.LandFacts.{apart_first}
 
 some_is : {X : Type 0} {x y : X} → Some x ≡ Some y → x ≡ y
 some_is h = cc

@@ -12,7 +12,7 @@ use Rattle.osn_computus.specs.Figures.{golden_number, indiction, julian_epact, g
 use Rattle.osn_computus.specs.Letters.{letters_of}
 use Rattle.osn_computus.specs.Easter.{easter_of}
 use Rattle.osn_grammar.specs.declared.written.DateOrder.TheVariants.{Unknown}
-use Rattle.osn_grammar.specs.declared.written.Written.{Written as Said}
+use Rattle.osn_grammar.specs.declared.written.Written.{Written as TextDate}
 use Rattle.osn_grammar.specs.declared.written.Written.TheVariants as say
 use Rattle.osn_grammar.specs.declared.written.WrittenDate.{WrittenDate as AnyDate}
 use Rattle.osn_lands.specs.declared.regime.Regime.{Regime}
@@ -31,11 +31,11 @@ use Rattle.osn_written.specs.declared.set.AbsentMember.{AbsentMember}
 use Rattle.osn_written.specs.declared.written_date.DateFault.{DateFault}
 use Rattle.osn_written.specs.declared.written_date.DateFault.TheVariants.{NoDate}
 use Rattle.osn_written.specs.declared.written_date.WrittenDate.{WrittenDate}
-use Rattle.osn_written.specs.Finding.{found, reckoned, is_by_other_calendar}
+use Rattle.osn_written.specs.Finding.{extent_meant, reckoned, is_by_other_calendar}
 use Rattle.osn_written.specs.Kind.{kind_of}
 use Rattle.osn_written.specs.Meaning.{meaning, has_weekday}
-use Rattle.osn_written.specs.Said.{said, one_day}
-use Rattle.osn_written.specs.SetsMeant.{found_of_set, is_set_approximate, is_set_uncertain}
+use Rattle.osn_written.specs.ReadDate.{read_date, one_day}
+use Rattle.osn_written.specs.SetsMeant.{set_meant, is_set_approximate, is_set_uncertain}
 use Rattle.osn_register.specs.declared.query.Query.{Query}
 use Rattle.osn_register.specs.declared.query.Query.TheVariants as queries
 use Rattle.osn_register.specs.declared.answer.Answer.{Answer}
@@ -181,8 +181,8 @@ date_answer p t w given = record {
   is_uncertain = w.is_uncertain;
   is_supplied = w.is_supplied;
   is_by_other_calendar = is_by_other_calendar p t w;
-  reason = reason_in (found p (reckoned t w.reckoning) w.extent);
-  runs = map (found_run p t) (runs_in (found p (reckoned t w.reckoning) w.extent));
+  reason = reason_in (extent_meant p (reckoned t w.reckoning) w.extent);
+  runs = map (found_run p t) (runs_in (extent_meant p (reckoned t w.reckoning) w.extent));
   is_on_weekday = if_weekday p (reckoned t w.reckoning) w given;
 }
 
@@ -216,22 +216,22 @@ set_answer p t ws = record {
   is_uncertain = is_set_uncertain ws;
   is_supplied = false;
   is_by_other_calendar = false;
-  reason = set_reason_in (found_of_set p t ws);
-  runs = map (found_run p t) (set_runs_in (found_of_set p t ws));
+  reason = set_reason_in (set_meant p t ws);
+  runs = map (found_run p t) (set_runs_in (set_meant p t ws));
   is_on_weekday = None;
 }
 
 -- the answer about what a text says
-abbrev pub said_answer : Profile → TerritoryModel → List ℕ → Result Said DateFault
+abbrev pub text_answer : Profile → TerritoryModel → List ℕ → Result TextDate DateFault
     → Option Weekday → WrittenAnswer
-said_answer p t text (Ok (say.Date w)) given = date_answer p t w given
-said_answer p t text (Ok say.Set) given = set_answer p t (members text)
-said_answer p t text (Ok say.NoDate) given = no_date NoDate
-said_answer p t text (Err fault) given = no_date fault
+text_answer p t text (Ok (say.Date w)) given = date_answer p t w given
+text_answer p t text (Ok say.Set) given = set_answer p t (members text)
+text_answer p t text (Ok say.NoDate) given = no_date NoDate
+text_answer p t text (Err fault) given = no_date fault
 
 abbrev pub written_answer : Profile → Option TerritoryModel → List ℕ → Option Weekday → Answer
 written_answer p None text given = Refused UnknownLand
-written_answer p (Some t) text given = Written (said_answer p t text (said Unknown text) given)
+written_answer p (Some t) text given = Written (text_answer p t text (read_date Unknown text) given)
 
 -- ---- each query
 

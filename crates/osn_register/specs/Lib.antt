@@ -10,4 +10,4 @@ pub mod Answer
 pub mod Inside
 pub mod InsideChange
 pub mod InsideQuery
-pub mod Kept
+pub mod EarlierRules

@@ -205,17 +205,17 @@ fn no_date(alloc: Global, fault: DateFault) -> WrittenAnswer
 }
 
 /// What is told of what a text says.
-fn said_answer(
+fn text_answer(
     alloc: Global,
     territory: &Territory,
     text: &str,
-    said: Result<Written, DateFault>,
+    read: Result<Written, DateFault>,
     given: Option<Weekday>,
 ) -> Result<WrittenAnswer, AllocError>
     ensures { IfOk result (λ a.
-        a ≡ spec.said_answer newest_rules territory.now text.now said given) }
+        a ≡ spec.text_answer newest_rules territory.now text.now read given) }
 {
-    match said {
+    match read {
         Ok(Written::Date(date)) => date_answer(alloc, territory, date, given),
         Ok(Written::Set) => set_answer_of(alloc, territory, text),
         Ok(Written::NoDate) => Ok(no_date(alloc, DateFault::NoDate)),
@@ -233,6 +233,6 @@ pub(crate) fn written(
     ensures { IfOk result (λ a.
         a ≡ spec.written_answer newest_rules (Some territory.now) text.now given) }
 {
-    let said = read_date(alloc, text, DateOrder::Unknown)?;
-    Ok(Answer::Written(said_answer(alloc, territory, text, said, given)?))
+    let read = read_date(alloc, text, DateOrder::Unknown)?;
+    Ok(Answer::Written(text_answer(alloc, territory, text, read, given)?))
 }

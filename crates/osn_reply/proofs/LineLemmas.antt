@@ -105,16 +105,16 @@ signed_text (negsuc n) = refl
 
 -- pieces, each a front and what it stands before: one after the other as they are written, and
 -- as the text of an object has them, with what ends it
-abbrev pub behind : List ℕ → List (List ℕ × List ℕ) → List ℕ
-behind old [] = old
-behind old (p ∷ ps) = behind (old ++ (p.0 ++ p.1)) ps
+abbrev pub pieces_after : List ℕ → List (List ℕ × List ℕ) → List ℕ
+pieces_after old [] = old
+pieces_after old (p ∷ ps) = pieces_after (old ++ (p.0 ++ p.1)) ps
 
 abbrev pub joined : List (List ℕ × List ℕ) → List ℕ → List ℕ
 joined [] end = end
 joined (p ∷ ps) end = p.0 ++ (p.1 ++ joined ps end)
 
 pub chain : (old : List ℕ) (pieces : List (List ℕ × List ℕ)) (end : List ℕ) →
-    behind old pieces ++ end ≡ old ++ joined pieces end
+    pieces_after old pieces ++ end ≡ old ++ joined pieces end
 chain old [] end = refl
 chain old (p ∷ ps) end =
     chain (old ++ (p.0 ++ p.1)) ps end
@@ -122,13 +122,13 @@ chain old (p ∷ ps) end =
     ∙ ap (λ l. old ++ l) (append_assoc p.0 p.1 (joined ps end)))
 
 -- an answer that was begun and then ended is the whole reply
-pub told : (old mid new : List ℕ) (reader edition : ℕ) (given answer : Data) →
+pub whole_reply : (old mid new : List ℕ) (reader edition : ℕ) (given answer : Data) →
     given ≡ answer → mid ≡ old ++ (codes "{\"answer\":" ++ compact_text given) →
     new ≡ mid ++ (codes ",\"edition\":" ++ (decimal edition
     ++ (codes ",\"reader\":" ++ (decimal reader ++ codes "}")))) →
     new ≡ old ++ compact_text (answered_data reader edition answer)
 unfolding escape_byte
-told old mid new reader edition given answer same begun ended =
+whole_reply old mid new reader edition given answer same begun ended =
     let end = codes ",\"edition\":" ++ (decimal edition
     ++ (codes ",\"reader\":" ++ (decimal reader ++ codes "}"))) in
     ended

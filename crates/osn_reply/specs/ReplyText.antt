@@ -122,8 +122,8 @@ periods_data periods =
 
 -- a value, or null where no value is given
 abbrev pub option_data : {A : Type 0} → (A → Data) → Option A → Data
-option_data shown None = null
-option_data shown (Some x) = shown x
+option_data json_value None = null
+option_data json_value (Some x) = json_value x
 
 -- the word of a date's kind
 abbrev pub word_of_kind : Option Kind → List ℕ

@@ -80,7 +80,7 @@ pub(crate) fn write_published(out: &mut LineWriter, edition: u32) -> Result<(), 
 }
 
 impl WriteJson for Outcome {
-    ghost shown = { outcome_data };
+    ghost json_value = { outcome_data };
 
     fn write_json(&self, out: &mut LineWriter) -> Result<(), AllocError> {
         match self {
@@ -95,7 +95,7 @@ impl WriteJson for Outcome {
 
 /// Writes a value's line: its compact text, and a line feed.
 fn write_line<J: WriteJson>(out: &mut LineWriter, value: &J) -> Result<(), AllocError>
-    ensures text { OnOk result (out.new.text ≡ out.old.text ++ line_of (J.shown value.now)) }
+    ensures text { OnOk result (out.new.text ≡ out.old.text ++ line_of (J.json_value value.now)) }
     ensures before { out.new.before ≡ out.old.before }
 {
     value.write_json(out)?;
@@ -104,7 +104,7 @@ fn write_line<J: WriteJson>(out: &mut LineWriter, value: &J) -> Result<(), Alloc
 
 /// A value's line as a text.
 fn line_text<J: WriteJson>(alloc: Global, value: &J) -> Result<String, AllocError>
-    ensures { IfOk result (λ s. string_bytes s ≡ line_of (J.shown value.now)) }
+    ensures { IfOk result (λ s. string_bytes s ≡ line_of (J.json_value value.now)) }
 {
     let mut out = LineWriter::new(alloc, Vec::with_capacity(alloc, ROOM)?);
     write_line(&mut out, value)?;

@@ -5,28 +5,28 @@ use Rattle.osn_register.specs.Refusal.{refusal_number, refusal_name}
 use Rattle.osn_register.specs.declared.refusal.Refusal.{Refusal}
 use Rattle.osn_register.specs.declared.refusal.Refusal.TheVariants as refusals
 use Rattle.osn_report.specs.Fault.{fault_status, fault_line, refusal_end}
-use Rattle.osn_report.specs.Told.{EndsBy, Tells, TellsIfMade, WritesLine}
+use Rattle.osn_report.specs.Messages.{EndsBy, Tells, TellsIfMade, WritesLine}
 use Rattle.osn_report.specs.declared.fault.CommandFault.{CommandFault}
 use Rattle.osn_report.specs.declared.fault.CommandFault.TheVariants.{NoMemory, Refused}
 use Rattle.osn_report.specs.declared.status.Status.{Status}
 use Rattle.osn_report.specs.declared.status.Status.TheVariants as statuses
 
 -- a refusal was told by its line, or as want of memory for that
-pub refusal_told : (e : Output) (fault : CommandFault) (line : List ℕ) (status : Status)
+pub tells_refusal : (e : Output) (fault : CommandFault) (line : List ℕ) (status : Status)
     → fault_status fault ≡ statuses.Refused → line ≡ fault_line fault
     → TellsIfMade e statuses.Refused line status → Tells e fault status
-refusal_told e fault line status is same (inl h) =
+tells_refusal e fault line status is same (inl h) =
     inl (h.0 ∙ sym is, subst (WritesLine e) same h.1)
-refusal_told e fault line status is same (inr k) = inr (is, k)
+tells_refusal e fault line status is same (inr k) = inr (is, k)
 
 -- the message about one fault is that about the same one
-pub same_told : (e : Output) (fault other : CommandFault) (status : Status)
+pub tells_same : (e : Output) (fault other : CommandFault) (status : Status)
     → fault ≡ other → Tells e other status → Tells e fault status
-same_told e fault other status is h = subst (λ f. Tells e f status) (sym is) h
+tells_same e fault other status is h = subst (λ f. Tells e f status) (sym is) h
 
-pub told_by : (e : Output) (fault other : CommandFault) (status : Status)
+pub tells_by : (e : Output) (fault other : CommandFault) (status : Status)
     → fault ≡ other → EndsBy e other status → Tells e fault status
-told_by e fault other status is h = inl (subst (λ f. EndsBy e f status) (sym is) h)
+tells_by e fault other status is h = inl (subst (λ f. EndsBy e f status) (sym is) h)
 
 -- a refusal other than want of memory is told by its number and name
 pub other_status : (refusal : Refusal) → (refusal ≡ refusals.NoMemory → ⊥)

@@ -2,7 +2,7 @@ pub mod Status
 pub mod LimitHint
 pub mod Misuse
 pub mod Fault
-pub mod Told
+pub mod Messages
 pub mod Printing
 pub mod Files
 pub mod Journal

@@ -3,7 +3,7 @@ ghost use Rattle.std.specs.Prelude.{◌≡◌, ◌++◌, codes, ℕ, List, IfOk,
 ghost use Rattle.osn_lines.specs.Streams.{output_of};
 ghost use Rattle.osn_report.specs.Fault.{bad_line, older_line, refused_line, refusal_end};
 ghost use Rattle.osn_report.specs.Fault.{role_name};
-ghost use Rattle.osn_report.specs.Told.{WritesLine, EndsBy, Tells, TellsIfMade};
+ghost use Rattle.osn_report.specs.Messages.{WritesLine, EndsBy, Tells, TellsIfMade};
 ghost use Rattle.osn_report.specs.declared.fault.CommandFault.{CommandFault};
 
 use crate::fault::CommandFault;

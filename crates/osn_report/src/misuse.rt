@@ -2,7 +2,7 @@
 ghost use Rattle.std.specs.Prelude.{◌≡◌, Some, IfOk, string_bytes};
 ghost use Rattle.osn_lines.specs.Streams.{output_of};
 ghost use Rattle.osn_report.specs.Misuse as spec;
-ghost use Rattle.osn_report.specs.Told.{TellsMisuse};
+ghost use Rattle.osn_report.specs.Messages.{TellsMisuse};
 
 use crate::fault_report::tell_line;
 use crate::status::Status;

@@ -1,7 +1,7 @@
 //! How standard error is told of a file that could not be opened or read, by its path.
 ghost use Rattle.std.specs.Prelude.{◌≡◌, IfOk, string_bytes};
 ghost use Rattle.osn_lines.specs.Streams.{output_of};
-ghost use Rattle.osn_report.specs.Told.{TellsIfMade};
+ghost use Rattle.osn_report.specs.Messages.{TellsIfMade};
 ghost use Rattle.osn_report.specs.Unopened as spec;
 
 use crate::fault_report::tell_line;

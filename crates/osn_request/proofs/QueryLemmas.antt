@@ -29,28 +29,29 @@ lands : (number : Result ℕ WireFault) → NamesNone (by_number queries.Lands n
 lands (Err f) = tt
 lands (Ok n) = refl
 
-behind : (reader : Result ℤ WireFault) (next : ℤ → Result (ℕ × Query) WireFault)
+after_reader : (reader : Result ℤ WireFault) (next : ℤ → Result (ℕ × Query) WireFault)
     → ((r : ℤ) → NamesNone (next r)) → NamesNone (reader >>= next)
-behind (Err f) next each = tt
-behind (Ok r) next each = each r
+after_reader (Err f) next each = tt
+after_reader (Ok r) next each = each r
 
 figures_asked : (readers : ℕ) (d : Data) → NamesNone (query_of readers ops.YearFigures d)
 unfolding query_of year_figures_of
-figures_asked readers d = behind (whole_at members.Reader d) _
+figures_asked readers d = after_reader (whole_at members.Reader d) _
     (λ r. figures (whole_at members.Year d) (reader_in readers r))
 
 lands_asked : (readers : ℕ) (d : Data) → NamesNone (query_of readers ops.Lands d)
 unfolding query_of
-lands_asked readers d = behind (whole_at members.Reader d) _ (λ r. lands (reader_in readers r))
+lands_asked readers d = after_reader (whole_at members.Reader d) _
+    (λ r. lands (reader_in readers r))
 
-pub asked_by_code : (readers : ℕ) (op : QueryOp) (d : Data) (asked : ℕ × Query)
+pub query_by_code : (readers : ℕ) (op : QueryOp) (d : Data) (asked : ℕ × Query)
     → query_of readers op d ≡ Ok asked → names_land asked.1 ≡ true → has_code op ≡ true
-asked_by_code readers ops.Read d asked is names = refl
-asked_by_code readers ops.DayIn d asked is names = refl
-asked_by_code readers ops.Easter d asked is names = refl
-asked_by_code readers ops.Periods d asked is names = refl
-asked_by_code readers ops.Written d asked is names = refl
-asked_by_code readers ops.YearFigures d asked is names =
+query_by_code readers ops.Read d asked is names = refl
+query_by_code readers ops.DayIn d asked is names = refl
+query_by_code readers ops.Easter d asked is names = refl
+query_by_code readers ops.Periods d asked is names = refl
+query_by_code readers ops.Written d asked is names = refl
+query_by_code readers ops.YearFigures d asked is names =
     sym (subst NamesNone is (figures_asked readers d)) ∙ names
-asked_by_code readers ops.Lands d asked is names =
+query_by_code readers ops.Lands d asked is names =
     sym (subst NamesNone is (lands_asked readers d)) ∙ names

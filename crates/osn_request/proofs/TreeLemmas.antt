@@ -15,17 +15,17 @@ abbrev either : {A : Type 0} → A → Option A → A
 either d None = d
 either d (Some a) = a
 
-found : {B : Type 0} (r s : List Token) (x : Option B) (b : B)
+parts_of_some : {B : Type 0} (r s : List Token) (x : Option B) (b : B)
     → option_map {U = B × List Token} (λ y. (y, r)) x ≡ Some (b, s) → (r ≡ s) × (x ≡ Some b)
-found r s None b e = absurd (cc)
-found r s (Some y) b e =
+parts_of_some r s None b e = absurd (cc)
+parts_of_some r s (Some y) b e =
     let same = ap (either (y, r)) e in (ap (λ p. p.1) same, ap (λ p. Some p.0) same)
 
 pub converted_some : {A B : Type 0} (f : A → Option B) (o : Option (A × List Token)) (b : B)
     (r : List Token) → converted f o ≡ Some (b, r) → (a : A) × (o ≡ Some (a, r)) × (f a ≡ Some b)
 converted_some f None b r e = absurd (cc)
 converted_some f (Some p) b r e =
-    let both = found p.1 r (f p.0) b e in
+    let both = parts_of_some p.1 r (f p.0) b e in
     (p.0, ap (λ s. Some (p.0, s)) both.0, both.1)
 
 under_object : (r : List Token) (x : Option Members)

@@ -6,14 +6,14 @@ use Rattle.osn_register.specs.declared.limits.Limits.{Limits}
 use Rattle.osn_folder.specs.Folder.{Known, CannotOpen, Changes, Stays}
 use Rattle.osn_follower.specs.Arrivals.{Arrival}
 use Rattle.osn_follower.specs.Follows.{Follows}
-use Rattle.osn_follower.specs.Told.{following}
+use Rattle.osn_follower.specs.Outcomes.{following}
 use Rattle.osn_follower.specs.declared.fault.FollowerFault.{FollowerFault}
 use Rattle.osn_invocation.specs.Invocation.{ServiceModel}
 use Rattle.osn_lines.specs.Streams.{Input, Output}
 use Rattle.osn_lines.specs.declared.fault.Interrupted.{Interrupted}
 use Rattle.osn_report.specs.Folders.{Folders}
 use Rattle.osn_report.specs.Printing.{PrintsNone}
-use Rattle.osn_report.specs.Told.{Ends, Tells}
+use Rattle.osn_report.specs.Messages.{Ends, Tells}
 use Rattle.osn_report.specs.declared.fault.CommandFault.{CommandFault}
 use Rattle.osn_report.specs.declared.fault.CommandFault.TheVariants.{FollowedWithOther, RefusedLine}
 use Rattle.osn_report.specs.declared.status.Status.{Status}

@@ -30,7 +30,7 @@ use Rattle.osn_files.specs.declared.fault.Role.TheVariants.{Journal}
 use Rattle.osn_files.specs.declared.last_line.LastLine.{LastLine}
 use Rattle.osn_files.specs.declared.last_line.LastLine.TheVariants.{Ended, LacksFeed, Unfinished}
 use Rattle.osn_files.specs.declared.whole_lines.WholePart.{WholePart}
-use Rattle.osn_journal.specs.Kept.{FileState}
+use Rattle.osn_journal.specs.KeptJournal.{FileState}
 use Rattle.osn_report.proofs.FileLemmas.{file_fault}
 use Rattle.osn_report.specs.Fault.{by_read}
 use Rattle.osn_report.specs.Journal.{MakesNoObject}

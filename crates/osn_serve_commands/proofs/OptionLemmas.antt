@@ -41,12 +41,12 @@ module _ {P : Type 0} (now : P → List ℕ) (limits : Limits) where
   misused_with None (Some save) path service CanFail d i o e status given h = h
   misused_with (Some journal) save path service CanFail d i o e status given h = h
 
-  pub kept_alone : (journal save : Option P) (path : List ℕ) (service : ServiceModel)
+  pub runs_alone : (journal save : Option P) (path : List ℕ) (service : ServiceModel)
       (CanFail : Bool → Type 0) (d : Folders) (i : Input) (o e : Output) (status : Status)
       → (is_some journal || is_some save) ≡ false
       → EndsKeeping limits path (rules_of service) CanFail d i o e status
       → RunsEditing limits (option_map now journal) (option_map now save) (Some path) service
       CanFail d i o e status
-  kept_alone None None path service CanFail d i o e status given h = h
-  kept_alone None (Some save) path service CanFail d i o e status given h = absurd (cc)
-  kept_alone (Some journal) save path service CanFail d i o e status given h = absurd (cc)
+  runs_alone None None path service CanFail d i o e status given h = h
+  runs_alone None (Some save) path service CanFail d i o e status given h = absurd (cc)
+  runs_alone (Some journal) save path service CanFail d i o e status given h = absurd (cc)

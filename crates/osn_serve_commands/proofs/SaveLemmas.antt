@@ -24,7 +24,7 @@ use Rattle.osn_service.specs.declared.service.Served.{Served}
 use Rattle.osn_report.specs.Fault.{by_read}
 use Rattle.osn_report.specs.Folders.{Folders}
 use Rattle.osn_report.specs.Printing.{PrintsNone}
-use Rattle.osn_report.specs.Told.{Ends, EndsBy, Tells, TellsNothing}
+use Rattle.osn_report.specs.Messages.{Ends, EndsBy, Tells, TellsNothing}
 use Rattle.osn_report.specs.declared.fault.CommandFault.{CommandFault}
 use Rattle.osn_report.specs.declared.fault.CommandFault.TheVariants.{File, NoMemory, RefusedLine}
 use Rattle.osn_report.specs.declared.fault.CommandFault.TheVariants.{Service}
@@ -59,11 +59,11 @@ module _ {F : Type 0} (e f : Output) (was is : Status) (Done Did Rest Rested : T
 -- ---- how a run of the service ended, after the journal that was saved or not
 
 -- where nothing more was told, it ended as before
-told_all : {E : Type 0} (contents : E → Option (List ℕ)) (has_failed holds_back : E → Bool)
+as_before : {E : Type 0} (contents : E → Option (List ℕ)) (has_failed holds_back : E → Bool)
     (old mid new : E) (was is : Status) (Told : Output → Status → Type 0) → is ≡ was → new ≡ mid
     → Told (output_of contents has_failed holds_back old mid) was
     → Told (output_of contents has_failed holds_back old new) is
-told_all contents has_failed holds_back old mid new was is Told e same h =
+as_before contents has_failed holds_back old mid new was is Told e same h =
     subst (λ s. Told (output_of contents has_failed holds_back old new) s) (sym e)
     (subst (λ x. Told (output_of contents has_failed holds_back old x) was) (sym same) h)
 
@@ -125,7 +125,7 @@ module _ {E D J P : Type 0} (contents : E → Option (List ℕ)) (has_failed hol
       → EndsSaving (Some (now path)) loaded t (known opened) (known after) in_all is
   one_saved t path text same h (inl saved) =
       inr (inl (
-        told_all contents has_failed holds_back old mid new was is (λ e status. Ends e None status)
+        as_before contents has_failed holds_back old mid new was is (λ e status. Ends e None status)
             saved.0 saved.1 h,
         subst (λ l. Changes (Saves (now path) loaded l) (known opened) (known after)) same saved.2,
       ))
@@ -145,7 +145,7 @@ module _ {E D J P : Type 0} (contents : E → Option (List ℕ)) (has_failed hol
   left_saved t None journal (inl left) unsaved saved =
       let same = unsaved (none_left bytes journal left.0) in (
         ap known same.2,
-        told_all contents has_failed holds_back old mid new was is (λ e status. Ends e None status)
+        as_before contents has_failed holds_back old mid new was is (λ e status. Ends e None status)
             same.0 same.1 left.1,
       )
   left_saved t None journal (inr memory) unsaved saved = absurd (cc)
@@ -156,7 +156,7 @@ module _ {E D J P : Type 0} (contents : E → Option (List ℕ)) (has_failed hol
       let same = unsaved (none_left bytes journal memory.1) in
       inl (
         ap known same.2,
-        told_all contents has_failed holds_back old mid new was is (λ e status. EndsBy e NoMemory
+        as_before contents has_failed holds_back old mid new was is (λ e status. EndsBy e NoMemory
             status) same.0 same.1 memory.2,
       )
 
@@ -175,7 +175,7 @@ module _ {E D J P : Type 0} (contents : E → Option (List ℕ)) (has_failed hol
         none.0,
         none.1,
         ap known same.2,
-        told_all contents has_failed holds_back old mid new was is (λ e status. PrintsNone (File
+        as_before contents has_failed holds_back old mid new was is (λ e status. PrintsNone (File
             none.0) o e status) same.0 same.1 none.4,
       )
   served_and_saved limits rules begun saves i o save journal editions by (inr (s, begins, lines))
@@ -194,7 +194,7 @@ module _ {E D J P : Type 0} (contents : E → Option (List ℕ)) (has_failed hol
             (λ none. ap known (unsaved (none_left bytes journal none)).2)
             (λ none fault told.
             let same = unsaved (none_left bytes journal none) in
-            told_all contents has_failed holds_back old mid new was is
+            as_before contents has_failed holds_back old mid new was is
             (λ e status. Tells e fault status) same.0 same.1 told)
             lines.result lines.ended;
       })

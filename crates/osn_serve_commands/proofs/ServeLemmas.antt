@@ -9,7 +9,7 @@ use Rattle.osn_service.specs.Faults.{MatchServiceFault}
 use Rattle.osn_service.specs.declared.fault.ServiceFault.{ServiceFault}
 use Rattle.osn_service.specs.declared.fault.ServiceFault.TheVariants.{Serve, NotKept}
 use Rattle.osn_service.specs.declared.service.Served.{Served}
-use Rattle.osn_report.specs.Told.{Tells}
+use Rattle.osn_report.specs.Messages.{Tells}
 use Rattle.osn_report.specs.declared.fault.CommandFault.{CommandFault}
 use Rattle.osn_report.specs.declared.fault.CommandFault.TheVariants.{Service, RefusedLine}
 use Rattle.osn_report.specs.declared.status.Status.{Status}

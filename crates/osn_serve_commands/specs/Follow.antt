@@ -8,10 +8,10 @@ use Rattle.osn_service.specs.Faults.{MatchServed}
 use Rattle.osn_service.specs.declared.service.Served.{Served}
 use Rattle.osn_follower.specs.Arrivals.{Arrival}
 use Rattle.osn_follower.specs.Follows.{Follows}
-use Rattle.osn_follower.specs.Told.{following}
+use Rattle.osn_follower.specs.Outcomes.{following}
 use Rattle.osn_follower.specs.declared.fault.FollowerFault.{FollowerFault}
 use Rattle.osn_follower.specs.declared.fault.FollowerFault.TheVariants as follower
-use Rattle.osn_report.specs.Told.{Ends, Tells}
+use Rattle.osn_report.specs.Messages.{Ends, Tells}
 use Rattle.osn_report.specs.declared.fault.CommandFault.{CommandFault}
 use Rattle.osn_report.specs.declared.fault.CommandFault.TheVariants.{File, FollowedFile, Service}
 use Rattle.osn_report.specs.declared.fault.CommandFault.TheVariants.{RefusedLine}
@@ -37,4 +37,4 @@ pub record EndsFollowed (limits : Limits) (service : ServiceModel)
   pub result : Result Served (Interrupted FollowerFault)
   pub follows : Follows (following service.readers service.stop_at_refusal) limits before after o
       result
-  pub told : TellsFollowed result e status
+  pub tells : TellsFollowed result e status

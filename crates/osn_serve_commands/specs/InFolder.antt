@@ -18,7 +18,7 @@ use Rattle.osn_follower.specs.Arrivals.{Arrival}
 use Rattle.osn_folder.specs.declared.fault.KeepFault.{KeepFault}
 use Rattle.osn_folder.specs.declared.fault.SaveFault.{SaveFault}
 use Rattle.osn_invocation.specs.Invocation.{ServiceModel}
-use Rattle.osn_journal.specs.Kept.{FileState}
+use Rattle.osn_journal.specs.KeptJournal.{FileState}
 use Rattle.osn_service.specs.Serves.{ServesStore}
 use Rattle.osn_service.specs.declared.fault.ServiceFault.{ServiceFault}
 use Rattle.osn_service.specs.declared.rules.ServeRules.{ServeRules}
@@ -26,7 +26,7 @@ use Rattle.osn_service.specs.declared.service.Served.{Served}
 use Rattle.osn_report.specs.Folders.{Folders}
 use Rattle.osn_report.specs.Journal.{Begins, BeginsNot}
 use Rattle.osn_report.specs.Printing.{PrintsNone}
-use Rattle.osn_report.specs.Told.{Ends, EndsBy}
+use Rattle.osn_report.specs.Messages.{Ends, EndsBy}
 use Rattle.osn_report.specs.declared.fault.CommandFault.{CommandFault}
 use Rattle.osn_report.specs.declared.fault.CommandFault.TheVariants.{File, Keep, KeptWithOther}
 use Rattle.osn_report.specs.declared.fault.CommandFault.TheVariants.{FollowedWithOther, NoMemory}

@@ -28,8 +28,8 @@ use Rattle.osn_service.specs.Serves.{ServesStore}
 use Rattle.osn_service.specs.declared.fault.ServiceFault.{ServiceFault}
 use Rattle.osn_service.specs.declared.rules.ServeRules.{ServeRules}
 use Rattle.osn_service.specs.declared.service.Served.{Served}
-use Rattle.osn_journal.specs.Kept.{FileState, KeepsFile}
-use Rattle.osn_report.specs.Told.{WritesLine, Ends, Tells}
+use Rattle.osn_journal.specs.KeptJournal.{FileState, KeepsFile}
+use Rattle.osn_report.specs.Messages.{WritesLine, Ends, Tells}
 use Rattle.osn_report.specs.declared.fault.CommandFault.{CommandFault}
 use Rattle.osn_report.specs.declared.fault.CommandFault.TheVariants.{File, KeptFile, OlderVersion}
 use Rattle.osn_report.specs.declared.fault.CommandFault.TheVariants.{NoMemory}
@@ -164,8 +164,8 @@ Begins limits held before cut s ready =
     × (ready ≡ ready_file (kept_text held) before)
 
 -- what standard error was told while the service began, and what after that
-abbrev pub told_first : Output → Option (List ℕ) → Bool → Bool → Output
-told_first e between failed held = record {
+abbrev pub first_output : Output → Option (List ℕ) → Bool → Bool → Output
+first_output e between failed held = record {
   old = e.old;
   new = between;
   unwritten_before = e.unwritten_before;
@@ -173,8 +173,8 @@ told_first e between failed held = record {
   holds_back = held;
 }
 
-abbrev pub told_then : Output → Option (List ℕ) → Bool → Output
-told_then e between failed = record {
+abbrev pub later_output : Output → Option (List ℕ) → Bool → Output
+later_output e between failed = record {
   old = between;
   new = e.new;
   unwritten_before = failed;
@@ -188,7 +188,7 @@ pub record KeepsLines (rules : ServeRules) (s : ObjectState) (ready file : FileS
   pub object : ObjectState
   pub result : Result Served (Interrupted (ServiceFault KeptFileFault))
   pub serves : ServesStore rules s object i o result
-  pub kept : KeepsFile rules s object i.bytes ready file result
+  pub keeps : KeepsFile rules s object i.bytes ready file result
   pub ended : EndsServed result e status (Ends e None status) ⊤
       (λ why. Tells e (KeptFile why) status)
 
@@ -201,12 +201,12 @@ pub record EndsKept (limits : Limits) (rules : ServeRules) (old file : FileState
   pub between : Option (List ℕ)
   pub failed : Bool
   pub held_back : Bool
-  pub told : TellsCut (told_first e between failed held_back) cut
+  pub tells : TellsCut (first_output e between failed held_back) cut
   -- the service did not begin, and nothing was written; or it began
   pub ended : ((fault : CommandFault) × (o.new ≡ o.old)
-      × Tells (told_then e between failed) fault status
+      × Tells (later_output e between failed) fault status
       × IfHeld old given.bytes
       (λ held. DoesNotBegin limits held given.unread cut file fault))
       ⊎ ((s : ObjectState) × (ready : FileState)
       × IfHeld old given.bytes (λ held. Begins limits held old.fault cut s ready)
-      × KeepsLines rules s ready file i o (told_then e between failed) status)
+      × KeepsLines rules s ready file i o (later_output e between failed) status)

@@ -7,7 +7,7 @@ use Rattle.osn_folder.specs.declared.fault.KeepFault.{KeepFault}
 use Rattle.osn_folder.specs.declared.fault.SaveFault.{SaveFault}
 use Rattle.osn_folder.specs.declared.fault.SaveFault.TheVariants as faults
 use Rattle.osn_lines.specs.Streams.{Output}
-use Rattle.osn_report.specs.Told.{EndsBy, Tells, TellsIfMade, TellsLine}
+use Rattle.osn_report.specs.Messages.{EndsBy, Tells, TellsIfMade, TellsLine}
 use Rattle.osn_report.specs.declared.fault.CommandFault.TheVariants.{WriteFault, NoMemory}
 use Rattle.osn_report.specs.declared.status.Status.{Status}
 use Rattle.osn_report.specs.declared.status.Status.TheVariants as statuses

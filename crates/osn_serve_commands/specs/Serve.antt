@@ -17,7 +17,7 @@ use Rattle.osn_service.specs.declared.rules.ServeRules.{ServeRules}
 use Rattle.osn_service.specs.declared.service.Served.{Served}
 use Rattle.osn_report.specs.Journal.{Begins, BeginsNot}
 use Rattle.osn_report.specs.Printing.{PrintsNone}
-use Rattle.osn_report.specs.Told.{Ends, EndsBy, Tells}
+use Rattle.osn_report.specs.Messages.{Ends, EndsBy, Tells}
 use Rattle.osn_report.specs.declared.fault.CommandFault.TheVariants.{File, Service, RefusedLine}
 use Rattle.osn_report.specs.declared.fault.CommandFault.TheVariants.{NoMemory}
 use Rattle.osn_report.specs.declared.status.Status.{Status}

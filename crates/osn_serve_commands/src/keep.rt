@@ -4,9 +4,9 @@ ghost use Rattle.std.specs.Prelude.{◌≡◌, ◌≢◌, ◌^◌, ◌<◌, ℕ,
 ghost use Rattle.std.specs.Prelude.{None, false, string_bytes, ◌+◌, option_map, take};
 ghost use Rattle.osn_format.specs.Version.{newest_version};
 ghost use Rattle.osn_files.specs.WholePart.{IsWholePart, whole_bytes};
-ghost use Rattle.osn_journal.specs.Kept.{file_of};
+ghost use Rattle.osn_journal.specs.KeptJournal.{file_of};
 ghost use Rattle.osn_lines.specs.Streams.{input_of, output_of};
-ghost use Rattle.osn_report.specs.Told.{WritesLine};
+ghost use Rattle.osn_report.specs.Messages.{WritesLine};
 ghost use Rattle.osn_report.specs.declared.fault.CommandFault.{CommandFault};
 ghost use Rattle.osn_serve_commands.specs.Keep.{IsUnread, SaysVersion, cut_line, missing_head};
 ghost use Rattle.osn_serve_commands.specs.Keep.{missing_text, object_of, TellsCut, IsChangeFault};

@@ -49,29 +49,30 @@ some_text rules s line =
 module _ {rules : ServeRules} {begun now : Moment} {n : ℕ} (i : Input)
     (h : AnswersInPart rules begun now i.bytes n) where
   -- all lines are those that were answered and those after them
-  whole : (all : List (List ℕ)) → take (length h.taken) all ≡ h.taken →
-      h.taken ++ drop (length h.taken) all ≡ all
+  whole : (all : List (List ℕ)) → take (length h.lines_taken) all ≡ h.lines_taken →
+      h.lines_taken ++ drop (length h.lines_taken) all ≡ all
   whole all e =
-      ap (λ l. l ++ drop (length h.taken) all) (sym e) ∙ take-append-drop (length h.taken) all
+      ap (λ l. l ++ drop (length h.lines_taken) all) (sym e)
+      ∙ take-append-drop (length h.lines_taken) all
 
   -- of the replies to all lines a front is written
-  part_of_all : (all : List (List ℕ)) → take (length h.taken) all ≡ h.taken →
+  part_of_all : (all : List (List ℕ)) → take (length h.lines_taken) all ≡ h.lines_taken →
       InPart (line_text rules) (line_after rules) begun.object now.object all begun.written
       now.written n
   part_of_all all e =
       subst (λ (l : List (List ℕ)). InPart (line_text rules) (line_after rules) begun.object
       now.object l begun.written now.written n) (whole all e)
       (InPart-more (line_text rules) (line_after rules) (some_text rules) begun.object now.object
-      h.taken (drop (length h.taken) all) _ _ n h.part)
+      h.lines_taken (drop (length h.lines_taken) all) _ _ n h.part)
 
   -- the reply to one of them is too long
-  long : HasLongReply rules begun.object h.taken →
+  long : HasLongReply rules begun.object h.lines_taken →
       IfSome i.bytes (λ bytes. HasLongReply rules begun.object (lines bytes))
   long k =
-      IfSome-weaker i.bytes (λ bytes. take (length h.taken) (lines bytes) ≡ h.taken)
+      IfSome-weaker i.bytes (λ bytes. take (length h.lines_taken) (lines bytes) ≡ h.lines_taken)
       (λ bytes. HasLongReply rules begun.object (lines bytes))
       (λ bytes e.
-      let rest = drop (length h.taken) (lines bytes) in
+      let rest = drop (length h.lines_taken) (lines bytes) in
       record {
         before = k.before;
         line = k.line;
@@ -91,7 +92,7 @@ module _ {rules : ServeRules} {begun now : Moment} {n : ℕ} (i : Input)
   Serves-in_part holds_back = (
     record {
       written =
-          IfSome-weaker i.bytes (λ bytes. take (length h.taken) (lines bytes) ≡ h.taken)
+          IfSome-weaker i.bytes (λ bytes. take (length h.lines_taken) (lines bytes) ≡ h.lines_taken)
           (λ bytes. WritesInPart rules begun.object begun.written now.written (lines bytes) n)
           (λ bytes e.
           let k = part_of_all (lines bytes) e in
@@ -103,7 +104,7 @@ module _ {rules : ServeRules} {begun now : Moment} {n : ℕ} (i : Input)
             no_more = k.no_more;
           }) h.first;
       object =
-          IfSome-weaker i.bytes (λ bytes. take (length h.taken) (lines bytes) ≡ h.taken)
+          IfSome-weaker i.bytes (λ bytes. take (length h.lines_taken) (lines bytes) ≡ h.lines_taken)
           (λ bytes. StandsNear rules begun.object now.object (lines bytes) n)
           (λ bytes e. ⊎_elim (λ k. inl k) (λ k. inr k.1) (part_of_all (lines bytes) e).reached)
           h.first;
@@ -112,7 +113,8 @@ module _ {rules : ServeRules} {begun now : Moment} {n : ℕ} (i : Input)
       source = tt;
       sink = ⊎_elim (λ k. inl k) (λ k. inr (long k.1)) h.reason;
     },
-    λ asked. IfSome-weaker i.bytes (λ bytes. take (length h.taken) (lines bytes) ≡ h.taken)
+    λ asked. IfSome-weaker i.bytes
+        (λ bytes. take (length h.lines_taken) (lines bytes) ≡ h.lines_taken)
         (λ bytes. ⊤) (λ bytes e. tt) h.first,
   )
 
@@ -142,9 +144,10 @@ module _ {F : Type 0} (rules : ServeRules) (begun now : Moment) (holds_back : Bo
 module _ {rules : ServeRules} {begun now : Moment} {n : ℕ} (i : Input)
     (h : AnswersFirst rules begun now i.bytes n) where
   -- they are the first lines by their number
-  firsts : IfSome i.bytes (λ bytes. take n (lines bytes) ≡ h.taken)
+  firsts : IfSome i.bytes (λ bytes. take n (lines bytes) ≡ h.lines_taken)
   firsts =
-      subst (λ (m : ℕ). IfSome i.bytes (λ bytes. take m (lines bytes) ≡ h.taken)) (sym h.count)
+      subst (λ (m : ℕ). IfSome i.bytes (λ bytes. take m (lines bytes) ≡ h.lines_taken))
+      (sym h.count)
       h.first
 
   -- a write of it failed
@@ -158,7 +161,7 @@ module _ {rules : ServeRules} {begun now : Moment} {n : ℕ} (i : Input)
   Serves-unwritten new failed unwritten holds_back some reason =
       let later : Moment = record now { written = new; failed = failed } in
       Serves-in_part {now = later} i
-      (AnswersInPart-from n unwritten h.taken
+      (AnswersInPart-from n unwritten h.lines_taken
       (Failing-from {t = later} h.serving (record { some = some; object = refl; reason = reason }))
       h.count firsts) holds_back
 
@@ -170,21 +173,22 @@ module _ {rules : ServeRules} {begun now : Moment} {n : ℕ} (i : Input)
     first_written : IfSome i.bytes (λ bytes. WritesFirst rules begun.object begun.written new
         (lines bytes) n)
     first_written =
-        IfSome-weaker i.bytes (λ bytes. take n (lines bytes) ≡ h.taken)
+        IfSome-weaker i.bytes (λ bytes. take n (lines bytes) ≡ h.lines_taken)
         (λ bytes. WritesFirst rules begun.object begun.written new (lines bytes) n)
         (λ bytes e. record {
           enough = omega (arith, h.count, ap length e, length-take n (lines bytes));
           written =
               subst (λ (l : List (List ℕ)). Appends begun.written new
               (outputs rules begun.object l)) (sym e)
-              (Waits-written (line_text rules) (line_after rules) begun.object now.object h.taken
+              (Waits-written (line_text rules) (line_after rules) begun.object now.object
+              h.lines_taken
               begun.written now.written new now.waiting h.serving.waits written);
         }) firsts
 
     -- the object stands after them
     first_reached : IfSome i.bytes (λ bytes. StandsAt rules begun.object now.object (lines bytes) n)
     first_reached =
-        IfSome-weaker i.bytes (λ bytes. take n (lines bytes) ≡ h.taken)
+        IfSome-weaker i.bytes (λ bytes. take n (lines bytes) ≡ h.lines_taken)
         (λ bytes. StandsAt rules begun.object now.object (lines bytes) n)
         (λ bytes e. h.serving.waits.reached ∙ ap (after_lines rules begun.object) (sym e)) firsts
 
@@ -232,7 +236,7 @@ module _ {rules : ServeRules} {begun now : Moment} {n : ℕ} (i : Input)
         ServesToRefusal rules begun.object now.object i
         (output_since begun new unwritten holds_back) n
     Serves-refused end = record {
-      asked = end.0;
+      stops_at_refusal = end.0;
       written = first_written;
       object = first_reached;
       first = end.1;

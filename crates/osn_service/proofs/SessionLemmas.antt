@@ -29,14 +29,14 @@ IsSame-then h k = record {
 }
 
 module _ {W S F : Type 0} (contents : W → Option (List ℕ)) (has_failed holds_back : W → Bool)
-    (state : S → ObjectState) (lends kept : S → S → Type 0)
-    (not_kept : S → ObjectState → S → F → Type 0) where
+    (state : S → ObjectState) (lends has_kept : S → S → Type 0)
+    (has_lost : S → ObjectState → S → F → Type 0) where
   -- what became of a session by lines, or where it stopped
   abbrev pub Served : Session W S → List (List ℕ) → Session W S → Type 0
-  Served = HasServed contents has_failed holds_back state lends kept not_kept
+  Served = HasServed contents has_failed holds_back state lends has_kept has_lost
 
   abbrev pub Stopped : Session W S → List (List ℕ) → Option (List ℕ) → Session W S → Stop F → Type 0
-  Stopped = HasStopped contents has_failed holds_back state lends kept not_kept
+  Stopped = HasStopped contents has_failed holds_back state lends has_kept has_lost
 
   -- what a session has now
   abbrev now_of : Session W S → Moment
@@ -57,7 +57,7 @@ module _ {W S F : Type 0} (contents : W → Option (List ℕ)) (has_failed holds
       (same : IsSame s t) where
     -- nothing was answered, and nothing was written or all that waited
     pub Served-settled : KeepsSince lends s.store.now t.store.now → Settled (now_of s) (now_of t) →
-        KeepsSince kept s.store.now t.store.now → Served begun before t
+        KeepsSince has_kept s.store.now t.store.now → Served begun before t
     Served-settled lent settled keeps = record {
       same = IsSame-then h.same same;
       lent = λ b k. lent b (h.lent b k);
@@ -70,7 +70,7 @@ module _ {W S F : Type 0} (contents : W → Option (List ℕ)) (has_failed holds
     pub Stopped-unwritten : (at : Option (List ℕ)) (failed : UnwrittenReplies) →
         KeepsSince lends s.store.now t.store.now →
         Unwritten (now_of s) (now_of t) failed.unwritten →
-        KeepsSince kept s.store.now t.store.now → Stopped begun before at t (WriteFailed failed)
+        KeepsSince has_kept s.store.now t.store.now → Stopped begun before at t (WriteFailed failed)
     Stopped-unwritten at failed lent unwritten keeps = record {
       same = IsSame-then h.same same;
       lent = λ b k. lent b (h.lent b k);
@@ -85,11 +85,11 @@ module _ {W S F : Type 0} (contents : W → Option (List ℕ)) (has_failed holds
       ready : Serving begun.rules (now_of begun) before mid
       ready = Serving-settled h.serving room
 
-      -- what the line is told, by the rules from the beginning
-      told : is_refused (line_outcome s.rules mid.object line)
+      -- whether the line is refused, by the rules from the beginning
+      same_refusal : is_refused (line_outcome s.rules mid.object line)
           ≡ is_refused (line_outcome begun.rules
           (after_lines begun.rules (state begun.store.now) before) line)
-      told =
+      same_refusal =
           ap (λ (r : ServeRules). is_refused (line_outcome r mid.object line)) h.same.rules
           ∙ ap (λ (o : ObjectState). is_refused (line_outcome begun.rules o line))
           ready.waits.reached
@@ -97,7 +97,7 @@ module _ {W S F : Type 0} (contents : W → Option (List ℕ)) (has_failed holds
       -- what became of it
       abbrev pub Replies : Bool → Type 0
       Replies refused =
-          Answers lends kept not_kept (line_outcome s.rules mid.object line)
+          Answers lends has_kept has_lost (line_outcome s.rules mid.object line)
           (line_after s.rules mid.object line) mid (now_of t) (holds_back t.sink.now) s.store.now
           t.store.now (Ok refused)
 
@@ -120,7 +120,7 @@ module _ {W S F : Type 0} (contents : W → Option (List ℕ)) (has_failed holds
         spared =
             λ asked.
             NoneRefused-more begun.rules (state begun.store.now) before line (h.spared asked)
-            (sym told ∙ (sym k.1
+            (sym same_refusal ∙ (sym k.1
             ∙ goes_on (ap (λ (r : ServeRules). r.stop_at_refusal) h.same.rules ∙ asked)));
         keeps = λ b l. k.3 b (h.keeps b l);
       }
@@ -137,16 +137,16 @@ module _ {W S F : Type 0} (contents : W → Option (List ℕ)) (has_failed holds
             lent = λ b l. k.0 b (h.lent b l);
             serving = answered k;
             refused = record {
-              asked = stops;
+              stops_at_refusal = stops;
               none = h.spared stops;
-              refused = sym told ∙ (sym k.1 ∙ is);
+              refused = sym same_refusal ∙ (sym k.1 ∙ is);
             };
             keeps = λ b l. k.3 b (h.keeps b l);
           }
 
       -- it was not answered
       pub Stopped-unanswered : (why : Stop F) →
-          Answers lends kept not_kept (line_outcome s.rules mid.object line)
+          Answers lends has_kept has_lost (line_outcome s.rules mid.object line)
           (line_after s.rules mid.object line) mid (now_of t) (holds_back t.sink.now) s.store.now
           t.store.now (Err why) → Stopped begun before (Some line) t why
       Stopped-unanswered NoMemory k = record {
@@ -173,7 +173,7 @@ module _ {W S F : Type 0} (contents : W → Option (List ℕ)) (has_failed holds
             (holds_back t.sink.now)) h.same.rules k.1.1);
         spared = h.spared;
         fails =
-            λ b l. subst (λ (o : ObjectState). not_kept b o t.store.now why) ready.waits.reached
+            λ b l. subst (λ (o : ObjectState). has_lost b o t.store.now why) ready.waits.reached
             (k.1.2 b (h.keeps b l));
       }
       Stopped-unanswered Refused k = absurd k.1

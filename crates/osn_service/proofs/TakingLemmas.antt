@@ -32,7 +32,7 @@ use Rattle.osn_service.specs.Session.{line_after}
 use Rattle.osn_service.specs.SessionInside.{Moment, moment_of, Failing, IsSame, HasLost, HasRefused}
 use Rattle.osn_service.specs.Store.{KeepsSince}
 use Rattle.osn_service.specs.TakingInside.{HasTaken, HasKept, IsWithin, AnswersFirst, AnswersInPart}
-use Rattle.osn_service.specs.TakingInside.{SparedFirst, EndsTaking, taken_until}
+use Rattle.osn_service.specs.TakingInside.{SparedFirst, EndsTaking, early_end}
 use Rattle.osn_service.proofs.ServeLemmas.{Serving-few}
 use Rattle.osn_service.proofs.SessionLemmas.{Served, Stopped, Served-nothing}
 
@@ -79,7 +79,7 @@ pub AnswersInPart-from : {rules : ServeRules} {begun now : Moment} {input : Opti
 AnswersInPart-from {rules} {begun} {now} {input} n unwritten taken h count first =
     let same : h.whole ≡ n - unwritten = omega (arith, h.count, count) in
     record {
-      taken = taken;
+      lines_taken = taken;
       part =
           subst (λ (m : ℕ). InPart (line_text rules) (line_after rules) begun.object now.object
           taken begun.written now.written m) same h.part;
@@ -93,18 +93,18 @@ pub HasTaken-few : {F : Type 0} (rules : ServeRules) (begun now : Moment) (holds
     HasTaken rules begun now holds_back i taken →
     IfOk taken (λ taken. length now.waiting.ends.items ≤ taken.lines)
 HasTaken-few rules begun now holds_back i (Ok taken) h =
-    omega (arith, h.0.count, Serving-few rules begun now h.0.taken h.0.serving)
+    omega (arith, h.0.count, Serving-few rules begun now h.0.lines_taken h.0.serving)
 HasTaken-few rules begun now holds_back i (Err end) h = tt
 
 module _ {W S F : Type 0} (contents : W → Option (List ℕ)) (has_failed holds_back : W → Bool)
-    (state : S → ObjectState) (lends kept : S → S → Type 0)
-    (not_kept : S → ObjectState → S → F → Type 0) (s t : Session W S) (i : Input) where
+    (state : S → ObjectState) (lends has_kept : S → S → Type 0)
+    (has_lost : S → ObjectState → S → F → Type 0) (s t : Session W S) (i : Input) where
   -- what became of a session
   abbrev Serves : Session W S → List (List ℕ) → Session W S → Type 0
-  Serves = Served contents has_failed holds_back state lends kept not_kept
+  Serves = Served contents has_failed holds_back state lends has_kept has_lost
 
   abbrev Stops : Session W S → List (List ℕ) → Option (List ℕ) → Session W S → Stop F → Type 0
-  Stops = Stopped contents has_failed holds_back state lends kept not_kept
+  Stops = Stopped contents has_failed holds_back state lends has_kept has_lost
 
   abbrev Now : Session W S → Moment
   Now = moment_of contents has_failed state
@@ -113,15 +113,16 @@ module _ {W S F : Type 0} (contents : W → Option (List ℕ)) (has_failed holds
   pub record Ends (result : Result LinesTaken (Interrupted (ServiceFault F))) : Type 0 where
     pub same : IsSame s t
     pub lent : KeepsSince lends s.store.now t.store.now
-    pub taken : HasTaken s.rules (Now s) (Now t) (holds_back t.sink.now) i result
-    pub keeps : HasKept kept not_kept s.rules (state s.store.now) s.store.now t.store.now i result
+    pub takes : HasTaken s.rules (Now s) (Now t) (holds_back t.sink.now) i result
+    pub keeps : HasKept has_kept has_lost s.rules (state s.store.now) s.store.now t.store.now i
+        result
 
   -- lines were answered, the first of the input
-  first_taken : (taken : List (List ℕ)) (n : ℕ) → Serves s taken t → n ≡ length taken →
+  answers_first : (taken : List (List ℕ)) (n : ℕ) → Serves s taken t → n ≡ length taken →
       IfSome i.bytes (λ bytes. take n (lines bytes) ≡ taken) →
       AnswersFirst s.rules (Now s) (Now t) i.bytes n
-  first_taken taken n h count first = record {
-    taken = taken;
+  answers_first taken n h count first = record {
+    lines_taken = taken;
     serving = h.serving;
     count = count;
     first =
@@ -153,7 +154,7 @@ module _ {W S F : Type 0} (contents : W → Option (List ℕ)) (has_failed holds
 
   -- the change of a line was not kept
   ends_lost : (n : ℕ) (taken : List (List ℕ)) (at : Option (List ℕ)) (why : F) →
-      HasLost contents has_failed holds_back state lends kept not_kept s taken at t why →
+      HasLost contents has_failed holds_back state lends has_kept has_lost s taken at t why →
       n ≡ length taken → IfSome i.bytes (λ bytes. take n (lines bytes) ≡ taken) →
       IfSome i.bytes (λ bytes. IfSome at (λ line. slice_get (lines bytes) n ≡ Some line)) →
       i.unread ≡ i.unread_before → Ends (Err (record { lines = n; cause = NotKept why }))
@@ -163,7 +164,7 @@ module _ {W S F : Type 0} (contents : W → Option (List ℕ)) (has_failed holds
       record {
         same = h.same;
         lent = h.lent;
-        taken = record {
+        takes = record {
           written =
               IfSome-weaker i.bytes (λ bytes. IsNext (lines bytes) taken h.line n)
               (λ bytes. WritesFirst s.rules object (contents s.sink.now) (contents t.sink.now)
@@ -199,7 +200,7 @@ module _ {W S F : Type 0} (contents : W → Option (List ℕ)) (has_failed holds
 
   -- a line was refused, and was to be the last
   ends_refused : (n : ℕ) (taken : List (List ℕ)) (at : Option (List ℕ)) →
-      HasRefused contents has_failed holds_back state lends kept not_kept s taken at t →
+      HasRefused contents has_failed holds_back state lends has_kept has_lost s taken at t →
       n ≡ length taken → IfSome i.bytes (λ bytes. take n (lines bytes) ≡ taken) →
       IfSome i.bytes (λ bytes. IfSome at (λ line. slice_get (lines bytes) n ≡ Some line)) →
       i.unread ≡ i.unread_before → Ends (Ok (record { lines = n + 1; end = AtRefusal }))
@@ -210,9 +211,9 @@ module _ {W S F : Type 0} (contents : W → Option (List ℕ)) (has_failed holds
       record {
         same = h.same;
         lent = h.lent;
-        taken = (
+        takes = (
           record {
-            taken = all;
+            lines_taken = all;
             serving = h.serving;
             count = more;
             first =
@@ -221,7 +222,7 @@ module _ {W S F : Type 0} (contents : W → Option (List ℕ)) (has_failed holds
                 (λ bytes. take (n + 1) (lines bytes) ≡ all) (λ bytes k. k.more) next);
           },
           (
-            h.refused.asked,
+            h.refused.stops_at_refusal,
             IfSome-weaker i.bytes (λ bytes. IsNext (lines bytes) taken h.line n)
                 (λ bytes. IsFirstRefused s.rules (state s.store.now) (lines bytes) (n + 1))
                 (λ bytes k. record {
@@ -246,7 +247,7 @@ module _ {W S F : Type 0} (contents : W → Option (List ℕ)) (has_failed holds
   ends_served n taken end h count first ends = record {
     same = h.same;
     lent = h.lent;
-    taken = (first_taken taken n h count first, ends (spared_first taken n h.spared first));
+    takes = (answers_first taken n h count first, ends (spared_first taken n h.spared first));
     keeps = h.keeps;
   }
 
@@ -265,7 +266,7 @@ module _ {W S F : Type 0} (contents : W → Option (List ℕ)) (has_failed holds
   module _ (text : s.waiting.now.text.items ≡ []) (ends : s.waiting.now.ends.items ≡ []) where
     -- nothing was taken at first
     none : Serves s [] s
-    none = Served-nothing contents has_failed holds_back state lends kept not_kept s text ends
+    none = Served-nothing contents has_failed holds_back state lends has_kept has_lost s text ends
 
     -- no more replies are not written than lines were taken
     pub IsWithin-ended : (n : ℕ) (cause : TakeFault (Stop F)) → Ended n cause → IsWithin n cause
@@ -280,38 +281,40 @@ module _ {W S F : Type 0} (contents : W → Option (List ℕ)) (has_failed holds
 
     -- it ended early
     pub Ends-early : (n : ℕ) (cause : TakeFault (Stop F)) → Ended n cause → EndsSource cause →
-        Ends (taken_until n cause)
+        Ends (early_end n cause)
     Ends-early n take.NoMemory h source =
-        ends_served n h.taken _ (h.takes s [] none) h.count h.first (λ spared. (source, spared))
+        ends_served n h.lines_taken _ (h.takes s [] none) h.count h.first
+        (λ spared. (source, spared))
     Ends-early n take.ReadFault h source =
         let f = h.first in
-        ends_served n f.taken _ (f.takes s [] none) f.count f.first
+        ends_served n f.lines_taken _ (f.takes s [] none) f.count f.first
         (λ spared. (h.read, source, spared))
     Ends-early n (take.Stopped stop.NoMemory) h source =
-        ends_served n h.taken _ (h.stops s [] none) h.count h.first (λ spared. (source, spared))
+        ends_served n h.lines_taken _ (h.stops s [] none) h.count h.first
+        (λ spared. (source, spared))
     Ends-early n (take.Stopped (stop.WriteFailed failed)) h source =
         let k = h.stops s [] none in
         record {
           same = k.same;
           lent = k.lent;
-          taken = AnswersInPart-from n failed.unwritten h.taken k.failing h.count h.first;
+          takes = AnswersInPart-from n failed.unwritten h.lines_taken k.failing h.count h.first;
           keeps = k.keeps;
         }
     Ends-early n (take.Stopped (stop.NotKept why)) h source =
-        ends_lost n h.taken h.at why (h.stops s [] none) h.count h.first h.next source
+        ends_lost n h.lines_taken h.at why (h.stops s [] none) h.count h.first h.next source
     Ends-early n (take.Stopped stop.Refused) h source =
-        ends_refused n h.taken h.at (h.stops s [] none) h.count h.first h.next source
+        ends_refused n h.lines_taken h.at (h.stops s [] none) h.count h.first h.next source
 
     -- all lines were taken
     pub Ends-all : (n : ℕ) → TakesAll Serves s t i.bytes n → IsAtEnd i.rest →
         i.unread ≡ i.unread_before → Ends (Ok (record { lines = n; end = AtEnd }))
     Ends-all n h end source =
-        ends_served n h.taken AtEnd (h.takes s [] none) h.count
-        (IfSome-weaker i.bytes (λ bytes. lines bytes ≡ h.taken)
-        (λ bytes. take n (lines bytes) ≡ h.taken)
-        (λ bytes e. ap (take n) e ∙ take_all n h.taken (omega (arith, h.count))) h.all)
+        ends_served n h.lines_taken AtEnd (h.takes s [] none) h.count
+        (IfSome-weaker i.bytes (λ bytes. lines bytes ≡ h.lines_taken)
+        (λ bytes. take n (lines bytes) ≡ h.lines_taken)
+        (λ bytes e. ap (take n) e ∙ take_all n h.lines_taken (omega (arith, h.count))) h.all)
         (λ spared. (
-          IfSome-weaker i.bytes (λ bytes. lines bytes ≡ h.taken)
+          IfSome-weaker i.bytes (λ bytes. lines bytes ≡ h.lines_taken)
               (λ bytes. n ≡ length (lines bytes)) (λ bytes e. h.count ∙ ap length (sym e)) h.all,
           end,
           source,

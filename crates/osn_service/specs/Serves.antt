@@ -61,7 +61,7 @@ RefusesNone rules s i end =
 -- The first n lines were answered, the last of which is the first that is refused.
 pub record ServesToRefusal (rules : ServeRules) (s t : ObjectState) (i : Input) (o : Output) (n : ℕ)
     : Type 0 where
-  pub asked : rules.stop_at_refusal ≡ true
+  pub stops_at_refusal : rules.stop_at_refusal ≡ true
   pub written : IfSome i.bytes (λ bytes. WritesFirst rules s o.old o.new (lines bytes) n)
   pub object : IfSome i.bytes (λ bytes. StandsAt rules s t (lines bytes) n)
   pub first : IfSome i.bytes (λ bytes. IsFirstRefused rules s (lines bytes) n)
@@ -93,9 +93,9 @@ ServesStore rules s t i o result =
 abbrev pub KeepsStore : {S F : Type 0} → (S → S → Type 0) → (S → ObjectState → S → F → Type 0)
     → ServeRules → ObjectState → S → S → Input → Result Served (Interrupted (ServiceFault F))
     → Type 0
-KeepsStore {S} kept not_kept rules s old new i result =
-    MatchService result (λ end. (begun : S) → kept begun old → kept begun new)
-    (λ n. (begun : S) → kept begun old → kept begun new)
+KeepsStore {S} has_kept has_lost rules s old new i result =
+    MatchService result (λ end. (begun : S) → has_kept begun old → has_kept begun new)
+    (λ n. (begun : S) → has_kept begun old → has_kept begun new)
     (λ n why. (before : ObjectState)
     × IfSome i.bytes (λ bytes. before ≡ after_lines rules s (take n (lines bytes)))
-    × ((begun : S) → kept begun old → not_kept begun before new why))
+    × ((begun : S) → has_kept begun old → has_lost begun before new why))

@@ -69,23 +69,23 @@ pub record TakenBack (after : ObjectState) (s t : Moment) (holds_back : Bool) : 
 -- the changes that were kept since any moment are so no longer, for this reason
 abbrev pub KeepsNoMore : {S F : Type 0} → (S → S → Type 0) → (S → ObjectState → S → F → Type 0)
     → S → ObjectState → S → F → Type 0
-KeepsNoMore {S} kept not_kept old before new why =
-    (begun : S) → kept begun old → not_kept begun before new why
+KeepsNoMore {S} has_kept has_lost old before new why =
+    (begun : S) → has_kept begun old → has_lost begun before new why
 
 -- what became of a line that is told this and after which the object is this one, by whether it was
 -- answered
 abbrev pub Answers : {S F : Type 0} → (S → S → Type 0) → (S → S → Type 0)
     → (S → ObjectState → S → F → Type 0) → Outcome → ObjectState → Moment → Moment → Bool → S → S
     → Result Bool (Stop F) → Type 0
-Answers lends kept not_kept outcome after s t holds_back old new (Ok refused) =
+Answers lends has_kept has_lost outcome after s t holds_back old new (Ok refused) =
     KeepsSince lends old new × (refused ≡ is_refused outcome) × Answered outcome after s t
-    × KeepsSince kept old new
-Answers lends kept not_kept outcome after s t holds_back old new (Err stop) =
+    × KeepsSince has_kept old new
+Answers lends has_kept has_lost outcome after s t holds_back old new (Err stop) =
     KeepsSince lends old new × MatchStop stop
-    (Settled s t × KeepsSince kept old new)
-    (λ unwritten. Unwritten s t unwritten × KeepsSince kept old new)
+    (Settled s t × KeepsSince has_kept old new)
+    (λ unwritten. Unwritten s t unwritten × KeepsSince has_kept old new)
     (λ why. (is_refused outcome ≡ false) × TakenBack after s t holds_back
-    × KeepsNoMore kept not_kept old s.object new why)
+    × KeepsNoMore has_kept has_lost old s.object new why)
     ⊥
 
 -- ---- all lines so far
@@ -128,7 +128,7 @@ Spared rules s lines = rules.stop_at_refusal ≡ true → NoneRefused rules s li
 -- a line was refused, after lines that were not, and is to be the last
 pub record Refused (rules : ServeRules) (s : ObjectState) (lines : List (List ℕ)) (line : List ℕ)
     : Type 0 where
-  pub asked : rules.stop_at_refusal ≡ true
+  pub stops_at_refusal : rules.stop_at_refusal ≡ true
   pub none : NoneRefused rules s lines
   pub refused : is_refused (line_outcome rules (after_lines rules s lines) line) ≡ true
 
@@ -147,8 +147,8 @@ moment_of contents has_failed state s =
     moment contents has_failed state s.store.now s.sink.now s.waiting.now
 
 module _ {W S F : Type 0} (contents : W → Option (List ℕ)) (has_failed holds_back : W → Bool)
-    (state : S → ObjectState) (lends kept : S → S → Type 0)
-    (not_kept : S → ObjectState → S → F → Type 0) where
+    (state : S → ObjectState) (lends has_kept : S → S → Type 0)
+    (has_lost : S → ObjectState → S → F → Type 0) where
   -- what was one session is another, once it took these lines, none of which ended it
   pub record HasServed (begun : Session W S) (lines : List (List ℕ)) (now : Session W S) : Type 0
     where
@@ -157,7 +157,7 @@ module _ {W S F : Type 0} (contents : W → Option (List ℕ)) (has_failed holds
       pub serving : Serving begun.rules (moment_of contents has_failed state begun) lines
           (moment_of contents has_failed state now)
       pub spared : Spared begun.rules (state begun.store.now) lines
-      pub keeps : KeepsSince kept begun.store.now now.store.now
+      pub keeps : KeepsSince has_kept begun.store.now now.store.now
 
   -- it took these lines, and a write failed
   pub record HasFailed (begun : Session W S) (lines : List (List ℕ)) (now : Session W S)
@@ -166,7 +166,7 @@ module _ {W S F : Type 0} (contents : W → Option (List ℕ)) (has_failed holds
     pub lent : KeepsSince lends begun.store.now now.store.now
     pub failing : Failing begun.rules (moment_of contents has_failed state begun) lines
         (moment_of contents has_failed state now) unwritten
-    pub keeps : KeepsSince kept begun.store.now now.store.now
+    pub keeps : KeepsSince has_kept begun.store.now now.store.now
 
   -- it took these lines, and the change of this one was not kept
   pub record HasLost (begun : Session W S) (lines : List (List ℕ)) (at : Option (List ℕ))
@@ -178,7 +178,7 @@ module _ {W S F : Type 0} (contents : W → Option (List ℕ)) (has_failed holds
     pub unkept : Unkept begun.rules (moment_of contents has_failed state begun) lines line
         (moment_of contents has_failed state now) (holds_back now.sink.now)
     pub spared : Spared begun.rules (state begun.store.now) lines
-    pub fails : KeepsNoMore kept not_kept begun.store.now
+    pub fails : KeepsNoMore has_kept has_lost begun.store.now
         (after_lines begun.rules (state begun.store.now) lines) now.store.now why
 
   -- it took these lines and this one, which was refused and is the last
@@ -191,7 +191,7 @@ module _ {W S F : Type 0} (contents : W → Option (List ℕ)) (has_failed holds
     pub serving : Serving begun.rules (moment_of contents has_failed state begun)
         (lines ++ line ∷ []) (moment_of contents has_failed state now)
     pub refused : Refused begun.rules (state begun.store.now) lines line
-    pub keeps : KeepsSince kept begun.store.now now.store.now
+    pub keeps : KeepsSince has_kept begun.store.now now.store.now
 
   -- it took these lines and stopped, between two lines or at one
   abbrev pub HasStopped : Session W S → List (List ℕ) → Option (List ℕ) → Session W S → Stop F

@@ -14,14 +14,14 @@ abbrev pub KeepsSince : {S : Type 0} → (S → S → Type 0) → S → S → Ty
 KeepsSince {S} Holds old new = (begun : S) → Holds begun old → Holds begun new
 
 -- the store is this object now, and the changes that were kept since any moment still are
-pub record Makes {S : Type 0} (state : S → ObjectState) (kept : S → S → Type 0) (old new : S)
+pub record Makes {S : Type 0} (state : S → ObjectState) (has_kept : S → S → Type 0) (old new : S)
     (object : ObjectState) : Type 0 where
   pub is : state new ≡ object
-  pub keeps : KeepsSince kept old new
+  pub keeps : KeepsSince has_kept old new
 
 -- the store is this object now, and what made it so was not kept, whatever was before
-pub record FailsToKeep {S F : Type 0} (state : S → ObjectState) (kept : S → S → Type 0)
-    (not_kept : S → ObjectState → S → F → Type 0) (old new : S) (object : ObjectState) (why : F)
+pub record FailsToKeep {S F : Type 0} (state : S → ObjectState) (has_kept : S → S → Type 0)
+    (has_lost : S → ObjectState → S → F → Type 0) (old new : S) (object : ObjectState) (why : F)
     : Type 0 where
   pub is : state new ≡ object
-  pub fails : (begun : S) → kept begun old → not_kept begun (state old) new why
+  pub fails : (begun : S) → has_kept begun old → has_lost begun (state old) new why

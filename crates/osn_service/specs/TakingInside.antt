@@ -31,15 +31,15 @@ use Rattle.osn_service.specs.SessionInside.{Moment, Serving, KeepsNoMore}
 use Rattle.osn_service.specs.Store.{KeepsSince}
 
 -- the result of taking lines that ended early, after n lines
-abbrev pub taken_until : {F : Type 0} → ℕ → TakeFault (Stop F)
+abbrev pub early_end : {F : Type 0} → ℕ → TakeFault (Stop F)
     → Result LinesTaken (Interrupted (ServiceFault F))
-taken_until n take.NoMemory = Ok (record { lines = n; end = ByFault NoMemory })
-taken_until n take.ReadFault = Ok (record { lines = n; end = ByFault ReadFault })
-taken_until n (take.Stopped stop.NoMemory) = Ok (record { lines = n; end = ByFault NoMemory })
-taken_until n (take.Stopped (stop.WriteFailed failed)) =
+early_end n take.NoMemory = Ok (record { lines = n; end = ByFault NoMemory })
+early_end n take.ReadFault = Ok (record { lines = n; end = ByFault ReadFault })
+early_end n (take.Stopped stop.NoMemory) = Ok (record { lines = n; end = ByFault NoMemory })
+early_end n (take.Stopped (stop.WriteFailed failed)) =
     Err (record { lines = n - failed.unwritten; cause = Serve WriteFault })
-taken_until n (take.Stopped (stop.NotKept why)) = Err (record { lines = n; cause = NotKept why })
-taken_until n (take.Stopped stop.Refused) = Ok (record { lines = n + 1; end = AtRefusal })
+early_end n (take.Stopped (stop.NotKept why)) = Err (record { lines = n; cause = NotKept why })
+early_end n (take.Stopped stop.Refused) = Ok (record { lines = n + 1; end = AtRefusal })
 
 -- no more replies are not written than lines were taken
 abbrev pub IsWithin : {F : Type 0} → ℕ → TakeFault (Stop F) → Type 0
@@ -54,20 +54,20 @@ IsWithin n (take.Stopped stop.Refused) = ⊤
 -- written or wait
 pub record AnswersFirst (rules : ServeRules) (begun now : Moment) (input : Option (List ℕ)) (n : ℕ)
     : Type 0 where
-  pub taken : List (List ℕ)
-  pub serving : Serving rules begun taken now
-  pub count : n ≡ length taken
-  pub first : IfSome input (λ bytes. take (length taken) (lines bytes) ≡ taken)
+  pub lines_taken : List (List ℕ)
+  pub serving : Serving rules begun lines_taken now
+  pub count : n ≡ length lines_taken
+  pub first : IfSome input (λ bytes. take (length lines_taken) (lines bytes) ≡ lines_taken)
 
 -- the first lines of the input were answered, a write failed, and of their replies a front with
 -- those to n lines is written
 pub record AnswersInPart (rules : ServeRules) (begun now : Moment) (input : Option (List ℕ)) (n : ℕ)
     : Type 0 where
-  pub taken : List (List ℕ)
-  pub part : InPart (line_text rules) (line_after rules) begun.object now.object taken begun.written
-      now.written n
-  pub reason : RepliesFail rules begun.object begun.failed now.failed taken
-  pub first : IfSome input (λ bytes. take (length taken) (lines bytes) ≡ taken)
+  pub lines_taken : List (List ℕ)
+  pub part : InPart (line_text rules) (line_after rules) begun.object now.object lines_taken
+      begun.written now.written n
+  pub reason : RepliesFail rules begun.object begun.failed now.failed lines_taken
+  pub first : IfSome input (λ bytes. take (length lines_taken) (lines bytes) ≡ lines_taken)
 
 -- where a refusal is to be the end, none of the first n lines was refused
 abbrev pub SparedFirst : ServeRules → ObjectState → Option (List ℕ) → ℕ → Type 0
@@ -117,9 +117,9 @@ HasTaken rules begun now holds_back i (Err end) =
 abbrev pub HasKept : {S F : Type 0} → (S → S → Type 0) → (S → ObjectState → S → F → Type 0)
     → ServeRules → ObjectState → S → S → Input → Result LinesTaken (Interrupted (ServiceFault F))
     → Type 0
-HasKept kept not_kept rules s old new i (Ok taken) = KeepsSince kept old new
-HasKept kept not_kept rules s old new i (Err end) =
-    MatchServiceFault end.cause (λ fault. KeepsSince kept old new)
+HasKept has_kept has_lost rules s old new i (Ok taken) = KeepsSince has_kept old new
+HasKept has_kept has_lost rules s old new i (Err end) =
+    MatchServiceFault end.cause (λ fault. KeepsSince has_kept old new)
     (λ why. (before : ObjectState)
     × IfSome i.bytes (λ bytes. before ≡ after_lines rules s (take end.lines (lines bytes)))
-    × KeepsNoMore kept not_kept old before new why)
+    × KeepsNoMore has_kept has_lost old before new why)

@@ -51,13 +51,13 @@ pub(crate) struct LinesTaken {
 }
 
 /// The result of taking lines that ended early, after this many lines.
-fn taken_until<F>(
+fn early_end<F>(
     lines: u64,
     cause: TakeFault<Stop<F>>,
 ) -> Result<LinesTaken, Interrupted<ServiceFault<F>>>
     requires few { lines < 2 ^ 63 }
     requires within { IsWithin lines cause }
-    ensures { result ≡ spec.taken_until lines cause }
+    ensures { result ≡ spec.early_end lines cause }
 {
     match cause {
         TakeFault::NoMemory | TakeFault::Stopped(Stop::NoMemory) => Ok(LinesTaken {
@@ -92,12 +92,12 @@ fn take_all<R: Source, W: Sink, S: Store>(
     requires ends { session.old.waiting.now.ends.items ≡ [] }
     ensures same { IsSame session.old session.new }
     ensures lent { KeepsSince S.lends session.old.store.now session.new.store.now }
-    ensures taken { HasTaken session.old.rules
+    ensures takes { HasTaken session.old.rules
         (moment_of W.contents W.has_failed S.state session.old)
         (moment_of W.contents W.has_failed S.state session.new)
         (W.holds_back session.new.sink.now)
         (input_of R.remaining R.has_failed source.old source.new) result }
-    ensures kept { HasKept S.kept S.not_kept session.old.rules (S.state session.old.store.now)
+    ensures keeps { HasKept S.has_kept S.has_lost session.old.rules (S.state session.old.store.now)
         session.old.store.now session.new.store.now
         (input_of R.remaining R.has_failed source.old source.new) result }
 {
@@ -106,7 +106,7 @@ fn take_all<R: Source, W: Sink, S: Store>(
             lines,
             end: End::AtEnd,
         }),
-        Err(Interrupted { lines, cause }) => taken_until(lines, cause),
+        Err(Interrupted { lines, cause }) => early_end(lines, cause),
     }
 }
 
@@ -128,9 +128,9 @@ fn write_rest<W: Sink, S: Store>(
         }) (W.holds_back sink.old) i taken →
         ServesStore rules begun.object object i (output_since begun (W.contents sink.new)
         (W.has_failed sink.new) (W.holds_back sink.new)) result }
-    ensures kept { (rules : ServeRules) (s : ObjectState) (old : S) (new : S) (i : Input) →
-        HasKept S.kept S.not_kept rules s old new i taken →
-        KeepsStore S.kept S.not_kept rules s old new i result }
+    ensures keeps { (rules : ServeRules) (s : ObjectState) (old : S) (new : S) (i : Input) →
+        HasKept S.has_kept S.has_lost rules s old new i taken →
+        KeepsStore S.has_kept S.has_lost rules s old new i result }
 {
     let LinesTaken { lines, end } = taken?;
     if let Err(UnwrittenReplies { unwritten }) = waiting.write(sink) {
@@ -169,8 +169,8 @@ fn run<R: Source, W: Sink, S: Store>(
         (input_of R.remaining R.has_failed source.old source.new)
         (output_of W.contents W.has_failed W.holds_back session.old.sink.now session.new.sink.now)
         result }
-    ensures kept { KeepsStore S.kept S.not_kept session.old.rules (S.state session.old.store.now)
-        session.old.store.now session.new.store.now
+    ensures keeps { KeepsStore S.has_kept S.has_lost session.old.rules
+        (S.state session.old.store.now) session.old.store.now session.new.store.now
         (input_of R.remaining R.has_failed source.old source.new) result }
 {
     let taken = take_all(session, source);
@@ -202,7 +202,7 @@ pub fn serve_store<R: Source, W: Sink, S: Store>(
     ensures serves { ServesStore rules (S.state store.old) (S.state store.new)
         (input_of R.remaining R.has_failed source.old source.new)
         (output_of W.contents W.has_failed W.holds_back sink.old sink.new) result }
-    ensures kept { KeepsStore S.kept S.not_kept rules (S.state store.old) store.old store.new
+    ensures keeps { KeepsStore S.has_kept S.has_lost rules (S.state store.old) store.old store.new
         (input_of R.remaining R.has_failed source.old source.new) result }
 {
     let mut scratch = Scratch::new(alloc);

@@ -50,7 +50,7 @@ fn change<W: Sink, S: Store>(
     waiting: &mut ReplyBuffer,
     change: Change,
 ) -> Result<bool, Stop<S::Fault>>
-    ensures { Answers S.lends S.kept S.not_kept (change_outcome (S.state store.old) change)
+    ensures { Answers S.lends S.has_kept S.has_lost (change_outcome (S.state store.old) change)
         (change_after (S.state store.old) change)
         (moment W.contents W.has_failed S.state store.old sink.old waiting.old)
         (moment W.contents W.has_failed S.state store.new sink.new waiting.new)
@@ -133,7 +133,7 @@ fn answer_read<W: Sink, S: Store>(
     waiting: &mut ReplyBuffer,
     read: &Result<LineObject<'_>, RequestError>,
 ) -> Result<bool, Stop<S::Fault>>
-    ensures { (whole : List ℕ) → IsReadOf whole read.now → Answers S.lends S.kept S.not_kept
+    ensures { (whole : List ℕ) → IsReadOf whole read.now → Answers S.lends S.has_kept S.has_lost
         (spec.line_outcome rules (S.state store.old) whole)
         (spec.line_after rules (S.state store.old) whole)
         (moment W.contents W.has_failed S.state store.old sink.old waiting.old)
@@ -160,7 +160,7 @@ fn answer<W: Sink, S: Store>(
     waiting: &mut ReplyBuffer,
     line: Line<'_>,
 ) -> Result<bool, Stop<S::Fault>>
-    ensures { (whole : List ℕ) → IsLine line.entry whole → Answers S.lends S.kept S.not_kept
+    ensures { (whole : List ℕ) → IsLine line.entry whole → Answers S.lends S.has_kept S.has_lost
         (spec.line_outcome rules (S.state store.old) whole)
         (spec.line_after rules (S.state store.old) whole)
         (moment W.contents W.has_failed S.state store.old sink.old waiting.old)
@@ -205,11 +205,11 @@ impl<'a, 'b, 'c, W: Sink, S: Store> LineTaker for Session<'a, 'b, 'c, W, S> {
 
     type Stop = Stop<S::Fault>;
 
-    ghost after = { HasServed W.contents W.has_failed W.holds_back S.state S.lends S.kept
-        S.not_kept };
+    ghost after = { HasServed W.contents W.has_failed W.holds_back S.state S.lends S.has_kept
+        S.has_lost };
 
-    ghost stopped = { HasStopped W.contents W.has_failed W.holds_back S.state S.lends S.kept
-        S.not_kept };
+    ghost stopped = { HasStopped W.contents W.has_failed W.holds_back S.state S.lends S.has_kept
+        S.has_lost };
 
     fn take(&mut self, line: Line<'_>) -> Result<(), Stop<S::Fault>> {
         make_room(self.sink, self.waiting)?;

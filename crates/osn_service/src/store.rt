@@ -67,12 +67,12 @@ pub trait Store {
     // `lends begun now`: what was `begun` and is `now` lends the same.
     ghost lends: { Self → Self → Type 0 } = { λ _ _. ⊤ };
 
-    // `kept begun now`: each change that made of what was `begun` what is `now` is kept.
-    ghost kept: { Self → Self → Type 0 };
+    // `has_kept begun now`: each change that made of what was `begun` what is `now` is kept.
+    ghost has_kept: { Self → Self → Type 0 };
 
-    // `not_kept begun before now why`: each change was kept up to where the object was `before`,
+    // `has_lost begun before now why`: each change was kept up to where the object was `before`,
     // and the one that made it `now` was not, for this reason.
-    ghost not_kept: { Self → ObjectState → Self → Self.Fault → Type 0 };
+    ghost has_lost: { Self → ObjectState → Self → Self.Fault → Type 0 };
 
     /// How many edits would be pending, or which edition there would be, if this change were made.
     ///
@@ -93,10 +93,10 @@ pub trait Store {
         requires { change_refusal (state self.old) change ≡ None }
         ensures lent { KeepsSince lends self.old self.new }
         ensures ok { OnOk result
-            (Makes state kept self.old self.new (changed (state self.old) change)) }
+            (Makes state has_kept self.old self.new (changed (state self.old) change)) }
         ensures err { IfErr result (λ fault. MatchStoreFault fault
-            (Makes state kept self.old self.new (state self.old))
-            (FailsToKeep state kept not_kept self.old self.new
+            (Makes state has_kept self.old self.new (state self.old))
+            (FailsToKeep state has_kept has_lost self.old self.new
             (changed (state self.old) change))) };
 
     /// What a query is told of the published register.
@@ -120,9 +120,9 @@ impl Store for Object {
 
     ghost state = { λ o. o };
 
-    ghost kept = { λ _ _. ⊤ };
+    ghost has_kept = { λ _ _. ⊤ };
 
-    ghost not_kept = { λ _ _ _ _. ⊥ };
+    ghost has_lost = { λ _ _ _ _. ⊥ };
 
     fn check(&self, change: &Change) -> Result<u32, Refusal> {
         match change {

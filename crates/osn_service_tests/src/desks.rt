@@ -51,7 +51,7 @@ fn questions(alloc: Global, lists: u32, each: u32) -> Result<Vec<Vec<Query>>, Fa
 /// The script of one edition, which passes over what is refused.
 const SCRIPT: [&str; 3] = [ROME, r#"{"op":"publish"}"#, r#"{"op":"publish"}"#];
 
-pub type Told = Result<Vec<Vec<Reply>>, DeskFault>;
+pub type DeskReplies = Result<Vec<Vec<Reply>>, DeskFault>;
 
 /// What a desk of this many readers is told, who ask this many questions each.
 pub fn desk<R: Threads + Wait, G: Gate + Sync>(
@@ -60,7 +60,7 @@ pub fn desk<R: Threads + Wait, G: Gate + Sync>(
     gate: &G,
     readers: u32,
     each: u32,
-) -> Result<Told, Fail> {
+) -> Result<DeskReplies, Fail> {
     let commands = script(alloc, &SCRIPT)?;
     let lists = questions(alloc, readers, each)?;
     Ok(run_desk(rt, alloc, Limits::standard(), gate, &commands, &lists))
@@ -113,7 +113,7 @@ fn reached(number: &AtomicU64, least: u64) -> bool {
 #[derive(Drop)]
 struct Turns {
     edited: AtomicU64,
-    asked: AtomicU64,
+    questions: AtomicU64,
 }
 
 impl Gate for Turns {
@@ -121,7 +121,7 @@ impl Gate for Turns {
         if index != 1 {
             true
         } else if who == 0 {
-            reached(&self.asked, 1)
+            reached(&self.questions, 1)
         } else {
             reached(&self.edited, 2)
         }
@@ -131,7 +131,7 @@ impl Gate for Turns {
         if who == 0 {
             self.edited.fetch_add(1, SeqCst);
         } else {
-            self.asked.fetch_add(1, SeqCst);
+            self.questions.fetch_add(1, SeqCst);
         }
     }
 }
@@ -147,7 +147,7 @@ fn edition_at(replies: &[Reply], place: usize) -> Option<u32> {
 fn later_questions_are_answered_from_later_editions(rt: HostRuntime) -> Result<(), Fail> {
     let gate = Turns {
         edited: AtomicU64::new(0),
-        asked: AtomicU64::new(0),
+        questions: AtomicU64::new(0),
     };
     let all = desk(&rt, rt.alloc(), &gate, 1, 2)??;
     same(&rt, all.len(), 1);

@@ -50,7 +50,7 @@ fn session(alloc: Global, keeps: bool, source: &mut FailingSource, sink: &mut Fa
 }
 
 /// What there is after this many lines.
-fn behind(lines: usize) -> (usize, usize, (usize, usize)) {
+fn standing_after(lines: usize) -> (usize, usize, (usize, usize)) {
     *LINES.get(lines).unwrap_or(&LINES[3])
 }
 
@@ -71,7 +71,7 @@ fn fails_in_reading(rt: &impl Abort, alloc: Global, keeps: bool, course: Course,
     let mut sink = FailingSink::new(alloc, Course::sound(step));
     let came = session(alloc, keeps, &mut source, &mut sink);
     let lines = lines_in(course.given(READ.len()));
-    let (_end, replies, stands) = behind(lines);
+    let (_end, replies, stands) = standing_after(lines);
     let wanted = Came {
         end: End::ReadFault(lines as u64),
         stands: keeps.then_some(stands),
@@ -79,7 +79,7 @@ fn fails_in_reading(rt: &impl Abort, alloc: Global, keeps: bool, course: Course,
         output_failed: false,
     };
     same(rt, (course, came), (course, wanted));
-    same(rt, Some(sink.taken()), WRITTEN.as_bytes().get(..replies));
+    same(rt, Some(sink.bytes()), WRITTEN.as_bytes().get(..replies));
     same(
         rt,
         (source.calls(), sink.passed()),
@@ -116,7 +116,7 @@ fn goes_well(rt: &impl Abort, alloc: Global, keeps: bool, read_step: usize, step
     same(rt, came, wanted);
     same(
         rt,
-        (sink.taken(), sink.passed()),
+        (sink.bytes(), sink.passed()),
         (WRITTEN.as_bytes(), WRITTEN.len()),
     );
     same(rt, source.calls(), reads_of(READ.len(), read_step));
@@ -130,7 +130,7 @@ fn fails_in_writing(rt: &impl Abort, alloc: Global, keeps: bool, read_step: usiz
     let mut source = FailingSource::new(READ.as_bytes(), Course::sound(read_step));
     let mut sink = FailingSink::new(alloc, course);
     let came = session(alloc, keeps, &mut source, &mut sink);
-    let lines = replies_in(sink.taken().len());
+    let lines = replies_in(sink.bytes().len());
     let failed = (came.end, came.input_failed, came.output_failed);
     same(
         rt,
@@ -139,11 +139,14 @@ fn fails_in_writing(rt: &impl Abort, alloc: Global, keeps: bool, read_step: usiz
     );
     same(
         rt,
-        Some(sink.taken()),
-        WRITTEN.as_bytes().get(..sink.taken().len()),
+        Some(sink.bytes()),
+        WRITTEN.as_bytes().get(..sink.bytes().len()),
     );
     same(rt, sink.calls(), course.sound.saturating_add(1));
-    let near = [behind(lines).2, behind(lines.saturating_add(1)).2];
+    let near = [
+        standing_after(lines).2,
+        standing_after(lines.saturating_add(1)).2,
+    ];
     same(rt, came.stands.is_some(), keeps);
     assert!(rt; came.stands.is_none_or(|stands| near.contains(&stands)));
 }

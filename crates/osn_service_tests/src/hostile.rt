@@ -133,7 +133,7 @@ fn end_so(
         let ended = format!(in alloc; "{ended:?}")?;
         same(rt, (length, ended.as_str()), (length, *wanted));
         let replies = replies(alloc, *count, false)?;
-        same(rt, sink.taken(), replies.as_slice());
+        same(rt, sink.bytes(), replies.as_slice());
     }
     Ok(())
 }

@@ -30,7 +30,7 @@ const TWO: &str = r#"{"answer":{"lands":[{"code":"RM","name":"Rome"},{"code":"GB
   "name":"Great Britain"}]},"edition":2,"reader":1}"#;
 
 /// The line of what a reader is told of the territories.
-fn told(alloc: Global, reader: &mut Reader) -> Result<String, Fail>
+fn lands_line(alloc: Global, reader: &mut Reader) -> Result<String, Fail>
     ensures { reader.new.origin ≡ reader.old.origin }
 {
     let reply = reader.ask(&Query::Lands)?;
@@ -57,7 +57,7 @@ fn published<R: Wait>(rt: &R, alloc: Global, editor: &mut Editor, line: &str) ->
 
 /// A reader of this editor's.
 #[tactic(auto, using(crate::proofs::LiveLemmas::all_last))]
-fn taken(editor: &Editor, readers: &mut Vec<Reader>) -> Option<Reader>
+fn next_reader(editor: &Editor, readers: &mut Vec<Reader>) -> Option<Reader>
     requires { All (λ r. r.origin ≡ editor.now.origin) readers.old.items }
     ensures rest { All (λ r. r.origin ≡ editor.now.origin) readers.new.items }
     ensures one { IfSome result (λ r. r.origin ≡ editor.now.origin) }
@@ -74,11 +74,11 @@ fn in_turn<R: Wait + Abort>(
 ) -> Result<(), Fail>
     requires { reader.old.origin ≡ editor.old.origin }
 {
-    same(rt, told(alloc, reader)?.as_str().trim_end(), NONE);
+    same(rt, lands_line(alloc, reader)?.as_str().trim_end(), NONE);
     let note = published(rt, alloc, editor, ROME)?;
     same(rt, note.edition(), 1);
     reader.learn(note);
-    same(rt, told(alloc, reader)?.as_str().trim_end(), ONE);
+    same(rt, lands_line(alloc, reader)?.as_str().trim_end(), ONE);
     let Err(fault) = editor.publish(rt) else {
         return Err(Fail::new("nothing was pending"));
     };
@@ -89,7 +89,7 @@ fn in_turn<R: Wait + Abort>(
 #[tactic(auto, using(crate::proofs::LiveLemmas::all_new))]
 fn one_reader<R: Wait + Abort>(rt: &R, alloc: Global) -> Result<(), Fail> {
     let (mut editor, mut readers) = open(rt, alloc, Limits::standard(), 1)?;
-    let Some(mut reader) = taken(&editor, &mut readers) else {
+    let Some(mut reader) = next_reader(&editor, &mut readers) else {
         editor.close(rt);
         return Err(Fail::new("no reader"));
     };
@@ -126,13 +126,13 @@ fn notes<R: Wait + Abort>(
     two.learn(second);
     same(
         rt,
-        told(alloc, two)?.as_str().trim_end(),
+        lands_line(alloc, two)?.as_str().trim_end(),
         two_lands.as_str(),
     );
     two.learn(first);
     same(
         rt,
-        told(alloc, two)?.as_str().trim_end(),
+        lands_line(alloc, two)?.as_str().trim_end(),
         two_lands.as_str(),
     );
     one.learn(again);
@@ -144,8 +144,8 @@ fn notes<R: Wait + Abort>(
 #[tactic(auto, using(crate::proofs::LiveLemmas::all_new))]
 fn two_readers<R: Wait + Abort>(rt: &R, alloc: Global) -> Result<(), Fail> {
     let (mut editor, mut readers) = open(rt, alloc, Limits::standard(), 2)?;
-    let two = taken(&editor, &mut readers);
-    let one = taken(&editor, &mut readers);
+    let two = next_reader(&editor, &mut readers);
+    let one = next_reader(&editor, &mut readers);
     let (Some(mut one), Some(mut two)) = (one, two) else {
         editor.close(rt);
         return Err(Fail::new("no readers"));

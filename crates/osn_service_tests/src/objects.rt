@@ -1,6 +1,6 @@
 //! The calls of the object of `osn_core`. Edits and queries are read from their lines.
 use crate::support::compare::same;
-use crate::support::register_lines::{edit_of, told};
+use crate::support::register_lines::{edit_of, first_reply_text};
 use osn_core::{Batch, Object};
 use osn_register::{BorrowedQuery, Edit, Limits, Query, Refusal};
 use osn_test_texts::joined;
@@ -93,7 +93,7 @@ fn lands_of(alloc: Global, object: &Object, borrows: bool) -> Result<String, Fai
     } else {
         object.ask(&Query::Lands)
     };
-    Ok(told(alloc, reply?)?)
+    Ok(first_reply_text(alloc, reply?)?)
 }
 
 /// Checks that the first reader is told of the territories so.

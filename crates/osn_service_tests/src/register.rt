@@ -1,7 +1,7 @@
 //! The calls of `osn_register`: registers folded from edits, copied and changed. Edits and queries
 //! are read from their lines, and answers compared as theirs.
 use crate::support::compare::same;
-use crate::support::register_lines::{edit_of, folded, query_of, told};
+use crate::support::register_lines::{edit_of, first_reply_text, folded, query_of};
 use osn_core::Reply;
 use osn_register::{Answer, Edit, Limits, Query, Refusal, Register, Text};
 use osn_test_texts::apart;
@@ -42,7 +42,7 @@ fn answer_of(
 /// What a register, as edition 0, answers to the query of a line.
 fn answered(alloc: Global, register: &Register, line: &str, borrows: bool) -> Result<String, Fail> {
     let answer = answer_of(alloc, register, line, borrows)?;
-    Ok(told(alloc, Reply { edition: 0, answer })?)
+    Ok(first_reply_text(alloc, Reply { edition: 0, answer })?)
 }
 
 /// Checks that a register answers the query of a line so.

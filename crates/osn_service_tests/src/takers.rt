@@ -20,7 +20,7 @@ enum Why {
 /// Takes lines up to one that says "stop", and waits for a number of reads.
 #[derive(Drop)]
 struct Patient {
-    taken: u64,
+    lines: u64,
     reads: u32,
 }
 
@@ -35,7 +35,7 @@ impl LineTaker for Patient {
         match line {
             Line::Whole(bytes) if bytes == b"stop".as_slice() => Err(Why::Line),
             Line::Whole(_) | Line::TooLong => {
-                self.taken = self.taken.saturating_add(1);
+                self.lines = self.lines.saturating_add(1);
                 Ok(())
             }
         }
@@ -53,7 +53,7 @@ impl LineTaker for Patient {
 /// How the loop ended.
 #[derive(Clone, Copy, Debug, PartialEq, Eq)]
 enum End {
-    Taken,
+    AtEnd,
     NoMemory,
     ReadFault,
     Stopped(Why),
@@ -61,12 +61,12 @@ enum End {
 
 /// What is read, in how many reads at most, how it ends, and the lines that were taken.
 const ENDS: [(&[u8], u32, End, u64); 8] = [
-    (b"", 1, End::Taken, 0),
-    (b"a\n\nb", 2, End::Taken, 3),
+    (b"", 1, End::AtEnd, 0),
+    (b"a\n\nb", 2, End::AtEnd, 3),
     (b"a\nb\nstop\nc\n", 2, End::Stopped(Why::Line), 2),
     (b"stop\n", 2, End::Stopped(Why::Line), 0),
     (b"a\nstop", 2, End::Stopped(Why::Line), 1),
-    (b"a\nstop \n", 2, End::Taken, 2),
+    (b"a\nstop \n", 2, End::AtEnd, 2),
     (b"a\nb\nc", 1, End::Stopped(Why::Read), 2),
     (b"a\nb\nc", 0, End::Stopped(Why::Read), 0),
 ];
@@ -74,7 +74,7 @@ const ENDS: [(&[u8], u32, End, u64); 8] = [
 /// How the loop ends, and how many lines it says were taken.
 fn ended(alloc: Global, taker: &mut Patient, input: &[u8]) -> (End, u64) {
     match take_lines(alloc, taker, &mut Plain::new(input)) {
-        Ok(lines) => (End::Taken, lines),
+        Ok(lines) => (End::AtEnd, lines),
         Err(Interrupted { lines, cause }) => match cause {
             TakeFault::NoMemory => (End::NoMemory, lines),
             TakeFault::ReadFault => (End::ReadFault, lines),
@@ -87,12 +87,12 @@ fn ended(alloc: Global, taker: &mut Patient, input: &[u8]) -> (End, u64) {
 fn take_up_to(rt: &impl Abort, alloc: Global, rows: &[(&[u8], u32, End, u64)]) {
     for (input, reads, wanted, count) in rows {
         let mut taker = Patient {
-            taken: 0,
+            lines: 0,
             reads: *reads,
         };
         let (end, lines) = ended(alloc, &mut taker, input);
         same(rt, (input, end), (input, *wanted));
-        same(rt, (input, taker.taken, lines), (input, *count, *count));
+        same(rt, (input, taker.lines, lines), (input, *count, *count));
     }
 }
 

@@ -37,7 +37,7 @@ use Rattle.osn_grammar.proofs.WordFacts.{to_begins, bracket_begins, old_style_cl
 use Rattle.osn_grammar.proofs.WordFacts.{new_style_closes}
 use Rattle.osn_lands.specs.Dual.{year_text}
 use Rattle.osn_written.specs.DateInWords.{zeros_before, words_of_year, words_of_date}
-use Rattle.osn_written.specs.DateInWords.{words_of_extent, words_of, if_said, weekday_before}
+use Rattle.osn_written.specs.DateInWords.{words_of_extent, words_of, optional_word, weekday_before}
 use Rattle.osn_written.specs.DateInWords.{calendar_after, AreWordsRead, AreDaysAlike}
 use Rattle.osn_written.specs.DateInWords.{is_writable_date}
 use Rattle.osn_written.specs.DateInWords.{is_writable_extent}
@@ -294,7 +294,7 @@ record IsTail (text : List ℕ) (r : Option Reckoning) (u s : Bool) : Type 0 whe
   closes : Closes text parts
   says : Say parts [] None r false u s
 
-bracket_tail : (s : Bool) → IsTail (if_said s (codes "]")) None false s
+bracket_tail : (s : Bool) → IsTail (optional_word s (codes "]")) None false s
 bracket_tail false = record { parts = []; closes = nothing_closes; says = nothing_says }
 bracket_tail true = record {
   parts = Bracket ∷ [];
@@ -303,7 +303,7 @@ bracket_tail true = record {
 }
 
 doubt_tail : {x : List ℕ} {s : Bool} (u : Bool) → IsTail x None false s
-    → IsTail (if_said u (codes "?") ++ x) None u s
+    → IsTail (optional_word u (codes "?") ++ x) None u s
 doubt_tail false tail = tail
 doubt_tail true tail = record {
   parts = Doubt ∷ tail.parts;
@@ -349,7 +349,7 @@ named_said (Some w) rest = record {
 
 about_said : {x : List ℕ} {ps : List Part} {w : Option Weekday} {r : Option Reckoning} {u s : Bool}
     (a : Bool) → TextSays x ps w r false u s
-    → TextSays (if_said a (codes "about ") ++ x) ps w r a u s
+    → TextSays (optional_word a (codes "about ") ++ x) ps w r a u s
 about_said false rest = rest
 about_said true rest = record {
   parts = About ∷ rest.parts;
@@ -358,7 +358,7 @@ about_said true rest = record {
 }
 
 opened_said : {x : List ℕ} {ps : List Part} {w : Option Weekday} {r : Option Reckoning} {a u : Bool}
-    (s : Bool) → TextSays x ps w r a u s → TextSays (if_said s (codes "[") ++ x) ps w r a u s
+    (s : Bool) → TextSays x ps w r a u s → TextSays (optional_word s (codes "[") ++ x) ps w r a u s
 opened_said false rest = rest
 opened_said true rest = record {
   parts = Bracket ∷ rest.parts;

@@ -63,8 +63,8 @@ words_of_extent (extent.NotBefore d) = codes "not before " ++ words_of_date d
 -- ---- what is said beside it
 
 -- a word where something is said, and nothing where it isn't
-abbrev pub if_said : Bool → List ℕ → List ℕ
-if_said said word = if said then word else []
+abbrev pub optional_word : Bool → List ℕ → List ℕ
+optional_word applies word = if applies then word else []
 
 -- the weekday before a date
 unfoldable pub weekday_before : Option Weekday → List ℕ
@@ -80,12 +80,12 @@ calendar_after (Some calendar.NewStyle) = codes " N.S."
 -- a date with all that is said of it: [about Friday 11 February 1731/2 O.S.?]
 unfoldable pub words_of : AnyDate → List ℕ
 words_of w =
-    if_said w.is_supplied (codes "[")
-    ++ (if_said w.is_approximate (codes "about ")
+    optional_word w.is_supplied (codes "[")
+    ++ (optional_word w.is_approximate (codes "about ")
     ++ (weekday_before w.weekday
     ++ (words_of_extent w.extent
     ++ (calendar_after w.reckoning
-    ++ (if_said w.is_uncertain (codes "?") ++ if_said w.is_supplied (codes "]"))))))
+    ++ (optional_word w.is_uncertain (codes "?") ++ optional_word w.is_supplied (codes "]"))))))
 
 -- ---- which words are read back
 

@@ -92,14 +92,14 @@ one_date (extent.On date) = Some date
 one_date e = None
 
 -- the days of that date, or those of a range or a bound
-abbrev pub found_of : Profile → TerritoryModel → Extent → Option SimpleDate
+abbrev pub extent_meant_by : Profile → TerritoryModel → Extent → Option SimpleDate
     → Result (List Run) NoDay
-found_of p t e (Some date) = of_date p t date
-found_of p t e None = of_span p t e (span_meant p t e)
+extent_meant_by p t e (Some date) = of_date p t date
+extent_meant_by p t e None = of_span p t e (span_meant p t e)
 
 -- the days that what is written means, as runs in order, or why it means none
-unfoldable pub found : Profile → TerritoryModel → Extent → Result (List Run) NoDay
-found p t e = found_of p t e (one_date e)
+unfoldable pub extent_meant : Profile → TerritoryModel → Extent → Result (List Run) NoDay
+extent_meant p t e = extent_meant_by p t e (one_date e)
 
 -- the same of the list that the code has
 abbrev pub list_of : Result (Vec Run Global) NoDay → Result (List Run) NoDay
@@ -136,7 +136,7 @@ are_same (Err reason) (Err other) = true
 abbrev pub is_by_other : Profile → TerritoryModel → Extent → Option Reckoning → Bool
 is_by_other p t e None = false
 is_by_other p t e (Some reckoning) =
-    not (are_same (found p t e) (found p (by_reckoning t reckoning) e))
+    not (are_same (extent_meant p t e) (extent_meant p (by_reckoning t reckoning) e))
 
 abbrev pub is_by_other_calendar : Profile → TerritoryModel → AnyDate → Bool
 is_by_other_calendar p t w = is_by_other p t w.extent w.reckoning

@@ -11,5 +11,5 @@ pub mod Spans
 pub mod Kind
 pub mod Finding
 pub mod SetsMeant
-pub mod Said
+pub mod ReadDate
 pub mod Words

@@ -11,7 +11,7 @@ use Rattle.osn_lands.specs.declared.runs.Run.{Run}
 use Rattle.osn_lands.specs.Territory.{TerritoryModel}
 use Rattle.osn_written.specs.declared.finding.NoDay.{NoDay}
 use Rattle.osn_written.specs.declared.set.AbsentMember.{AbsentMember}
-use Rattle.osn_written.specs.Finding.{found}
+use Rattle.osn_written.specs.Finding.{extent_meant}
 use Rattle.osn_written.specs.Runs.{runs_of}
 
 -- ---- how sure a set is
@@ -33,9 +33,9 @@ before_others w (Ok runs) (Err absent) = Err absent
 before_others w (Ok runs) (Ok others) = Ok (runs ++ others)
 
 -- the runs of all dates, or the first date that means no day
-abbrev pub all_found : Profile → TerritoryModel → List AnyDate → Result (List Run) AbsentMember
-all_found p t [] = Ok []
-all_found p t (w ∷ ws) = before_others w (found p t w.extent) (all_found p t ws)
+abbrev pub members_meant : Profile → TerritoryModel → List AnyDate → Result (List Run) AbsentMember
+members_meant p t [] = Ok []
+members_meant p t (w ∷ ws) = before_others w (extent_meant p t w.extent) (members_meant p t ws)
 
 -- the run has the day
 abbrev pub has_day : ℕ → Run → Bool
@@ -50,8 +50,8 @@ abbrev pub united : Profile → Result (List Run) AbsentMember → Result (List 
 united p (Ok runs) = Ok (union p runs)
 united p (Err absent) = Err absent
 
-abbrev pub found_of_set : Profile → TerritoryModel → List AnyDate → Result (List Run) AbsentMember
-found_of_set p t members = united p (all_found p t members)
+abbrev pub set_meant : Profile → TerritoryModel → List AnyDate → Result (List Run) AbsentMember
+set_meant p t members = united p (members_meant p t members)
 
 -- the same of the list that the code has
 abbrev pub set_list_of : Result (Vec Run Global) AbsentMember → Result (List Run) AbsentMember

@@ -11,19 +11,13 @@ use Rattle.std.specs.Str.Parse.{digits_value}
 use Rattle.osn_days.specs.declared.weekday.Weekday.{Weekday}
 use Rattle.osn_days.specs.Month.{month_named}
 use Rattle.osn_days.specs.Weekday.{weekday_name, weekday_numbered}
+use Rattle.osn_grammar.specs.Simple.{◌>>=◌}
 use Rattle.osn_written.specs.declared.written_date.WrittenDate.{WrittenDate}
 use Rattle.osn_written.specs.declared.written_date.DateFault.{DateFault}
 use Rattle.osn_written.specs.declared.written_date.DateFault.TheVariants as faults
 use Rattle.osn_written.specs.OtherForms.{other_date}
 
 -- ---- parts
-
--- one part after another, where the first one is there
-infixl 10 ◌>>=◌
-abbrev pub ◌>>=◌ : {A B : Type 0} → Result A DateFault → (A → Result B DateFault)
-    → Result B DateFault
-(Ok x) >>= f = f x
-(Err e) >>= f = Err e
 
 -- parts of which the first begins with a further byte
 abbrev pub with_first : ℕ → List ℕ × List ℕ → List ℕ × List ℕ

@@ -125,10 +125,10 @@ fn calendar_after(reckoning: Option<Reckoning>) -> &'static str
 }
 
 /// A word where something is said, and nothing where it isn't.
-fn if_said(said: bool, word: &'static str) -> &'static str
-    ensures { result.now ≡ spec.if_said said word.now }
+fn optional_word(applies: bool, word: &'static str) -> &'static str
+    ensures { result.now ≡ spec.optional_word applies word.now }
 {
-    if said { word } else { "" }
+    if applies { word } else { "" }
 }
 
 /// Whether a number is from a least to a greatest one.
@@ -188,13 +188,13 @@ impl fmt::Display for DateInWords {
         write!(
             f,
             "{}{}{}{}{}{}{}",
-            if_said(date.is_supplied, "["),
-            if_said(date.is_approximate, "about "),
+            optional_word(date.is_supplied, "["),
+            optional_word(date.is_approximate, "about "),
             WeekdayBefore(date.weekday),
             ExtentInWords(date.extent),
             calendar_after(date.reckoning),
-            if_said(date.is_uncertain, "?"),
-            if_said(date.is_supplied, "]")
+            optional_word(date.is_uncertain, "?"),
+            optional_word(date.is_supplied, "]")
         )
     }
 }

@@ -160,14 +160,14 @@ fn one_date(extent: Extent) -> Option<SimpleDate>
 /// # Errors
 ///
 /// `AllocError` where there is no memory for the list.
-#[tactic(auto, unfolding(crate::specs::Finding::found))]
+#[tactic(auto, unfolding(crate::specs::Finding::extent_meant))]
 pub fn find_runs(
     alloc: Global,
     territory: &Territory,
     extent: Extent,
 ) -> Result<Result<Vec<Run>, NoDay>, AllocError>
     ensures { IfOk result (λ found. spec.list_of found
-        ≡ spec.found newest_rules territory.now extent) }
+        ≡ spec.extent_meant newest_rules territory.now extent) }
 {
     match one_date(extent) {
         Some(date) => of_date(alloc, territory, date),

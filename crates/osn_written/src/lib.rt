@@ -3,13 +3,13 @@
 #![tactic(auto)]
 
 mod absence;
+mod date_in_text;
 mod date_in_words;
 mod finding;
 mod kind;
 mod meaning;
 mod reading;
 mod runs;
-mod said;
 mod set;
 mod span;
 mod words;
@@ -17,13 +17,13 @@ mod written_date;
 mod written_text;
 
 pub use absence::{Absence, absence_of};
+pub use date_in_text::read_date;
 pub use date_in_words::{DateInWords, is_writable};
 pub use finding::{NoDay, by_reckoning, ends_of, find_runs, first_day_of, is_by_other_calendar};
 pub use kind::{Kind, kind_of};
 pub use meaning::{days_meant, has_weekday, is_not_counted_double, is_on};
 pub use reading::plain_day;
 pub use runs::runs_meant;
-pub use said::read_date;
 pub use set::{AbsentMember, find_set, is_set_approximate, is_set_uncertain};
-pub use span::{NoSpan, span_meant};
+pub use span::{NoSpan, first_of, last_of, span_meant};
 pub use written_date::{DateFault, WrittenDate, number_of, parts_at, weekday_named};

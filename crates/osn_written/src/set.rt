@@ -33,13 +33,13 @@ pub fn is_set_uncertain(members: &[AnyDate]) -> bool
 }
 
 /// The runs of all dates, one date after another, or the first one that means no day.
-fn all_found(
+fn members_meant(
     alloc: Global,
     territory: &Territory,
     members: &[AnyDate],
 ) -> Result<Result<Vec<Run>, AbsentMember>, AllocError>
     ensures { IfOk result (λ found. spec.set_list_of found
-        ≡ spec.all_found newest_rules territory.now members.now) }
+        ≡ spec.members_meant newest_rules territory.now members.now) }
 {
     let mut runs = Vec::new(alloc);
     for member in members {
@@ -127,9 +127,9 @@ pub fn find_set(
     members: &[AnyDate],
 ) -> Result<Result<Vec<Run>, AbsentMember>, AllocError>
     ensures { IfOk result (λ found. spec.set_list_of found
-        ≡ spec.found_of_set newest_rules territory.now members.now) }
+        ≡ spec.set_meant newest_rules territory.now members.now) }
 {
-    match all_found(alloc, territory, members)? {
+    match members_meant(alloc, territory, members)? {
         Ok(runs) => Ok(Ok(union(alloc, runs)?)),
         Err(absent) => Ok(Err(absent)),
     }

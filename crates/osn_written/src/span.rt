@@ -22,8 +22,8 @@ pub enum NoSpan {
     OffTheLine,
 }
 
-/// The first day of runs.
-fn first_of(runs: &[Run]) -> Option<Day>
+/// The first day of runs in order.
+pub fn first_of(runs: &[Run]) -> Option<Day>
     ensures { result ≡ spec.first_of runs.now }
 {
     match runs {
@@ -32,8 +32,8 @@ fn first_of(runs: &[Run]) -> Option<Day>
     }
 }
 
-/// The last day of runs.
-fn last_of(runs: &[Run]) -> Option<Day>
+/// The last day of runs in order.
+pub fn last_of(runs: &[Run]) -> Option<Day>
     ensures { result ≡ spec.last_of runs.now }
 {
     match runs {

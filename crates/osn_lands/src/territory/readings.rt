@@ -2,7 +2,7 @@
 ghost use Rattle.std.specs.Prelude.{◌≡◌, ◌≤◌, ◌*◌, IfOk, length};
 ghost use Rattle.osn_days.specs.Profile.{first_rules, newest_rules};
 ghost use Rattle.osn_lands.specs.Territory as plain;
-ghost use Rattle.osn_lands.specs.Kept.{KeepsReading};
+ghost use Rattle.osn_lands.specs.EarlierRules.{KeepsReading};
 ghost use Rattle.osn_lands.specs.LabelSearch.{most_tested, IsSearchIn};
 
 use crate::label::Label;
@@ -23,7 +23,7 @@ impl Territory {
         ensures value { IfOk result (λ days.
             days.items ≡ plain.reading newest_rules self.now label) }
         // as a law: those of them that the first rules' line has are what the first rules read
-        ensures kept { IfOk result (λ days.
+        ensures earlier_rules { IfOk result (λ days.
             KeepsReading first_rules self.now label days.items) }
     {
         let (days, _) = self.read_counted(label)?;
@@ -105,7 +105,7 @@ impl Territory {
         ensures read { IfOk result (λ found.
             found.0.items ≡ plain.reading newest_rules self.now label) }
         // as a law: those of them that the first rules' line has are what the first rules read
-        ensures kept { IfOk result (λ found.
+        ensures earlier_rules { IfOk result (λ found.
             KeepsReading first_rules self.now label found.0.items) }
         ensures skipped { IfOk result (λ found.
             found.1.items ≡ plain.skipped newest_rules self.now label) }

@@ -3,7 +3,7 @@ ghost use Rattle.std.specs.Prelude.{◌≡◌, true, None, IfOk, OnErr, ◌<◌,
 ghost use Rattle.osn_days.specs.Profile.{first_rules, newest_rules};
 ghost use Rattle.osn_register.specs.Answer as spec;
 ghost use Rattle.osn_register.specs.BorrowedQuery.{as_query};
-ghost use Rattle.osn_register.specs.Kept.{KeepsAnswer};
+ghost use Rattle.osn_register.specs.EarlierRules.{KeepsAnswer};
 ghost use Rattle.osn_register.specs.Refusal.{IsTestOf};
 ghost use Rattle.osn_register.specs.Plain.{code_refusal};
 ghost use Rattle.osn_register.specs.InsideQuery.{IsAnswered};
@@ -48,7 +48,7 @@ impl Register {
         ensures memory { OnErr result
             (spec.takes_memory (spec.answer newest_rules self.now.lands query.now) ≡ true) }
         // as a law: where the first rules have the year or the day, it keeps what they answer
-        ensures kept { IfOk result (KeepsAnswer first_rules self.now.lands query.now) }
+        ensures earlier_rules { IfOk result (KeepsAnswer first_rules self.now.lands query.now) }
     {
         self.answer_borrowed(query.borrowed())
     }
@@ -65,7 +65,7 @@ impl Register {
             ≡ spec.query_refusal newest_rules self.now.lands (as_query query.entry)) }
         ensures memory { OnErr result (spec.takes_memory
             (spec.answer newest_rules self.now.lands (as_query query.entry)) ≡ true) }
-        ensures kept { IfOk result
+        ensures earlier_rules { IfOk result
             (KeepsAnswer first_rules self.now.lands (as_query query.entry)) }
     {
         match self.lawful_answer(query) {

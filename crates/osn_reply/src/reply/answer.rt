@@ -82,8 +82,8 @@ fn write_figures(
 ) -> Result<(), AllocError>
     ensures text { OnOk result (out.new.text ≡ out.old.text
         ++ (codes "{\"answer\":" ++ compact_text (spec.figures_data year golden indiction
-        (⟦<Reckoning<Epact> as WriteJson>⟧.shown gregorian.now)
-        (⟦<Reckoning<u8> as WriteJson>⟧.shown julian.now)))) }
+        (⟦<Reckoning<Epact> as WriteJson>⟧.json_value gregorian.now)
+        (⟦<Reckoning<u8> as WriteJson>⟧.json_value julian.now)))) }
     ensures before { out.new.before ≡ out.old.before }
 {
     out.push_number(r#"{"answer":{"golden":"#, u32::from(golden))?;

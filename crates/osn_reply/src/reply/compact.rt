@@ -11,7 +11,7 @@ use std::alloc::{AllocError, Global};
 
 /// A value's compact text.
 fn value_text<J: WriteJson>(alloc: Global, value: &J) -> Result<String, AllocError>
-    ensures { IfOk result (λ s. string_bytes s ≡ compact_text (J.shown value.now)) }
+    ensures { IfOk result (λ s. string_bytes s ≡ compact_text (J.json_value value.now)) }
 {
     let mut out = LineWriter::new(alloc, Vec::with_capacity(alloc, ROOM)?);
     value.write_json(&mut out)?;

@@ -11,7 +11,7 @@ use osn_days::Day;
 use std::alloc::AllocError;
 
 impl WriteJson for u8 {
-    ghost shown = { whole };
+    ghost json_value = { whole };
 
     fn write_json(&self, out: &mut LineWriter) -> Result<(), AllocError> {
         out.push_number("", u32::from(*self))
@@ -20,7 +20,7 @@ impl WriteJson for u8 {
 
 // An epact of the Gregorian reckoning as the canons write it: `*`, `25'` or its number.
 impl WriteJson for Epact {
-    ghost shown = { λ e. string (epact_text e) };
+    ghost json_value = { λ e. string (epact_text e) };
 
     fn write_json(&self, out: &mut LineWriter) -> Result<(), AllocError> {
         let text = epact_text(out.alloc(), *self)?;
@@ -37,7 +37,7 @@ pub(crate) struct Reckoning<E> {
 }
 
 impl<E: WriteJson> WriteJson for Reckoning<E> {
-    ghost shown = { λ r. spec.reckoning_data r.easter (E.shown r.epact) r.letters };
+    ghost json_value = { λ r. spec.reckoning_data r.easter (E.json_value r.epact) r.letters };
 
     fn write_json(&self, out: &mut LineWriter) -> Result<(), AllocError> {
         out.push_number(r#"{"easter":"#, self.easter.number())?;

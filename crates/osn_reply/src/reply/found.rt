@@ -9,7 +9,7 @@ use osn_register::{Found, FoundRun, Land};
 use std::alloc::AllocError;
 
 impl WriteJson for Found {
-    ghost shown = { found_data };
+    ghost json_value = { found_data };
 
     fn write_json(&self, out: &mut LineWriter) -> Result<(), AllocError> {
         let day = self.day;
@@ -25,7 +25,7 @@ impl WriteJson for Found {
 }
 
 impl WriteJson for FoundRun {
-    ghost shown = { found_run_data };
+    ghost json_value = { found_run_data };
 
     fn write_json(&self, out: &mut LineWriter) -> Result<(), AllocError> {
         write_member(out, r#"{"first":"#, &self.first)?;
@@ -35,7 +35,7 @@ impl WriteJson for FoundRun {
 }
 
 impl WriteJson for Land {
-    ghost shown = { land_data };
+    ghost json_value = { land_data };
 
     fn write_json(&self, out: &mut LineWriter) -> Result<(), AllocError> {
         out.push_text(r#"{"code":"#, self.code.as_str())?;

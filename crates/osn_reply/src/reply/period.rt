@@ -8,7 +8,7 @@ use osn_lands::{Period, Regime};
 use std::alloc::AllocError;
 
 impl WriteJson for Regime {
-    ghost shown = { regime_data };
+    ghost json_value = { regime_data };
 
     fn write_json(&self, out: &mut LineWriter) -> Result<(), AllocError> {
         out.push_text(r#"{"calendar":"#, self.calendar.word())?;
@@ -19,7 +19,7 @@ impl WriteJson for Regime {
 }
 
 impl WriteJson for Period {
-    ghost shown = { period_data };
+    ghost json_value = { period_data };
 
     fn write_json(&self, out: &mut LineWriter) -> Result<(), AllocError> {
         out.push_text(r#"{"calendar":"#, self.regime.calendar.word())?;

@@ -21,7 +21,7 @@ fn write_word(out: &mut LineWriter, word: &str) -> Result<(), AllocError>
 }
 
 impl WriteJson for Out {
-    ghost shown = { out_data };
+    ghost json_value = { out_data };
 
     fn write_json(&self, out: &mut LineWriter) -> Result<(), AllocError> {
         match self {

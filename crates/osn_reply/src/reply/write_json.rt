@@ -12,17 +12,17 @@ use std::alloc::AllocError;
 /// A value that a reply shows.
 pub(crate) trait WriteJson {
     // The value as JSON.
-    ghost shown: { Self → Data };
+    ghost json_value: { Self → Data };
 
     /// Writes the value's text after what is written.
     fn write_json(&self, out: &mut LineWriter) -> Result<(), AllocError>
         ensures text { OnOk result (out.new.text
-            ≡ out.old.text ++ compact_text (shown self.now)) }
+            ≡ out.old.text ++ compact_text (json_value self.now)) }
         ensures before { out.new.before ≡ out.old.before };
 }
 
 impl WriteJson for Day {
-    ghost shown = { whole };
+    ghost json_value = { whole };
 
     fn write_json(&self, out: &mut LineWriter) -> Result<(), AllocError> {
         out.push_number("", self.number())
@@ -30,7 +30,7 @@ impl WriteJson for Day {
 }
 
 impl WriteJson for bool {
-    ghost shown = { boolean };
+    ghost json_value = { boolean };
 
     fn write_json(&self, out: &mut LineWriter) -> Result<(), AllocError> {
         out.push(if *self { "true" } else { "false" })
@@ -39,7 +39,7 @@ impl WriteJson for bool {
 
 // A value, or null where no value is given.
 impl<J: WriteJson> WriteJson for Option<J> {
-    ghost shown = { option_data J.shown };
+    ghost json_value = { option_data J.json_value };
 
     fn write_json(&self, out: &mut LineWriter) -> Result<(), AllocError> {
         match self {
@@ -56,7 +56,7 @@ pub(crate) fn write_member<J: WriteJson>(
     value: &J,
 ) -> Result<(), AllocError>
     ensures text { OnOk result (out.new.text
-        ≡ out.old.text ++ (front.now ++ compact_text (J.shown value.now))) }
+        ≡ out.old.text ++ (front.now ++ compact_text (J.json_value value.now))) }
     ensures before { out.new.before ≡ out.old.before }
 {
     out.push(front)?;
@@ -88,7 +88,7 @@ pub(crate) fn write_list<J: WriteJson>(
     values: &[J],
 ) -> Result<(), AllocError>
     ensures text { OnOk result (out.new.text
-        ≡ out.old.text ++ (front.now ++ compact_text (list_data (map J.shown values.now)))) }
+        ≡ out.old.text ++ (front.now ++ compact_text (list_data (map J.json_value values.now)))) }
     ensures before { out.new.before ≡ out.old.before }
 {
     out.push(front)?;

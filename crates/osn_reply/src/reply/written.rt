@@ -30,7 +30,7 @@ fn reason_words(reason: Reason) -> &'static str
 }
 
 impl WriteJson for Reason {
-    ghost shown = { spec.reason_data };
+    ghost json_value = { spec.reason_data };
 
     fn write_json(&self, out: &mut LineWriter) -> Result<(), AllocError> {
         out.push_text("", reason_words(*self))

@@ -93,7 +93,7 @@ impl<'a> Source for FailingSource<'a> {
 /// Takes bytes, and notes how many of them it was told to pass on.
 #[derive(Drop)]
 pub struct FailingSink {
-    taken: Vec<u8>,
+    bytes: Vec<u8>,
     passed: usize,
     course: Course,
     calls: usize,
@@ -103,7 +103,7 @@ pub struct FailingSink {
 impl FailingSink {
     pub fn new(alloc: Global, course: Course) -> FailingSink {
         FailingSink {
-            taken: Vec::new(alloc),
+            bytes: Vec::new(alloc),
             passed: 0,
             course,
             calls: 0,
@@ -116,9 +116,9 @@ impl FailingSink {
         self.calls
     }
 
-    /// What was taken.
-    pub fn taken(&self) -> &[u8] {
-        &self.taken
+    /// The bytes that it took.
+    pub fn bytes(&self) -> &[u8] {
+        &self.bytes
     }
 
     /// How many of the bytes that were taken were passed on.
@@ -138,7 +138,7 @@ impl Sink for FailingSink {
         let takes_nothing = count == 0 && !bytes.is_empty();
         if takes_nothing
             || !self.course.goes_on()
-            || self.taken.extend_from_slice(&bytes[..count]).is_err()
+            || self.bytes.extend_from_slice(&bytes[..count]).is_err()
         {
             self.failed = true;
             return Err(WriteFailed);
@@ -152,7 +152,7 @@ impl Sink for FailingSink {
             self.failed = true;
             return Err(WriteFailed);
         }
-        self.passed = self.taken.len();
+        self.passed = self.bytes.len();
         Ok(())
     }
 

@@ -23,7 +23,7 @@ pub fn query_of(alloc: Global, line: &str) -> Result<Query, Fail> {
 }
 
 /// The line of a reply that the first reader is told.
-pub fn told(alloc: Global, reply: Reply) -> Result<String, AllocError> {
+pub fn first_reply_text(alloc: Global, reply: Reply) -> Result<String, AllocError> {
     reply_text(alloc, &Outcome::Replied { reader: 1, reply })
 }
 

@@ -2,7 +2,7 @@ use Rattle.std.proofs.Common.{◌≤◌, ◌∙◌, Some, ap, subst, arith}
 use Rattle.osn_days.specs.Profile.{first_rules}
 use Rattle.osn_computus.specs.Easter.{easter_of}
 use Rattle.osn_computus.proofs.MoonFacts.{moon_bounds, season, some_same}
-use Rattle.osn_computus.proofs.KeptEasters.{kept_easter}
+use Rattle.osn_computus.proofs.EarlierEasters.{easter_of_both}
 use Rattle.osn_computus.proofs.feast.easter.Goals as goal
 
 pub sunday_after-requires : goal.sunday_after-requires
@@ -21,8 +21,8 @@ returns-clause-season c =
     season c.args.rule c.args.year c.paschal_moon.result _ c.paschal_moon.ensures.in_range
     c.paschal_moon.ensures.value after.0 after.1
 
-pub returns-clause-kept : goal.returns-clause-kept
-returns-clause-kept c year =
-    let kept = kept_easter c.args.rule c.args.year year in
+pub returns-clause-earlier_rules : goal.returns-clause-earlier_rules
+returns-clause-earlier_rules c year =
+    let kept = easter_of_both c.args.rule c.args.year year in
     let same = some_same _ _ _ kept.newest (returns-clause-value c) in
     (kept.first ∙ ap Some same, subst (λ d. d ≤ first_rules.high) same kept.within)

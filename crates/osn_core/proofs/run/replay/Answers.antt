@@ -3,7 +3,7 @@ use Rattle.std.proofs.lemmas.Result.{IfOk-weaker}
 use Rattle.osn_days.specs.Profile.{newest_rules}
 use Rattle.osn_core.specs.Machine.{first_core, outs_of}
 use Rattle.osn_core.specs.History.{no_looks}
-use Rattle.osn_core.proofs.Editor.{editor_told}
+use Rattle.osn_core.proofs.Editor.{editor_outs_of_run}
 use Rattle.osn_core.proofs.Forward.{outs_begin, outs_rise}
 use Rattle.osn_core.proofs.run.replay.Goals as goal
 
@@ -13,7 +13,8 @@ returns-clause-editor c =
     let begun = ap (λ core. outs_of newest_rules core c.args.steps.now) c.in_ok-core.ensures.ok in
     IfOk-weaker c.run_steps.result _ _ (λ outs all.
     let are : outs.items ≡ outs_of newest_rules first c.args.steps.now = all ∙ begun in
-    rw are (editor_told newest_rules no_looks first c.args.steps.now)) c.run_steps.ensures.outs
+    rw are (editor_outs_of_run newest_rules no_looks first c.args.steps.now))
+    c.run_steps.ensures.outs
 
 pub returns-clause-readers : goal.returns-clause-readers
 returns-clause-readers c =

@@ -1,5 +1,5 @@
 use Rattle.std.proofs.Common.{◌∙◌, sym, ap, Ok}
-use Rattle.osn_files.proofs.AskedLemmas.{questions-made}
+use Rattle.osn_files.proofs.QuestionListLemmas.{questions-made}
 use Rattle.osn_files.proofs.FileLemmas.{ReadsFile-ok, ReadsFile-err, same_fault}
 use Rattle.osn_files.proofs.questions.read_questions.Goals as goal
 

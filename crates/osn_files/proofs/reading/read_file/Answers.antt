@@ -1,10 +1,11 @@
 use Rattle.std.proofs.Common.{refl}
-use Rattle.osn_files.proofs.ReadLemmas.{made-all, no-head, said_first, said_same, interrupted}
+use Rattle.osn_files.proofs.ReadLemmas.{made-all, no-head, first_version, given_version}
+use Rattle.osn_files.proofs.ReadLemmas.{interrupted}
 use Rattle.osn_files.proofs.reading.read_file.Goals as goal
 
 pub returns-in-Some-clause-file : goal.returns-in-Some-clause-file
 returns-in-Some-clause-file g c = record {
-  made = made-all _ _ _ _ _ _ _ c.in-Some.is c.in-Ok.ensures.taken;
+  made = made-all _ _ _ _ _ _ _ c.in-Some.is c.in-Ok.ensures.takes;
   end = c.in-Ok.ensures.end;
   sound = c.in-Ok.ensures.sound;
   fault = tt;
@@ -16,7 +17,7 @@ returns-in-None-clause-file g c = record {
   made = tt;
   end = tt;
   sound = tt;
-  fault = (refl, no-head _ _ _ _ _ _ c.in-None.is c.in-Ok.ensures.taken);
+  fault = (refl, no-head _ _ _ _ _ _ c.in-None.is c.in-Ok.ensures.takes);
   reason = c.in-Ok.ensures.sound;
 }
 
@@ -28,8 +29,8 @@ returns-in-Err-clause-file g c =
 
 pub returns-in-Some-clause-version : goal.returns-in-Some-clause-version
 returns-in-Some-clause-version g c = λ none.
-    said_first _ _ _ _ _ _ _ c.in-Some.is c.in-Ok.ensures.taken none
+    first_version _ _ _ _ _ _ _ c.in-Some.is c.in-Ok.ensures.takes none
 
 pub returns-in-Some-clause-same : goal.returns-in-Some-clause-same
 returns-in-Some-clause-same g c =
-    said_same _ _ _ _ _ _ _ c.in-Some.is c.in-Ok.ensures.taken
+    given_version _ _ _ _ _ _ _ c.in-Some.is c.in-Ok.ensures.takes

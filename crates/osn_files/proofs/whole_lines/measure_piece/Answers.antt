@@ -1,7 +1,7 @@
 use Rattle.std.proofs.Common.{◌-◌, ◌∙◌, ℕ, [], take, sym, ap, ap₂}
 use Rattle.std.proofs.Common.{arith}
 use Rattle.std.proofs.lemmas.Result.{on_ok_weaker}
-use Rattle.osn_files.proofs.MeasureLemmas.{piece_behind, piece_end}
+use Rattle.osn_files.proofs.MeasureLemmas.{piece_after, piece_end}
 use Rattle.osn_files.proofs.whole_lines.measure_piece.Goals as goal
 
 pub returns-then-more-count-clause-measure : goal.returns-then-more-count-clause-measure
@@ -14,7 +14,7 @@ returns-then-more-count-clause-measure c =
       count = counted;
       front =
           kept _ h.front
-          ∙ ap (take 65537) (sym (piece_behind before piece
+          ∙ ap (take 65537) (sym (piece_after before piece
           (omega (arith, counted.ended, h.count.read, c.if-more-count.true))));
     })
     c.add.ensures

@@ -14,12 +14,12 @@ loop-call-init g c = record {
   few = omega arith;
   within = omega arith;
   source = refl;
-  taken = ([], omega arith, Consumes-nothing _, nothing_measured _ c.new.ensures);
+  progress = ([], omega arith, Consumes-nothing _, nothing_measured _ c.new.ensures);
 }
 
 pub returns-then-read-eq0-clause-ok : goal.returns-then-read-eq0-clause-ok
 returns-then-read-eq0-clause-ok g c =
-    let inv = c.loop-call.invariant.taken in
+    let inv = c.loop-call.invariant.progress in
     let bytes = c.in-Ok-read.ensures.bytes in
     let some : 0 < length c.read.new.buffer =
     omega (
@@ -51,7 +51,7 @@ returns-then-read-eq0-clause-sound g c =
 
 pub loop-call-preserved : goal.loop-call-preserved
 loop-call-preserved g c =
-    let inv = c.loop-call.invariant.taken in
+    let inv = c.loop-call.invariant.progress in
     let measured = c.in-Ok-measure_piece.ensures in
     let read = c.in-Ok-read.read in
     let got = take read c.read.new.buffer in
@@ -86,7 +86,7 @@ loop-call-preserved g c =
       few = measured.few;
       within = measured.within;
       source = c.in-Ok-read.ensures.failed ∙ c.loop-call.invariant.source;
-      taken = (
+      progress = (
         inv.0 ++ got,
         omega (arith, inv.1, size, length-append inv.0 got, c.if-read-eq0.false),
         Consumes-then _ _ _ inv.0 got inv.2 c.in-Ok-read.ensures.bytes.0,
@@ -97,5 +97,5 @@ loop-call-preserved g c =
 
 pub returns-clause-reason : goal.returns-clause-reason
 returns-clause-reason g c =
-    let inv = c.loop-call.invariant.taken in
+    let inv = c.loop-call.invariant.progress in
     inr (input_long _ _ inv.0 4294967295 (omega (arith, inv.1, c.loop-call-test.false)) inv.2)

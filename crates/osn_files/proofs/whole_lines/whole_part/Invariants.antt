@@ -12,7 +12,7 @@ invariant-loop-call g l =
       few : l.measure.count.lines ≤ l.measure.count.read;
       within : l.measure.count.ended ≤ l.measure.count.read;
       source : g.R.Source.has_failed l.source ≡ g.R.Source.has_failed l.fn.source;
-      taken : (read : List ℕ) × (l._call ≤ length read)
+      progress : (read : List ℕ) × (l._call ≤ length read)
           × Consumes (g.R.Source.remaining l.fn.source) (g.R.Source.remaining l.source) read
           × IsMeasureOf l.measure read;
     }

@@ -10,9 +10,9 @@ use Rattle.osn_service.specs.declared.service.Served.{Served}
 use Rattle.osn_follower.specs.FollowerInside.{IsJournalOf}
 use Rattle.osn_follower.specs.Follows.{Follows}
 use Rattle.osn_follower.specs.RoundInside.{GoesOn, IsOver}
-use Rattle.osn_follower.specs.Told.{following}
+use Rattle.osn_follower.specs.Outcomes.{following}
 use Rattle.osn_follower.specs.declared.fault.FollowerFault.TheVariants.{Serve}
-use Rattle.osn_follower.proofs.ToldLemmas.{Arrive-nothing}
+use Rattle.osn_follower.proofs.OutcomeLemmas.{Arrive-nothing}
 use Rattle.osn_follower.proofs.RoundLemmas.{read_fault}
 use Rattle.osn_follower.proofs.AllRoundsLemmas.{Follows-after, IsFollowing-none}
 use Rattle.osn_follower.proofs.AllRoundsLemmas.{next_invariant}

@@ -2,7 +2,7 @@ use Rattle.std.proofs.Common.{◌≡◌, ◌≤◌, ◌*◌, List, length}
 use Rattle.osn_reply.specs.declared.outcome.Outcome.{Outcome}
 use Rattle.osn_follower.specs.Arrivals.{Arrival, Arrive}
 use Rattle.osn_follower.specs.FollowerInside.{HasFew, IsFollowing}
-use Rattle.osn_follower.specs.Told.{following}
+use Rattle.osn_follower.specs.Outcomes.{following}
 use Rattle.osn_follower.proofs.follower.follow.Given as goal
 
 -- exactly what is told by what has arrived is written

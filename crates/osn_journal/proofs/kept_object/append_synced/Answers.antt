@@ -1,4 +1,4 @@
-use Rattle.osn_journal.specs.Kept.{file_of}
+use Rattle.osn_journal.specs.KeptJournal.{file_of}
 use Rattle.osn_journal.proofs.AppendLemmas.{synced_or_failed}
 use Rattle.osn_journal.proofs.kept_object.append_synced.Goals as goal
 

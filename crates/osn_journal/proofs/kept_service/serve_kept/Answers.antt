@@ -4,8 +4,8 @@ use Rattle.osn_journal.specs.declared.kept_object.KeptObject.{KeptObject}
 use Rattle.osn_journal.proofs.StoreLemmas.{KeepsFile-begun}
 use Rattle.osn_journal.proofs.kept_service.serve_kept.Goals as goal
 
-pub returns-clause-kept : goal.returns-clause-kept
-returns-clause-kept g c =
+pub returns-clause-keeps : goal.returns-clause-keeps
+returns-clause-keeps g c =
     let begun : KeptObject g.row.K.Denot =
     record { alloc = c.args.alloc; object = c.args.object; keeper = c.args.keeper } in
     let input =
@@ -13,5 +13,5 @@ returns-clause-kept g c =
     in
     let kept =
     KeepsFile-begun g.K.KeptFile.contents g.K.KeptFile.synced g.K.KeptFile.fault c.args.rules begun
-    c.serve_store.new.store input c.serve_store.result c.serve_store.ensures.kept in
+    c.serve_store.new.store input c.serve_store.result c.serve_store.ensures.keeps in
     search rules

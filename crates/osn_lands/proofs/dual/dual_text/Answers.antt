@@ -3,7 +3,7 @@ use Rattle.std.proofs.Common.{append_assoc}
 use Rattle.std.specs.Fmt.{decimal}
 use Rattle.osn_days.specs.Profile.{newest_rules}
 use Rattle.osn_lands.specs.Dual as dual
-use Rattle.osn_lands.proofs.KeptFacts.{kept_text}
+use Rattle.osn_lands.proofs.EarlierRulesFacts.{same_text}
 use Rattle.osn_lands.proofs.dual.dual_text.Goals as goal
 
 pub returns-clause-value : goal.returns-clause-value
@@ -30,7 +30,7 @@ returns-clause-value c =
     ∙ whole
     ∙ text
 
-pub returns-clause-kept : goal.returns-clause-kept
-returns-clause-kept c until =
+pub returns-clause-earlier_rules : goal.returns-clause-earlier_rules
+returns-clause-earlier_rules c until =
     subst (λ text. string_bytes c.push_year.new.text ≡ text)
-    (sym (kept_text c.args.regime c.args.day until)) (returns-clause-value c)
+    (sym (same_text c.args.regime c.args.day until)) (returns-clause-value c)

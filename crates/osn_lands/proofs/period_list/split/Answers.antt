@@ -57,10 +57,10 @@ started c = record { first = c.args.day; last = c.index.result.now.last; regime 
 abbrev ended : goal.After-periods-1 → Period
 ended c = record c.index_mut-ended.result.now { last = c.on_line-ended.result }
 
-kept : (c : goal.After-periods-1) → c.index_mut-ended.result.now ≡ c.index.result.now
-kept c = same_place c.args.periods.now.items c.insert.new.self.items c.place_to_split-place.result
-    c.index.result.now c.index_mut-ended.result.now (started c) (within c) c.index.ensures
-    c.in_ok-insert.ensures.items c.index_mut-ended.ensures.value
+same_entry : (c : goal.After-periods-1) → c.index_mut-ended.result.now ≡ c.index.result.now
+same_entry c = same_place c.args.periods.now.items c.insert.new.self.items
+    c.place_to_split-place.result c.index.result.now c.index_mut-ended.result.now (started c)
+    (within c) c.index.ensures c.in_ok-insert.ensures.items c.index_mut-ended.ensures.value
 
 made : (c : goal.After-periods-1) → set c.insert.new.self.items c.place_to_split-place.result
     (ended c) ≡ take c.place_to_split-place.result c.args.periods.now.items ++ ended c ∷ started c
@@ -87,7 +87,7 @@ pub returns-clause-covers : goal.returns-clause-covers
 returns-clause-covers c =
     let ps = c.args.periods.now.items in
     let on = held c in
-    let begin = ap (λ q. q.first) (kept c) in
+    let begin = ap (λ q. q.first) (same_entry c) in
     let low = no_sooner-at ps c.place_to_split-place.result 1 newest_rules.high c.args.day
     c.index.result.now (within c) c.index.ensures c.requires.covers in
     let later : 1 < c.args.day = omega (arith, low, on.0) in
@@ -107,7 +107,7 @@ returns-clause-ok c =
     ∙ with_start-is (take c.place_to_split-place.result ps)
     (drop (c.place_to_split-place.result + 1) ps)
     c.index.result.now (ended c) (started c) 1 newest_rules.high c.args.day c.args.regime
-    (covering c) on.0 on.1 (ap start_of (kept c)) refl
+    (covering c) on.0 on.1 (ap start_of (same_entry c)) refl
     ∙ ap (λ qs. with_start c.args.day c.args.regime (map start_of qs))
     (sym (at_place ps c.place_to_split-place.result c.index.result.now (within c)
     c.index.ensures))

@@ -11,13 +11,13 @@ use Rattle.osn_letters.specs.LettersInside.{tally_from, text_from}
 use Rattle.osn_letters.specs.TableInside.{letters_tally}
 use Rattle.osn_letters.specs.Table.{letters_written, basis}
 use Rattle.osn_letters.proofs.CountFacts.{all_counted, read_counted}
-use Rattle.osn_letters.proofs.LetterFacts.{told}
+use Rattle.osn_letters.proofs.LetterFacts.{err_of_fault}
 use Rattle.osn_letters.proofs.StreamFacts.{nothing_early, end_whole, end_early}
 use Rattle.osn_letters.proofs.StreamFacts.{read_early, read_passes, ends_weaker, end_long}
 use Rattle.osn_letters.proofs.QuietFacts.{read_settled}
 use Rattle.osn_letters.proofs.StreamFacts.{unread_ends, unread_fault}
-use Rattle.osn_letters.proofs.StreamFacts.{read_long, input_long, both_ways, told_ends}
-use Rattle.osn_letters.proofs.RemarkFacts.{told_tally}
+use Rattle.osn_letters.proofs.StreamFacts.{read_long, input_long, both_ways, ends_by_fault}
+use Rattle.osn_letters.proofs.RemarkFacts.{tally_of_rows}
 use Rattle.osn_letters.proofs.stream.write_letters.Goals as goal
 
 pub returns-in_default-clause-early : goal.returns-in_default-clause-early
@@ -29,7 +29,7 @@ pub returns-then-read-eq0-clause-whole : goal.returns-then-read-eq0-clause-whole
 returns-then-read-eq0-clause-whole g c =
     let all = letters_written (basis newest_rules c.args.register.now.lands c.args.edition
     c.args.settings) in
-    let inv = c.loop-call.invariant.taken in
+    let inv = c.loop-call.invariant.progress in
     let bytes = c.in-Ok-read.ensures.bytes in
     let some : 0 < length c.read.new.buffer =
     omega (
@@ -50,7 +50,7 @@ pub returns-then-read-eq0-clause-tally : goal.returns-then-read-eq0-clause-tally
 returns-then-read-eq0-clause-tally g c =
     let all = letters_tally (basis newest_rules c.args.register.now.lands c.args.edition
     c.args.settings) in
-    let inv = c.loop-call.invariant.taken in
+    let inv = c.loop-call.invariant.progress in
     let bytes = c.in-Ok-read.ensures.bytes in
     let some : 0 < length c.read.new.buffer =
     omega (
@@ -63,7 +63,7 @@ returns-then-read-eq0-clause-tally g c =
     Consumes-end _ _ _ inv.0 c.read.new.buffer c.in-Ok-read.read c.if-read-eq0.true inv.2
     bytes.0 in
     IfOk-weaker c.finish_and_write.result _ _
-    (λ tally h. told_tally _ _ tally (all_counted all (tally_from c.loop-call.letters) _ _ inv.0
+    (λ tally h. tally_of_rows _ _ tally (all_counted all (tally_from c.loop-call.letters) _ _ inv.0
     tally consumed (bytes.1 c.if-read-eq0.true some) inv.4 h))
     c.finish_and_write.ensures.tally
 
@@ -71,7 +71,7 @@ pub returns-then-read-eq0-clause-early : goal.returns-then-read-eq0-clause-early
 returns-then-read-eq0-clause-early g c =
     let all = letters_written (basis newest_rules c.args.register.now.lands c.args.edition
     c.args.settings) in
-    let inv = c.loop-call.invariant.taken in
+    let inv = c.loop-call.invariant.progress in
     let bytes = c.in-Ok-read.ensures.bytes in
     let some : 0 < length c.read.new.buffer =
     omega (
@@ -92,7 +92,7 @@ pub returns-then-read-eq0-clause-sink : goal.returns-then-read-eq0-clause-sink
 returns-then-read-eq0-clause-sink g c =
     let all = letters_written (basis newest_rules c.args.register.now.lands c.args.edition
     c.args.settings) in
-    let inv = c.loop-call.invariant.taken in
+    let inv = c.loop-call.invariant.progress in
     let bytes = c.in-Ok-read.ensures.bytes in
     let some : 0 < length c.read.new.buffer =
     omega (
@@ -118,7 +118,7 @@ pub returns-in_err-take_and_write-clause-early : goal.returns-in_err-take_and_wr
 returns-in_err-take_and_write-clause-early g c =
     let all = letters_written (basis newest_rules c.args.register.now.lands c.args.edition
     c.args.settings) in
-    let inv = c.loop-call.invariant.taken in
+    let inv = c.loop-call.invariant.progress in
     let read = c.in-Ok-read.read in
     let got = take read c.read.new.buffer in
     let full : length c.read.new.buffer ≡ c.loop-call.buffer.len =
@@ -132,7 +132,7 @@ returns-in_err-take_and_write-clause-early g c =
     ap (take read) (c.deref.ensures.value
     ∙ take_at c.read.new.buffer _ c.loop-call.buffer.len full) in
     let fault = c.in_err-take_and_write.field-0.0 in
-    told _ c.from_residual.result fault c.from_residual.ensures.1
+    err_of_fault _ c.from_residual.result fault c.from_residual.ensures.1
     (read_early all (text_from c.loop-call.letters) _ _ _ _ _ inv.0 got _ fault same
     (Consumes-then _ _ _ inv.0 got inv.2 c.in-Ok-read.ensures.bytes.0) inv.3
     c.in_err-take_and_write.ensures.early)
@@ -141,7 +141,7 @@ pub returns-in_err-take_and_write-clause-sink : goal.returns-in_err-take_and_wri
 returns-in_err-take_and_write-clause-sink g c =
     let all = letters_written (basis newest_rules c.args.register.now.lands c.args.edition
     c.args.settings) in
-    let inv = c.loop-call.invariant.taken in
+    let inv = c.loop-call.invariant.progress in
     let read = c.in-Ok-read.read in
     let got = take read c.read.new.buffer in
     let full : length c.read.new.buffer ≡ c.loop-call.buffer.len =
@@ -155,7 +155,7 @@ returns-in_err-take_and_write-clause-sink g c =
     ap (take read) (c.deref.ensures.value
     ∙ take_at c.read.new.buffer _ c.loop-call.buffer.len full) in
     let fault = c.in_err-take_and_write.field-0.0 in
-    told_ends _ _ c.from_residual.result fault c.from_residual.ensures.1
+    ends_by_fault _ _ c.from_residual.result fault c.from_residual.ensures.1
     (ends_weaker (is_write_fault fault) _ _ _ _ _ c.loop-call.invariant.sink
     (read_long all (text_from c.loop-call.letters) _ _ _ _ inv.0 got _ same
     (Consumes-then _ _ _ inv.0 got inv.2 c.in-Ok-read.ensures.bytes.0) inv.3)
@@ -165,7 +165,7 @@ pub returns-in_default-read-clause-source : goal.returns-in_default-read-clause-
 returns-in_default-read-clause-source g c =
     let all = letters_written (basis newest_rules c.args.register.now.lands c.args.edition
     c.args.settings) in
-    let inv = c.loop-call.invariant.taken in (
+    let inv = c.loop-call.invariant.progress in (
       inl (search rules),
       λ told. read_settled all c.loop-call.letters _ _ _ _ inv.0
           (Consumes-keeps _ _ _ inv.0 inv.2 c.in_default-read.ensures.bytes) inv.3,
@@ -180,7 +180,7 @@ returns-then-read-eq0-clause-source g c =
 pub returns-in_err-take_and_write-clause-source :
     goal.returns-in_err-take_and_write-clause-source
 returns-in_err-take_and_write-clause-source g c =
-    told_ends _ _ c.from_residual.result c.in_err-take_and_write.field-0.0
+    ends_by_fault _ _ c.from_residual.result c.in_err-take_and_write.field-0.0
     c.from_residual.ensures.1
     (unread_fault _ _ _ _ c.in_err-take_and_write.field-0.0
     (c.in-Ok-read.ensures.failed ∙ c.loop-call.invariant.source)
@@ -190,7 +190,7 @@ pub returns-clause-source : goal.returns-clause-source
 returns-clause-source g c =
     let all = letters_written (basis newest_rules c.args.register.now.lands c.args.edition
     c.args.settings) in
-    let inv = c.loop-call.invariant.taken in (
+    let inv = c.loop-call.invariant.progress in (
       inr (input_long _ _ inv.0 4294967295 (omega (arith, inv.1, c.loop-call-test.false)) inv.2),
       λ told. read_settled all c.loop-call.letters _ _ _ _ inv.0 inv.2 inv.3,
     )
@@ -199,7 +199,7 @@ pub loop-call-preserved : goal.loop-call-preserved
 loop-call-preserved g c =
     let all = letters_written (basis newest_rules c.args.register.now.lands c.args.edition
     c.args.settings) in
-    let inv = c.loop-call.invariant.taken in
+    let inv = c.loop-call.invariant.progress in
     let read = c.in-Ok-read.read in
     let got = take read c.read.new.buffer in
     let full : length c.read.new.buffer ≡ c.loop-call.buffer.len =
@@ -234,7 +234,7 @@ loop-call-preserved g c =
       empty = c.in_ok-take_and_write.ensures.empty;
       source = c.in-Ok-read.ensures.failed ∙ c.loop-call.invariant.source;
       sink = c.in_ok-take_and_write.ensures.sound ∙ c.loop-call.invariant.sink;
-      taken = (
+      progress = (
         inv.0 ++ got,
         omega (arith, inv.1, size, length-append inv.0 got, c.if-read-eq0.false),
         Consumes-then _ _ _ inv.0 got inv.2 c.in-Ok-read.ensures.bytes.0,

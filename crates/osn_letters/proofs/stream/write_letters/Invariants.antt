@@ -18,7 +18,7 @@ invariant-loop-call g l =
       empty : waiting l.letters.table.out ≡ [];
       source : g.R.Source.has_failed l.source ≡ g.R.Source.has_failed l.fn.source;
       sink : g.W.Sink.has_failed l.sink ≡ g.W.Sink.has_failed l.fn.sink;
-      taken : (read : List ℕ) × (l._call ≤ length read)
+      progress : (read : List ℕ) × (l._call ≤ length read)
           × Consumes (g.R.Source.remaining l.fn.source) (g.R.Source.remaining l.source) read
           × ((more : List ℕ)
           → Passes (g.W.Sink.contents l.fn.sink) (g.W.Sink.contents l.sink)

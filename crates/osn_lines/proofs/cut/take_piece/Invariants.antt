@@ -1,16 +1,17 @@
 use Rattle.std.proofs.Common.{◌+◌, ◌-◌, ◌≤◌, ℕ, List, ◌++◌, length, take}
-use Rattle.osn_lines.specs.Inside.{IsKept, IsTaken}
+use Rattle.osn_lines.specs.Inside.{IsUnended, IsTaken}
 use Rattle.osn_lines.proofs.cut.take_piece.Given as goal
 
--- the lines that end before `from` are taken, and `kept` has what stands before `from` of the next
+-- the lines that end before `from` are taken, and `unended` has what stands before `from` of the
+-- next
 abbrev pub invariant-loop-place : goal.invariant-loop-place
 invariant-loop-place g l =
     record {
       within : l.from ≤ length l.piece;
       count : l.lines ≤ l.fn.lines + l.from;
-      taken : (part : List ℕ) → IsKept l.fn.kept part →
+      progress : (part : List ℕ) → IsUnended l.fn.unended part →
           IsTaken g.T.LineTaker.after l.fn.taker l.taker (part ++ take l.from l.piece) l.fn.lines
-          l.lines (IsKept l.kept);
+          l.lines (IsUnended l.unended);
     }
 
 abbrev pub decreases-loop-place : goal.decreases-loop-place

@@ -7,8 +7,8 @@ use Rattle.osn_lines.proofs.LineLemmas.{lines-rest}
 use Rattle.osn_lines.proofs.TakeLemmas.{Takes-nothing}
 use Rattle.osn_lines.proofs.stream.take_rest.Goals as goal
 
-pub returns-then-is_empty-clause-taken : goal.returns-then-is_empty-clause-taken
-returns-then-is_empty-clause-taken g c part h =
+pub returns-then-is_empty-clause-takes : goal.returns-then-is_empty-clause-takes
+returns-then-is_empty-clause-takes g c part h =
     let none : part ≡ [] = c.is_empty.ensures.empty c.if-is_empty.true part h.0 in
     let no_lines : lines part ≡ [] = ap lines none in (
       subst (Takes g.T.LineTaker.after c.args.taker.now c.args.taker.now) (sym no_lines)
@@ -16,11 +16,11 @@ returns-then-is_empty-clause-taken g c part h =
       omega (arith, ap length no_lines),
     )
 
-pub returns-in-Ok-clause-taken : goal.returns-in-Ok-clause-taken
-returns-in-Ok-clause-taken g c part h =
+pub returns-in-Ok-clause-takes : goal.returns-in-Ok-clause-takes
+returns-in-Ok-clause-takes g c part h =
     let one = lines-rest part h.1 (c.is_empty.ensures.some c.if-is_empty.false part h.0) in (
       subst (Takes g.T.LineTaker.after c.args.taker.now c.take_line.new.taker) (sym one)
-          (c.in-Ok.ensures.taken part h.0),
+          (c.in-Ok.ensures.takes part h.0),
       omega (arith, ap length one),
     )
 

@@ -7,7 +7,7 @@ pub returns-in-LacksColumn : goal.returns-in-LacksColumn
 returns-in-LacksColumn g c =
     let fault = c.in-LacksColumn in
     let path = c.args.path.now in
-    rw fault.is (c.tell_line.ensures (lacks_line path fault.column fault.line fault.found)
+    rw fault.is (c.tell_line.ensures (lacks_line path fault.column fault.line fault.header)
     (IfOk-weaker c.lacks_line-told.result _ _
     (λ told is. is ∙ ap (lacks_line path fault.column fault.line) c.as_str.ensures.value)
     c.lacks_line-told.ensures))

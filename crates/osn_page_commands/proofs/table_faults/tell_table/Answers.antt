@@ -8,7 +8,7 @@ pub returns-in-LacksColumn : goal.returns-in-LacksColumn
 returns-in-LacksColumn g c =
     let fault = c.in-LacksColumn in
     let names = names_of c.args.names in
-    rw fault.is (c.tell_line.ensures (lacks_line names fault.column fault.line fault.found)
+    rw fault.is (c.tell_line.ensures (lacks_line names fault.column fault.line fault.header)
     (IfOk-weaker c.lacks_line-told.result _ _
     (λ told is. is ∙ ap (lacks_line names fault.column fault.line) c.as_str.ensures.value)
     c.lacks_line-told.ensures))

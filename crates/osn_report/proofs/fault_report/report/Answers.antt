@@ -2,61 +2,61 @@ use Rattle.std.proofs.Common.{refl}
 use Rattle.osn_lines.specs.Streams.{output_of}
 use Rattle.osn_report.specs.Fault.{older_line, refused_line}
 use Rattle.osn_report.specs.declared.fault.CommandFault.TheVariants as faults
-use Rattle.osn_report.proofs.TellLemmas.{refusal_told, same_told, told_by}
+use Rattle.osn_report.proofs.TellLemmas.{tells_refusal, tells_same, tells_by}
 use Rattle.osn_report.proofs.fault_report.report.Goals as goal
 
 pub returns-in-File : goal.returns-in-File
 returns-in-File g c =
     let told = output_of g.E.Sink.contents g.E.Sink.has_failed g.E.Sink.holds_back
     c.args.errors.now c.report_file.new.errors in
-    same_told told c.args.fault (faults.File c.in-File.fault) _ c.in-File.is c.report_file.ensures
+    tells_same told c.args.fault (faults.File c.in-File.fault) _ c.in-File.is c.report_file.ensures
 
 pub returns-in-Service : goal.returns-in-Service
 returns-in-Service g c =
     let told = output_of g.E.Sink.contents g.E.Sink.has_failed g.E.Sink.holds_back
     c.args.errors.now c.report_service.new.errors in
-    told_by told c.args.fault (faults.Service c.in-Service.fault) _ c.in-Service.is
+    tells_by told c.args.fault (faults.Service c.in-Service.fault) _ c.in-Service.is
     c.report_service.ensures
 
 pub returns-in-Refused : goal.returns-in-Refused
 returns-in-Refused g c =
     let told = output_of g.E.Sink.contents g.E.Sink.has_failed g.E.Sink.holds_back
     c.args.errors.now c.report_refusal.new.errors in
-    same_told told c.args.fault (faults.Refused c.in-Refused.refusal) _ c.in-Refused.is
+    tells_same told c.args.fault (faults.Refused c.in-Refused.refusal) _ c.in-Refused.is
     c.report_refusal.ensures
 
 pub returns-in-KeptWithOther : goal.returns-in-KeptWithOther
 returns-in-KeptWithOther g c =
     let told = output_of g.E.Sink.contents g.E.Sink.has_failed g.E.Sink.holds_back
     c.args.errors.now c.tell.new.errors in
-    told_by told c.args.fault faults.KeptWithOther _ c.in-KeptWithOther.is
+    tells_by told c.args.fault faults.KeptWithOther _ c.in-KeptWithOther.is
     (c.tell.ensures.status, c.tell.ensures.line)
 
 pub returns-in-Keep : goal.returns-in-Keep
 returns-in-Keep g c =
     let told = output_of g.E.Sink.contents g.E.Sink.has_failed g.E.Sink.holds_back
     c.args.errors.now c.report_keep.new.errors in
-    told_by told c.args.fault (faults.Keep c.in-Keep.fault) _ c.in-Keep.is c.report_keep.ensures
+    tells_by told c.args.fault (faults.Keep c.in-Keep.fault) _ c.in-Keep.is c.report_keep.ensures
 
 pub returns-in-KeptFile : goal.returns-in-KeptFile
 returns-in-KeptFile g c =
     let told = output_of g.E.Sink.contents g.E.Sink.has_failed g.E.Sink.holds_back
     c.args.errors.now c.report_kept_file.new.errors in
-    told_by told c.args.fault (faults.KeptFile c.in-KeptFile.fault) _ c.in-KeptFile.is
+    tells_by told c.args.fault (faults.KeptFile c.in-KeptFile.fault) _ c.in-KeptFile.is
     c.report_kept_file.ensures
 
 pub returns-in-FollowedWithOther : goal.returns-in-FollowedWithOther
 returns-in-FollowedWithOther g c =
     let told = output_of g.E.Sink.contents g.E.Sink.has_failed g.E.Sink.holds_back
     c.args.errors.now c.tell-in-FollowedWithOther.new.errors in
-    told_by told c.args.fault faults.FollowedWithOther _ c.in-FollowedWithOther.is
+    tells_by told c.args.fault faults.FollowedWithOther _ c.in-FollowedWithOther.is
     (c.tell-in-FollowedWithOther.ensures.status, c.tell-in-FollowedWithOther.ensures.line)
 
 pub returns-in-FollowedFile : goal.returns-in-FollowedFile
 returns-in-FollowedFile g c =
     let told = output_of g.E.Sink.contents g.E.Sink.has_failed g.E.Sink.holds_back
     c.args.errors.now c.report_followed_file.new.errors in
-    told_by told c.args.fault (faults.FollowedFile c.in-FollowedFile.fault) _ c.in-FollowedFile.is
+    tells_by told c.args.fault (faults.FollowedFile c.in-FollowedFile.fault) _ c.in-FollowedFile.is
     c.report_followed_file.ensures
 
 pub returns-in-OlderVersion : goal.returns-in-OlderVersion
@@ -64,8 +64,8 @@ returns-in-OlderVersion g c =
     let told = output_of g.E.Sink.contents g.E.Sink.has_failed g.E.Sink.holds_back
     c.args.errors.now c.tell_line.new.errors in
     let version = c.in-OlderVersion.version in
-    same_told told c.args.fault (faults.OlderVersion version) _ c.in-OlderVersion.is
-    (refusal_told told (faults.OlderVersion version) _ _ refl refl
+    tells_same told c.args.fault (faults.OlderVersion version) _ c.in-OlderVersion.is
+    (tells_refusal told (faults.OlderVersion version) _ _ refl refl
     (c.tell_line.ensures (older_line version) c.older_version.ensures))
 
 pub returns-in-RefusedLine : goal.returns-in-RefusedLine
@@ -73,25 +73,25 @@ returns-in-RefusedLine g c =
     let told = output_of g.E.Sink.contents g.E.Sink.has_failed g.E.Sink.holds_back
     c.args.errors.now c.tell_line-in-RefusedLine.new.errors in
     let line = c.in-RefusedLine.line in
-    same_told told c.args.fault (faults.RefusedLine line) _ c.in-RefusedLine.is
-    (refusal_told told (faults.RefusedLine line) _ _ refl refl
+    tells_same told c.args.fault (faults.RefusedLine line) _ c.in-RefusedLine.is
+    (tells_refusal told (faults.RefusedLine line) _ _ refl refl
     (c.tell_line-in-RefusedLine.ensures (refused_line line) c.refused_at.ensures))
 
 pub returns-in-NotOpened : goal.returns-in-NotOpened
 returns-in-NotOpened g c =
     let told = output_of g.E.Sink.contents g.E.Sink.has_failed g.E.Sink.holds_back
     c.args.errors.now c.tell-in-NotOpened.new.errors in
-    told_by told c.args.fault faults.NotOpened _ c.in-NotOpened.is
+    tells_by told c.args.fault faults.NotOpened _ c.in-NotOpened.is
     (c.tell-in-NotOpened.ensures.status, c.tell-in-NotOpened.ensures.line)
 
 pub returns-in-WriteFault : goal.returns-in-WriteFault
 returns-in-WriteFault g c =
     let told = output_of g.E.Sink.contents g.E.Sink.has_failed g.E.Sink.holds_back
     c.args.errors.now c.tell_write_fault.new.errors in
-    told_by told c.args.fault faults.WriteFault _ c.in-WriteFault.is c.tell_write_fault.ensures
+    tells_by told c.args.fault faults.WriteFault _ c.in-WriteFault.is c.tell_write_fault.ensures
 
 pub returns-in-NoMemory : goal.returns-in-NoMemory
 returns-in-NoMemory g c =
     let told = output_of g.E.Sink.contents g.E.Sink.has_failed g.E.Sink.holds_back
     c.args.errors.now c.tell_no_memory.new.errors in
-    told_by told c.args.fault faults.NoMemory _ c.in-NoMemory.is c.tell_no_memory.ensures
+    tells_by told c.args.fault faults.NoMemory _ c.in-NoMemory.is c.tell_no_memory.ensures

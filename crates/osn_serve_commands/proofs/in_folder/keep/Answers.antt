@@ -1,11 +1,11 @@
 use Rattle.std.proofs.Common.{inl, inr, refl}
-use Rattle.osn_journal.specs.Kept.{file_of}
+use Rattle.osn_journal.specs.KeptJournal.{file_of}
 use Rattle.osn_lines.specs.Streams.{input_of}
 use Rattle.osn_serve_commands.proofs.in_folder.keep.Goals as goal
 
 pub returns-in-Ok : goal.returns-in-Ok
 returns-in-Ok g c =
-    let file = g.D.Kept.KeptFile in
+    let file = g.D.Keeper.KeptFile in
     let state = file_of file.contents file.synced file.fault in
     let journal = c.keep_command-status.new.journal in
     inr (

@@ -1,6 +1,6 @@
 use Rattle.std.proofs.Common.{refl, sym, ◌∙◌}
 use Rattle.osn_invocation.specs.Invocation.{service_model}
-use Rattle.osn_serve_commands.proofs.OptionLemmas.{misused_with, kept_alone}
+use Rattle.osn_serve_commands.proofs.OptionLemmas.{misused_with, runs_alone}
 use Rattle.osn_serve_commands.proofs.in_folder.keep_alone.Goals as goal
 
 pub returns-then-is_given : goal.returns-then-is_given
@@ -11,6 +11,6 @@ returns-then-is_given g c =
 
 pub returns : goal.returns
 returns g c =
-    kept_alone (λ path. path.now) c.args.limits c.args.options.journal c.args.options.save _
+    runs_alone (λ path. path.now) c.args.limits c.args.options.journal c.args.options.save _
     (service_model c.args.options) _ _ _ _ _ _ (sym c.is_given.ensures ∙ c.if-is_given.false)
     (rw c.rules_of-rules.ensures at (c.keep.ensures))

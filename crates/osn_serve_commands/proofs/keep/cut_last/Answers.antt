@@ -1,6 +1,6 @@
 use Rattle.std.proofs.Common.{◌∙◌, inl, inr, refl, subst}
 use Rattle.osn_lines.specs.Streams.{output_of}
-use Rattle.osn_report.specs.Told.{WritesLine}
+use Rattle.osn_report.specs.Messages.{WritesLine}
 use Rattle.osn_serve_commands.proofs.ResultLemmas.{if_err_made}
 use Rattle.osn_serve_commands.proofs.keep.cut_last.Goals as goal
 

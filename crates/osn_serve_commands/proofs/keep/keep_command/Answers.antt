@@ -1,5 +1,5 @@
 use Rattle.std.proofs.Common.{inl, inr, refl}
-use Rattle.osn_journal.specs.Kept.{file_of}
+use Rattle.osn_journal.specs.KeptJournal.{file_of}
 use Rattle.osn_serve_commands.proofs.keep.keep_command.Goals as goal
 
 pub returns-in-Ok : goal.returns-in-Ok
@@ -12,7 +12,7 @@ returns-in-Ok g c =
       between = g.E.Sink.contents errors;
       failed = g.E.Sink.has_failed errors;
       held_back = g.E.Sink.holds_back errors;
-      told = h.1;
+      tells = h.1;
       ended = inr (c.in-Ok.object, state c.begin.new.keeper, h.2, c.keep_lines.ensures);
     }
 
@@ -25,6 +25,6 @@ returns-in-Err g c =
       between = g.E.Sink.contents errors;
       failed = g.E.Sink.has_failed errors;
       held_back = g.E.Sink.holds_back errors;
-      told = h.1;
+      tells = h.1;
       ended = inl (c.in-Err.fault, refl, c.report.ensures, h.2);
     }

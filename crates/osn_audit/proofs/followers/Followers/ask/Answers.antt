@@ -10,7 +10,7 @@ returns-clause-reply c =
     let s = c.self.inside in
     reply_set c.args.self.now.object s.object s.places.items (c.args.reader - 1) _ c.args.edition
     (as_query c.args.query) _ c.in_ok-answer.answer (ap (λ t. t.object) c.self.view_is) refl
-    (omega (arith, c.self.invariant.count, c.requires.counted, c.requires.known))
+    (omega (arith, c.self.invariant.count, c.requires.from_one, c.requires.known))
     c.requires.edition c.in_ok-answer.ensures.answer
 
 pub returns-clause-last : goal.returns-clause-last

@@ -1,7 +1,7 @@
 use Rattle.std.proofs.Common.{inl, inr, length, sym, subst}
 use Rattle.osn_core.specs.Control.{reader_at, look, readers_after}
 use Rattle.osn_core.specs.CoreInside.{IsPlaced}
-use Rattle.osn_core.proofs.Standing.{move_keeps, taken_or_not}
+use Rattle.osn_core.proofs.Standing.{move_keeps, next_or_old}
 use Rattle.osn_core.proofs.Placed.{look_placed}
 use Rattle.osn_core.proofs.machine.Core.look.Goals as goal
 
@@ -17,7 +17,7 @@ invariant_of-self c =
     record {
       side = c.self.invariant.side;
       lag = c.self.invariant.lag;
-      readers = λ r. elim (taken_or_not c.look.result c.look.new.self rs next c.look.ensures.ok
+      readers = λ r. elim (next_or_old c.look.result c.look.new.self rs next c.look.ensures.ok
           c.look.ensures.err) [
             | inl is ↦ subst (λ rs. IsPlaced live phase n (reader_at rs r)) (sym is)
                 (move_keeps (λ r. IsPlaced live phase n) looked rs c.args.reader

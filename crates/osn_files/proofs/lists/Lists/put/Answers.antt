@@ -1,7 +1,7 @@
 use Rattle.std.proofs.Common.{◌∙◌, ◌-◌, ◌<◌, ◌≤◌, length, ap, arith, subst, sym}
 use Rattle.std.proofs.lemmas.List.{length-map}
 use Rattle.osn_files.specs.QuestionsInside.{with_query_at}
-use Rattle.osn_files.proofs.QuestionLemmas.{with_query_at-put, with_query-counted}
+use Rattle.osn_files.proofs.QuestionLemmas.{with_query_at-put, with_query-from_one}
 use Rattle.osn_files.proofs.lists.Lists.put.Goals as goal
 
 pub returns : goal.returns
@@ -16,4 +16,4 @@ returns c =
     c.in_ok-push.ensures.items
     ∙ (ap (λ l. with_query_at l (c.args.reader - 1) c.args.query) c.self.view_is
     ∙ (c.in_ok-grow.ensures.same c.args.query
-    ∙ sym (with_query-counted _ c.args.reader c.args.query c.requires)))
+    ∙ sym (with_query-from_one _ c.args.reader c.args.query c.requires)))

@@ -1,6 +1,6 @@
 use Rattle.std.proofs.Common.{ap, sym, ◌∙◌, subst}
 use Rattle.std.proofs.lemmas.Result.{on_ok_weaker, IfErr-weaker, err_from_is_err_and}
-use Rattle.osn_files.specs.ReadingInside.{taken}
+use Rattle.osn_files.specs.ReadingInside.{after_line}
 use Rattle.osn_files.specs.Stops.{Stops}
 use Rattle.osn_files.specs.Turns.{on_read}
 use Rattle.osn_files.proofs.ReadLemmas.{Stops-fault}
@@ -15,7 +15,7 @@ returns-in_err-text-clause-err g c =
 pub returns-clause-ok : goal.returns-clause-ok
 returns-clause-ok g c =
     let state = g.F.LineFold.state c.args.fold.now in
-    let make = taken (g.F.LineFold.step c.args.fold.now) c.args.version.now state in
+    let make = after_line (g.F.LineFold.step c.args.fold.now) c.args.version.now state in
     on_ok_weaker c.take_text.result
     (λ one. (
       λ whole is. ap (λ r. on_read r make) (c.in_ok-text.ensures.object whole is) ∙ one.0,
@@ -26,7 +26,7 @@ returns-clause-ok g c =
 pub returns-clause-err : goal.returns-clause-err
 returns-clause-err g c =
     let state = g.F.LineFold.state c.args.fold.now in
-    let make = taken (g.F.LineFold.step c.args.fold.now) c.args.version.now state in
+    let make = after_line (g.F.LineFold.step c.args.fold.now) c.args.version.now state in
     IfErr-weaker c.take_text.result _ _
     (λ why stop whole is. subst (λ r. Stops (on_read r make) why)
     (sym (c.in_ok-text.ensures.object whole is)) stop)

@@ -2,8 +2,8 @@ use Rattle.std.proofs.lemmas.Result.{on_ok_weaker, IfErr-weaker}
 use Rattle.osn_files.proofs.ReadLemmas.{Reads-line, StopsReading-line}
 use Rattle.osn_files.proofs.reading.ReadingLineTaker.take.Goals as goal
 
-pub returns-clause-taken : goal.returns-clause-taken
-returns-clause-taken g c =
+pub returns-clause-takes : goal.returns-clause-takes
+returns-clause-takes g c =
     on_ok_weaker c.take_line.result
     (λ one whole is begun before h.
     Reads-line g.F.LineFold.step g.F.LineFold.state begun c.args.self.now

@@ -2,7 +2,7 @@ use Rattle.std.proofs.Common.{◌++◌, ◌∙◌, sym, subst, List, ℕ}
 use Rattle.osn_lines.specs.Ended.{ended_bytes}
 use Rattle.osn_follower.specs.FollowerInside.{StandsForLines}
 use Rattle.osn_follower.proofs.FrontLemmas.{ended-added, few-added, long_of, not_long, rest-added}
-use Rattle.osn_follower.proofs.LineLemmas.{rest-pass, told-pass}
+use Rattle.osn_follower.proofs.LineLemmas.{rest-pass, no_line-pass}
 use Rattle.osn_follower.proofs.line_front.LineFront.read.Goals as goal
 use Rattle.osn_follower.proofs.line_front.LineFront.read.Goals.{else-len-gt-LONGEST_LINE-via-then-len-gt-LONGEST_LINE+else-ended_length-eq0, else-len-gt-LONGEST_LINE-via-else-len-gt-LONGEST_LINE}
 
@@ -10,7 +10,7 @@ pub returns-then-ended_length-eq0-clause-lines : goal.returns-then-ended_length-
 returns-then-ended_length-eq0-clause-lines c = λ waiting h.
     subst (λ (l : List ℕ). StandsForLines l (ended_bytes (waiting ++ c.args.more.now)))
     (sym c.new.ensures.items)
-    (told-pass waiting c.args.more.now c.args.self.now h
+    (no_line-pass waiting c.args.more.now c.args.self.now h
     (sym c.ended_length.ensures.value ∙ c.if-ended_length-eq0.true))
 
 pub returns-then-ended_length-eq0-clause-rest : goal.returns-then-ended_length-eq0-clause-rest

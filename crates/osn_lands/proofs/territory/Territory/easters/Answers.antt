@@ -2,7 +2,7 @@ use Rattle.std.proofs.Common.{◌++◌, sym, ap, ◌∙◌}
 use Rattle.osn_days.specs.Profile.{newest_rules}
 use Rattle.osn_lands.specs.EasterSearch.{days_in_order}
 use Rattle.osn_lands.proofs.EasterFacts.{easters_are}
-use Rattle.osn_lands.proofs.KeptFacts.{kept_easters}
+use Rattle.osn_lands.proofs.EarlierRulesFacts.{same_easters}
 use Rattle.osn_lands.proofs.territory.Territory.easters.Goals as goal
 
 pub returns-clause-value : goal.returns-clause-value
@@ -14,6 +14,6 @@ returns-clause-value c =
     ∙ easters_are newest_rules c.args.self.now c.args.year one other (sym c.exception.ensures
     ∙ c.in_default.is) c.easter_in_force-julian.ensures c.easter_in_force-gregorian.ensures
 
-pub returns-clause-kept : goal.returns-clause-kept
-returns-clause-kept c year =
-    returns-clause-value c ∙ kept_easters c.args.self.now c.args.year year
+pub returns-clause-earlier_rules : goal.returns-clause-earlier_rules
+returns-clause-earlier_rules c year =
+    returns-clause-value c ∙ same_easters c.args.self.now c.args.year year

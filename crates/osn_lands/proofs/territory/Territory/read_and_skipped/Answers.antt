@@ -1,7 +1,7 @@
 use Rattle.std.proofs.Common.{subst, sym}
 use Rattle.osn_days.specs.Profile.{first_rules}
-use Rattle.osn_lands.specs.Kept.{KeepsReading}
-use Rattle.osn_lands.proofs.KeptFacts.{kept_reading}
+use Rattle.osn_lands.specs.EarlierRules.{KeepsReading}
+use Rattle.osn_lands.proofs.EarlierRulesFacts.{same_reading}
 use Rattle.osn_lands.proofs.territory.Territory.read_and_skipped.Goals as goal
 
 pub returns-clause-skipped : goal.returns-clause-skipped
@@ -10,8 +10,8 @@ returns-clause-skipped c = rw c.new-search.ensures.label at c.in_ok-skipped.ensu
 pub returns-clause-read : goal.returns-clause-read
 returns-clause-read c = rw c.new-search.ensures.label at c.in_ok-days.ensures.value
 
-pub returns-clause-kept : goal.returns-clause-kept
-returns-clause-kept c =
+pub returns-clause-earlier_rules : goal.returns-clause-earlier_rules
+returns-clause-earlier_rules c =
     let t = c.args.self.now in
     subst (KeepsReading first_rules t c.args.label) (sym (returns-clause-read c))
-    (kept_reading t c.args.label)
+    (same_reading t c.args.label)

@@ -4,18 +4,18 @@ use Rattle.osn_letters.specs.LettersInside.{Wrote, text_after}
 use Rattle.osn_letters.specs.Table.{whole}
 use Rattle.osn_letters.specs.WriterInside.{waiting}
 use Rattle.osn_letters.proofs.CountFacts.{end_counted}
-use Rattle.osn_letters.proofs.LetterFacts.{told, end_taken, end_stops, end_stops_held}
+use Rattle.osn_letters.proofs.LetterFacts.{err_of_fault, end_taken, end_stops, end_stops_held}
 use Rattle.osn_letters.proofs.PassFacts.{last_stops}
 use Rattle.osn_letters.proofs.letters.Letters.finish.Goals as goal
 
 pub returns-in_err-take_held-clause-stops : goal.returns-in_err-take_held-clause-stops
-returns-in_err-take_held-clause-stops c = told _ c.from_residual.result
+returns-in_err-take_held-clause-stops c = err_of_fault _ c.from_residual.result
     c.in_err-take_held.field-0.0 c.from_residual.ensures.1
     (end_stops_held c.args.self.now c.take_held.new.self c.in_err-take_held.field-0.0
     c.in_err-take_held.ensures.stops)
 
 pub returns-in_err-take_last-clause-stops : goal.returns-in_err-take_last-clause-stops
-returns-in_err-take_last-clause-stops c = told _ c.from_residual-in_err-take_last.result
+returns-in_err-take_last-clause-stops c = err_of_fault _ c.from_residual-in_err-take_last.result
     c.in_err-take_last.field-0.0 c.from_residual-in_err-take_last.ensures.1
     (end_stops c.args.self.now c.take_held.new.self (waiting c.take_last.new.self.table.out)
     c.in_err-take_last.field-0.0 c.in_ok-take_held.ensures.takes

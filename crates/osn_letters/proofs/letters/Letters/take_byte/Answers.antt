@@ -2,7 +2,8 @@ use Rattle.std.proofs.Common.{◌≡◌, ◌∙◌, [], ◌∷◌, None, rules}
 use Rattle.std.proofs.lemmas.Result.{on_ok_weaker, IfErr-weaker}
 use Rattle.osn_letters.specs.Start.{held, next_start}
 use Rattle.osn_letters.proofs.CountFacts.{after_counted, mark_counted, text_counted}
-use Rattle.osn_letters.proofs.LetterFacts.{told, mark_taken, text_taken, text_stops, stops_first}
+use Rattle.osn_letters.proofs.LetterFacts.{err_of_fault, mark_taken, text_taken, text_stops}
+use Rattle.osn_letters.proofs.LetterFacts.{stops_first}
 use Rattle.osn_letters.proofs.LetterFacts.{after_then, after_stops}
 use Rattle.osn_letters.proofs.letters.Letters.take_byte.Goals as goal
 
@@ -14,7 +15,7 @@ pub returns-in_err-take_held-clause-stops : goal.returns-in_err-take_held-clause
 returns-in_err-take_held-clause-stops c =
     let s = c.args.self.now in
     let none : next_start s.start c.args.byte ≡ None = search rules in
-    told _ c.from_residual.result c.in_err-take_held.field-0.0 c.from_residual.ensures.1
+    err_of_fault _ c.from_residual.result c.in_err-take_held.field-0.0 c.from_residual.ensures.1
     (text_stops s c.take_held.new.self c.args.byte c.in_err-take_held.field-0.0 none
     (stops_first s c.take_held.new.self (held s.start) (c.args.byte ∷ [])
     c.in_err-take_held.field-0.0 c.in_err-take_held.ensures.stops))

@@ -1,11 +1,11 @@
 use Rattle.std.proofs.lemmas.Result.{on_ok_weaker, IfErr-weaker}
 use Rattle.osn_letters.proofs.CountFacts.{held_counted}
-use Rattle.osn_letters.proofs.LetterFacts.{told, held_takes, held_stops, held_stops_first}
+use Rattle.osn_letters.proofs.LetterFacts.{err_of_fault, held_takes, held_stops, held_stops_first}
 use Rattle.osn_letters.proofs.letters.Letters.take_held.Goals as goal
 
 pub returns-in_err-take_after-in-TwoBytes-clause-stops :
     goal.returns-in_err-take_after-in-TwoBytes-clause-stops
-returns-in_err-take_after-in-TwoBytes-clause-stops c = told _ c.from_residual.result
+returns-in_err-take_after-in-TwoBytes-clause-stops c = err_of_fault _ c.from_residual.result
     c.in_err-take_after-in-TwoBytes.field-0.0 c.from_residual.ensures.1
     (held_stops_first c.args.self.now c.take_after-in-TwoBytes.new.self c.args.self.now.start
     c.in_err-take_after-in-TwoBytes.field-0.0 c.in-TwoBytes.is

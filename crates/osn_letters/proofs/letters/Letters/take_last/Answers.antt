@@ -4,17 +4,17 @@ use Rattle.osn_letters.specs.LettersInside.{Wrote, text_after}
 use Rattle.osn_letters.specs.TableInside.{written_of}
 use Rattle.osn_letters.specs.WriterInside.{waiting}
 use Rattle.osn_letters.proofs.LastFacts.{last_refused, last_taken, none_last}
-use Rattle.osn_letters.proofs.LetterFacts.{told, end_refused}
+use Rattle.osn_letters.proofs.LetterFacts.{err_of_fault, end_refused}
 use Rattle.osn_letters.proofs.letters.Letters.take_last.Goals.{in-Some+in_ok-take, in_default}
 use Rattle.osn_letters.proofs.letters.Letters.take_last.Goals as goal
 
 pub returns-in_err-line-clause-stops : goal.returns-in_err-line-clause-stops
-returns-in_err-line-clause-stops c = told _ c.from_residual.result c.in_err-line.field-0.0
+returns-in_err-line-clause-stops c = err_of_fault _ c.from_residual.result c.in_err-line.field-0.0
     c.from_residual.ensures.1
     (end_refused c.args.self.now c.in_err-line.field-0.0 c.in_err-line.ensures.fault)
 
 pub returns-in_err-take-clause-stops : goal.returns-in_err-take-clause-stops
-returns-in_err-take-clause-stops c = told _ c.from_residual-in_err-take.result
+returns-in_err-take-clause-stops c = err_of_fault _ c.from_residual-in_err-take.result
     c.in_err-take.field-0.0 c.from_residual-in_err-take.ensures.1
     (last_refused c.args.self.now c.take.new.self c.finish.new.self c.in-Some.line _
     c.in_err-take.field-0.0 c.separator-separator.ensures

@@ -8,6 +8,6 @@ invariant-loop-byte l =
     record {
       ready : IsReady l.self;
       line : l.self.parser.line ≤ l.initial.self.parser.line + l.byte-index;
-      taken : TakesBytes l.initial.self l.self (take l.byte-index l.piece);
-      counted : CountsBytes l.initial.self l.self (take l.byte-index l.piece);
+      takes : TakesBytes l.initial.self l.self (take l.byte-index l.piece);
+      counts : CountsBytes l.initial.self l.self (take l.byte-index l.piece);
     }

@@ -9,6 +9,6 @@ invariant-loop-byte l =
     record {
       partial : partial_of l.self.parser.fields ≡ [];
       line : l.self.parser.line ≤ 1 + l.byte-index;
-      found : found_from l.initial.self l.bytes
+      entries : found_from l.initial.self l.bytes
           ≡ found_from l.self (drop l.byte-index l.bytes);
     }

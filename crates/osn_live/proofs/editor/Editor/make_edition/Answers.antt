@@ -3,7 +3,7 @@ use Rattle.osn_days.specs.Profile.{newest_rules}
 use Rattle.osn_register.specs.declared.edit.Edit.{Edit}
 use Rattle.osn_register.specs.Plain.{LandModel}
 use Rattle.osn_core.specs.Draft.{object_of, IsDraftOf}
-use Rattle.osn_core.proofs.DraftFacts.{draft_shown, edition_made}
+use Rattle.osn_core.proofs.DraftFacts.{draft_register, edition_made}
 use Rattle.osn_live.specs.Certificate.{CertificateState}
 use Rattle.osn_live.proofs.editor.Editor.make_edition.Goals as goal
 
@@ -18,7 +18,7 @@ new-next-requires g c =
     ∙ c.in_ok-published.ensures.value
     ∙ c.register.ensures
     ∙ ap (λ (ls : List LandModel). record { limits = d.register.limits; lands = ls })
-    (c.self.invariant.draft.lands ∙ draft_shown newest_rules (object_of d batches)))
+    (c.self.invariant.draft.lands ∙ draft_register newest_rules (object_of d batches)))
 
 pub invariant_of-self-2 : goal.invariant_of-self-2
 invariant_of-self-2 g c =

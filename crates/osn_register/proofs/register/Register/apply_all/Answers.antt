@@ -5,7 +5,7 @@ use Rattle.osn_days.specs.Profile.{newest_rules}
 use Rattle.osn_register.specs.declared.edit.Edit.{Edit}
 use Rattle.osn_register.specs.Plain.{applied, applied_all, apply_takes_memory}
 use Rattle.osn_register.specs.Plain.{fold_takes_memory}
-use Rattle.osn_register.proofs.Kept.{on_err}
+use Rattle.osn_register.proofs.LandFacts.{on_err}
 use Rattle.osn_register.proofs.register.Register.apply_all.Goals as goal
 
 left_from : (es : List Edit) (i : ℕ) (e : Edit) → i < length es → e ≡ get_or es i e →

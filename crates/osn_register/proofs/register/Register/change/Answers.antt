@@ -9,7 +9,7 @@ use Rattle.osn_register.specs.declared.register.NamedTerritory.{NamedTerritory}
 use Rattle.osn_register.specs.Plain.{territory_of, with_territory, IsWellFormed}
 use Rattle.osn_register.specs.InsideChange.{change_refusal, territory_after}
 use Rattle.osn_register.specs.Inside.{register_in}
-use Rattle.osn_register.proofs.Kept.{territory_of-map}
+use Rattle.osn_register.proofs.LandFacts.{territory_of-map}
 use Rattle.osn_register.proofs.TerritoryFacts.{register-with, lawful_in, no_territory, still_sound}
 use Rattle.osn_register.proofs.TerritoryFacts.{with_same, IsWellFormed-with}
 use Rattle.osn_register.proofs.register.Register.change.Goals as goal

@@ -3,8 +3,8 @@ use Rattle.osn_days.specs.Profile.{newest_rules}
 use Rattle.osn_register.specs.declared.register.NamedTerritory.{NamedTerritory}
 use Rattle.osn_register.specs.Plain.{IsWellFormed}
 use Rattle.osn_register.specs.Inside.{land_in}
-use Rattle.osn_register.proofs.Kept.{copied_absent, copied_room, copied_within, copied_more}
-use Rattle.osn_register.proofs.Kept.{copied_some, same_register, on_err}
+use Rattle.osn_register.proofs.LandFacts.{copied_absent, copied_room, copied_within, copied_more}
+use Rattle.osn_register.proofs.LandFacts.{copied_some, same_register, on_err}
 use Rattle.osn_register.proofs.register.Register.copy.Goals as goal
 use Rattle.osn_register.proofs.register.Register.copy.Goals.{After-as_str}
 

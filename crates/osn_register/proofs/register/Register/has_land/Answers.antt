@@ -1,6 +1,6 @@
 use Rattle.std.proofs.Common.{ap, sym, ◌∙◌, is_some, string_bytes}
 use Rattle.osn_register.specs.Plain.{land_of}
-use Rattle.osn_register.proofs.Kept.{land_of-map}
+use Rattle.osn_register.proofs.LandFacts.{land_of-map}
 use Rattle.osn_register.proofs.register.Register.has_land.Goals as goal
 
 pub returns : goal.returns

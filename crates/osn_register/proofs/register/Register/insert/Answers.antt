@@ -6,7 +6,7 @@ use Rattle.indexmap.proofs.CallerLemmas.{insert_entry-new}
 use Rattle.osn_days.specs.Profile.{newest_rules}
 use Rattle.osn_register.specs.Plain.{LandModel, RegisterModel, land_of, IsWellFormed}
 use Rattle.osn_register.specs.Inside.{register_in}
-use Rattle.osn_register.proofs.Kept.{land_of-none, kept_new, IsWellFormed-push}
+use Rattle.osn_register.proofs.LandFacts.{land_of-none, lands_with_new, IsWellFormed-push}
 use Rattle.osn_register.proofs.register.Register.insert.Goals as goal
 
 abbrev with_lands : RegisterModel → List LandModel → RegisterModel
@@ -34,8 +34,8 @@ added c =
     (ap (λ r. land_of (string_bytes c.args.code) r.lands) c.self.view_is ∙ c.requires.absent) in
     let entries = c.in_ok-insert.ensures.entries ∙ insert_entry-new string_eq c.self.inside.lands
     c.args.code c.args.entry none in
-    let lands = kept_new string_bytes (λ v. v.name) (λ v. v.territory) es c.insert.new.self.entries
-    c.args.code c.args.entry (new_land c) entries refl refl refl in
+    let lands = lands_with_new string_bytes (λ v. v.name) (λ v. v.territory) es
+    c.insert.new.self.entries c.args.code c.args.entry (new_land c) entries refl refl refl in
     ap (with_lands (register_in c.self.inside)) lands ∙ ap (with_new (new_land c)) c.self.view_is
 
 pub invariant_of-self-2 : goal.invariant_of-self-2

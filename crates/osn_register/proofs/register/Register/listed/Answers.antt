@@ -6,7 +6,7 @@ use Rattle.osn_register.specs.declared.register.NamedTerritory.{NamedTerritory}
 use Rattle.osn_register.specs.Answer as spec
 use Rattle.osn_register.specs.Inside.{land_in}
 use Rattle.osn_register.specs.Plain.{LandModel}
-use Rattle.osn_register.proofs.Kept.{on_err}
+use Rattle.osn_register.proofs.LandFacts.{on_err}
 use Rattle.osn_register.proofs.register.Register.listed.Goals as goal
 
 -- the territories that are listed, with one more after them, and those that are left are all

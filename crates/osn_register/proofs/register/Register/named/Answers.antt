@@ -2,7 +2,7 @@ use Rattle.std.proofs.Common.{ℕ, List, Some, ap, sym, ◌∙◌, is_some, opti
 use Rattle.osn_lands.specs.Territory.{TerritoryModel}
 use Rattle.osn_register.specs.Plain.{land_of}
 use Rattle.osn_register.specs.Named.{named_of}
-use Rattle.osn_register.proofs.Kept.{land_of-map}
+use Rattle.osn_register.proofs.LandFacts.{land_of-map}
 use Rattle.osn_register.proofs.NamedFacts.{named_of-map}
 use Rattle.osn_register.proofs.register.Register.named.Goals as goal
 

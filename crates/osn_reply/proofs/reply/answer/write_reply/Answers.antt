@@ -4,7 +4,7 @@ use Rattle.osn_computus.specs.FigureTexts.{epact_text}
 use Rattle.osn_format.specs.Json.{whole}
 use Rattle.osn_reply.specs.ReplyText as spec
 use Rattle.osn_format.proofs.WriteLemmas.{at_last}
-use Rattle.osn_reply.proofs.LineLemmas.{told}
+use Rattle.osn_reply.proofs.LineLemmas.{whole_reply}
 use Rattle.osn_reply.proofs.reply.answer.write_reply.Goals as goal
 
 -- what holds of a result that is good
@@ -16,7 +16,7 @@ given begun x (Err e) was is h = let none : Err e ≡ Ok x = sym is ∙ was in c
 pub returns-clause-text : goal.returns-clause-text
 returns-clause-text c =
     let reply =
-    told c.args.out.now.text c.match-reply.out.text c.end_reply.new.out.text c.args.reader
+    whole_reply c.args.out.now.text c.match-reply.out.text c.end_reply.new.out.text c.args.reader
     c.args.reply.now.edition in
     at_last c.end_reply.result c.end_reply.ensures.text
     (λ e. elim c.match-reply.branch [

@@ -43,8 +43,8 @@ returns-then-self-clause-stop g c whole is begun before h =
     (record { settles = room.ok; object = refl; sound = room.sound }) room.room
     (c.in_ok-refused.ensures whole is) c.if-refused.true c.if-self.true
 
-pub returns-clause-taken : goal.returns-clause-taken
-returns-clause-taken g c whole is begun before h =
+pub returns-clause-takes : goal.returns-clause-takes
+returns-clause-takes g c whole is begun before h =
     let room = c.in_ok-make_room.ensures in
     let mid = moment g.W.Sink.contents g.W.Sink.has_failed g.S.Store.state
     c.args.self.now.store.now c.make_room.new.sink c.make_room.new.waiting in

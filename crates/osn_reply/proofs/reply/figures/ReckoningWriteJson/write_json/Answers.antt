@@ -21,7 +21,7 @@ returns-clause-text g c =
     )
     (chain c.args.out.now.text
     ((codes "{\"easter\":", decimal c.args.self.now.easter)
-    ∷ (codes ",\"epact\":", compact_text (g.E.WriteJson.shown c.args.self.now.epact))
+    ∷ (codes ",\"epact\":", compact_text (g.E.WriteJson.json_value c.args.self.now.epact))
     ∷ (codes ",\"letters\":", quoted (letters_text c.args.self.now.letters))
     ∷ [])
     (codes "}")))

@@ -64,6 +64,6 @@ last_year Swedish n on =
     (λ _. search arith)
     (λ _. last_julian_year n on)
 
-pub kept_year : (c : Calendar) (n : ℕ) → IsDay first_rules n
+pub year_of_first_rules : (c : Calendar) (n : ℕ) → IsDay first_rules n
     → IsYearNumber first_rules (date_of c n).year
-kept_year c n on = ((chain_small c (n - 1)).year_low, last_year c n on)
+year_of_first_rules c n on = ((chain_small c (n - 1)).year_low, last_year c n on)

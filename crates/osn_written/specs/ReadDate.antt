@@ -32,21 +32,21 @@ abbrev pub one_day : AnyDate → Option WrittenDate
 one_day w = result_ok (day_in w.extent w.weekday)
 
 -- what the grammar reads, by the faults of this crate
-abbrev pub form_said : Result Written FormFault → Result Written DateFault
-form_said (Ok said) = Ok said
-form_said (Err fault) = Err (fault_of fault)
+abbrev pub grammar_date : Result Written FormFault → Result Written DateFault
+grammar_date (Ok date) = Ok date
+grammar_date (Err fault) = Err (fault_of fault)
 
 -- what is said in another form. Where nothing is said so, the fault of the usual forms
-abbrev pub else_said : DateFault → Result Written DateFault → Result Written DateFault
-else_said fault (Err faults.Malformed) = Err fault
-else_said fault said = said
+abbrev pub other_form : DateFault → Result Written DateFault → Result Written DateFault
+other_form fault (Err faults.Malformed) = Err fault
+other_form fault other = other
 
 -- the usual forms come first
-abbrev pub or_said : Result WrittenDate DateFault → Result Written DateFault
+abbrev pub usual_or_other : Result WrittenDate DateFault → Result Written DateFault
     → Result Written DateFault
-or_said (Ok w) other = Ok (Date (any_of w))
-or_said (Err fault) other = else_said fault other
+usual_or_other (Ok w) other = Ok (Date (any_of w))
+usual_or_other (Err fault) other = other_form fault other
 
 -- what a text says of a date, or why it says nothing of one
-unfoldable pub said : DateOrder → List ℕ → Result Written DateFault
-said o text = or_said (usual_date text) (form_said (written o text))
+unfoldable pub read_date : DateOrder → List ℕ → Result Written DateFault
+read_date o text = usual_or_other (usual_date text) (grammar_date (written o text))

@@ -216,7 +216,7 @@ fn push_set(
 }
 
 /// What a text means in a territory.
-fn found(alloc: Global, territory: &Territory, text: &str) -> Result<String, AllocError> {
+fn meaning_of(alloc: Global, territory: &Territory, text: &str) -> Result<String, AllocError> {
     let mut out = String::new(alloc);
     match read_date(alloc, text, DateOrder::Unknown)? {
         Ok(Written::Date(date)) => match date.reckoning {
@@ -241,7 +241,7 @@ fn mean(
     rows: &[(&str, &str)],
 ) -> Result<(), AllocError> {
     for (text, wanted) in rows {
-        let found = found(alloc, territory, text)?;
+        let found = meaning_of(alloc, territory, text)?;
         same(rt, (*text, found.as_str()), (*text, *wanted));
     }
     Ok(())

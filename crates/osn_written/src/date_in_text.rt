@@ -1,7 +1,7 @@
 //! A text is read with all that it says of a date: in the usual forms, or else in those of
 //! `osn_grammar`.
 ghost use Rattle.std.specs.Prelude.{◌≡◌, false, is_ok, IfOk, OnErr};
-ghost use Rattle.osn_written.specs.Said as spec;
+ghost use Rattle.osn_written.specs.ReadDate as spec;
 ghost use Rattle.osn_written.specs.WrittenDate.{usual_date};
 
 use crate::reading::{day_in, fault_of};
@@ -43,8 +43,8 @@ impl WrittenDate {
 }
 
 /// What the grammar reads, by the faults of this crate.
-fn form_said(read: Result<Written, FormFault>) -> Result<Written, DateFault>
-    ensures { result ≡ spec.form_said read }
+fn grammar_date(read: Result<Written, FormFault>) -> Result<Written, DateFault>
+    ensures { result ≡ spec.grammar_date read }
 {
     match read {
         Ok(written) => Ok(written),
@@ -53,12 +53,12 @@ fn form_said(read: Result<Written, FormFault>) -> Result<Written, DateFault>
 }
 
 /// What is said in another form. Where nothing is said so, the fault of the usual forms.
-fn else_said(fault: DateFault, said: Result<Written, DateFault>) -> Result<Written, DateFault>
-    ensures { result ≡ spec.else_said fault said }
+fn other_form(fault: DateFault, other: Result<Written, DateFault>) -> Result<Written, DateFault>
+    ensures { result ≡ spec.other_form fault other }
 {
-    match said {
+    match other {
         Err(DateFault::Malformed) => Err(fault),
-        _ => said,
+        _ => other,
     }
 }
 
@@ -69,13 +69,13 @@ fn else_said(fault: DateFault, said: Result<Written, DateFault>) -> Result<Writt
 /// # Errors
 ///
 /// Want of memory, which a day in the usual forms never wants.
-#[tactic(auto, unfolding(crate::specs::Said::said))]
+#[tactic(auto, unfolding(crate::specs::ReadDate::read_date))]
 pub fn read_date(
     alloc: Global,
     text: &str,
     order: DateOrder,
 ) -> Result<Result<Written, DateFault>, AllocError>
-    ensures value { IfOk result (λ said. said ≡ spec.said order text.now) }
+    ensures value { IfOk result (λ date. date ≡ spec.read_date order text.now) }
     // a text in the usual forms is read without memory
     ensures memory { OnErr result (is_ok (usual_date text.now) ≡ false) }
 {
@@ -83,7 +83,7 @@ pub fn read_date(
         Ok(date) => Ok(Ok(Written::Date(date.with_no_qualifier()))),
         Err(fault) => {
             let read = osn_grammar::parse(alloc, text, order)?;
-            Ok(else_said(fault, form_said(read)))
+            Ok(other_form(fault, grammar_date(read)))
         }
     }
 }

@@ -1,4 +1,4 @@
-//! What is kept of a line from one piece to the next.
+//! What has come of a line that has not ended, from one piece to the next.
 ghost use Rattle.std.specs.Prelude.{◌≡◌, ◌<◌, ℕ, List, [], ◌++◌, IsTrue, length, true, false, OnOk};
 ghost use Rattle.osn_lines.specs.Inside.{Holds};
 ghost use Rattle.osn_lines.specs.Lines.{IsLine};
@@ -8,17 +8,17 @@ use std::alloc::{AllocError, Global};
 
 /// What has come of a line that has not ended: its bytes, or that they were too many.
 #[derive(Drop)]
-pub(crate) struct Kept {
+pub(crate) struct UnendedLine {
     bytes: Vec<u8>,
     is_too_long: bool,
 }
 
-impl Kept {
+impl UnendedLine {
     /// Nothing has come.
-    pub(crate) fn new(alloc: Global) -> Kept
+    pub(crate) fn new(alloc: Global) -> UnendedLine
         ensures { Holds result [] }
     {
-        Kept {
+        UnendedLine {
             bytes: Vec::new(alloc),
             is_too_long: false,
         }

@@ -9,7 +9,7 @@ use Rattle.osn_service.specs.declared.store.Change.{Change}
 use Rattle.osn_service.specs.declared.store.Change.TheVariants.{Stage, Publish}
 use Rattle.osn_service.specs.declared.store.StoreFault.{StoreFault}
 use Rattle.osn_service.specs.declared.store.StoreFault.TheVariants.{NoMemory, NotKept}
-use Rattle.osn_journal.specs.Kept.{FileState}
+use Rattle.osn_journal.specs.KeptJournal.{FileState}
 
 -- the line of a change
 abbrev pub change_line : Change → List ℕ

@@ -37,7 +37,7 @@ fn copy(alloc: Global, bytes: &[u8]) -> Result<Vec<u8>, AllocError>
 impl MemoryFile {
     /// Notes that a change failed, for this reason.
     fn fail(&mut self, fault: KeptFileFault) -> Result<(), KeptFileFault>
-        ensures told { result ≡ Err fault }
+        ensures err { result ≡ Err fault }
         ensures fault { self.new.fault ≡ Some fault }
         ensures contents { self.new.contents ≡ self.old.contents }
         ensures synced { self.new.synced ≡ self.old.synced }

@@ -1,4 +1,4 @@
--- What arrives, what is told of it, and what was written.
+-- What arrives, its outcomes, and what was written.
 use Rattle.std.proofs.Common.{◌≡◌, ◌∙◌, ◌+◌, ◌<◌, ℕ, false, List, [], ◌∷◌}
 use Rattle.std.proofs.Common.{◌++◌}
 use Rattle.std.proofs.Common.{take, length, Option, Some, None, Ok, Err, refl, sym, ap}
@@ -23,7 +23,7 @@ use Rattle.osn_follower.specs.Arrivals.{file_of}
 use Rattle.osn_follower.specs.Follows.{IsFirstRefused}
 use Rattle.osn_follower.specs.Follows.{WritesAll, WritesFirst, WritesInPart}
 use Rattle.osn_follower.specs.RoundInside.{waiting_after}
-use Rattle.osn_follower.specs.Told.{outcomes, shown, told, told_by, texts}
+use Rattle.osn_follower.specs.Outcomes.{outcomes, journal_object, outcomes_of, outcomes_then, texts}
 
 -- ---- what arrived
 
@@ -54,36 +54,37 @@ pub file-round : (bytes gained : List ℕ) → file_of (round_of bytes gained) �
 file-round [] gained = append-nil gained
 file-round (b ∷ bs) gained = append-nil gained
 
--- ---- what is told
+-- ---- the outcomes
 
 module _ (rules : ServeRules) (limits : Limits) where
-  pub told-read : (file waiting bytes : List ℕ) (more : List Arrival)
-      → told rules limits file waiting (arrival_of bytes ∷ more)
-      ≡ told rules limits file (waiting_after waiting bytes) more
-  told-read file waiting [] more = refl
-  told-read file waiting (b ∷ bs) more = refl
+  pub outcomes-read : (file waiting bytes : List ℕ) (more : List Arrival)
+      → outcomes_of rules limits file waiting (arrival_of bytes ∷ more)
+      ≡ outcomes_of rules limits file (waiting_after waiting bytes) more
+  outcomes-read file waiting [] more = refl
+  outcomes-read file waiting (b ∷ bs) more = refl
 
   -- by a round whose look shows this object
-  pub told-round : (file waiting bytes gained : List ℕ) (s : ObjectState) (more : List Arrival)
-      → shown limits (file ++ gained) ≡ Ok s
-      → told rules limits file waiting (round_of bytes gained ++ more)
+  pub outcomes-round : (file waiting bytes gained : List ℕ) (s : ObjectState) (more : List Arrival)
+      → journal_object limits (file ++ gained) ≡ Ok s
+      → outcomes_of rules limits file waiting (round_of bytes gained ++ more)
       ≡ outcomes rules s (ended_bytes (waiting_after waiting bytes))
-      ++ told rules limits (file ++ gained) (unended_bytes (waiting_after waiting bytes)) more
-  told-round file waiting bytes gained s more is =
+      ++ outcomes_of rules limits (file ++ gained) (unended_bytes (waiting_after waiting bytes))
+      more
+  outcomes-round file waiting bytes gained s more is =
       let w = waiting_after waiting bytes in
-      told-read file waiting bytes (Gained gained ∷ more)
-      ∙ ap (λ r. told_by rules r (ended_bytes w)
-      (told rules limits (file ++ gained) (unended_bytes w) more)) is
+      outcomes-read file waiting bytes (Gained gained ∷ more)
+      ∙ ap (λ r. outcomes_then rules r (ended_bytes w)
+      (outcomes_of rules limits (file ++ gained) (unended_bytes w) more)) is
 
   -- by one whose look shows a line that is refused
-  pub told-refused : (file waiting bytes gained : List ℕ) (e : ℕ × LineFault)
-      → shown limits (file ++ gained) ≡ Err e
-      → told rules limits file waiting (round_of bytes gained) ≡ []
-  told-refused file waiting bytes gained e is =
+  pub outcomes-refused : (file waiting bytes gained : List ℕ) (e : ℕ × LineFault)
+      → journal_object limits (file ++ gained) ≡ Err e
+      → outcomes_of rules limits file waiting (round_of bytes gained) ≡ []
+  outcomes-refused file waiting bytes gained e is =
       let w = waiting_after waiting bytes in
-      told-read file waiting bytes (Gained gained ∷ [])
-      ∙ ap (λ r. told_by rules r (ended_bytes w)
-      (told rules limits (file ++ gained) (unended_bytes w) [])) is
+      outcomes-read file waiting bytes (Gained gained ∷ [])
+      ∙ ap (λ r. outcomes_then rules r (ended_bytes w)
+      (outcomes_of rules limits (file ++ gained) (unended_bytes w) [])) is
 
 texts-append : (xs ys : List Outcome) → texts (xs ++ ys) ≡ texts xs ++ texts ys
 texts-append xs ys = flat_map-append reply_line xs ys

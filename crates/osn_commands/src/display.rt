@@ -3,7 +3,7 @@ ghost use Rattle.std.specs.IoError.{error_kind};
 ghost use Rattle.clap.specs.Words.{kind_of};
 ghost use Rattle.osn_commands.specs.Run.{ShowsOrEnds};
 ghost use Rattle.osn_lines.specs.Streams.{output_of};
-ghost use Rattle.osn_report.specs.Told.{TellsNoWords};
+ghost use Rattle.osn_report.specs.Messages.{TellsNoWords};
 
 use clap::Error;
 use clap::error::ErrorKind;
@@ -15,19 +15,19 @@ use std::io;
 /// Shows help or the version where they were asked for, or else what is wrong with the arguments.
 pub(crate) fn show<W: Sink, E: Sink>(
     alloc: Global,
-    shown: &Error,
+    error: &Error,
     output: &mut W,
     errors: &mut E,
 ) -> Status
-    ensures { ShowsOrEnds (kind_of shown.now)
+    ensures { ShowsOrEnds (kind_of error.now)
         (output_of W.contents W.has_failed W.holds_back output.old output.new)
         (output_of E.contents E.has_failed E.holds_back errors.old errors.new) result }
 {
-    let kind = shown.kind();
+    let kind = error.kind();
     if kind == ErrorKind::OutOfMemory {
         return tell_no_memory(errors);
     }
-    let Ok(text) = format!(in alloc; "{shown}") else {
+    let Ok(text) = format!(in alloc; "{error}") else {
         return tell_no_memory(errors);
     };
     match kind {

@@ -1,7 +1,7 @@
 use Rattle.std.proofs.Common.{string_bytes, refl}
 use Rattle.osn_lines.specs.Streams.{output_of}
 use Rattle.osn_commands.proofs.RunLemmas.{shows_help}
-use Rattle.osn_commands.proofs.shown.show.Goals as goal
+use Rattle.osn_commands.proofs.display.show.Goals as goal
 
 pub returns-in-DisplayHelp : goal.returns-in-DisplayHelp
 returns-in-DisplayHelp g c =

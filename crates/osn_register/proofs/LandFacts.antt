@@ -114,10 +114,10 @@ IsWellFormed-push p r l w none room few = record {
 -- the entries after one new key, seen as the plain list
 module _ {K V : Type 0} (text : K → List ℕ) (name : V → List ℕ) (territory : V → TerritoryModel)
   where
-    pub kept_new : (old new : List (K × V)) (k : K) (v : V) (l : LandModel) →
+    pub lands_with_new : (old new : List (K × V)) (k : K) (v : V) (l : LandModel) →
         new ≡ old ++ (k, v) ∷ [] → text k ≡ l.code → name v ≡ l.name → territory v ≡ l.territory →
         map (land_in text name territory) new ≡ map (land_in text name territory) old ++ l ∷ []
-    kept_new old new k v l e code called land =
+    lands_with_new old new k v l e code called land =
         ap (map (land_in text name territory)) e ∙ map-push text name territory old (k, v)
         ∙ ap (λ (c : List ℕ). map (land_in text name territory) old ++ record
         { code = c; name = name v; territory = territory v } ∷ []) code

@@ -42,15 +42,15 @@ pub record Keeps (s t : ObjectState) (old new old_synced new_synced : Option (Li
   pub disk : IsOnDisk s old old_synced → IsOnDisk t new new_synced
 
 -- The file was kept for an object that was s and then u. It failed at the line of the change that
--- made it t, a front of which was appended. Up to u the file held `kept`.
+-- made it t, a front of which was appended. Up to u the file held `contents`.
 pub record KeepsInPart (s u t : ObjectState) (old new old_synced new_synced : Option (List ℕ))
     : Type 0 where
-  pub kept : Option (List ℕ)
-  pub keeps : Keeps s u old kept old_synced new_synced
+  pub contents : Option (List ℕ)
+  pub keeps : Keeps s u old contents old_synced new_synced
   pub line : List ℕ
   pub next : journal_text t ≡ journal_text u ++ line
   pub bytes : ℕ
-  pub journal : Appends kept new (take bytes line)
+  pub journal : Appends contents new (take bytes line)
 
 -- ---- whether the file failed
 

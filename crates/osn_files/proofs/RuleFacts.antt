@@ -24,7 +24,7 @@ use Rattle.osn_format.specs.declared.version.Version.TheVariants.{First}
 use Rattle.osn_files.specs.declared.fault.LineFault.{LineFault}
 use Rattle.osn_files.specs.Commands.{command_in}
 use Rattle.osn_files.specs.Journal.{unless_refused, after_command, after_object}
-use Rattle.osn_files.specs.Kept.{IsSameRegister, KeepsEditions}
+use Rattle.osn_files.specs.EarlierRules.{IsSameRegister, KeepsEditions}
 use Rattle.osn_files.specs.Turns.{on_read, go_on, in_turn}
 use Rattle.osn_files.proofs.CommandFacts.{both_none}
 use Rattle.osn_files.proofs.LawFacts.{lawful_front}
@@ -171,9 +171,9 @@ line_goes limits s made (Ok d) old is =
     read_goes limits s made (command_in first_rules d) old (fixed_command d) is
 line_goes limits s made (Err f) old is = absurd (cc)
 
-abbrev behind_first : Profile → ℕ → ObjectState → List (List ℕ)
+abbrev after_first_head : Profile → ℕ → ObjectState → List (List ℕ)
     → Result ObjectState (ℕ × LineFault)
-behind_first p n s ls = in_turn (after_object p) n (Some First) s ls
+after_first_head p n s ls = in_turn (after_object p) n (Some First) s ls
 
 -- what the newest rules make of an object by lines, and that it is an old one
 record Ends (limits : Limits) (r : Result ObjectState (ℕ × LineFault)) (made : ObjectState)
@@ -186,15 +186,15 @@ ends_by : (limits : Limits) (n : ℕ) (made : ObjectState) (ls : List (List ℕ)
     (r newest : Result ObjectState LineFault)
     → ((t : ObjectState) → r ≡ Ok t → Goes limits newest t)
     → ((t : ObjectState) → IsOld limits t
-    → behind_first first_rules (n + 1) t ls ≡ Ok made
-    → Ends limits (behind_first newest_rules (n + 1) t ls) made)
-    → go_on n r (λ t. behind_first first_rules (n + 1) t ls) ≡ Ok made
-    → Ends limits (go_on n newest (λ t. behind_first newest_rules (n + 1) t ls)) made
+    → after_first_head first_rules (n + 1) t ls ≡ Ok made
+    → Ends limits (after_first_head newest_rules (n + 1) t ls) made)
+    → go_on n r (λ t. after_first_head first_rules (n + 1) t ls) ≡ Ok made
+    → Ends limits (go_on n newest (λ t. after_first_head newest_rules (n + 1) t ls)) made
 ends_by limits n made ls (Ok t) newest first rest is =
     let one = first t refl in
     let end = rest t one.old is in
     record {
-      ends = ap (λ q. go_on n q (λ u. behind_first newest_rules (n + 1) u ls))
+      ends = ap (λ q. go_on n q (λ u. after_first_head newest_rules (n + 1) u ls))
           one.goes ∙ end.ends;
       old = end.old;
     }
@@ -202,8 +202,8 @@ ends_by limits n made ls (Err f) newest first rest is = absurd (cc)
 
 -- lines after it in turn
 lines_end : (limits : Limits) (n : ℕ) (s made : ObjectState) (ls : List (List ℕ)) → IsOld limits s
-    → behind_first first_rules n s ls ≡ Ok made
-    → Ends limits (behind_first newest_rules n s ls) made
+    → after_first_head first_rules n s ls ≡ Ok made
+    → Ends limits (after_first_head newest_rules n s ls) made
 lines_end limits n s made [] old is =
     let same : s ≡ made = cc in record { ends = is; old = subst (IsOld limits) same old }
 lines_end limits n s made (l ∷ ls) old is =
@@ -214,9 +214,9 @@ lines_end limits n s made (l ∷ ls) old is =
     is
 
 -- the object that is loaded after a head
-abbrev behind : Profile → Limits → List (List ℕ) → Result Version WireFault
+abbrev after_head : Profile → Limits → List (List ℕ) → Result Version WireFault
     → Result ObjectState (ℕ × LineFault)
-behind p limits rest r =
+after_head p limits rest r =
     go_on 1 (on_read r Ok) (λ v. in_turn (after_object p) 2 (Some v) (opened limits) rest)
 
 -- a journal of the first version keeps its editions
@@ -224,12 +224,12 @@ pub keeps_editions : (limits : Limits) (ls : List (List ℕ)) → KeepsEditions 
 unfolding KeepsEditions
 keeps_editions limits [] = λ first object is. absurd first
 keeps_editions limits (head ∷ rest) = λ first object is.
-    let loaded : behind_first first_rules 2 (opened limits) rest ≡ Ok object =
-    sym (ap (behind first_rules limits rest) first) ∙ is in
+    let loaded : after_first_head first_rules 2 (opened limits) rest ≡ Ok object =
+    sym (ap (after_head first_rules limits rest) first) ∙ is in
     let none : IsOld limits (opened limits) =
     record { limits_are = refl; lawful = tt; fixed = tt } in
     let end = lines_end limits 2 (opened limits) object rest none loaded in (
-      ap (behind newest_rules limits rest) first ∙ end.ends,
+      ap (after_head newest_rules limits rest) first ∙ end.ends,
       same_edition limits object end.old,
       same_all limits object end.old,
     )

@@ -11,7 +11,7 @@ use Rattle.osn_days.proofs.ChainFacts.{julian_by_months, gregorian_by_months}
 use Rattle.osn_days.proofs.RangeFacts.{found_on_line, find_on_both}
 use Rattle.osn_computus.specs.Letters.{letter_of, is_sunday_of, letter_of_sundays, letters_of}
 use Rattle.osn_computus.proofs.LetterFacts.{january_sunday, march_sunday, march_sunday_is}
-use Rattle.osn_computus.proofs.KeptEasters.{march_1-kept, kept_year}
+use Rattle.osn_computus.proofs.EarlierEasters.{march_1-within, newest_year}
 
 -- a search that a day of the first rules passes finds the same day on both lines
 same_found : (test : ℕ → Bool) (d : ℕ) → 1 ≤ d → d ≤ first_rules.high → test d ≡ true
@@ -33,12 +33,12 @@ same_by_months : (c : Calendar) → c ≢ Swedish → (y : ℕ) → IsYear first
     → letters_of first_rules c y ≡ letters_of newest_rules c y
 unfolding letters_of
 same_by_months c months y year =
-    let bound = march_1-kept c y year in
-    let january = january_sunday c months y (kept_year y year) in
+    let bound = march_1-within c y year in
+    let january = january_sunday c months y (newest_year y year) in
     let first = same_letter_of c y 1 1 january.day january.low
     (omega (arith, january.before_march)) january.is in
     let later = same_letter_of c y 3 12 (march_sunday c y) (omega arith) (omega arith)
-    (march_sunday_is c months y (kept_year y year)) in
+    (march_sunday_is c months y (newest_year y year)) in
     rw (first, later) refl
 
 pub same_letters : (c : Calendar) (y : ℕ) → IsYear first_rules y

@@ -1,5 +1,5 @@
--- What a follower tells: at each look at the file, the lines that have come whole since the look
--- before are answered from the journal that the file then holds.
+-- The outcomes of a follower: at each look at the file, the lines that have come whole since the
+-- look before are answered from the journal that the file then holds.
 use Rattle.std.specs.Prelude.{◌≡◌, ◌==◌, ℕ, true, Bool, List, [], ◌∷◌, ◌++◌, take, map, length}
 use Rattle.std.specs.Prelude.{Result, Ok, Err, if◌then◌else◌}
 use Rattle.std.specs.List.{flat_map}
@@ -34,37 +34,38 @@ abbrev pub object_of : Limits → List (List ℕ) → Result ObjectState (ℕ ×
 object_of limits [] = Ok (opened limits)
 object_of limits (head ∷ rest) = load newest_rules limits (head ∷ rest)
 
--- the object that a file shows which holds these whole lines, or the first that is refused
-abbrev pub shown : Limits → List ℕ → Result ObjectState (ℕ × LineFault)
-shown limits file = object_of limits (lines file)
+-- the object of a file which holds these whole lines, or the first that is refused
+abbrev pub journal_object : Limits → List ℕ → Result ObjectState (ℕ × LineFault)
+journal_object limits file = object_of limits (lines file)
 
--- ---- what is told
+-- ---- the outcomes
 
 -- the rules of a follower: no line changes anything
 abbrev pub following : ℕ → Bool → ServeRules
 following readers stop =
     record { readers = readers; read_only = true; stop_at_refusal = stop }
 
--- what the lines of a text are told by an object
+-- the outcomes of the lines of a text, by an object
 abbrev pub outcomes : ServeRules → ObjectState → List ℕ → List Outcome
 outcomes rules s text = map (line_outcome rules s) (lines text)
 
--- what a text is told, and then the rest; nothing where the journal has a line that is refused
-abbrev pub told_by : ServeRules → Result ObjectState (ℕ × LineFault) → List ℕ → List Outcome
+-- the outcomes of a text, and then the rest; none where the journal has a line that is refused
+abbrev pub outcomes_then : ServeRules → Result ObjectState (ℕ × LineFault) → List ℕ → List Outcome
     → List Outcome
-told_by rules (Ok s) text rest = outcomes rules s text ++ rest
-told_by rules (Err refused) text rest = []
+outcomes_then rules (Ok s) text rest = outcomes rules s text ++ rest
+outcomes_then rules (Err refused) text rest = []
 
--- what is told by arrivals, where the file held these bytes before, and these bytes of request
+-- the outcomes of arrivals, where the file held these bytes before, and these bytes of request
 -- lines wait
-abbrev pub told : ServeRules → Limits → List ℕ → List ℕ → List Arrival → List Outcome
-told rules limits file waiting [] = []
-told rules limits file waiting (Requests bytes ∷ rest) =
-    told rules limits file (waiting ++ bytes) rest
-told rules limits file waiting (Ended ∷ rest) = told rules limits file (with_feed waiting) rest
-told rules limits file waiting (Gained bytes ∷ rest) =
-    told_by rules (shown limits (file ++ bytes)) (ended_bytes waiting)
-    (told rules limits (file ++ bytes) (unended_bytes waiting) rest)
+abbrev pub outcomes_of : ServeRules → Limits → List ℕ → List ℕ → List Arrival → List Outcome
+outcomes_of rules limits file waiting [] = []
+outcomes_of rules limits file waiting (Requests bytes ∷ rest) =
+    outcomes_of rules limits file (waiting ++ bytes) rest
+outcomes_of rules limits file waiting (Ended ∷ rest) =
+    outcomes_of rules limits file (with_feed waiting) rest
+outcomes_of rules limits file waiting (Gained bytes ∷ rest) =
+    outcomes_then rules (journal_object limits (file ++ bytes)) (ended_bytes waiting)
+    (outcomes_of rules limits (file ++ bytes) (unended_bytes waiting) rest)
 
 -- the reply lines of outcomes
 abbrev pub texts : List Outcome → List ℕ

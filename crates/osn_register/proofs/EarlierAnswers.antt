@@ -7,8 +7,8 @@ use Rattle.std.proofs.lemmas.Bool.{and_from, le-leb, leb-true}
 use Rattle.std.specs.List.{range_with_len}
 use Rattle.std.proofs.lemmas.Int.{ints}
 use Rattle.osn_computus.specs.declared.rule.Rule.TheVariants as rule
-use Rattle.osn_computus.proofs.KeptEasters.{same_easter}
-use Rattle.osn_computus.proofs.KeptLetters.{same_letters}
+use Rattle.osn_computus.proofs.EarlierEasters.{same_easter}
+use Rattle.osn_computus.proofs.EarlierLetters.{same_letters}
 use Rattle.osn_days.specs.declared.calendar.Calendar.TheVariants as calendar
 use Rattle.osn_days.specs.Profile.{Profile, first_rules, newest_rules}
 use Rattle.osn_days.specs.Line.{line, IsOnLine, IsYear, IsYearNumber}
@@ -21,9 +21,9 @@ use Rattle.osn_lands.specs.Dual.{dual_text}
 use Rattle.osn_lands.specs.Territory.{TerritoryModel, regime_at, periods_of, periods_from, reading}
 use Rattle.osn_lands.specs.Exceptions.{exception_of}
 use Rattle.osn_lands.specs.Easters.{is_easter, easters_by_rule, unless_listed}
-use Rattle.osn_lands.specs.Kept.{days_of_line}
-use Rattle.osn_lands.proofs.KeptFacts.{kept_local, kept_text, kept_reading, kept_easters}
-use Rattle.osn_lands.proofs.KeptFacts.{plain_year}
+use Rattle.osn_lands.specs.EarlierRules.{days_of_line}
+use Rattle.osn_lands.proofs.EarlierRulesFacts.{same_local, same_text, same_reading, same_easters}
+use Rattle.osn_lands.proofs.EarlierRulesFacts.{plain_year}
 use Rattle.osn_lands.proofs.PeriodFacts.{starts_back}
 use Rattle.osn_register.specs.declared.query.Query.{Query}
 use Rattle.osn_register.specs.declared.query.Query.TheVariants as queries
@@ -40,8 +40,8 @@ use Rattle.osn_register.specs.Answer.{on_day, day_answer, reading_answer, easter
 use Rattle.osn_register.specs.Answer.{figures_of, periods_answer, label_from}
 use Rattle.osn_register.specs.Answer.{read_refusal, day_refusal, year_refusal, easter_refusal}
 use Rattle.osn_register.specs.Answer.{date_refusal, written_answer, refusal_in}
-use Rattle.osn_register.specs.Kept.{start_of, found_until, IsLabelYear, IsListedUntil, KeepsReading}
-use Rattle.osn_register.specs.Kept.{KeepsDay, KeepsAnswer}
+use Rattle.osn_register.specs.EarlierRules.{start_of, found_until, IsLabelYear, IsListedUntil}
+use Rattle.osn_register.specs.EarlierRules.{KeepsReading, KeepsDay, KeepsAnswer}
 
 -- both rules test numbers alike
 
@@ -82,21 +82,21 @@ same_dates y m d year =
 
 -- a day is named alike
 
-kept_found : (r : Regime) (d : ℕ) → d ≤ first_rules.high
+same_on_day : (r : Regime) (d : ℕ) → d ≤ first_rules.high
     → found_under newest_rules r d ≡ found_under first_rules r d
-kept_found r d until =
+same_on_day r d until =
     ap (λ (l : Label). let f : Found = record {
       day = d;
       label = l;
       dual = dual_text newest_rules r d;
-    } in f) (sym (kept_local r d until))
+    } in f) (sym (same_local r d until))
     ∙ ap (λ (text : List ℕ). let f : Found = record {
       day = d;
       label = local_label first_rules r d;
       dual = text;
-    } in f) (sym (kept_text r d until))
+    } in f) (sym (same_text r d until))
 
-kept_step : (t : TerritoryModel) (d : ℕ) (days rest : List ℕ) (here : Bool)
+days_step : (t : TerritoryModel) (d : ℕ) (days rest : List ℕ) (here : Bool)
     → nat_le d first_rules.high ≡ here
     → found_until first_rules (map (found_on newest_rules t) days)
     ≡ map (found_on first_rules t) rest
@@ -104,30 +104,30 @@ kept_step : (t : TerritoryModel) (d : ℕ) (days rest : List ℕ) (here : Bool)
     then found_on newest_rules t d ∷ found_until first_rules (map (found_on newest_rules t) days)
     else found_until first_rules (map (found_on newest_rules t) days))
     ≡ map (found_on first_rules t) (if here then d ∷ rest else rest)
-kept_step t d days rest true here later =
+days_step t d days rest true here later =
     ap (λ fs. found_on newest_rules t d ∷ fs) later
     ∙ ap (λ f. f ∷ map (found_on first_rules t) rest)
-    (kept_found (regime_at t d) d (leb-true d first_rules.high here))
-kept_step t d days rest false here later = later
+    (same_on_day (regime_at t d) d (leb-true d first_rules.high here))
+days_step t d days rest false here later = later
 
-kept_days : (t : TerritoryModel) (days : List ℕ)
+days_of_both : (t : TerritoryModel) (days : List ℕ)
     → found_until first_rules (map (found_on newest_rules t) days)
     ≡ map (found_on first_rules t) (days_of_line first_rules days)
-kept_days t [] = refl
-kept_days t (d ∷ days) =
-    kept_step t d days (days_of_line first_rules days) (nat_le d first_rules.high) refl
-    (kept_days t days)
+days_of_both t [] = refl
+days_of_both t (d ∷ days) =
+    days_step t d days (days_of_line first_rules days) (nat_le d first_rules.high) refl
+    (days_of_both t days)
 
 -- a reading
 
-reading_kept : (t : Option TerritoryModel) (label : Label)
+keeps_reading : (t : Option TerritoryModel) (label : Label)
     → KeepsReading first_rules (reading_answer first_rules t label)
     (reading_answer newest_rules t label)
-reading_kept None label = (refl, refl)
-reading_kept (Some t) label = (
+keeps_reading None label = (refl, refl)
+keeps_reading (Some t) label = (
   refl,
-  kept_days t (reading newest_rules t label)
-      ∙ ap (map (found_on first_rules t)) (kept_reading t label),
+  days_of_both t (reading newest_rules t label)
+      ∙ ap (map (found_on first_rules t)) (same_reading t label),
 )
 
 reading_unless : (p : Profile) (now_refused refused : Option Refusal) (now before : Answer)
@@ -163,24 +163,24 @@ same_period high more d (s ∷ next ∷ rest) until longer =
     (period_on (periods_from high (next ∷ rest)) d) refl
     (same_period high more d (next ∷ rest) until longer)
 
-on_day_kept : (one other : Option Period) (found before : Found)
+keeps_on_day : (one other : Option Period) (found before : Found)
     → option_map start_of one ≡ option_map start_of other → found ≡ before
     → KeepsDay (on_day other before) (on_day one found)
-on_day_kept None None found before same named = (refl, refl, refl)
-on_day_kept (Some p) (Some q) found before same named =
+keeps_on_day None None found before same named = (refl, refl, refl)
+keeps_on_day (Some p) (Some q) found before same named =
     let start : start_of p ≡ start_of q = cc in
     (refl, ap (λ f. f ∷ []) named, ap (λ s. s ∷ []) start)
-on_day_kept None (Some q) found before same named = absurd cc
-on_day_kept (Some p) None found before same named = absurd cc
+keeps_on_day None (Some q) found before same named = absurd cc
+keeps_on_day (Some p) None found before same named = absurd cc
 
-day_kept : (t : Option TerritoryModel) (d : ℕ) → d ≤ first_rules.high
+keeps_day : (t : Option TerritoryModel) (d : ℕ) → d ≤ first_rules.high
     → KeepsDay (day_answer first_rules t d) (day_answer newest_rules t d)
-day_kept None d until = (refl, refl, refl)
-day_kept (Some t) d until =
-    on_day_kept (period_on (periods_of newest_rules t) d) (period_on (periods_of first_rules t) d)
+keeps_day None d until = (refl, refl, refl)
+keeps_day (Some t) d until =
+    keeps_on_day (period_on (periods_of newest_rules t) d) (period_on (periods_of first_rules t) d)
     (found_on newest_rules t d) (found_on first_rules t d)
     (same_period first_rules.high newest_rules.high d t.starts until (omega arith))
-    (kept_found (regime_at t d) d until)
+    (same_on_day (regime_at t d) d until)
 
 day_unless : (now_refused refused : Option Refusal) (now before : Answer) → now_refused ≡ refused
     → KeepsDay before now → KeepsDay (unless refused before) (unless now_refused now)
@@ -189,10 +189,10 @@ day_unless (Some f) (Some g) now before same kept = (same, refl, refl)
 day_unless None (Some g) now before same kept = absurd cc
 day_unless (Some f) None now before same kept = absurd cc
 
-periods_kept : (t : Option TerritoryModel)
+keeps_periods : (t : Option TerritoryModel)
     → KeepsDay (periods_answer first_rules t) (periods_answer newest_rules t)
-periods_kept None = (refl, refl, refl)
-periods_kept (Some t) = (
+keeps_periods None = (refl, refl, refl)
+keeps_periods (Some t) = (
   refl,
   refl,
   starts_back newest_rules.high t.starts ∙ sym (starts_back first_rules.high t.starts),
@@ -202,7 +202,7 @@ periods_kept (Some t) = (
 
 one_named : (t : TerritoryModel) (d : ℕ) → d ≤ first_rules.high
     → map (found_on newest_rules t) (d ∷ []) ≡ map (found_on first_rules t) (d ∷ [])
-one_named t d until = ap (λ f. f ∷ []) (kept_found (regime_at t d) d until)
+one_named t d until = ap (λ f. f ∷ []) (same_on_day (regime_at t d) d until)
 
 -- the days of a range are named alike where each is a day of the first rules
 step_named : (t : TerritoryModel) (a : ℕ) (here : Bool) (days : List ℕ)
@@ -212,7 +212,7 @@ step_named : (t : TerritoryModel) (a : ℕ) (here : Bool) (days : List ℕ)
     ≡ map (found_on first_rules t) (if here then a ∷ days else days)
 step_named t a true days until later =
     ap (λ fs. found_on newest_rules t a ∷ fs) later
-    ∙ ap (λ f. f ∷ map (found_on first_rules t) days) (kept_found (regime_at t a) a until)
+    ∙ ap (λ f. f ∷ map (found_on first_rules t) days) (same_on_day (regime_at t a) a until)
 step_named t a false days until later = later
 
 range_named : (t : TerritoryModel) (test : ℕ → Bool) (a n : ℕ) → a + n ≤ first_rules.high + 1
@@ -243,20 +243,21 @@ easters_named : (t : TerritoryModel) (y : ℕ) (listed : Option ℕ)
 easters_named t y None until = rules_named t y
 easters_named t y (Some d) until = one_named t d until
 
-easters_kept : (t : Option TerritoryModel) (y : ℕ) → IsYear first_rules y
+keeps_easters : (t : Option TerritoryModel) (y : ℕ) → IsYear first_rules y
     → IsListedUntil first_rules y t
     → easters_answer newest_rules t y ≡ easters_answer first_rules t y
-easters_kept None y year listed = refl
-easters_kept (Some t) y year listed =
+keeps_easters None y year listed = refl
+keeps_easters (Some t) y year listed =
     ap (λ days. Easters (map (found_on newest_rules t) days) (is_some (exception_of t y)))
-    (kept_easters t y year)
+    (same_easters t y year)
     ∙ ap (λ found. Easters found (is_some (exception_of t y)))
     (easters_named t y (exception_of t y) listed)
 
 -- figures
 
-figures_kept : (y : ℕ) → IsYear first_rules y → figures_of newest_rules y ≡ figures_of first_rules y
-figures_kept y year =
+keeps_figures : (y : ℕ) → IsYear first_rules y
+    → figures_of newest_rules y ≡ figures_of first_rules y
+keeps_figures y year =
     rw (
       same_letters calendar.Julian y year,
       same_letters calendar.Gregorian y year,
@@ -271,11 +272,11 @@ same_unless now_refused refused now before same kept = ap (λ r. unless r now) s
 
 -- a date as it is written
 
-written_kept : (t : Option TerritoryModel) (text : List ℕ) (given : Option Weekday)
+keeps_written : (t : Option TerritoryModel) (text : List ℕ) (given : Option Weekday)
     → refusal_in (written_answer newest_rules t text given)
     ≡ refusal_in (written_answer first_rules t text given)
-written_kept None text given = refl
-written_kept (Some t) text given = refl
+keeps_written None text given = refl
+keeps_written (Some t) text given = refl
 
 refused_unless : (refused : Option Refusal) (now before : Answer)
     → refusal_in now ≡ refusal_in before
@@ -284,41 +285,41 @@ refused_unless None now before same = same
 refused_unless (Some f) now before same = refl
 
 -- the answer to a query keeps the first rules' answer
-pub kept_answer : (lands : List LandModel) (q : Query)
+pub keeps_answer : (lands : List LandModel) (q : Query)
     → KeepsAnswer first_rules lands q (answer newest_rules lands q)
-kept_answer lands (queries.Read code year month day) =
+keeps_answer lands (queries.Read code year month day) =
     λ within. reading_unless first_rules (read_refusal newest_rules lands code year month day)
     (read_refusal first_rules lands code year month day)
     (reading_answer newest_rules (territory_of code lands) (label_from year month day))
     (reading_answer first_rules (territory_of code lands) (label_from year month day))
     (ap (or_else (code_refusal lands code)) (same_dates year month day within))
-    (reading_kept (territory_of code lands) (label_from year month day))
-kept_answer lands (queries.DayIn code day) =
+    (keeps_reading (territory_of code lands) (label_from year month day))
+keeps_answer lands (queries.DayIn code day) =
     λ on. day_unless (day_refusal newest_rules lands code day)
     (day_refusal first_rules lands code day)
     (day_answer newest_rules (territory_of code lands) (unsigned_abs day))
     (day_answer first_rules (territory_of code lands) (unsigned_abs day))
     (same_days lands code day on)
-    (day_kept (territory_of code lands) (unsigned_abs day) (omega (arith, ints, on)))
-kept_answer lands (queries.Easter code year) =
+    (keeps_day (territory_of code lands) (unsigned_abs day) (omega (arith, ints, on)))
+keeps_answer lands (queries.Easter code year) =
     λ within listed. same_unless (easter_refusal newest_rules lands code year)
     (easter_refusal first_rules lands code year)
     (easters_answer newest_rules (territory_of code lands) (unsigned_abs year))
     (easters_answer first_rules (territory_of code lands) (unsigned_abs year))
     (ap (or_else (code_refusal lands code)) (same_years year within))
-    (easters_kept (territory_of code lands) (unsigned_abs year) (plain_year year within) listed)
-kept_answer lands (queries.YearFigures year) =
+    (keeps_easters (territory_of code lands) (unsigned_abs year) (plain_year year within) listed)
+keeps_answer lands (queries.YearFigures year) =
     λ within. same_unless (year_refusal newest_rules year) (year_refusal first_rules year)
     (figures_of newest_rules (unsigned_abs year)) (figures_of first_rules (unsigned_abs year))
-    (same_years year within) (figures_kept (unsigned_abs year) (plain_year year within))
-kept_answer lands queries.Lands = refl
-kept_answer lands (queries.Periods code) =
+    (same_years year within) (keeps_figures (unsigned_abs year) (plain_year year within))
+keeps_answer lands queries.Lands = refl
+keeps_answer lands (queries.Periods code) =
     day_unless (code_refusal lands code) (code_refusal lands code)
     (periods_answer newest_rules (territory_of code lands))
     (periods_answer first_rules (territory_of code lands)) refl
-    (periods_kept (territory_of code lands))
-kept_answer lands (queries.Written code date weekday) =
+    (keeps_periods (territory_of code lands))
+keeps_answer lands (queries.Written code date weekday) =
     refused_unless (code_refusal lands code)
     (written_answer newest_rules (territory_of code lands) date weekday)
     (written_answer first_rules (territory_of code lands) date weekday)
-    (written_kept (territory_of code lands) date weekday)
+    (keeps_written (territory_of code lands) date weekday)

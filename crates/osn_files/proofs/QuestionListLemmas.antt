@@ -142,10 +142,10 @@ result_as make (Ok s) = Ok (make s)
 result_as make (Err e) = Err e
 
 -- an object adds its query to the lists of the questions before it
-object_asked : (version : Version) (asked : List (ℕ × Query)) (d : Data)
+object_question : (version : Version) (asked : List (ℕ × Query)) (d : Data)
     → with_object version (by_reader asked) d
     ≡ result_as by_reader (with_question version asked d)
-object_asked version asked d =
+object_question version asked d =
     elim (question_in d) as (λ r.
     on_read r (λ question. Ok (with_query (by_reader asked) question.0 question.1))
     ≡ result_as by_reader (on_read r (λ question. Ok (asked ++ question ∷ [])))) [
@@ -154,20 +154,20 @@ object_asked version asked d =
     ]
 
 -- the lists that lines make are those of their questions
-in_turn-asked : (n : ℕ) (version : Version) (asked : List (ℕ × Query)) (ls : List (List ℕ))
+in_turn-questions : (n : ℕ) (version : Version) (asked : List (ℕ × Query)) (ls : List (List ℕ))
     → in_turn with_object n (Some version) (by_reader asked) ls
     ≡ all_by_reader (in_turn with_question n (Some version) asked ls)
-in_turn-asked n version asked [] = refl
-in_turn-asked n version asked (l ∷ ls) =
+in_turn-questions n version asked [] = refl
+in_turn-questions n version asked (l ∷ ls) =
     let lists = λ (made : List (List Query)). in_turn with_object (n + 1) (Some version) made ls in
     let all = λ (made : List (ℕ × Query)). in_turn with_question (n + 1) (Some version) made ls in
     elim (object_of l) as (λ r.
     go_on n (on_read r (with_object version (by_reader asked))) lists
     ≡ all_by_reader (go_on n (on_read r (with_question version asked)) all)) [
-      | Ok d ↦ ap (λ r. go_on n r lists) (object_asked version asked d)
+      | Ok d ↦ ap (λ r. go_on n r lists) (object_question version asked d)
           ∙ elim (with_question version asked d) as (λ r.
           go_on n (result_as by_reader r) lists ≡ all_by_reader (go_on n r all)) [
-            | Ok more ↦ in_turn-asked (n + 1) version more ls
+            | Ok more ↦ in_turn-questions (n + 1) version more ls
             | Err f ↦ refl
           ]
       | Err f ↦ refl
@@ -179,4 +179,4 @@ pub questions-made : (version : Version) (none : List (List Query)) (ls : List (
 questions-made version none ls newest empty =
     ap (λ lists. in_turn with_object 1 (Some version) lists ls) empty
     ∙ (ap (λ v. in_turn with_object 1 (Some v) [] ls) newest
-    ∙ in_turn-asked 1 newest_version [] ls)
+    ∙ in_turn-questions 1 newest_version [] ls)
