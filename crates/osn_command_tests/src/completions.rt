@@ -76,6 +76,18 @@ _oldstyle_row serve --readers TEXT
 _oldstyle_row serve --read-only
 _oldstyle_row serve --stop-at-refusal
 _oldstyle_row serve --limits TEXT
+_oldstyle_row text
+_oldstyle_row text argument FILE
+_oldstyle_row text argument TEXT
+_oldstyle_row text --limits TEXT
+_oldstyle_row plan
+_oldstyle_row plan argument FILE
+_oldstyle_row plan argument FILE
+_oldstyle_row plan --limits TEXT
+_oldstyle_row publish
+_oldstyle_row publish argument FILE
+_oldstyle_row publish argument FILE
+_oldstyle_row publish --limits TEXT
 _oldstyle_row replay
 _oldstyle_row replay --readers TEXT
 _oldstyle_row replay argument FILE

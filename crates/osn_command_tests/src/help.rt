@@ -24,6 +24,9 @@ Commands:
   territory    Lists the territories, or the periods of one
   letters      Says of each letter of a table on standard input which day its date means
   serve        Answers request lines on standard input, as the program does without a command
+  text         Prints the territories that a journal published as a text in TOML, to be edited
+  plan         Prints the edits that change what a journal published into what a text says
+  publish      Publishes the edits that the command plan prints, as one edition of the journal
   replay       Takes the steps of one editor and of readers, and prints what each gives
   desk         Lets readers ask while an editor works, each in a thread of its own
   almanac      Prints the almanac of a territory and year, as a journal published the territory
@@ -37,7 +40,7 @@ Options:
 
 Statuses:
   0  done
-  1  the input was refused: a line of a file, a territory, a year, or a file without questions
+  1  the input was refused: a line, a text, a territory, a year, or a file without questions
   2  a word of the command line is wrong
   3  a file could not be opened, or a read or a write failed
   4  memory ran out

@@ -1,9 +1,9 @@
 //! A journal that is kept while lines are served, in a file in memory.
-ghost use Rattle.std.specs.Prelude.{◌≡◌, Err, IfOk, Some};
+ghost use Rattle.std.specs.Prelude.{◌≡◌, Err, IfOk, Some, false};
 
 use crate::compare::same;
 use osn_core::Object;
-use osn_folder::{KeptFile, KeptFileFault};
+use osn_folder::{ChangeFailed, KeptFile, KeptFileFault};
 use osn_journal::serve_kept;
 use osn_lines::{Interrupted, Plain};
 use osn_register::Limits;
@@ -54,6 +54,8 @@ impl KeptFile for MemoryFile {
 
     ghost fault = { λ f. f.fault };
 
+    ghost cut_back_may_fail = { λ _. false };
+
     fn append(&mut self, bytes: &[u8]) -> Result<(), KeptFileFault> {
         if self.appends == 0 {
             return self.fail(KeptFileFault::ChangeFailed);
@@ -66,6 +68,11 @@ impl KeptFile for MemoryFile {
     }
 
     fn cut(&mut self, length: u64) -> Result<(), KeptFileFault> {
+        self.contents.truncate(length as usize);
+        Ok(())
+    }
+
+    fn cut_back(&mut self, length: u64) -> Result<(), ChangeFailed> {
         self.contents.truncate(length as usize);
         Ok(())
     }

@@ -61,9 +61,13 @@ mod readings;
 #[cfg(test)]
 mod refusals;
 #[cfg(test)]
+mod register_texts;
+#[cfg(test)]
 mod taken_words;
 #[cfg(test)]
 mod territory_pages;
+#[cfg(test)]
+mod text_help;
 #[cfg(test)]
 mod word_refusals;
 #[cfg(test)]

@@ -15,12 +15,12 @@ use Rattle.osn_report.specs.declared.status.Status.{Status}
 use Rattle.osn_commands.specs.Run.{IsHelp, Runs, RunsArgs, ShowsOrEnds}
 
 -- what was run is what these words ask for
-pub ran : (limits : Limits) (given found : CommandWords) (CanFail : Bool → Type 0) (d : Folders)
-    (i : Input) (o e : Output) (status : Status)
-    → given ≡ found → Runs limits (command_model found) CanFail d i o e status
-    → Runs limits (command_model given) CanFail d i o e status
-ran limits given found CanFail d i o e status is h =
-    subst (λ w. Runs limits (command_model w) CanFail d i o e status) (sym is) h
+pub ran : (limits : Limits) (given found : CommandWords) (CanFail : Bool → Type 0)
+    (CanStay : Type 0) (d : Folders) (i : Input) (o e : Output) (status : Status)
+    → given ≡ found → Runs limits (command_model found) CanFail CanStay d i o e status
+    → Runs limits (command_model given) CanFail CanStay d i o e status
+ran limits given found CanFail CanStay d i o e status is h =
+    subst (λ w. Runs limits (command_model w) CanFail CanStay d i o e status) (sym is) h
 
 -- help is no want of memory
 help_is_no_fault : (kind : ErrorKind) → IsHelp kind → kind ≢ OutOfMemory
@@ -37,13 +37,13 @@ shows_help kind given o e status text is help (inl printed) =
 shows_help kind given o e status text is help (inr memory) = inl memory
 
 -- what the grammar refuses was shown
-pub show_runs : (args : List (List ℕ)) (error : Error) (CanFail : Bool → Type 0) (d : Folders)
-    (i : Input) (o e : Output) (status : Status)
+pub show_runs : (args : List (List ℕ)) (error : Error) (CanFail : Bool → Type 0)
+    (CanStay : Type 0) (d : Folders) (i : Input) (o e : Output) (status : Status)
     → HasKind (fault_of command_line args) error → d.after ≡ d.before
     → ShowsOrEnds (kind_of error) o e status
-    → RunsArgs args CanFail d i o e status
-show_runs args error CanFail d i o e status kind same (inl first) = inr (same, inl first)
-show_runs args error CanFail d i o e status (inl memory) same (inr shown) =
+    → RunsArgs args CanFail CanStay d i o e status
+show_runs args error CanFail CanStay d i o e status kind same (inl first) = inr (same, inl first)
+show_runs args error CanFail CanStay d i o e status (inl memory) same (inr shown) =
     absurd (shown.0 memory)
-show_runs args error CanFail d i o e status (inr among) same (inr shown) =
+show_runs args error CanFail CanStay d i o e status (inr among) same (inr shown) =
     inr (same, inr (kind_of error, among, shown.1))

@@ -4,6 +4,7 @@ ghost use Rattle.osn_folder.specs.Folder.{CannotOpen, MayFail};
 ghost use Rattle.osn_invocation.specs.Invocation.{command_model, model_of};
 ghost use Rattle.osn_lines.specs.Streams.{input_of, output_of};
 ghost use Rattle.osn_report.specs.Folders.{folders_of};
+ghost use Rattle.osn_text_commands.specs.PublishInside.{CanStay};
 ghost use Rattle.osn_commands.specs.Run.{Runs, RunsArgs, RunsInvocation, files_of};
 
 use crate::completing::completions_command;
@@ -18,6 +19,7 @@ use osn_page_commands::{convert_command, letters_in_folder, page_in_folder};
 use osn_register::Limits;
 use osn_report::{Status, tell_misuse};
 use osn_serve_commands::serve_in_folder;
+use osn_text_commands::{plan_in_folder, publish_in_folder, text_in_folder};
 use std::convert::AsStr;
 use std::sync::Wait;
 use std::thread::Threads;
@@ -40,6 +42,7 @@ pub fn run<F, D: Folder, S: AsStr, R: Source, W: Sink, E: Sink, T: Sink + Drop>(
 where
     F: Threads + Wait + AllocGlobal,
     ensures { RunsArgs (map S.text args.now) (MayFail D.File.has_failed)
+        (CanStay D.Keeper.cut_back_may_fail)
         (folders_of D.known folder.old folder.new)
         (input_of R.remaining R.has_failed input.old input.new)
         (output_of W.contents W.has_failed W.holds_back output.old output.new)
@@ -75,6 +78,7 @@ fn run_invocation<F, D: Folder, R: Source, W: Sink, E: Sink, T: Sink + Drop>(
 where
     F: Threads + Wait + AllocGlobal,
     ensures { RunsInvocation (model_of invocation.entry) (MayFail D.File.has_failed)
+        (CanStay D.Keeper.cut_back_may_fail)
         (folders_of D.known folder.old folder.new)
         (input_of R.remaining R.has_failed input.old input.new)
         (output_of W.contents W.has_failed W.holds_back output.old output.new)
@@ -110,6 +114,7 @@ fn execute<F, D: Folder, R: Source, W: Sink, E: Sink, T: Sink + Drop>(
 where
     F: Threads + Wait + AllocGlobal,
     ensures ok { IfOk result (Runs limits (command_model command.entry) (MayFail D.File.has_failed)
+        (CanStay D.Keeper.cut_back_may_fail)
         (folders_of D.known folder.old folder.new)
         (input_of R.remaining R.has_failed input.old input.new)
         (output_of W.contents W.has_failed W.holds_back output.old output.new)
@@ -129,10 +134,9 @@ where
         CommandWords::Desk { script, questions } => {
             desk_in_folder(rt, limits, folder, script, questions, output, errors)
         }
-        CommandWords::Page {
-            journal,
-            page: words,
-        } => page_in_folder(alloc, limits, folder, journal, words, output, errors),
+        CommandWords::Page { journal, page } => {
+            page_in_folder(alloc, limits, folder, journal, page, output, errors)
+        }
         CommandWords::Audit {
             journal,
             transcript,
@@ -142,6 +146,15 @@ where
         CommandWords::Letters { journal, options } => letters_in_folder(
             alloc, limits, folder, journal, options, input, output, errors, terminal,
         ),
+        CommandWords::Text { journal, code } => {
+            text_in_folder(alloc, limits, folder, journal, code, output, errors)
+        }
+        CommandWords::Plan { journal, text } => {
+            plan_in_folder(alloc, limits, folder, journal, text, output, errors)
+        }
+        CommandWords::Publish { journal, text } => {
+            publish_in_folder(alloc, limits, folder, journal, text, output, errors)
+        }
         CommandWords::Convert { calendar, date } => {
             Ok(convert_command(alloc, calendar, date, output, errors))
         }

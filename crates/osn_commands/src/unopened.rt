@@ -21,7 +21,11 @@ pub(crate) fn named_file<'a>(command: CommandWords<'a>) -> Option<&'a str>
             page: PageWords::Almanac { .. },
             ..
         } => None,
-        CommandWords::Page { journal, .. } | CommandWords::Letters { journal, .. } => Some(journal),
+        CommandWords::Page { journal, .. }
+        | CommandWords::Letters { journal, .. }
+        | CommandWords::Text { journal, .. }
+        | CommandWords::Plan { journal, .. } => Some(journal),
+        CommandWords::Publish { text, .. } => Some(text),
         CommandWords::Serve(_)
         | CommandWords::Replay { .. }
         | CommandWords::Desk { .. }

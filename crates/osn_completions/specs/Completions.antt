@@ -28,7 +28,7 @@ takes_value other = false
 abbrev pub is_file : Text → Bool
 is_file id = list_any (bytes_eq id)
     (codes "journal" ∷ codes "save" ∷ codes "keep" ∷ codes "follow" ∷ codes "schedule"
-    ∷ codes "script" ∷ codes "questions" ∷ codes "transcript" ∷ codes "places" ∷ [])
+    ∷ codes "script" ∷ codes "questions" ∷ codes "transcript" ∷ codes "text" ∷ codes "places" ∷ [])
 
 -- what the value of the argument of this name may be: FILE is the path of a file, TEXT any text,
 -- and else it is one of these words

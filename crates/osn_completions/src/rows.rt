@@ -38,6 +38,7 @@ fn values_named(id: &str) -> &'static str
         | "script"
         | "questions"
         | "transcript"
+        | "text"
         | "places" => " FILE",
         "order" => " dmy mdy",
         "separator" => " comma semicolon tab",

@@ -2,8 +2,8 @@
 //! and schedules are read, and what else a `LineFold` makes of lines. What the crate promises to
 //! those above: each call that reads gives what the definition makes of the lines, however the
 //! bytes come, or the first fault with its line. What `journal_text` writes of an object is loaded
-//! as that object again, its pending edits included. `head_line`, `with_edit` and `with_publish`
-//! write the lines of which that text consists.
+//! as that object again, its pending edits included. `head_line`, `with_edit`, `with_edits` and
+//! `with_publish` write the lines of which that text consists.
 #![tactic(auto)]
 
 mod command_line;
@@ -33,4 +33,4 @@ pub use schedule::read_schedule;
 pub use script::read_script;
 pub use stop::LineStop;
 pub use whole_lines::{WholePart, whole_part};
-pub use written::{head_line, journal_text, with_edit, with_publish};
+pub use written::{head_line, journal_text, with_edit, with_edits, with_publish};

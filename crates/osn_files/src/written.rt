@@ -193,8 +193,12 @@ pub fn with_publish(bytes: Vec<u8>) -> Result<Vec<u8>, AllocError>
     end_line(out)
 }
 
-/// The bytes, and edits after them.
-fn with_edits(bytes: Vec<u8>, edits: &[Edit]) -> Result<Vec<u8>, AllocError>
+/// The bytes, and edits after them, each as a line of a journal.
+///
+/// # Errors
+///
+/// Only where no memory is found. The bytes are dropped then.
+pub fn with_edits(bytes: Vec<u8>, edits: &[Edit]) -> Result<Vec<u8>, AllocError>
     ensures { IfOk result (λ more. more.items ≡ bytes.items ++ spec.edits_text edits.now) }
 {
     let mut more = bytes;

@@ -1,10 +1,10 @@
 //! The files of the disk that are kept.
-ghost use Rattle.std.specs.Prelude.{◌≡◌, None, IfOk, IfSome, false};
+ghost use Rattle.std.specs.Prelude.{◌≡◌, None, IfOk, false};
 ghost use Rattle.osn_lines.specs.Plain.{failed_of};
 
 use crate::disk_lock::{is_at, lock};
 use crate::disk_names::{has_nothing, sync_name};
-use crate::fault::{KeepFault, KeptFileFault};
+use crate::fault::{ChangeFailed, KeepFault, KeptFileFault};
 use crate::kept_file::KeptFile;
 use osn_lines::Plain;
 use std::fs::{File, OpenOptions};
@@ -83,6 +83,16 @@ impl<R: Files> DiskFile<'_, R> {
         self.check_path()
     }
 
+    /// Cuts the file to its first bytes, if it has them.
+    fn shorten(&self, length: u64) -> Result<(), ChangeFailed> {
+        match self.file.metadata() {
+            Ok(found) if found.len() >= length => {
+                self.file.set_len(length).map_err(|_| ChangeFailed)
+            }
+            _ => Err(ChangeFailed),
+        }
+    }
+
     /// Notes the fault of a change that failed.
     fn remember(&mut self, change: Result<(), KeptFileFault>) -> Result<(), KeptFileFault>
         ensures same { result ≡ change }
@@ -112,6 +122,16 @@ impl<R: Files> KeptFile for DiskFile<'_, R> {
         self.remember(change)
     }
 
+    fn cut_back(&mut self, length: u64) -> Result<(), ChangeFailed> {
+        if matches!(self.fault, Some(KeptFileFault::Replaced)) {
+            return Err(ChangeFailed);
+        }
+        let left = length.min(self.length);
+        self.shorten(left)?;
+        self.length = left;
+        Ok(())
+    }
+
     fn sync(&mut self) -> Result<(), KeptFileFault> {
         let change = self.sync_bytes();
         self.remember(change)
@@ -127,7 +147,7 @@ fn made(change: io::Result<()>) -> Result<(), KeptFileFault> {
 }
 
 /// Opens a file to be kept, or makes it, and gives what reads it from its first byte on. One that
-/// was made and can't be kept is taken away again.
+/// was made and can't be kept is taken away again, unless somebody else has it.
 pub(crate) fn keep_file<'a, R: Files<File = File> + AllocGlobal>(
     files: &'a R,
     path: &str,
@@ -135,11 +155,7 @@ pub(crate) fn keep_file<'a, R: Files<File = File> + AllocGlobal>(
     ensures { IfOk result (λ kept. (kept.0.fault ≡ None) × (failed_of kept.1 ≡ false)) }
 {
     let is_new = has_no_file(files, path)?;
-    let kept = open_locked(files, path, is_new);
-    if is_new && matches!(kept, Err(KeepFault::NotOpened)) {
-        let _ = fs::remove_file(files, path);
-    }
-    kept
+    open_locked(files, path, is_new)
 }
 
 /// Whether nothing is at a path. What is there has to be a file, which a link that leads nowhere is
@@ -171,37 +187,59 @@ fn open_locked<'a, R: Files<File = File> + AllocGlobal>(
         return Err(KeepFault::NotOpened);
     };
     lock(&file)?;
-    match settle(files, path, file, is_new) {
-        Ok(Some(kept)) => Ok(kept),
-        _ => Err(KeepFault::NotOpened),
+    if !matches!(is_settled(files, path, &file), Ok(true)) {
+        if is_new {
+            remove_made(files, path, &file);
+        }
+        return Err(KeepFault::NotOpened);
+    }
+    match kept_file(files, path, file) {
+        Ok(kept) => Ok(kept),
+        Err(_) => Err(KeepFault::NotOpened),
     }
 }
 
-/// Keeps a file that was locked, if it is the one at its path, and no other was put there
-/// meanwhile. The name of a new one is on the disk then.
-fn settle<'a, R: Files<File = File> + AllocGlobal>(
+/// Whether a file that was locked is the one at its path, and no other was put there meanwhile. The
+/// name of an empty one is on the disk then, since the run that made it may not have come to that.
+fn is_settled<R: Files<File = File> + AllocGlobal>(
+    files: &R,
+    path: &str,
+    file: &File,
+) -> io::Result<bool> {
+    let held = file.metadata()?;
+    if !held.is_file() || !is_at(files, path, file)? {
+        return Ok(false);
+    }
+    if held.len() == 0 {
+        sync_name(files, path)?;
+    }
+    Ok(true)
+}
+
+/// Takes a file that was made and is locked away again, if it is the one at its path and is empty.
+fn remove_made(files: &impl Files, path: &str, file: &File) {
+    let is_empty = file.metadata().is_ok_and(|found| found.len() == 0);
+    if is_empty && matches!(is_at(files, path, file), Ok(true)) {
+        let _ = fs::remove_file(files, path);
+    }
+}
+
+/// A file that was locked, and what reads it.
+fn kept_file<'a, R: Files<File = File> + AllocGlobal>(
     files: &'a R,
     path: &str,
     file: File,
-    is_new: bool,
-) -> io::Result<Option<(DiskFile<'a, R>, Plain<File>)>>
-    ensures { IfOk result (λ found. IfSome found
-        (λ kept. (kept.0.fault ≡ None) × (failed_of kept.1 ≡ false))) }
+) -> io::Result<(DiskFile<'a, R>, Plain<File>)>
+    ensures { IfOk result (λ kept. (kept.0.fault ≡ None) × (failed_of kept.1 ≡ false)) }
 {
-    let held = file.metadata()?;
-    if !held.is_file() || !is_at(files, path, &file)? {
-        return Ok(None);
-    }
-    if is_new {
-        sync_name(files, path)?;
-    }
+    let length = file.metadata()?.len();
     let source = Plain::new(file.try_clone()?);
     let kept = DiskFile {
         files,
         path: String::from_str(files.alloc(), path)?,
         file,
-        length: held.len(),
+        length,
         fault: None,
     };
-    Ok(Some((kept, source)))
+    Ok((kept, source))
 }

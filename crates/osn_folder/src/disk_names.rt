@@ -90,10 +90,13 @@ fn write_made(
     }
 }
 
-/// Writes a file, with the permissions of another one, and waits until it is on the disk.
+/// Writes a file, with the permissions of another one where there is one, and waits until it is on
+/// the disk.
 fn write_synced(files: &impl Files, mut file: File, other: &str, text: &str) -> io::Result<()> {
-    if let Ok(old) = fs::metadata(files, other) {
-        file.set_permissions(old.permissions())?;
+    match fs::metadata(files, other) {
+        Ok(old) => file.set_permissions(old.permissions())?,
+        Err(error) if error.kind() == ErrorKind::NotFound => {}
+        Err(error) => return Err(error),
     }
     file.write_all(text.as_bytes())?;
     file.sync_all()

@@ -1,10 +1,10 @@
 //! A file that is kept while a program runs.
-ghost use Rattle.std.specs.Prelude.{◌≡◌, ℕ, List, Option, take, option_map, OnOk, OnErr};
+ghost use Rattle.std.specs.Prelude.{◌≡◌, ℕ, List, Bool, true, Option, take, option_map, OnOk, OnErr};
 ghost use Rattle.std.specs.Io.KnownBytes.{Appends};
 ghost use Rattle.osn_folder.specs.KeptFile.{fault_after};
 ghost use Rattle.osn_folder.specs.declared.fault.KeptFileFault.{KeptFileFault};
 
-use crate::fault::KeptFileFault;
+use crate::fault::{ChangeFailed, KeptFileFault};
 
 /// A file that is kept: what is appended to it stands after what it holds.
 pub trait KeptFile {
@@ -16,6 +16,9 @@ pub trait KeptFile {
 
     // Why the last change that failed did so, where one did.
     ghost fault: { Self → Option KeptFileFault };
+
+    // Whether a cut back may fail.
+    ghost cut_back_may_fail: { Self → Bool } = { λ _. true };
 
     /// Appends bytes.
     ///
@@ -40,6 +43,19 @@ pub trait KeptFile {
         ensures err { OnErr result (contents self.new ≡ contents self.old) }
         ensures disk { OnErr result (synced self.new ≡ synced self.old) }
         ensures fault { fault self.new ≡ fault_after result (fault self.old) };
+
+    /// Cuts it back to its first bytes after a change of it has failed. One that has no more is left
+    /// as it is. The fault stays noted: no further change is made.
+    ///
+    /// # Errors
+    ///
+    /// Where it could not be cut, or someone else has changed it.
+    fn cut_back(&mut self, length: u64) -> Result<(), ChangeFailed>
+        ensures ok { OnOk result
+            (contents self.new ≡ option_map (take length) (contents self.old)) }
+        ensures err { OnErr result ((contents self.new ≡ contents self.old)
+            × (cut_back_may_fail self.old ≡ true)) }
+        ensures fault { fault self.new ≡ fault self.old };
 
     /// Answers once all that it holds is on the disk, at the path that it was opened by.
     ///

@@ -119,6 +119,24 @@ audit_grammar = with_rule
     (with_rule (new_app (codes "audit")) (required_arg (codes "journal")))
     (required_arg (codes "transcript"))
 
+-- `text JOURNAL [CODE]`
+abbrev pub text_grammar : App
+text_grammar = with_rule
+    (with_rule (new_app (codes "text")) (required_arg (codes "journal")))
+    (optional_arg (codes "code"))
+
+-- `plan JOURNAL TEXT`
+abbrev pub plan_grammar : App
+plan_grammar = with_rule
+    (with_rule (new_app (codes "plan")) (required_arg (codes "journal")))
+    (required_arg (codes "text"))
+
+-- `publish JOURNAL TEXT`
+abbrev pub publish_grammar : App
+publish_grammar = with_rule
+    (with_rule (new_app (codes "publish")) (required_arg (codes "journal")))
+    (required_arg (codes "text"))
+
 -- `completions SHELL`
 abbrev pub completions_grammar : App
 completions_grammar =
@@ -137,11 +155,12 @@ program_grammar = on_top (λ s. record s { has_version = true }) (new_app (codes
 abbrev pub command_line : App
 command_line = with_subcommand (with_subcommand (with_subcommand (with_subcommand (with_subcommand
     (with_subcommand (with_subcommand (with_subcommand (with_subcommand (with_subcommand
-    (with_subcommand (with_subcommand program_grammar (limited read_grammar).top)
-    convert_grammar.top) (limited day_grammar).top) (limited month_grammar).top)
-    (limited territory_grammar).top) (limited letters_grammar).top) (limited serve_grammar).top)
-    (limited replay_grammar).top) (limited desk_grammar).top) (limited almanac_grammar).top)
-    (limited audit_grammar).top) completions_grammar.top
+    (with_subcommand (with_subcommand (with_subcommand (with_subcommand (with_subcommand
+    program_grammar (limited read_grammar).top) convert_grammar.top) (limited day_grammar).top)
+    (limited month_grammar).top) (limited territory_grammar).top) (limited letters_grammar).top)
+    (limited serve_grammar).top) (limited text_grammar).top) (limited plan_grammar).top)
+    (limited publish_grammar).top) (limited replay_grammar).top) (limited desk_grammar).top)
+    (limited almanac_grammar).top) (limited audit_grammar).top) completions_grammar.top
 
 -- the argument has this rule, at its own command alone
 abbrev pub IsArg : Rule → Arg → Type 0

@@ -12,6 +12,8 @@ use Rattle.osn_invocation.specs.declared.invocation.CommandWords.{CommandWords}
 use Rattle.osn_invocation.specs.declared.invocation.CommandWords.TheVariants.{Serve, Replay, Desk}
 use Rattle.osn_invocation.specs.declared.invocation.CommandWords.TheVariants.{Page, Audit, Convert}
 use Rattle.osn_invocation.specs.declared.invocation.CommandWords.TheVariants.{Letters, Completions}
+use Rattle.osn_invocation.specs.declared.invocation.CommandWords.TheVariants.{Plan, Publish}
+use Rattle.osn_invocation.specs.declared.invocation.CommandWords.TheVariants as commands
 use Rattle.osn_invocation.specs.declared.invocation.Invocation.{Invocation}
 use Rattle.osn_invocation.specs.declared.letters.DateOptions.{DateOptions}
 use Rattle.osn_invocation.specs.declared.letters.LettersOptions.{LettersOptions}
@@ -64,7 +66,8 @@ pub record LettersModel : Type 0 where
 -- one it follows, and the rest. A replay has readers and a schedule, a desk a script and questions.
 -- A page has a journal and says which page, and an audit has a journal and a transcript. A
 -- conversion has a calendar and a date, letters have a journal and the rest, and completions have a
--- shell. Files are named by their paths
+-- shell. The text of a register has a journal, and the code of its one territory if one is named. A
+-- plan and the edition that it makes have a journal and a text. Files are named by their paths
 pub data CommandModel : Type 0 where
   serving : Option Text → Option Text → Option Text → Option Text → ServiceModel → CommandModel
   replaying : ℕ → Text → CommandModel
@@ -74,6 +77,9 @@ pub data CommandModel : Type 0 where
   converting : Text → Text → CommandModel
   reading_letters : Text → LettersModel → CommandModel
   completing : Text → CommandModel
+  writing_text : Text → Option Text → CommandModel
+  planning : Text → Text → CommandModel
+  publishing : Text → Text → CommandModel
 
 -- what a command line asks for: a command, and what its limits are said to be, if anything
 pub record InvocationModel : Type 0 where
@@ -130,6 +136,17 @@ convert_command given =
 
 abbrev pub completions_command : List Row → CommandModel
 completions_command given = completing (text_of (codes "shell") given)
+
+abbrev pub text_command : List Row → CommandModel
+text_command given =
+    writing_text (text_of (codes "journal") given) (first_of (codes "code") given)
+
+abbrev pub plan_command : List Row → CommandModel
+plan_command given = planning (text_of (codes "journal") given) (text_of (codes "text") given)
+
+abbrev pub publish_command : List Row → CommandModel
+publish_command given =
+    publishing (text_of (codes "journal") given) (text_of (codes "text") given)
 
 -- the name of a column, which is that of its option where none is given
 abbrev pub column_of : Text → List Row → Text
@@ -190,6 +207,14 @@ page_or_serve name given =
     else (if bytes_eq name (codes "territory") then page_command given (territory_page given)
     else serve_command given))))
 
+-- what a command of the register's text asks for, by its name, and what another one asks for
+abbrev pub text_or_page : Text → List Row → CommandModel
+text_or_page name given =
+    if bytes_eq name (codes "text") then text_command given
+    else (if bytes_eq name (codes "plan") then plan_command given
+    else (if bytes_eq name (codes "publish") then publish_command given
+    else page_or_serve name given))
+
 -- what a command asks for, by its name
 abbrev pub command_by : Text → List Row → CommandModel
 command_by name given =
@@ -199,7 +224,7 @@ command_by name given =
     else (if bytes_eq name (codes "convert") then convert_command given
     else (if bytes_eq name (codes "letters") then letters_command given
     else (if bytes_eq name (codes "completions") then completions_command given
-    else page_or_serve name given)))))
+    else text_or_page name given)))))
 
 -- a command with what its limits are said to be
 abbrev pub with_limits : List Row → CommandModel → InvocationModel
@@ -264,6 +289,10 @@ command_model (Audit journal transcript) = auditing journal.now transcript.now
 command_model (Convert calendar date) = converting calendar.now date.now
 command_model (Completions shell) = completing shell.now
 command_model (Letters journal options) = reading_letters journal.now (letters_model options)
+command_model (commands.Text journal code) =
+    writing_text journal.now (option_map (λ code. code.now) code)
+command_model (Plan journal text) = planning journal.now text.now
+command_model (Publish journal text) = publishing journal.now text.now
 
 abbrev pub model_of : Invocation → InvocationModel
 model_of asked = record {

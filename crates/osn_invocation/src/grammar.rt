@@ -12,6 +12,7 @@ ghost use Rattle.osn_invocation.specs.Grammar.{replay_grammar, required_arg, ser
 ghost use Rattle.osn_invocation.specs.Grammar.{territory_grammar, value_option, year_arg};
 
 use crate::letters_grammar::letters_grammar;
+use crate::register_text_grammar::{plan_grammar, publish_grammar, text_grammar};
 use clap::{Arg, ArgAction, Command, value_parser};
 use std::alloc::{AllocError, Global};
 
@@ -20,7 +21,7 @@ year and the rule of Easter that were in force where it was written";
 
 const STATUSES: &str = "Statuses:
   0  done
-  1  the input was refused: a line of a file, a territory, a year, or a file without questions
+  1  the input was refused: a line, a text, a territory, a year, or a file without questions
   2  a word of the command line is wrong
   3  a file could not be opened, or a read or a write failed
   4  memory ran out
@@ -58,7 +59,7 @@ pub(crate) fn flag_arg<'a>(alloc: Global, id: &'a str) -> Arg<'a>
 }
 
 /// An argument that may stand.
-fn optional_arg<'a>(alloc: Global, id: &'a str, shown: &'a str) -> Arg<'a>
+pub(crate) fn optional_arg<'a>(alloc: Global, id: &'a str, shown: &'a str) -> Arg<'a>
     ensures { IsArg (optional_arg id.now) result }
 {
     Arg::new(alloc, id).value_name(shown)
@@ -326,6 +327,9 @@ pub fn command_line<'a>(alloc: Global) -> Result<Command<'a>, AllocError>
         .subcommand(limited(alloc, territory_grammar(alloc)?)?)?
         .subcommand(limited(alloc, letters_grammar(alloc)?)?)?
         .subcommand(limited(alloc, serve_grammar(alloc)?)?)?
+        .subcommand(limited(alloc, text_grammar(alloc)?)?)?
+        .subcommand(limited(alloc, plan_grammar(alloc)?)?)?
+        .subcommand(limited(alloc, publish_grammar(alloc)?)?)?
         .subcommand(limited(alloc, replay_grammar(alloc)?)?)?
         .subcommand(limited(alloc, desk_grammar(alloc)?)?)?
         .subcommand(limited(alloc, almanac_grammar(alloc)?)?)?

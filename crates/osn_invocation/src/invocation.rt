@@ -16,6 +16,7 @@ ghost use Rattle.osn_invocation.specs.Invocation.{territory_page, with_limits};
 use crate::given::{is_given, number_of, text_of, value_of};
 use crate::grammar::command_line;
 use crate::letters::{LettersOptions, letters_of};
+use crate::register_text::{plan_of, publish_of, register_text_of};
 use clap::{ArgMatches, Error};
 use std::alloc::Global;
 use std::convert::AsStr;
@@ -135,6 +136,27 @@ pub enum CommandWords<'a> {
         /// The date, or after `day` a day number.
         date: &'a str,
     },
+    /// To print the territories that a journal published as a text.
+    Text {
+        /// The file of the journal.
+        journal: &'a str,
+        /// The code of the one territory that is printed, if one is named.
+        code: Option<&'a str>,
+    },
+    /// To print the edits that change what a journal published into what a text says.
+    Plan {
+        /// The file of the journal.
+        journal: &'a str,
+        /// The file of the text.
+        text: &'a str,
+    },
+    /// To publish those edits as one edition.
+    Publish {
+        /// The file of the journal.
+        journal: &'a str,
+        /// The file of the text.
+        text: &'a str,
+    },
     /// To print the text by which a shell completes the program's words.
     Completions {
         /// The word of the shell.
@@ -210,6 +232,9 @@ fn command_of<'a>(name: &str, given: &ArgMatches<'a>) -> CommandWords<'a>
         "convert" => convert_of(given),
         "letters" => letters_of(given),
         "completions" => completions_of(given),
+        "text" => register_text_of(given),
+        "plan" => plan_of(given),
+        "publish" => publish_of(given),
         "almanac" => page_of(given, almanac_of(given)),
         "read" => page_of(given, read_of(given)),
         "day" => page_of(given, day_of(given)),

@@ -9,6 +9,8 @@ mod grammar;
 mod invocation;
 mod letters;
 mod letters_grammar;
+mod register_text;
+mod register_text_grammar;
 
 pub use grammar::command_line;
 pub use invocation::{CommandWords, Invocation, PageWords, ServeOptions, parse_args};

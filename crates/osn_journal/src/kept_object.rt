@@ -40,7 +40,7 @@ fn stage<K: KeptFile>(
 /// # Errors
 ///
 /// Where the file failed. The first bytes of the line may stand in it then.
-fn append_synced<K: KeptFile>(keeper: &mut K, line: &[u8]) -> Result<(), KeptFileFault>
+pub fn append_synced<K: KeptFile>(keeper: &mut K, line: &[u8]) -> Result<(), KeptFileFault>
     ensures { MatchResult result
         (λ _. IsSynced line.now (file_of K.contents K.synced K.fault keeper.old)
         (file_of K.contents K.synced K.fault keeper.new))

@@ -6,4 +6,5 @@
 mod kept_object;
 mod kept_service;
 
+pub use kept_object::append_synced;
 pub use kept_service::serve_kept;

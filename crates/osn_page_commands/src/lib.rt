@@ -18,4 +18,4 @@ pub use conversion::convert_command;
 pub use in_folder::page_in_folder;
 pub use letters::{EndRules, letters_command};
 pub use letters_files::letters_in_folder;
-pub use page::page_command;
+pub use page::{land_refusal_line, page_command};

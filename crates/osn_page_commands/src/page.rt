@@ -139,8 +139,12 @@ fn ended(lacks_day: bool, printed: Status) -> Status
     }
 }
 
-/// The line on a refusal of a page on a territory.
-fn land_refusal_line(
+/// The line on a refusal of what is asked of a territory, with the path of the journal.
+///
+/// # Errors
+///
+/// Want of memory, and nothing else.
+pub fn land_refusal_line(
     alloc: Global,
     path: &str,
     code: &str,

@@ -25,3 +25,4 @@ pub use date_lines::has_no_day;
 pub use page::{Page, Published, page_text};
 pub use set::{set_has_no_day, set_page_text};
 pub use territory_list::territories_page;
+pub use words::NumberedDay;

@@ -42,9 +42,9 @@ impl fmt::Display for NamedDay {
     }
 }
 
-/// The same with its number, as `Thursday 14 September 1752 (day 639797)`.
-#[derive(Clone, Copy)]
-pub(crate) struct NumberedDay(pub(crate) DatedDay);
+/// A day by its weekday, its date and its number, as `Thursday 14 September 1752 (day 639797)`.
+#[derive(Clone, Copy, Debug, PartialEq, Eq)]
+pub struct NumberedDay(pub DatedDay);
 
 impl fmt::Display for NumberedDay {
     ghost use Rattle.std.specs.Prelude.{Some};

@@ -13,7 +13,8 @@ use Rattle.osn_days.specs.Profile.{Profile}
 use Rattle.osn_lands.specs.Territory.{TerritoryModel}
 use Rattle.osn_register.specs.declared.limits.Limits.{Limits}
 use Rattle.osn_register.specs.Plain.{LandModel, RegisterModel, land_of, territory_of, AreDistinct}
-use Rattle.osn_register.specs.Plain.{IsSoundTerritory, AreSound, IsWellFormed}
+use Rattle.osn_register.specs.Plain.{IsSoundTerritory, AreSound, AreNamed, IsWellFormed}
+use Rattle.osn_register.specs.Code.{is_code, is_name}
 use Rattle.osn_register.specs.Inside.{land_in}
 
 module _ {K V : Type 0} (text : K → List ℕ) (name : V → List ℕ) (territory : V → TerritoryModel)
@@ -100,13 +101,21 @@ AreSound-push : (p : Profile) (limits : Limits) (ls : List LandModel) (l : LandM
 AreSound-push p limits [] l few here = (here, tt)
 AreSound-push p limits (k ∷ ls) l few here = (few.0, AreSound-push p limits ls l few.1 here)
 
+AreNamed-push : (ls : List LandModel) (l : LandModel) → AreNamed ls → is_code l.code ≡ true →
+    is_name l.name ≡ true → AreNamed (ls ++ l ∷ [])
+AreNamed-push [] l named code name = (code, name, tt)
+AreNamed-push (k ∷ ls) l named code name =
+    (named.0, named.1, AreNamed-push ls l named.2 code name)
+
 -- a new territory under a new code keeps a register well formed
 pub IsWellFormed-push : (p : Profile) (r : RegisterModel) (l : LandModel) → IsWellFormed p r →
-    land_of l.code r.lands ≡ None → length r.lands < r.limits.lands →
+    land_of l.code r.lands ≡ None → is_code l.code ≡ true → is_name l.name ≡ true →
+    length r.lands < r.limits.lands →
     IsSoundTerritory p r.limits l.territory → IsWellFormed p
     (record r { lands = r.lands ++ l ∷ [] })
-IsWellFormed-push p r l w none room few = record {
+IsWellFormed-push p r l w none code name room few = record {
   distinct = AreDistinct-push r.lands l w.distinct none;
+  named = AreNamed-push r.lands l w.named code name;
   within = omega (arith, length-append r.lands (l ∷ []));
   territories = AreSound-push p r.limits r.lands l w.territories few;
 }
@@ -171,6 +180,17 @@ pub copied_within : (p : Profile) (copied : List LandModel) (l : LandModel)
 copied_within p copied l rest lands limits room e few same =
     subst (λ m. IsSoundTerritory p m l.territory) (sym same) (AreSound-within p limits copied l rest
     (subst (AreSound p limits) (sym e) few))
+
+AreNamed-within : (front : List LandModel) (l : LandModel) (rest : List LandModel) →
+    AreNamed (front ++ l ∷ rest) → (is_code l.code ≡ true) × (is_name l.name ≡ true)
+AreNamed-within [] l rest named = (named.0, named.1)
+AreNamed-within (k ∷ front) l rest named = AreNamed-within front l rest named.2
+
+pub copied_named : (copied : List LandModel) (l : LandModel) (rest lands : List LandModel) →
+    copied ++ l ∷ rest ≡ lands → AreNamed lands →
+    (is_code l.code ≡ true) × (is_name l.name ≡ true)
+copied_named copied l rest lands e named =
+    AreNamed-within copied l rest (subst AreNamed (sym e) named)
 
 pub copied_more : (copied : List LandModel) (l : LandModel) (rest lands : List LandModel)
     (code : List ℕ) → copied ++ l ∷ rest ≡ lands → code ≡ l.code →

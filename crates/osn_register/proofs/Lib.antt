@@ -5,3 +5,4 @@ pub mod PeriodCount
 pub mod EarlierAnswers
 pub mod TerritoryFacts
 pub mod NamedFacts
+pub mod YearFacts

@@ -12,6 +12,7 @@ use Rattle.std.specs.Map.{lookup, set_value, remove_entry}
 use Rattle.std.specs.declared.cmp.Ordering.TheVariants.{Less, Equal, Greater}
 use Rattle.std.specs.Ordering.{match_ordering, nat_cmp}
 use Rattle.osn_days.specs.Profile.{Profile}
+use Rattle.osn_days.specs.Line.{IsDay, IsYear}
 use Rattle.osn_lands.specs.declared.regime.Regime.{Regime}
 use Rattle.osn_lands.specs.Territory.{TerritoryModel}
 use Rattle.osn_lands.specs.Changes.{with_start, starts_on}
@@ -26,13 +27,14 @@ use Rattle.osn_register.specs.Code.{is_code}
 use Rattle.osn_register.specs.Plain.{LandModel, RegisterModel, land_of, territory_of, code_refusal}
 use Rattle.osn_register.specs.Plain.{is_off_line, is_off_years, refusal_in, inside, with_territory}
 use Rattle.osn_register.specs.Plain.{AreDistinct, IsSoundTerritory, AreSound, IsWellFormed}
-use Rattle.osn_register.specs.Plain.{is_style_refused}
+use Rattle.osn_register.specs.Plain.{is_style_refused, AreStyled, AreListed, AreNamed}
 use Rattle.osn_register.specs.Refusal.{or_else}
 use Rattle.osn_register.specs.InsideChange.{change_refusal, territory_after}
 use Rattle.osn_register.proofs.CoverFacts.{covers-with_change, covers-with_altered}
 use Rattle.osn_register.proofs.CoverFacts.{covers-without_change}
 use Rattle.osn_register.specs.Inside.{land_in}
 use Rattle.osn_register.proofs.LandFacts.{apart_first}
+use Rattle.osn_register.proofs.YearFacts.{ascend_with, ascend_without}
 
 some_is : {X : Type 0} {x y : X} → Some x ≡ Some y → x ≡ y
 some_is h = cc
@@ -91,6 +93,16 @@ AreDistinct-with code f (l ∷ ls) distinct =
       | false ↦ (land_of-with code l.code f ls distinct.0, AreDistinct-with code f ls distinct.1)
     ]
 
+AreNamed-with : (code : List ℕ) (f : TerritoryModel → TerritoryModel) (ls : List LandModel) →
+    AreNamed ls → AreNamed (with_territory code f ls)
+AreNamed-with code f [] named = tt
+AreNamed-with code f (l ∷ ls) named =
+    elim (bytes_eq code l.code) as (λ b. AreNamed (cond b
+    (record l { territory = f l.territory } ∷ ls) (l ∷ with_territory code f ls))) [
+      | true ↦ named
+      | false ↦ (named.0, named.1, AreNamed-with code f ls named.2)
+    ]
+
 length-with : (code : List ℕ) (f : TerritoryModel → TerritoryModel) (ls : List LandModel) →
     length (with_territory code f ls) ≡ length ls
 length-with code f [] = refl
@@ -124,6 +136,7 @@ pub IsWellFormed-with : (p : Profile) (r : RegisterModel) (code : List ℕ)
     { lands = with_territory code f r.lands })
 IsWellFormed-with p r code f w still = record {
   distinct = AreDistinct-with code f r.lands w.distinct;
+  named = AreNamed-with code f r.lands w.named;
   within = omega (arith, length-with code f r.lands, w.within);
   territories = AreSound-with p r.limits code f r.lands w.territories still;
 }
@@ -210,6 +223,61 @@ length-remove_entry test (e ∷ es) =
       | false ↦ omega (arith, length-remove_entry test es)
     ]
 
+in_years : (p : Profile) (y : ℕ) → is_off_years p (pos y) ≡ false → (1 ≤ y) × (y ≤ p.last_year)
+in_years p y h = (grind (arith, ints, nat_tests), grind (arith, ints, nat_tests))
+
+styled_with : (p : Profile) (d : ℕ) (r : Regime) (ss : List (ℕ × Regime)) →
+    is_style_refused p r ≡ false → AreStyled p ss → AreStyled p (with_start d r ss)
+styled_with p d r [] style styled = (style, tt)
+styled_with p d r (s ∷ ss) style styled =
+    elim (nat_lt d s.0) as (λ b. AreStyled p (cond b ((d, r) ∷ s ∷ ss) (s ∷ with_start d r ss))) [
+      | true ↦ (style, styled)
+      | false ↦ (styled.0, styled_with p d r ss style styled.1)
+    ]
+
+styled_altered : (p : Profile) (d : ℕ) (r : Regime) (ss : List (ℕ × Regime)) →
+    is_style_refused p r ≡ false → AreStyled p ss →
+    AreStyled p (map (λ s. if s.0 == d then (d, r) else s) ss)
+styled_altered p d r [] style styled = tt
+styled_altered p d r (s ∷ ss) style styled = (
+  by (s.0 == d),
+  styled_altered p d r ss style styled.1,
+)
+  where
+    by : (b : Bool) →
+        is_style_refused p (cond {A = ℕ × Regime} b (d, r) s).1 ≡ false
+    by true = style
+    by false = styled.0
+
+styled_without : (p : Profile) (test : ℕ × Regime → Bool) (ss : List (ℕ × Regime)) →
+    AreStyled p ss → AreStyled p (filter test ss)
+styled_without p test [] styled = tt
+styled_without p test (s ∷ ss) styled =
+    elim (test s) as (λ b. AreStyled p (cond b (s ∷ filter test ss) (filter test ss))) [
+      | true ↦ (styled.0, styled_without p test ss styled.1)
+      | false ↦ styled_without p test ss styled.1
+    ]
+
+listed_with : (p : Profile) (y d : ℕ) (es : List (ℕ × ℕ)) → IsYear p y → IsDay p d →
+    AreListed p es → AreListed p (insert_entry nat_cmp es y d)
+listed_with p y d [] year day listed = (year, day, tt)
+listed_with p y d (e ∷ es) year day listed =
+    elim (nat_cmp y e.0) as (λ o. AreListed p (match_ordering o ((y, d) ∷ e ∷ es) ((e.0, d) ∷ es)
+    (e ∷ insert_entry nat_cmp es y d))) [
+      | Less ↦ (year, day, listed)
+      | Equal ↦ (listed.0, day, listed.2)
+      | Greater ↦ (listed.0, listed.1, listed_with p y d es year day listed.2)
+    ]
+
+listed_without : (p : Profile) (test : ℕ → Bool) (es : List (ℕ × ℕ)) → AreListed p es →
+    AreListed p (remove_entry test es)
+listed_without p test [] listed = tt
+listed_without p test (e ∷ es) listed =
+    elim (test e.0) as (λ b. AreListed p (cond b es (e ∷ remove_entry test es))) [
+      | true ↦ listed.2
+      | false ↦ (listed.0, listed.1, listed_without p test es listed.2)
+    ]
+
 -- a lawful change leaves the territory sound
 pub still_sound : (p : Profile) (limits : Limits) (change : TerritoryEdit) (t : TerritoryModel) →
     change_refusal p limits change t ≡ None → IsSoundTerritory p limits t →
@@ -229,17 +297,27 @@ still_sound p limits (Add d regime) t lawful sound =
       exceptions = sound.exceptions;
       periods = covers-with_change p t d regime sound.periods (not_first d later.0 within.0)
           within.1 free.0;
+      years = sound.years;
+      styles = styled_with p d regime t.starts style.0 sound.styles;
+      listed = sound.listed;
     }
-still_sound p limits (Alter d regime) t lawful sound = record {
-  changes = omega (
-    arith,
-    sound.changes,
-    length-map t.starts
-        (λ s. if s.0 == d then (d, regime) else s),
-  );
-  exceptions = sound.exceptions;
-  periods = covers-with_altered p t d regime sound.periods;
-}
+still_sound p limits (Alter d regime) t lawful sound =
+    let line = first_passed (is_off_line p (pos d)) Refusal.DayOffLine _ lawful in
+    let there = first_passed (not (starts_on t d)) Refusal.NoSuchChange _ line.1 in
+    let style = first_passed (is_style_refused p regime) Refusal.StyleNeedsJulian None there.1 in
+    record {
+      changes = omega (
+        arith,
+        sound.changes,
+        length-map t.starts
+            (λ s. if s.0 == d then (d, regime) else s),
+      );
+      exceptions = sound.exceptions;
+      periods = covers-with_altered p t d regime sound.periods;
+      years = sound.years;
+      styles = styled_altered p d regime t.starts style.0 sound.styles;
+      listed = sound.listed;
+    }
 still_sound p limits (Drop d) t lawful sound =
     let line = first_passed (is_off_line p (pos d)) Refusal.DayOffLine _ lawful in
     let later = first_passed (d == 1) Refusal.OpeningPeriod _ line.1 in
@@ -248,6 +326,9 @@ still_sound p limits (Drop d) t lawful sound =
       changes = omega (arith, sound.changes, length-filter (λ s. not (s.0 == d)) t.starts);
       exceptions = sound.exceptions;
       periods = covers-without_change p t d sound.periods (not_first d later.0 within.0);
+      years = sound.years;
+      styles = styled_without p (λ s. not (s.0 == d)) t.starts sound.styles;
+      listed = sound.listed;
     }
 still_sound p limits (AddException y d) t lawful sound =
     let line = first_passed (is_off_line p (pos d)) Refusal.DayOffLine _ lawful in
@@ -261,6 +342,10 @@ still_sound p limits (AddException y d) t lawful sound =
       changes = sound.changes;
       exceptions = omega (arith, below, length-insert_entry t.exceptions y d);
       periods = sound.periods;
+      years = ascend_with t y d sound.years;
+      styles = sound.styles;
+      listed = listed_with p y d t.exceptions (in_years p y range.0) (in_line p d line.0)
+          sound.listed;
     }
 still_sound p limits (DropException y) t lawful sound =
     let fewer : length (territory_after (DropException y) t).exceptions ≤ length t.exceptions =
@@ -269,6 +354,9 @@ still_sound p limits (DropException y) t lawful sound =
       changes = sound.changes;
       exceptions = omega (arith, sound.exceptions, fewer);
       periods = sound.periods;
+      years = ascend_without t y sound.years;
+      styles = sound.styles;
+      listed = listed_without p (λ other. y == other) t.exceptions sound.listed;
     }
 
 pub with_same : (code : List ℕ) (ls : List LandModel) → with_territory code (λ t. t) ls ≡ ls

@@ -6,11 +6,13 @@ use Rattle.std.specs.Prelude.{◌++◌, length, fold, find, Option, Some, None, 
 use Rattle.std.specs.Prelude.{option_map}
 use Rattle.std.specs.Str.{bytes_eq}
 use Rattle.osn_days.specs.Profile.{Profile}
+use Rattle.osn_days.specs.Line.{IsDay, IsYear}
 use Rattle.osn_lands.specs.declared.regime.Regime.{Regime}
 use Rattle.osn_lands.specs.Style.{lacks_julian}
 use Rattle.osn_lands.specs.Territory.{TerritoryModel, opened, periods_of, CoversLine}
 use Rattle.osn_lands.specs.Changes.{starts_on, with_change, with_altered, without_change}
 use Rattle.osn_lands.specs.Exceptions.{exception_of, with_exception, without_exception}
+use Rattle.osn_lands.specs.Exceptions.{HasAscendingYears}
 use Rattle.osn_register.specs.declared.limits.Limits.{Limits}
 use Rattle.osn_register.specs.declared.edit.Edit.{Edit}
 use Rattle.osn_register.specs.declared.edit.Edit.TheVariants.{AddLand, AddChange, AlterChange}
@@ -203,20 +205,40 @@ abbrev pub AreDistinct : List LandModel → Type 0
 AreDistinct [] = Unit {0}
 AreDistinct (l ∷ ls) = (land_of l.code ls ≡ None) × AreDistinct ls
 
+-- every regime goes with its style, where the rules test that
+abbrev pub AreStyled : Profile → List (ℕ × Regime) → Type 0
+AreStyled p [] = Unit {0}
+AreStyled p (s ∷ ss) = (is_style_refused p s.1 ≡ false) × AreStyled p ss
+
+-- every listed day is one of the line, of a year that has an Easter
+abbrev pub AreListed : Profile → List (ℕ × ℕ) → Type 0
+AreListed p [] = Unit {0}
+AreListed p (e ∷ es) = IsYear p e.0 × IsDay p e.1 × AreListed p es
+
 -- what holds of every territory of a register
 pub record IsSoundTerritory (p : Profile) (limits : Limits) (t : TerritoryModel) : Type 0 where
   -- it has one period more than changes
   pub changes : length t.starts ≤ limits.changes + 1
   pub exceptions : length t.exceptions ≤ limits.exceptions
   pub periods : CoversLine p (periods_of p t)
+  pub years : HasAscendingYears t
+  pub styles : AreStyled p t.starts
+  pub listed : AreListed p t.exceptions
 
 abbrev pub AreSound : Profile → Limits → List LandModel → Type 0
 AreSound p limits [] = Unit {0}
 AreSound p limits (l ∷ ls) = IsSoundTerritory p limits l.territory × AreSound p limits ls
 
--- codes are distinct. The territories, their changes and their exceptions are within their limits.
--- The periods of each territory cover the line
+-- every territory has a code and a name that it may have
+abbrev pub AreNamed : List LandModel → Type 0
+AreNamed [] = Unit {0}
+AreNamed (l ∷ ls) = (is_code l.code ≡ true) × (is_name l.name ≡ true) × AreNamed ls
+
+-- codes are distinct, and codes and names of their forms. The territories, their changes and their
+-- exceptions are within their limits. The periods of each territory cover the line, and its years
+-- with an exception ascend
 pub record IsWellFormed (p : Profile) (r : RegisterModel) : Type 0 where
   pub distinct : AreDistinct r.lands
+  pub named : AreNamed r.lands
   pub within : length r.lands ≤ r.limits.lands
   pub territories : AreSound p r.limits r.lands

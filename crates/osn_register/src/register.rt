@@ -4,6 +4,7 @@ ghost use Rattle.std.specs.Prelude.{◌<◌, length, is_some, option_copied, str
 ghost use Rattle.osn_days.specs.Profile.{newest_rules};
 ghost use Rattle.osn_lands.specs.Territory.{opened};
 ghost use Rattle.osn_lands.specs.Changes.{regime_fault};
+ghost use Rattle.osn_register.specs.Code as form;
 ghost use Rattle.osn_register.specs.Plain.{refusal, add_land_refusal, code_refusal, refusal_in};
 ghost use Rattle.osn_register.specs.Plain.{with_land, with_territory, effect, applied, folded};
 ghost use Rattle.osn_register.specs.Plain.{takes_memory};
@@ -274,6 +275,8 @@ impl Register {
 
     fn add_land(&mut self, code: &Text, name: &Text, regime: Regime) -> Result<(), AllocError>
         requires absent { land_of code.now self.old.lands ≡ None }
+        requires code { form.is_code code.now ≡ true }
+        requires name { form.is_name name.now ≡ true }
         requires regime { regime_fault regime ≡ None }
         requires room { length self.old.lands < self.old.limits.lands }
         ensures ok { OnOk result (self.new ≡ record self.old {
@@ -287,6 +290,8 @@ impl Register {
 
     fn insert(&mut self, code: String, entry: NamedTerritory) -> Result<(), AllocError>
         requires absent { land_of (string_bytes code) self.old.lands ≡ None }
+        requires code { form.is_code (string_bytes code) ≡ true }
+        requires name { form.is_name entry.name ≡ true }
         requires room { length self.old.lands < self.old.limits.lands }
         requires territory { IsSoundTerritory newest_rules self.old.limits entry.territory }
         ensures ok { OnOk result (self.new ≡ record self.old {

@@ -15,7 +15,7 @@ mod unopened;
 pub use fault::CommandFault;
 pub use fault_report::{refused, report, tell_line, tell_no_memory, write_line};
 pub use misuse::{Misuse, tell_misuse};
-pub use printing::print;
+pub use printing::{print, print_text};
 pub use progress::{ProgressSource, ReadProgress};
 pub use status::Status;
 pub use unopened::tell_unopened;

@@ -9,7 +9,7 @@ use osn_lines::{Sink, write_all};
 use std::alloc::AllocError;
 
 /// Writes a text whole. Standard error is told where that failed.
-fn print_text<W: Sink, E: Sink>(text: &str, output: &mut W, errors: &mut E) -> Status
+pub fn print_text<W: Sink, E: Sink>(text: &str, output: &mut W, errors: &mut E) -> Status
     ensures { Prints text.now
         (output_of W.contents W.has_failed W.holds_back output.old output.new)
         (output_of E.contents E.has_failed E.holds_back errors.old errors.new) result }

@@ -60,7 +60,7 @@ fn newest_alone(version: Version) -> Result<(), CommandFault>
 
 /// The object that a kept file holds, and how much of it counts. It is read once, then measured and
 /// loaded.
-fn read_kept<J: Source>(
+pub fn read_kept<J: Source>(
     alloc: Global,
     limits: Limits,
     journal: &mut J,
@@ -109,7 +109,7 @@ fn cut_last<K: KeptFile, E: Sink>(
 }
 
 /// Cuts off the last line of a kept file, if it was not finished, and tells standard error so.
-fn cut_unfinished<K: KeptFile, E: Sink>(
+pub fn cut_unfinished<K: KeptFile, E: Sink>(
     alloc: Global,
     part: WholePart,
     keeper: &mut K,
@@ -143,7 +143,7 @@ fn missing_head(alloc: Global, part: WholePart) -> Result<Vec<u8>, AllocError>
 
 /// What is missing after the lines of a kept file that count: the line feed of the last one, or the
 /// head where no line counts.
-fn missing_text(alloc: Global, part: WholePart) -> Result<Vec<u8>, AllocError>
+pub fn missing_text(alloc: Global, part: WholePart) -> Result<Vec<u8>, AllocError>
     ensures { IfOk result (λ text. (held : List ℕ) → IsWholePart part held
         → text.items ≡ missing_text held) }
 {

@@ -12,5 +12,5 @@ mod serve;
 
 pub use follow::follow_command;
 pub use in_folder::serve_in_folder;
-pub use keep::keep_command;
-pub use serve::{ServeResult, serve_command};
+pub use keep::{cut_unfinished, keep_command, missing_text, read_kept};
+pub use serve::{ServeResult, initial_object, serve_command};

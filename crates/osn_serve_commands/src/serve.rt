@@ -39,8 +39,12 @@ impl ServeResult {
     }
 }
 
-/// The object of the journal, where there is one, or else an empty one.
-fn initial_object<J: Source>(
+/// The object of the journal, where there is one, or else an empty one under these limits.
+///
+/// # Errors
+///
+/// Why the journal makes no object.
+pub fn initial_object<J: Source>(
     alloc: Global,
     limits: Limits,
     journal: &mut Option<J>,

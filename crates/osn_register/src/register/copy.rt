@@ -1,6 +1,7 @@
 //! Registers made of another one, and of edits.
 ghost use Rattle.std.specs.Prelude.{◌≡◌, [], true, None, IfOk, OnOk, OnErr, ◌<◌, length};
 ghost use Rattle.osn_days.specs.Profile.{newest_rules};
+ghost use Rattle.osn_register.specs.Code as form;
 ghost use Rattle.osn_register.specs.Plain.{applied_all, folded, fold_takes_memory};
 ghost use Rattle.osn_register.specs.Plain.{land_of, with_land, IsSoundTerritory};
 
@@ -29,6 +30,8 @@ impl Register {
     /// Adds a copy of a territory that another register keeps under a code.
     fn insert_copy(&mut self, code: &str, entry: &NamedTerritory) -> Result<(), AllocError>
         requires absent { land_of code.now self.old.lands ≡ None }
+        requires code { form.is_code code.now ≡ true }
+        requires name { form.is_name entry.now.name ≡ true }
         requires room { length self.old.lands < self.old.limits.lands }
         requires territory { IsSoundTerritory newest_rules self.old.limits entry.now.territory }
         ensures ok { OnOk result (self.new ≡ record self.old {

@@ -1,8 +1,9 @@
-//! The territory that the register keeps under a code or a name, lent.
-ghost use Rattle.std.specs.Prelude.{◌≡◌, Some, is_some, option_map, IfOk, IfSome};
+//! The territory that the register keeps under a code or a name or at a place, lent.
+ghost use Rattle.std.specs.Prelude.{◌≡◌, Some, is_some, option_map, slice_get, IfOk, IfSome};
+ghost use Rattle.osn_days.specs.Profile.{newest_rules};
 ghost use Rattle.osn_register.specs.ByName as by_name;
 ghost use Rattle.osn_register.specs.Named.{named_of};
-ghost use Rattle.osn_register.specs.Plain.{code_refusal, land_of};
+ghost use Rattle.osn_register.specs.Plain.{LandModel, IsWellFormed, code_refusal, land_of};
 ghost use Rattle.osn_register.specs.Refusal.{IsTestOf};
 
 use crate::code::is_code;
@@ -11,8 +12,21 @@ use crate::register::Register;
 use osn_lands::Territory;
 
 impl Register {
+    /// The code, the name and the territory at a place, from 0, in the order of addition.
+    pub fn land_at(&self, place: usize) -> Option<(&str, &str, &Territory)>
+        ensures value { option_map {U = LandModel}
+            (λ l. record { code = l.0.now; name = l.1.now; territory = l.2.now }) result
+            ≡ slice_get self.now.lands place }
+        ensures well_formed { IsWellFormed newest_rules self.now }
+    {
+        match self.lands.get_index(place) {
+            Some((code, entry)) => Some((code.as_str(), entry.name.as_str(), &entry.territory)),
+            None => None,
+        }
+    }
+
     /// The name and the territory of a code, where some territory has it.
-    fn named(&self, code: &str) -> Option<(&str, &Territory)>
+    pub fn find_land(&self, code: &str) -> Option<(&str, &Territory)>
         ensures value { IfSome result (λ l.
             named_of code.now self.now.lands ≡ Some (l.0.now, l.1.now)) }
         ensures known { is_some result ≡ is_some (land_of code.now self.now.lands) }
@@ -36,7 +50,7 @@ impl Register {
         if !is_code(code) {
             return Err(Refusal::BadCode);
         }
-        self.named(code).ok_or(Refusal::UnknownLand)
+        self.find_land(code).ok_or(Refusal::UnknownLand)
     }
 
     /// The first territory that has the name.

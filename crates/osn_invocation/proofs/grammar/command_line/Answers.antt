@@ -32,14 +32,20 @@ returns c =
     let seventh = one_more_command _ _ _ _ _ c.in_ok-subcommand-7.ensures
     sixth (c.in_ok-limited-6.ensures _ c.in_ok-serve_grammar.ensures) in
     let eighth = one_more_command _ _ _ _ _ c.in_ok-subcommand-8.ensures
-    seventh (c.in_ok-limited-7.ensures _ c.in_ok-replay_grammar.ensures) in
+    seventh (c.in_ok-limited-7.ensures _ c.in_ok-text_grammar.ensures) in
     let ninth = one_more_command _ _ _ _ _ c.in_ok-subcommand-9.ensures
-    eighth (c.in_ok-limited-8.ensures _ c.in_ok-desk_grammar.ensures) in
+    eighth (c.in_ok-limited-8.ensures _ c.in_ok-plan_grammar.ensures) in
     let tenth = one_more_command _ _ _ _ _ c.in_ok-subcommand-10.ensures
-    ninth (c.in_ok-limited-9.ensures _ c.in_ok-almanac_grammar.ensures) in
+    ninth (c.in_ok-limited-9.ensures _ c.in_ok-publish_grammar.ensures) in
     let eleventh = one_more_command _ _ _ _ _ c.in_ok-subcommand-11.ensures
-    tenth (c.in_ok-limited-10.ensures _ c.in_ok-audit_grammar.ensures) in
-    IfOk-weaker c.subcommand-12.result _ _
-    (λ new added. one_more_command _ new _ _ _ added eleventh
+    tenth (c.in_ok-limited-10.ensures _ c.in_ok-replay_grammar.ensures) in
+    let twelfth = one_more_command _ _ _ _ _ c.in_ok-subcommand-12.ensures
+    eleventh (c.in_ok-limited-11.ensures _ c.in_ok-desk_grammar.ensures) in
+    let thirteenth = one_more_command _ _ _ _ _ c.in_ok-subcommand-13.ensures
+    twelfth (c.in_ok-limited-12.ensures _ c.in_ok-almanac_grammar.ensures) in
+    let fourteenth = one_more_command _ _ _ _ _ c.in_ok-subcommand-14.ensures
+    thirteenth (c.in_ok-limited-13.ensures _ c.in_ok-audit_grammar.ensures) in
+    IfOk-weaker c.subcommand-15.result _ _
+    (λ new added. one_more_command _ new _ _ _ added fourteenth
     c.in_ok-completions_grammar.ensures)
-    c.subcommand-12.ensures
+    c.subcommand-15.ensures

@@ -1,10 +1,11 @@
-use Rattle.std.proofs.Common.{◌≡◌, ◌∷◌, ◌++◌, map, ap, sym, subst, ◌∙◌, string_bytes}
+use Rattle.std.proofs.Common.{◌≡◌, true, ◌∷◌, ◌++◌, map, ap, sym, subst, ◌∙◌, string_bytes}
 use Rattle.osn_days.specs.Profile.{newest_rules}
 use Rattle.osn_register.specs.declared.register.NamedTerritory.{NamedTerritory}
 use Rattle.osn_register.specs.Plain.{IsWellFormed}
 use Rattle.osn_register.specs.Inside.{land_in}
 use Rattle.osn_register.proofs.LandFacts.{copied_absent, copied_room, copied_within, copied_more}
-use Rattle.osn_register.proofs.LandFacts.{copied_some, same_register, on_err}
+use Rattle.osn_register.proofs.LandFacts.{copied_named, copied_some, same_register, on_err}
+use Rattle.osn_register.specs.Code.{is_code, is_name}
 use Rattle.osn_register.proofs.register.Register.copy.Goals as goal
 use Rattle.osn_register.proofs.register.Register.copy.Goals.{After-as_str}
 
@@ -21,6 +22,17 @@ all c = ap (λ it. c.loop-code.copied.lands ++ map (land_in string_bytes (λ v. 
 pub insert_copy-requires-clause-absent : goal.insert_copy-requires-clause-absent
 insert_copy-requires-clause-absent c = copied_absent _ _ _ _ c.as_str.result.now (all c)
     (well_formed c).distinct c.as_str.ensures.value
+
+named : (c : After-as_str) → (is_code (string_bytes c.in-Some.code.now) ≡ true)
+    × (is_name c.in-Some.entry.now.name ≡ true)
+named c = copied_named _ (land_in {V = NamedTerritory} string_bytes (λ v. v.name)
+    (λ v. v.territory) (c.in-Some.code.now, c.in-Some.entry.now)) _ _ (all c) (well_formed c).named
+
+pub insert_copy-requires-clause-code : goal.insert_copy-requires-clause-code
+insert_copy-requires-clause-code c = ap is_code c.as_str.ensures.value ∙ (named c).0
+
+pub insert_copy-requires-clause-name : goal.insert_copy-requires-clause-name
+insert_copy-requires-clause-name c = (named c).1
 
 pub insert_copy-requires-clause-room : goal.insert_copy-requires-clause-room
 insert_copy-requires-clause-room c = copied_room _ _ _ _ _ _ (all c) (well_formed c).within

@@ -45,7 +45,8 @@ invariant_of-self-2 c =
     c.self.invariant in
     subst (IsWellFormed newest_rules) (sym (added c))
     (IsWellFormed-push newest_rules c.args.self.now
-    (new_land c) before c.requires.absent c.requires.room c.requires.territory)
+    (new_land c) before c.requires.absent c.requires.code c.requires.name c.requires.room
+    c.requires.territory)
 
 pub returns-clause-ok : goal.returns-clause-ok
 returns-clause-ok c = added c

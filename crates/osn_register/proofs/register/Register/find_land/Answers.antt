@@ -4,7 +4,7 @@ use Rattle.osn_register.specs.Plain.{land_of}
 use Rattle.osn_register.specs.Named.{named_of}
 use Rattle.osn_register.proofs.LandFacts.{land_of-map}
 use Rattle.osn_register.proofs.NamedFacts.{named_of-map}
-use Rattle.osn_register.proofs.register.Register.named.Goals as goal
+use Rattle.osn_register.proofs.register.Register.find_land.Goals as goal
 
 pub returns-in-Some-clause-value : goal.returns-in-Some-clause-value
 returns-in-Some-clause-value c =

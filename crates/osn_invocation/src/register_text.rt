@@ -1,0 +1,40 @@
+//! What the commands of the register's text are asked for, by their arguments.
+
+ghost use Rattle.std.specs.Prelude.{◌≡◌};
+ghost use Rattle.clap.specs.Words.{found_of, rows_of};
+ghost use Rattle.osn_invocation.specs.Invocation.{command_model, plan_command, publish_command};
+ghost use Rattle.osn_invocation.specs.Invocation.{text_command};
+
+use crate::given::{text_of, value_of};
+use crate::invocation::CommandWords;
+use clap::ArgMatches;
+
+/// What the arguments of `text` ask for.
+pub(crate) fn register_text_of<'a>(given: &ArgMatches<'a>) -> CommandWords<'a>
+    ensures { command_model result ≡ text_command (rows_of (found_of given.now)) }
+{
+    CommandWords::Text {
+        journal: text_of(given, "journal"),
+        code: value_of(given, "code"),
+    }
+}
+
+/// What the arguments of `plan` ask for.
+pub(crate) fn plan_of<'a>(given: &ArgMatches<'a>) -> CommandWords<'a>
+    ensures { command_model result ≡ plan_command (rows_of (found_of given.now)) }
+{
+    CommandWords::Plan {
+        journal: text_of(given, "journal"),
+        text: text_of(given, "text"),
+    }
+}
+
+/// What the arguments of `publish` ask for.
+pub(crate) fn publish_of<'a>(given: &ArgMatches<'a>) -> CommandWords<'a>
+    ensures { command_model result ≡ publish_command (rows_of (found_of given.now)) }
+{
+    CommandWords::Publish {
+        journal: text_of(given, "journal"),
+        text: text_of(given, "text"),
+    }
+}

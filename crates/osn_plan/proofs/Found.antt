@@ -1,0 +1,170 @@
+-- What is found under a code after edits of one territory.
+use Rattle.std.proofs.Common.{◌≡◌, ℕ, Bool, true, false, cond, List, [], ◌∷◌, ◌++◌, map, fold}
+use Rattle.std.proofs.Common.{Option}
+use Rattle.std.proofs.Common.{Some, None, option_map, is_some, refl, sym, ap, ◌∙◌}
+use Rattle.std.proofs.lemmas.Bool.{false≢true}
+use Rattle.std.proofs.lemmas.Slice.Eq.{bytes_eq-Decides}
+use Rattle.std.specs.Str.{bytes_eq}
+use Rattle.std.specs.Option.{option_and_then}
+use Rattle.osn_lands.specs.Territory.{TerritoryModel}
+use Rattle.osn_plan.specs.Change.{Change}
+use Rattle.osn_plan.specs.Change.Change.{Add, Alter, Drop}
+use Rattle.osn_plan.specs.Change.Change.{ListDay, DropDay}
+use Rattle.osn_plan.specs.Change.{territory_after}
+use Rattle.osn_register.specs.Plain.{LandModel, land_of, with_territory, effect}
+use Rattle.osn_plan.specs.Needed.{regime_from, regime_in, easter_in, IsNeeded, AreNeeded}
+use Rattle.osn_plan.specs.Change.{edit_of}
+use Rattle.osn_plan.proofs.Rows.{look, not_none}
+use Rattle.osn_plan.proofs.Due.{after, IsDue, AreDue}
+
+pub code_itself : (code : List ℕ) → bytes_eq code code ≡ true
+code_itself code = (bytes_eq-Decides code code).1 refl
+
+pub codes_apart : (a b : List ℕ) → bytes_eq a b ≡ false → a ≡ b → ⊥
+codes_apart a b apart e = false≢true (sym apart ∙ (bytes_eq-Decides a b).1 e)
+
+-- a change of the territory that has a code
+
+abbrev changed : (TerritoryModel → TerritoryModel) → LandModel → LandModel
+changed f l = record l { territory = f l.territory }
+
+with_here : (code : List ℕ) (f : TerritoryModel → TerritoryModel) (ls : List LandModel) →
+    land_of code (with_territory code f ls) ≡ option_map (changed f) (land_of code ls)
+with_here code f [] = refl
+with_here code f (l ∷ ls) = by (bytes_eq code l.code) refl (with_here code f ls)
+  where
+    by : (b : Bool) → bytes_eq code l.code ≡ b →
+        land_of code (with_territory code f ls) ≡ option_map (changed f) (land_of code ls) →
+        land_of code (cond b (changed f l ∷ ls) (l ∷ with_territory code f ls))
+        ≡ option_map (changed f) (cond b (Some l) (land_of code ls))
+    by true e later = ap (λ b. cond b (Some (changed f l)) (land_of code ls)) e
+    by false e later = ap (λ b. cond b (Some l) (land_of code (with_territory code f ls))) e ∙ later
+
+with_apart : (code other : List ℕ) (f : TerritoryModel → TerritoryModel) (ls : List LandModel) →
+    bytes_eq other code ≡ false → land_of other (with_territory code f ls) ≡ land_of other ls
+with_apart code other f [] apart = refl
+with_apart code other f (l ∷ ls) apart =
+    by (bytes_eq code l.code) refl (with_apart code other f ls apart)
+  where
+    by : (b : Bool) → bytes_eq code l.code ≡ b →
+        land_of other (with_territory code f ls) ≡ land_of other ls →
+        land_of other (cond b (changed f l ∷ ls) (l ∷ with_territory code f ls))
+        ≡ land_of other (l ∷ ls)
+    by true e later =
+        let elsewhere : bytes_eq other l.code ≡ false =
+        ap (bytes_eq other) (sym ((bytes_eq-Decides code l.code).0 e)) ∙ apart in
+        ap (λ b. cond b (Some (changed f l)) (land_of other ls)) elsewhere
+        ∙ sym (ap (λ b. cond b (Some l) (land_of other ls)) elsewhere)
+    by false e later = ap (λ o. cond (bytes_eq other l.code) (Some l) o) later
+
+-- the edit of one change
+
+effect_is : (code : List ℕ) (e : Change) (ls : List LandModel) →
+    effect ls (edit_of code e) ≡ with_territory code (territory_after e) ls
+effect_is code (Add d r) ls = refl
+effect_is code (Alter d r) ls = refl
+effect_is code (Drop d) ls = refl
+effect_is code (ListDay y d) ls = refl
+effect_is code (DropDay y) ls = refl
+
+pub step_here : (code : List ℕ) (e : Change) (ls : List LandModel) (l : LandModel) →
+    land_of code ls ≡ Some l →
+    land_of code (effect ls (edit_of code e)) ≡ Some (changed (territory_after e) l)
+step_here code e ls l known =
+    ap (land_of code) (effect_is code e ls) ∙ with_here code (territory_after e) ls
+    ∙ ap (option_map (changed (territory_after e))) known
+
+-- the edits of changes in turn
+pub edits_here : (code : List ℕ) (es : List Change) (ls : List LandModel) (l : LandModel) →
+    land_of code ls ≡ Some l →
+    land_of code (fold effect ls (map (edit_of code) es)) ≡ Some (changed (after es) l)
+edits_here code [] ls l known = known
+edits_here code (e ∷ es) ls l known = edits_here code es (effect ls (edit_of code e))
+    (changed (territory_after e) l) (step_here code e ls l known)
+
+pub edits_apart : (code other : List ℕ) (es : List Change) (ls : List LandModel) →
+    bytes_eq other code ≡ false →
+    land_of other (fold effect ls (map (edit_of code) es)) ≡ land_of other ls
+edits_apart code other [] ls apart = refl
+edits_apart code other (e ∷ es) ls apart =
+    edits_apart code other es (effect ls (edit_of code e)) apart
+    ∙ ap (land_of other) (effect_is code e ls)
+    ∙ with_apart code other (territory_after e) ls apart
+
+-- what is found of the territory of a code
+
+pub regime_found : (code : List ℕ) (ls : List LandModel) (l : LandModel) (d : ℕ) →
+    land_of code ls ≡ Some l → regime_in ls code d ≡ look d l.territory.starts
+regime_found code ls l d known = ap (λ o. option_and_then (λ t. regime_from t d)
+    (option_map (λ (k : LandModel). k.territory) o)) known
+
+pub easter_found : (code : List ℕ) (ls : List LandModel) (l : LandModel) (y : ℕ) →
+    land_of code ls ≡ Some l → easter_in ls code y ≡ look y l.territory.exceptions
+easter_found code ls l y known = ap (λ o. option_and_then (λ (t : TerritoryModel).
+    look y t.exceptions) (option_map (λ (k : LandModel). k.territory) o)) known
+
+-- a change that is due is an edit that is needed
+is_needed : (wanted ls : List LandModel) (code : List ℕ) (w l : LandModel) (e : Change) →
+    land_of code wanted ≡ Some w → land_of code ls ≡ Some l →
+    IsDue w.territory l.territory e → IsNeeded wanted ls (edit_of code e)
+is_needed wanted ls code w l (Add d r) is known due =
+    (regime_found code ls l d known ∙ due.0, regime_found code wanted w d is ∙ due.1)
+is_needed wanted ls code w l (Alter d r) is known due = (
+  ap is_some (regime_found code ls l d known) ∙ due.0,
+  (λ h. due.1 (sym (regime_found code ls l d known) ∙ h)),
+  regime_found code wanted w d is ∙ due.2,
+)
+is_needed wanted ls code w l (Drop d) is known due = (
+  ap is_some is,
+  ap is_some (regime_found code ls l d known) ∙ due.0,
+  regime_found code wanted w d is ∙ due.1,
+)
+is_needed wanted ls code w l (ListDay y d) is known due =
+    (easter_found code ls l y known ∙ due.0, easter_found code wanted w y is ∙ due.1)
+is_needed wanted ls code w l (DropDay y) is known due = (
+  ap is_some is,
+  ap is_some (easter_found code ls l y known) ∙ due.0,
+  (λ h. due.1 (sym (easter_found code wanted w y is) ∙ h ∙ easter_found code ls l y known)),
+)
+
+pub are_needed : (wanted ls : List LandModel) (code : List ℕ) (w l : LandModel)
+    (es : List Change) → land_of code wanted ≡ Some w → land_of code ls ≡ Some l →
+    AreDue w.territory l.territory es → AreNeeded wanted ls (map (edit_of code) es)
+are_needed wanted ls code w l [] is known due = tt
+are_needed wanted ls code w l (e ∷ es) is known due = (
+  is_needed wanted ls code w l e is known due.0,
+  are_needed wanted (effect ls (edit_of code e)) code w (changed (territory_after e) l) es is
+      (step_here code e ls l known) due.1,
+)
+
+-- a territory more
+
+pub added_here : (ls : List LandModel) (l : LandModel) → land_of l.code ls ≡ None →
+    land_of l.code (ls ++ l ∷ []) ≡ Some l
+added_here [] l none = ap (λ b. cond b (Some l) None) (code_itself l.code)
+added_here (k ∷ ls) l none = by (bytes_eq l.code k.code) none (added_here ls l)
+  where
+    by : (b : Bool) → cond b (Some k) (land_of l.code ls) ≡ None →
+        (land_of l.code ls ≡ None → land_of l.code (ls ++ l ∷ []) ≡ Some l) →
+        cond b (Some k) (land_of l.code (ls ++ l ∷ [])) ≡ Some l
+    by true none later = not_none none
+    by false none later = later none
+
+pub added_apart : (other : List ℕ) (ls : List LandModel) (l : LandModel) →
+    bytes_eq other l.code ≡ false → land_of other (ls ++ l ∷ []) ≡ land_of other ls
+added_apart other [] l apart = ap (λ b. cond b (Some l) None) apart
+added_apart other (k ∷ ls) l apart =
+    ap (λ o. cond (bytes_eq other k.code) (Some k) o) (added_apart other ls l apart)
+
+-- the code that is found is the one that is looked for
+pub code_found : (code : List ℕ) (ls : List LandModel) (l : LandModel) → land_of code ls ≡ Some l →
+    l.code ≡ code
+code_found code [] l found = not_none (sym found)
+code_found code (k ∷ ls) l found = by (bytes_eq code k.code) refl found (code_found code ls l)
+  where
+    by : (b : Bool) → bytes_eq code k.code ≡ b → cond b (Some k) (land_of code ls) ≡ Some l →
+        (land_of code ls ≡ Some l → l.code ≡ code) → l.code ≡ code
+    by true e found later =
+        ap (λ (o : Option LandModel). elim o [ None ↦ code | Some m ↦ m.code ]) (sym found)
+        ∙ sym ((bytes_eq-Decides code k.code).0 e)
+    by false e found later = later found

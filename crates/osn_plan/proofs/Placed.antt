@@ -1,0 +1,271 @@
+-- The edits of wanted territories in turn: each of them stands then as it is wanted.
+use Rattle.std.proofs.Common.{◌≡◌, ℕ, ◌≤◌, Bool, true, false, cond, List, [], ◌∷◌, ◌++◌, fold}
+use Rattle.std.proofs.Common.{Option, Some, None, option_map, is_some, refl, sym, ap, subst, ◌∙◌}
+use Rattle.std.proofs.Common.{arith}
+use Rattle.std.proofs.Common.{not, nat_le, length}
+use Rattle.std.proofs.lemmas.Bool.{false≢true}
+use Rattle.std.proofs.lemmas.Slice.Eq.{bytes_eq-Decides}
+use Rattle.std.specs.Str.{bytes_eq}
+use Rattle.osn_days.specs.Profile.{Profile}
+use Rattle.osn_lands.specs.declared.regime.Regime.{Regime}
+use Rattle.osn_lands.specs.Territory.{TerritoryModel, opened}
+use Rattle.osn_register.specs.declared.edit.Edit.{Edit}
+use Rattle.osn_register.specs.declared.limits.Limits.{Limits}
+use Rattle.osn_register.specs.declared.refusal.Refusal.{Refusal}
+use Rattle.osn_register.specs.declared.refusal.Refusal.TheVariants as refusals
+use Rattle.osn_register.specs.Code.{is_code, is_name}
+use Rattle.osn_register.specs.Plain.{LandModel, land_of, effect, AreDistinct, is_style_refused}
+use Rattle.osn_register.specs.Plain.{AreStyled, add_land_refusal}
+use Rattle.osn_plan.specs.Fault.{IsOver}
+use Rattle.osn_plan.specs.Needed.{AreNeeded}
+use Rattle.osn_plan.specs.Differences.{opening, later, differences, edits_from}
+use Rattle.osn_plan.specs.Differences.{land_edits, all_edits}
+use Rattle.osn_plan.proofs.Rows.{look, IsFrom, some_is}
+use Rattle.osn_plan.proofs.Due.{after}
+use Rattle.osn_plan.proofs.Reached.{Ascends, Reaches, reaches, later_is}
+use Rattle.osn_plan.proofs.Found.{code_itself, edits_here, edits_apart, regime_found, are_needed}
+use Rattle.osn_plan.proofs.Valid.{Allowed, AreValid, differences_valid, AreLimited, are_limited}
+use Rattle.osn_plan.proofs.Valid.{skip, last_one}
+use Rattle.osn_plan.proofs.Found.{added_here, added_apart, code_found}
+
+-- the first start is on day 1
+pub record Opens (t : TerritoryModel) : Type 0 where
+  pub rest : List (ℕ × Regime)
+  pub is : t.starts ≡ (1, opening t.starts) ∷ rest
+  pub from : IsFrom 2 rest
+
+-- a territory is found that has the code and the name of the wanted one, and the same starts and
+-- years
+pub record Stands (l : LandModel) (found : Option LandModel) : Type 0 where
+  pub land : LandModel
+  pub is : found ≡ Some land
+  pub code : land.code ≡ l.code
+  pub name : land.name ≡ l.name
+  pub starts : (k : ℕ) → look k land.territory.starts ≡ look k l.territory.starts
+  pub years : (k : ℕ) → look k land.territory.exceptions ≡ look k l.territory.exceptions
+
+-- one wanted territory
+
+record Placed (p : Profile) (limits : Limits) (wanted ls : List LandModel) (l : LandModel)
+    (es : List Edit) : Type 0 where
+  needed : AreNeeded wanted ls es
+  limited : AreLimited p limits wanted ls es
+  others : (other : List ℕ) → bytes_eq other l.code ≡ false →
+      land_of other (fold effect ls es) ≡ land_of other ls
+  stands : Stands l (land_of l.code (fold effect ls es))
+
+-- what stands under the code has the wanted name, and ascends
+abbrev pub Fits : Profile → LandModel → Option LandModel → Type 0
+Fits p l None = Unit {0}
+Fits p l (Some standing) =
+    (standing.name ≡ l.name) × Ascends standing.territory × Allowed p standing.territory
+
+-- a wanted territory that the edits can reach
+pub record Fit (p : Profile) (lands : List LandModel) (l : LandModel) : Type 0 where
+  pub up : Ascends l.territory
+  pub opens : Opens l.territory
+  pub code : is_code l.code ≡ true
+  pub name : is_name l.name ≡ true
+  pub allowed : Allowed p l.territory
+  pub standing : Fits p l (land_of l.code lands)
+
+opened_allowed : (p : Profile) (r : Regime) → 1 ≤ p.high → is_style_refused p r ≡ false →
+    Allowed p (opened r)
+opened_allowed p r low style = record {
+  opening = refl;
+  days = ((omega arith, low), tt);
+  styles = (style, tt);
+  listed = tt;
+}
+
+-- a further territory is refused by the limit of territories, if it is
+land_limited : (p : Profile) (limits : Limits) (ls : List LandModel) (l : LandModel)
+    (r : Regime) → is_code l.code ≡ true → is_name l.name ≡ true → land_of l.code ls ≡ None →
+    is_style_refused p r ≡ false → (f : Refusal) →
+    add_land_refusal p limits ls l.code l.name r ≡ Some f → IsOver limits (Some l) f
+land_limited p limits ls l r code name none style f refused =
+    last_one (IsOver limits (Some l)) (nat_le limits.lands (length ls)) refusals.TooManyLands f
+    (λ over. tt)
+    (skip (is_style_refused p r) _ _ f style
+    (skip (is_some (land_of l.code ls)) _ _ f (ap is_some none)
+    (skip (not (is_name l.name)) _ _ f (ap not name)
+    (skip (not (is_code l.code)) _ _ f (ap not code) refused))))
+
+placed : (p : Profile) (limits : Limits) (wanted lands ls : List LandModel) (l : LandModel) →
+    1 ≤ p.high → land_of l.code wanted ≡ Some l → Fit p lands l → (o : Option LandModel) →
+    land_of l.code ls ≡ o → Fits p l o → Placed p limits wanted ls l (edits_from l o)
+placed p limits wanted lands ls l low is fit (Some s) known fits =
+    let up = fit.up in
+    let es = differences s.territory l.territory in
+    let made : Reaches l.territory s.territory es = reaches l.territory s.territory up fits.1 in
+    record {
+      needed = are_needed wanted ls l.code l s es is known made.due;
+      limited = are_limited p limits wanted l.code l is es ls s fit.code known made.due
+          (differences_valid p s.territory l.territory fits.2 fit.allowed);
+      others = λ other apart. edits_apart l.code other es ls apart;
+      stands = record {
+        land = record s { territory = after es s.territory };
+        is = edits_here l.code es ls s known;
+        code = code_found l.code ls s known;
+        name = fits.0;
+        starts = made.starts;
+        years = made.years;
+      };
+    }
+placed p limits wanted lands ls l low is fit None known fits =
+    let up = fit.up in
+    let opens = fit.opens in
+    let r = opening l.territory.starts in
+    let es = later l.territory in
+    let new : LandModel = record { code = l.code; name = l.name; territory = opened r } in
+    let first : Ascends (opened r) = record { starts = (omega arith, tt); years = tt } in
+    let same : differences (opened r) l.territory ≡ es =
+    later_is l.territory r opens.rest opens.is opens.from in
+    let made : Reaches l.territory (opened r) es =
+    subst (Reaches l.territory (opened r)) same (reaches l.territory (opened r) up first) in
+    let added : land_of l.code (ls ++ new ∷ []) ≡ Some new = added_here ls new known in
+    let style : is_style_refused p r ≡ false =
+    (subst (AreStyled p) opens.is fit.allowed.styles).0 in
+    record {
+      needed = (
+        (
+          known,
+          ap (option_map (λ (k : LandModel). k.name)) is,
+          regime_found l.code wanted l 1 is ∙ ap (look 1) opens.is,
+        ),
+        are_needed wanted (ls ++ new ∷ []) l.code l new es is added made.due,
+      );
+      limited = (
+        (λ f refused. subst (λ o. IsOver limits o f) (sym is)
+            (land_limited p limits ls l r fit.code fit.name known style f refused)),
+        are_limited p limits wanted l.code l is es (ls ++ new ∷ []) new fit.code added made.due
+            (subst (AreValid p) same (differences_valid p (opened r) l.territory
+            (opened_allowed p r low style) fit.allowed)),
+      );
+      others = λ other apart. edits_apart l.code other es (ls ++ new ∷ []) apart
+          ∙ added_apart other ls new apart;
+      stands = record {
+        land = record new { territory = after es (opened r) };
+        is = edits_here l.code es (ls ++ new ∷ []) new added;
+        code = refl;
+        name = refl;
+        starts = made.starts;
+        years = made.years;
+      };
+    }
+
+-- all in turn
+
+effects-append : (es fs : List Edit) (ls : List LandModel) →
+    fold effect ls (es ++ fs) ≡ fold effect (fold effect ls es) fs
+effects-append [] fs ls = refl
+effects-append (e ∷ es) fs ls = effects-append es fs (effect ls e)
+
+AreNeeded-append : (wanted ls : List LandModel) (es fs : List Edit) → AreNeeded wanted ls es →
+    AreNeeded wanted (fold effect ls es) fs → AreNeeded wanted ls (es ++ fs)
+AreNeeded-append wanted ls [] fs needed after = after
+AreNeeded-append wanted ls (e ∷ es) fs needed after =
+    (needed.0, AreNeeded-append wanted (effect ls e) es fs needed.1 after)
+
+AreLimited-append : (p : Profile) (limits : Limits) (wanted ls : List LandModel)
+    (es fs : List Edit) →
+    AreLimited p limits wanted ls es → AreLimited p limits wanted (fold effect ls es) fs →
+    AreLimited p limits wanted ls (es ++ fs)
+AreLimited-append p limits wanted ls [] fs limited after = after
+AreLimited-append p limits wanted ls (e ∷ es) fs limited after =
+    (limited.0, AreLimited-append p limits wanted (effect ls e) es fs limited.1 after)
+
+abbrev pub AreFit : Profile → List LandModel → List LandModel → Type 0
+AreFit p lands [] = Unit {0}
+AreFit p lands (l ∷ ls) = Fit p lands l × AreFit p lands ls
+
+pub record AllPlaced (p : Profile) (limits : Limits) (wanted ls left : List LandModel)
+    (es : List Edit) : Type 0 where
+  pub needed : AreNeeded wanted ls es
+  pub limited : AreLimited p limits wanted ls es
+  pub others : (other : List ℕ) → land_of other left ≡ None →
+      land_of other (fold effect ls es) ≡ land_of other ls
+  pub stands : (code : List ℕ) (l : LandModel) → land_of code left ≡ Some l →
+      Stands l (land_of code (fold effect ls es))
+
+there : (code : List ℕ) (l : LandModel) (ls : List LandModel) → bytes_eq code l.code ≡ false →
+    land_of code (l ∷ ls) ≡ land_of code ls
+there code l ls apart = ap (λ b. cond b (Some l) (land_of code ls)) apart
+
+-- a code that is found later is not that of the first
+apart_later : (code : List ℕ) (l : LandModel) (ls : List LandModel) → land_of l.code ls ≡ None →
+    is_some (land_of code ls) ≡ true → bytes_eq code l.code ≡ false
+apart_later code l ls none some = by (bytes_eq code l.code) refl
+  where
+    by : (b : Bool) → bytes_eq code l.code ≡ b → b ≡ false
+    by true e = absurd (false≢true (sym (ap is_some
+        (ap (λ c. land_of c ls) ((bytes_eq-Decides code l.code).0 e) ∙ none)) ∙ some))
+    by false e = refl
+
+stands_first : (p : Profile) (limits : Limits) (wanted ls : List LandModel) (l : LandModel)
+    (left : List LandModel) (es fs : List Edit) → land_of l.code left ≡ None →
+    Placed p limits wanted ls l es → AllPlaced p limits wanted (fold effect ls es) left fs →
+    (code : List ℕ) (k : LandModel) → land_of code (l ∷ left) ≡ Some k →
+    Stands k (land_of code (fold effect ls (es ++ fs)))
+stands_first p limits wanted ls l left es fs none one rest code k found =
+    by (bytes_eq code l.code) refl found
+  where
+    joined : land_of code (fold effect ls (es ++ fs))
+        ≡ land_of code (fold effect (fold effect ls es) fs)
+    joined = ap (land_of code) (effects-append es fs ls)
+
+    by : (b : Bool) → bytes_eq code l.code ≡ b → cond b (Some l) (land_of code left) ≡ Some k →
+        Stands k (land_of code (fold effect ls (es ++ fs)))
+    by false e found = subst (Stands k) (sym joined) (rest.stands code k found)
+    by true e found =
+        let same : code ≡ l.code = (bytes_eq-Decides code l.code).0 e in
+        let kept : land_of code (fold effect ls (es ++ fs)) ≡ land_of l.code (fold effect ls es) =
+        joined ∙ rest.others code (ap (λ c. land_of c left) same ∙ none)
+        ∙ ap (λ c. land_of c (fold effect ls es)) same in
+        subst (λ m. Stands m (land_of code (fold effect ls (es ++ fs)))) (some_is found)
+        (subst (Stands l) (sym kept) one.stands)
+
+others_first : (code : List ℕ) (l : LandModel) (ls : List LandModel) →
+    land_of code (l ∷ ls) ≡ None → (bytes_eq code l.code ≡ false) × (land_of code ls ≡ None)
+others_first code l ls none = by (bytes_eq code l.code) refl none
+  where
+    by : (b : Bool) → bytes_eq code l.code ≡ b → cond b (Some l) (land_of code ls) ≡ None →
+        (bytes_eq code l.code ≡ false) × (land_of code ls ≡ None)
+    by true e h = absurd (false≢true (sym (ap is_some h)))
+    by false e h = (e, h)
+
+pub all_placed : (p : Profile) (limits : Limits) (wanted lands ls left : List LandModel) →
+    1 ≤ p.high → AreDistinct left → AreFit p lands left →
+    ((code : List ℕ) → is_some (land_of code left) ≡ true → land_of code ls ≡ land_of code lands) →
+    ((code : List ℕ) (l : LandModel) → land_of code left ≡ Some l →
+    land_of code wanted ≡ Some l) → AllPlaced p limits wanted ls left (all_edits left lands)
+all_placed p limits wanted lands ls [] low distinct fit same within = record {
+  needed = tt;
+  limited = tt;
+  others = λ other none. refl;
+  stands = λ code l found. absurd (false≢true (ap is_some found));
+}
+all_placed p limits wanted lands ls (l ∷ left) low distinct fit same within =
+    let here : land_of l.code (l ∷ left) ≡ Some l =
+    ap (λ b. cond b (Some l) (land_of l.code left)) (code_itself l.code) in
+    let es = land_edits lands l in
+    let one : Placed p limits wanted ls l es =
+    placed p limits wanted lands ls l low (within l.code l here) fit.0 (land_of l.code lands)
+    (same l.code (ap is_some here)) fit.0.standing in
+    let rest : AllPlaced p limits wanted (fold effect ls es) left (all_edits left lands) =
+    all_placed p limits wanted lands (fold effect ls es) left low distinct.1 fit.1
+    (λ code some.
+    let apart : bytes_eq code l.code ≡ false = apart_later code l left distinct.0 some in
+    one.others code apart ∙ same code (ap is_some (there code l left apart) ∙ some))
+    (λ code k found. within code k (there code l left
+    (apart_later code l left distinct.0 (ap is_some found)) ∙ found)) in
+    record {
+      needed = AreNeeded-append wanted ls es (all_edits left lands) one.needed rest.needed;
+      limited = AreLimited-append p limits wanted ls es (all_edits left lands) one.limited
+          rest.limited;
+      others = λ other none.
+          let first = others_first other l left none in
+          ap (land_of other) (effects-append es (all_edits left lands) ls)
+          ∙ rest.others other first.1 ∙ one.others other first.0;
+      stands = stands_first p limits wanted ls l left es (all_edits left lands) distinct.0 one rest;
+    }

@@ -1,0 +1,52 @@
+//! Whether each wanted territory has the name under which its code stands.
+ghost use Rattle.std.specs.Prelude.{◌≡◌, false, None, IfOk, OnOk, IfErr};
+ghost use Rattle.osn_plan.specs.declared.fault.PlanFault.TheVariants.{Renamed};
+ghost use Rattle.osn_plan.specs.Fault.{has_other_name, first_renamed, IsNameFault, IsFault};
+ghost use Rattle.osn_plan.specs.Needed.{name_in};
+
+use crate::fault::PlanFault;
+use osn_register::{Register, Text};
+use std::alloc::{AllocError, Global};
+
+/// The fault of a code that stands under another name.
+fn renamed(alloc: Global, code: &str, name: &str, wanted: &str) -> Result<PlanFault, AllocError>
+    ensures { IfOk result (λ fault. fault ≡ Renamed code.now name.now wanted.now) }
+{
+    Ok(PlanFault::Renamed {
+        code: Text::from_str(alloc, code)?,
+        name: Text::from_str(alloc, name)?,
+        wanted: Text::from_str(alloc, wanted)?,
+    })
+}
+
+/// Whether the code stands under this name, where it stands.
+fn check_name(alloc: Global, register: &Register, code: &str, name: &str) -> Result<(), PlanFault>
+    ensures ok { OnOk result
+        (has_other_name name.now (name_in register.now.lands code.now) ≡ false) }
+    ensures err { IfErr result (IsNameFault register.now.lands code.now name.now) }
+{
+    match register.find_land(code) {
+        Some((standing, _)) if standing != name => Err(renamed(alloc, code, standing, name)?),
+        _ => Ok(()),
+    }
+}
+
+/// Whether every code of the wanted register that stands has the wanted name.
+pub(crate) fn check_names(
+    alloc: Global,
+    register: &Register,
+    wanted: &Register,
+) -> Result<(), PlanFault>
+    ensures ok { OnOk result (first_renamed wanted.now.lands register.now.lands ≡ None) }
+    ensures err { IfErr result
+        (IsFault register.now.limits wanted.now.lands register.now.lands) }
+{
+    // There are no more territories than the limit, so that each place fits.
+    let _most = wanted.limits().lands;
+    let mut place = 0;
+    while let Some((code, name, _)) = wanted.land_at(place) {
+        check_name(alloc, register, code, name)?;
+        place += 1;
+    }
+    Ok(())
+}

@@ -1,0 +1,49 @@
+//! The edits that take one register to what another one wants.
+ghost use Rattle.std.specs.Prelude.{◌≡◌, IfOk, IfErr};
+ghost use Rattle.osn_plan.specs.Differences.{all_edits};
+ghost use Rattle.osn_plan.specs.Fault.{IsFault};
+ghost use Rattle.osn_plan.specs.Plan.{IsPlan};
+
+use crate::fault::PlanFault;
+use crate::lands::push_edits;
+use crate::names::check_names;
+use crate::trial::try_edits;
+use osn_register::{Edit, Register};
+use std::alloc::{AllocError, Global};
+
+/// The edits that each wanted territory needs, in the order of these.
+fn all_edits(alloc: Global, register: &Register, wanted: &Register) -> Result<Vec<Edit>, AllocError>
+    ensures { IfOk result (λ es. es.items ≡ all_edits wanted.now.lands register.now.lands) }
+{
+    // There are no more territories than the limit, so that each place fits.
+    let _most = wanted.limits().lands;
+    let mut edits = Vec::new(alloc);
+    let mut place = 0;
+    while let Some((code, name, territory)) = wanted.land_at(place) {
+        push_edits(alloc, register, code, name, territory, &mut edits)?;
+        place += 1;
+    }
+    Ok(edits)
+}
+
+/// The edits that take a register to what another one wants, in their order. A territory that the
+/// wanted register lacks stays as it is. The limits are those of the first register.
+///
+/// # Errors
+///
+/// `Renamed` for the first wanted territory whose code stands under another name, then `Refused`
+/// where the register refuses an edit that is needed, as one territory more than its limit. At any
+/// time `NoMemory`.
+pub fn plan(alloc: Global, register: &Register, wanted: &Register) -> Result<Vec<Edit>, PlanFault>
+    ensures ok { IfOk result (λ edits. IsPlan register.now.limits wanted.now.lands
+        register.now.lands edits.items) }
+    ensures err { IfErr result
+        (IsFault register.now.limits wanted.now.lands register.now.lands) }
+{
+    // What both hold is sound, as of every register.
+    let _limits = (register.limits(), wanted.limits());
+    check_names(alloc, register, wanted)?;
+    let edits = all_edits(alloc, register, wanted)?;
+    try_edits(register, edits.as_slice())?;
+    Ok(edits)
+}

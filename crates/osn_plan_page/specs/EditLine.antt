@@ -1,0 +1,46 @@
+-- The line of an edit, between the territories that there are and those that are wanted. What is
+-- dropped stands as the former have it, and what comes as the latter have it. This project's
+-- profile.
+use Rattle.std.specs.Prelude.{ℕ, if◌then◌else◌, ℤ, pos, List, None}
+use Rattle.std.specs.Ordering.{int_eq}
+use Rattle.osn_days.specs.Profile.{Profile}
+use Rattle.osn_lands.specs.declared.regime.Regime.{Regime}
+use Rattle.osn_register.specs.declared.edit.Edit.{Edit}
+use Rattle.osn_register.specs.declared.edit.Edit.TheVariants.{AddLand, AddChange, AlterChange}
+use Rattle.osn_register.specs.declared.edit.Edit.TheVariants.{DropChange, AddException}
+use Rattle.osn_register.specs.declared.edit.Edit.TheVariants.{DropException}
+use Rattle.osn_register.specs.Plain.{LandModel, territory_of}
+use Rattle.osn_plan_page.specs.Line.{change_line, drop_line, easter_line, land_line}
+use Rattle.osn_plan_page.specs.Line.{no_easter_line, opening_line}
+use Rattle.osn_plan_page.specs.EditDay.{day_words, dated_in, opening_regime, regime_before}
+use Rattle.osn_plan_page.specs.Part.{regime_words}
+
+-- the day of a number, as the territory of a code dates it
+abbrev pub day_in : Profile → List LandModel → List ℕ → ℤ → List ℕ
+day_in p lands code day = day_words (dated_in p (territory_of code lands) day) day
+
+-- a new territory, with its whole regime
+abbrev pub new_land_line : List ℕ → List ℕ → Regime → List ℕ
+new_land_line code name regime = land_line code name (regime_words None regime)
+
+-- a regime from a day on, by what is other than on the day before
+abbrev pub new_change_line : Profile → List LandModel → List ℕ → ℤ → Regime → List ℕ
+new_change_line p wanted code day regime = change_line code (day_in p wanted code day)
+    (regime_words (regime_before p (territory_of code wanted) day) regime)
+
+-- another opening regime, by what is other than in the present one
+abbrev pub new_opening_line : List LandModel → List ℕ → Regime → List ℕ
+new_opening_line lands code regime =
+    opening_line code (regime_words (opening_regime (territory_of code lands)) regime)
+
+-- the line of an edit
+unfoldable pub edit_line : Profile → List LandModel → List LandModel → Edit → List ℕ
+edit_line p lands wanted (AddLand code name regime) = new_land_line code name regime
+edit_line p lands wanted (AddChange code day regime) = new_change_line p wanted code day regime
+edit_line p lands wanted (AlterChange code day regime) =
+    if int_eq day (pos 1) then new_opening_line lands code regime
+    else new_change_line p wanted code day regime
+edit_line p lands wanted (DropChange code day) = drop_line code (day_in p lands code day)
+edit_line p lands wanted (AddException code year day) =
+    easter_line code year (day_in p wanted code day)
+edit_line p lands wanted (DropException code year) = no_easter_line code year

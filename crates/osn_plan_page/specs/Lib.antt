@@ -1,0 +1,5 @@
+pub mod Part
+pub mod EditDay
+pub mod Line
+pub mod EditLine
+pub mod PlanPage

@@ -1,0 +1,108 @@
+//! The line of an edit that changes a register towards a wanted one.
+ghost use Rattle.std.specs.Prelude.{◌≡◌, ◌++◌, OnOk, string_bytes};
+ghost use Rattle.osn_days.specs.Profile.{newest_rules};
+ghost use Rattle.osn_plan_page.specs.EditLine as spec;
+ghost use Rattle.osn_plan_page.specs.EditDay.{day_words};
+
+use crate::edit_day::{EditDay, dated_in, opening_regime, regime_before, territory_of};
+use crate::line::{push_change, push_drop, push_easter, push_land, push_no_easter, push_opening};
+use crate::part::regime_words;
+use osn_lands::Regime;
+use osn_register::{Edit, Register};
+use std::alloc::{AllocError, Global};
+
+/// The day of a number, as the territory of a code dates it.
+fn day_in(register: &Register, code: &str, number: i64) -> EditDay
+    ensures { day_words result.dated result.number
+        ≡ spec.day_in newest_rules register.now.lands code.now number }
+{
+    EditDay {
+        dated: dated_in(territory_of(register, code), number),
+        number,
+    }
+}
+
+/// Appends the line of a territory that is added.
+fn push_land_line(
+    alloc: Global,
+    out: &mut String,
+    code: &str,
+    name: &str,
+    regime: Regime,
+) -> Result<(), AllocError>
+    ensures { OnOk result (string_bytes out.new ≡ string_bytes out.old
+        ++ spec.new_land_line code.now name.now regime) }
+{
+    let words = regime_words(alloc, None, regime)?;
+    push_land(out, code, name, words.as_str())
+}
+
+/// Appends the line of a regime from a day on.
+fn push_change_line(
+    alloc: Global,
+    out: &mut String,
+    wanted: &Register,
+    code: &str,
+    day: i64,
+    regime: Regime,
+) -> Result<(), AllocError>
+    ensures { OnOk result (string_bytes out.new ≡ string_bytes out.old
+        ++ spec.new_change_line newest_rules wanted.now.lands code.now day regime) }
+{
+    let before = regime_before(territory_of(wanted, code), day);
+    let words = regime_words(alloc, before, regime)?;
+    push_change(out, code, day_in(wanted, code, day), words.as_str())
+}
+
+/// Appends the line of another opening regime.
+fn push_opening_line(
+    alloc: Global,
+    out: &mut String,
+    register: &Register,
+    code: &str,
+    regime: Regime,
+) -> Result<(), AllocError>
+    ensures { OnOk result (string_bytes out.new ≡ string_bytes out.old
+        ++ spec.new_opening_line register.now.lands code.now regime) }
+{
+    let before = opening_regime(territory_of(register, code));
+    let words = regime_words(alloc, before, regime)?;
+    push_opening(out, code, words.as_str())
+}
+
+/// Appends the line of an edit.
+#[tactic(auto, unfolding(crate::specs::EditLine::edit_line))]
+pub(crate) fn push_edit(
+    alloc: Global,
+    out: &mut String,
+    register: &Register,
+    wanted: &Register,
+    edit: &Edit,
+) -> Result<(), AllocError>
+    ensures { OnOk result (string_bytes out.new ≡ string_bytes out.old
+        ++ spec.edit_line newest_rules register.now.lands wanted.now.lands edit.now) }
+{
+    match edit {
+        Edit::AddLand { code, name, regime } => {
+            push_land_line(alloc, out, code.as_str(), name.as_str(), *regime)
+        }
+        Edit::AlterChange { code, day, regime } if *day == 1 => {
+            push_opening_line(alloc, out, register, code.as_str(), *regime)
+        }
+        Edit::AddChange { code, day, regime } | Edit::AlterChange { code, day, regime } => {
+            push_change_line(alloc, out, wanted, code.as_str(), *day, *regime)
+        }
+        Edit::DropChange { code, day } => {
+            push_drop(out, code.as_str(), day_in(register, code.as_str(), *day))
+        }
+        Edit::AddException { code, year, day } => {
+            push_easter(
+                out,
+                code.as_str(),
+                *year,
+                day_in(wanted, code.as_str(), *day),
+            )
+        }
+        Edit::DropException { code, year } => push_no_easter(out, code.as_str(), *year),
+    }
+}

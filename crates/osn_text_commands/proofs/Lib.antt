@@ -1,0 +1,6 @@
+pub mod KeptText
+pub mod EditionLaw
+pub mod EditionLemmas
+pub mod PlanLemmas
+pub mod PublishLemmas
+pub mod TextLemmas

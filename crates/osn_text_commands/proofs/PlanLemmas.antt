@@ -1,0 +1,44 @@
+-- A plan from the register of an object is one from what the object has published, and a journal
+-- that may be there is as the plan's contract says.
+use Rattle.std.proofs.Common.{◌≡◌, ℕ, Bool, List, Option, Some, None, is_some, option_map, refl}
+use Rattle.std.proofs.Common.{subst}
+use Rattle.osn_core.specs.Sequential.{ObjectState}
+use Rattle.osn_folder.specs.Folder.{Known}
+use Rattle.osn_plan.specs.Plan.{IsPlan}
+use Rattle.osn_register.specs.Plain.{LandModel}
+use Rattle.osn_register.specs.declared.edit.Edit.{Edit}
+use Rattle.osn_register.specs.declared.limits.Limits.{Limits}
+use Rattle.osn_serve_commands.specs.Serve.{input_if}
+use Rattle.osn_text_commands.specs.InFolder.{IsOpened}
+use Rattle.osn_text_commands.specs.Text.{published}
+
+pub same_plan : (s : ObjectState) (limits : Limits) (lands wanted : List LandModel)
+    (made edits : List Edit) → limits ≡ s.limits → lands ≡ published s → made ≡ edits
+    → IsPlan limits wanted lands made → IsPlan s.limits wanted (published s) edits
+same_plan s limits lands wanted made edits is same all h =
+    subst (λ es. IsPlan s.limits wanted (published s) es) all
+    (subst (λ ls. IsPlan s.limits wanted ls made) same
+    (subst (λ l. IsPlan l wanted lands made) is h))
+
+module _ {S : Type 0} (remaining : S → Option (List ℕ)) (has_failed : S → Bool)
+    (old new : Option S) where
+  -- a source that may be there is one that is given or not
+  pub is_there : is_some (input_if remaining has_failed old new) ≡ is_some old
+  is_there = by old
+    where
+      by : (old : Option S) → is_some (input_if remaining has_failed old new) ≡ is_some old
+      by None = refl
+      by (Some source) = refl
+
+  -- what it gives is what its file will
+  pub opened_if : (path : List ℕ) (before after : Option Known)
+      → IsOpened path (option_map remaining old) before after
+      → IsOpened path (option_map (λ journal. journal.bytes)
+      (input_if remaining has_failed old new)) before after
+  opened_if path before after h = by old h
+    where
+      by : (old : Option S) → IsOpened path (option_map remaining old) before after
+          → IsOpened path (option_map (λ journal. journal.bytes)
+          (input_if remaining has_failed old new)) before after
+      by None h = h
+      by (Some source) h = h

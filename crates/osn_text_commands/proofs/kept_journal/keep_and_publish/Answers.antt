@@ -1,0 +1,27 @@
+use Rattle.std.proofs.Common.{inl, inr, refl}
+use Rattle.osn_journal.specs.KeptJournal.{file_of}
+use Rattle.osn_lines.specs.Streams.{input_of}
+use Rattle.osn_text_commands.proofs.kept_journal.keep_and_publish.Goals as goal
+
+pub returns-in-Ok : goal.returns-in-Ok
+returns-in-Ok g c =
+    let file = g.D.Keeper.KeptFile in
+    let state = file_of file.contents file.synced file.fault in
+    let journal = c.publish_command-status.new.journal in
+    inr (
+      g.D.Folder.known c.keep.new.self,
+      c.in-Ok.ensures.ok,
+      state c.in-Ok.kept,
+      c.in-Ok.ensures.contents,
+      c.in-Ok.ensures.sound.0,
+      input_of g.D.File.Source.remaining g.D.File.Source.has_failed c.in-Ok.journal journal,
+      c.in-Ok.ensures.source,
+      (λ yes. (journal, yes)),
+      state c.publish_command-status.new.keeper,
+      c.publish_command-status.ensures.ended,
+      c.release.ensures,
+    )
+
+pub returns-in-Err : goal.returns-in-Err
+returns-in-Err g c =
+    inl (c.in-Err.fault, c.in-Err.ensures.err, (refl, c.report.ensures))

@@ -1,0 +1,37 @@
+use Rattle.std.proofs.Common.{[], ap, refl, sym, ◌∙◌}
+use Rattle.std.proofs.lemmas.Result.{IfOk-weaker}
+use Rattle.std.specs.Option.{option_map_or}
+use Rattle.osn_lines.specs.Streams.{output_of}
+use Rattle.osn_page_commands.specs.Page.{land_refusal_line}
+use Rattle.osn_text_commands.specs.Text.{land_text, named_text}
+use Rattle.osn_text_commands.proofs.TextLemmas.{land_printed, land_refused}
+use Rattle.osn_text_commands.proofs.text.print_land.Goals as goal
+
+pub returns-in-Ok : goal.returns-in-Ok
+returns-in-Ok g c =
+    let lands = c.args.register.now.lands in
+    let code = c.args.code.now in
+    land_printed lands c.args.path.now code
+    (output_of g.W.Sink.contents g.W.Sink.has_failed g.W.Sink.holds_back c.args.output.now
+    c.print.new.output)
+    (output_of g.E.Sink.contents g.E.Sink.has_failed g.E.Sink.holds_back c.args.errors.now
+    c.print.new.errors)
+    c.print.result c.in-Ok.ensures.test
+    (c.print.ensures (land_text lands code)
+    (IfOk-weaker c.write_territory-text.result _ _
+    (λ text is.
+    is ∙ sym (ap (λ o. option_map_or (named_text code) o []) c.in-Ok.ensures.value))
+    c.write_territory-text.ensures.text))
+
+pub returns-in-Err : goal.returns-in-Err
+returns-in-Err g c =
+    let path = c.args.path.now in
+    let code = c.args.code.now in
+    land_refused c.args.register.now.lands path code
+    (output_of g.W.Sink.contents g.W.Sink.has_failed g.W.Sink.holds_back c.args.output.now
+    c.args.output.now)
+    (output_of g.E.Sink.contents g.E.Sink.has_failed g.E.Sink.holds_back c.args.errors.now
+    c.tell_line.new.errors)
+    c.tell_line.result c.in-Err.refusal c.in-Err.ensures.test refl
+    (c.tell_line.ensures (land_refusal_line path code c.in-Err.refusal)
+    c.land_refusal_line-line.ensures)

@@ -1,0 +1,38 @@
+-- Edits that are published as one edition: why they are not, and what the journal gains by them.
+use Rattle.std.specs.Prelude.{◌≡◌, ℕ, List, [], ◌∷◌, ◌++◌, Option, None}
+use Rattle.osn_days.specs.Profile.{newest_rules}
+use Rattle.osn_core.specs.Sequential.{ObjectState, publish_refusal, stage_refusal, with_pending}
+use Rattle.osn_files.specs.JournalText.{batch_text}
+use Rattle.osn_files.specs.Loaded.{IsJournalOf}
+use Rattle.osn_format.specs.Version.{newest_version}
+use Rattle.osn_register.specs.Refusal.{or_else}
+use Rattle.osn_register.specs.declared.edit.Edit.{Edit}
+use Rattle.osn_register.specs.declared.limits.Limits.{Limits}
+use Rattle.osn_register.specs.declared.refusal.Refusal.{Refusal}
+use Rattle.osn_serve_commands.specs.Keep.{HoldsObject, kept_text, missing_text}
+
+-- the first refusal, where edits are staged in turn and then published
+abbrev pub edition_refusal : ObjectState → List Edit → Option Refusal
+edition_refusal s [] = publish_refusal s
+edition_refusal s (e ∷ es) =
+    or_else (stage_refusal newest_rules s e) (edition_refusal (with_pending s e) es)
+
+-- the object with one edition more, which has these edits
+abbrev pub with_batch : ObjectState → List Edit → ObjectState
+with_batch s edits = record s { batches = s.batches ++ edits ∷ [] }
+
+-- what is appended to a file that holds this: what is missing after its lines that count, then the
+-- lines of the edits and that of their publish
+abbrev pub appended_text : List ℕ → List Edit → List ℕ
+appended_text held edits = missing_text held ++ batch_text edits
+
+-- what the file holds then
+abbrev pub edition_text : List ℕ → List Edit → List ℕ
+edition_text held edits = kept_text held ++ batch_text edits
+
+-- A file that holds an object with nothing pending is loaded, with edits that are published as one
+-- edition, as the object with that edition.
+unfoldable pub IsEachEditionLoaded : Type 0
+IsEachEditionLoaded = (limits : Limits) (held : List ℕ) (s : ObjectState) (edits : List Edit)
+    → HoldsObject limits held s → s.pending ≡ [] → edition_refusal s edits ≡ None
+    → IsJournalOf newest_version limits (with_batch s edits) (edition_text held edits)

@@ -1,0 +1,9 @@
+pub mod TextFile
+pub mod Text
+pub mod PlanWords
+pub mod PlanFault
+pub mod Plan
+pub mod Edition
+pub mod Publish
+pub mod PublishInside
+pub mod InFolder

@@ -1,0 +1,38 @@
+-- What standard error is told where there is no plan. This project's profile.
+use Rattle.std.specs.Prelude.{ℕ, List, ◌++◌, codes}
+use Rattle.osn_lines.specs.Streams.{Output}
+use Rattle.osn_plan.specs.declared.fault.PlanFault.{PlanFault}
+use Rattle.osn_plan.specs.declared.fault.PlanFault.TheVariants as faults
+use Rattle.osn_register.specs.Refusal.{refusal_name, refusal_number}
+use Rattle.osn_register.specs.declared.refusal.Refusal.{Refusal}
+use Rattle.osn_report.specs.Fault.{refusal_end}
+use Rattle.osn_report.specs.Messages.{EndsBy, TellsIfMade}
+use Rattle.osn_report.specs.declared.fault.CommandFault.TheVariants as command_faults
+use Rattle.osn_report.specs.declared.status.Status.{Status}
+use Rattle.osn_report.specs.declared.status.Status.TheVariants as statuses
+
+-- the line on a name that the text of this path changes: the code of the territory, its name and
+-- the one that the text has
+abbrev pub renamed_line : List ℕ → List ℕ → List ℕ → List ℕ → List ℕ
+renamed_line path code name wanted = codes "oldstyle: "
+    ++ (path
+    ++ (codes ": "
+    ++ (code
+    ++ (codes ": a name can't be changed: it is "
+    ++ (name ++ (codes ", and the text has " ++ (wanted ++ codes "\n")))))))
+
+-- the line on an edit that is refused, of the territory of this code that the text of this path has
+abbrev pub refused_line : List ℕ → List ℕ → Refusal → List ℕ
+refused_line path code refusal = codes "oldstyle: "
+    ++ (path
+    ++ (codes ": "
+    ++ (code
+    ++ (codes ": " ++ refusal_end (refusal_number refusal) (refusal_name refusal)))))
+
+-- standard error was told why there is no plan to what the text of this path says
+abbrev pub TellsPlanFault : List ℕ → Output → PlanFault → Status → Type 0
+TellsPlanFault path e (faults.Renamed code name wanted) status =
+    TellsIfMade e statuses.Refused (renamed_line path code name wanted) status
+TellsPlanFault path e (faults.Refused code refusal) status =
+    TellsIfMade e statuses.Refused (refused_line path code refusal) status
+TellsPlanFault path e faults.NoMemory status = EndsBy e command_faults.NoMemory status

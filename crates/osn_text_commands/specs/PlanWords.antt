@@ -1,0 +1,45 @@
+-- The words on a plan and on its publish, beside the plan's own lines. This project's profile.
+use Rattle.std.specs.Prelude.{◌==◌, if◌then◌else◌, ℕ, List, ◌++◌, codes}
+use Rattle.std.specs.Fmt.{decimal}
+
+-- the last line of a plan of this many edits, the next edition having this number
+abbrev pub plan_end : ℕ → ℕ → List ℕ
+plan_end edits next =
+    if edits == 0 then codes "nothing to change\n"
+    else (if edits == 1
+    then codes "1 edit: publish makes it edition " ++ (decimal next ++ codes "\n")
+    else decimal edits
+    ++ (codes " edits: publish makes them edition " ++ (decimal next ++ codes "\n")))
+
+-- the last line of edits that were published as the edition of this number
+abbrev pub published_line : ℕ → List ℕ
+published_line edition = codes "published as edition " ++ (decimal edition ++ codes "\n")
+
+-- the line on a publish of no edits, after this many editions
+abbrev pub standing_line : ℕ → List ℕ
+standing_line editions =
+    codes "nothing to change: edition " ++ (decimal editions ++ codes " stands\n")
+
+-- ---- what standard error is told
+
+abbrev pub edits_word : ℕ → List ℕ
+edits_word edits = if edits == 1 then codes "edit" else codes "edits"
+
+-- what to do with pending edits
+abbrev pub advice : List ℕ
+advice = codes ": publish what is pending by serve --keep with {\"op\":\"publish\"}, "
+    ++ codes "or take the lines after the last publish out of the journal\n"
+
+-- the line on a journal with this many pending edits, which are so called
+unfoldable pub pending_text : ℕ → List ℕ → List ℕ → List ℕ
+pending_text pending edits advice = codes "oldstyle: publish refuses a journal with "
+    ++ (decimal pending ++ (codes " pending " ++ (edits ++ advice)))
+
+-- the same with these words
+abbrev pub pending_line : ℕ → List ℕ
+pending_line pending = pending_text pending (edits_word pending) advice
+
+-- the line on a journal of this path that is not there
+abbrev pub missing_line : List ℕ → List ℕ
+missing_line path =
+    codes "oldstyle: " ++ (path ++ codes ": there is no such journal yet: publish makes it\n")

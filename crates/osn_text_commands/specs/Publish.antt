@@ -1,0 +1,125 @@
+-- How a publish ends: what it printed and told, and what the file of the journal holds then.
+use Rattle.std.specs.Prelude.{◌≡◌, ◌⊎◌, ◌+◌, ◌++◌, ℕ, Bool, List, [], ◌∷◌, length, take}
+use Rattle.std.specs.Prelude.{Option, Some, None}
+use Rattle.std.specs.Option.{MatchOption}
+use Rattle.osn_days.specs.Profile.{newest_rules}
+use Rattle.osn_core.specs.Sequential.{ObjectState}
+use Rattle.osn_folder.specs.declared.fault.KeptFileFault.{KeptFileFault}
+use Rattle.osn_journal.specs.KeptJournal.{FileState}
+use Rattle.osn_lines.specs.Streams.{Input, Output}
+use Rattle.osn_files.specs.WholePart.{whole_bytes}
+use Rattle.osn_plan.specs.Plan.{IsPlan}
+use Rattle.osn_plan_page.specs.PlanPage.{plan_page}
+use Rattle.osn_register.specs.Plain.{RegisterModel}
+use Rattle.osn_register.specs.declared.edit.Edit.{Edit}
+use Rattle.osn_register.specs.declared.limits.Limits.{Limits}
+use Rattle.osn_register.specs.declared.refusal.Refusal.TheVariants as refusals
+use Rattle.osn_report.specs.Printing.{Prints, PrintsIfMade, PrintsNone}
+use Rattle.osn_report.specs.Messages.{TellsIfMade}
+use Rattle.osn_report.specs.declared.fault.CommandFault.{CommandFault}
+use Rattle.osn_report.specs.declared.fault.CommandFault.TheVariants.{Refused}
+use Rattle.osn_report.specs.declared.status.Status.{Status}
+use Rattle.osn_report.specs.declared.status.Status.TheVariants as statuses
+use Rattle.osn_serve_commands.specs.Keep.{HoldsObject, HoldsNoObject, IfHeld, IsChangeFault}
+use Rattle.osn_serve_commands.specs.Keep.{TellsCut, ready_file, first_output, later_output}
+use Rattle.osn_serve_commands.specs.Keep.{unfinished_line}
+use Rattle.osn_text_commands.specs.Edition.{appended_text, edition_refusal, edition_text}
+use Rattle.osn_text_commands.specs.Plan.{RefusesPlan}
+use Rattle.osn_text_commands.specs.PlanWords.{pending_line, published_line, standing_line}
+use Rattle.osn_text_commands.specs.Text.{published}
+
+-- ---- what is printed
+
+-- the lines of a plan, and the line on the edition that it made
+abbrev pub published_text : ObjectState → RegisterModel → List Edit → List ℕ
+published_text s wanted edits =
+    plan_page newest_rules (published s) wanted.lands edits
+    ++ published_line (length s.batches + 1)
+
+-- the lines of a plan without edits, and that the last edition stands
+abbrev pub standing_text : ObjectState → RegisterModel → List ℕ
+standing_text s wanted =
+    plan_page newest_rules (published s) wanted.lands [] ++ standing_line (length s.batches)
+
+-- ---- what the file holds
+
+-- The file is as it was; or its last line was cut off, if it was not finished, and else it is as it
+-- was. Where it can be that it is not cut back, a front of the edition's lines may stand there too.
+abbrev pub IsLeftWhole : Type 0 → List ℕ → List Edit → Option ℕ → Option (List ℕ) → Type 0
+IsLeftWhole CanStay held edits cut contents =
+    ((cut ≡ None) × (contents ≡ Some held))
+    ⊎ ((cut ≡ unfinished_line held)
+    × ((contents ≡ Some (whole_bytes held))
+    ⊎ (CanStay × (n : ℕ)
+    × (contents ≡ Some (whole_bytes held ++ take n (appended_text held edits))))))
+
+-- the edition is in the file: all of it, on the disk
+abbrev pub HoldsEdition : List ℕ → List Edit → Option KeptFileFault → Option ℕ → FileState → Type 0
+HoldsEdition held edits before cut file =
+    (cut ≡ unfinished_line held) × (file ≡ ready_file (edition_text held edits) before)
+
+-- it is not, since the file could not be changed
+abbrev pub LosesEdition : Type 0 → List ℕ → List Edit → CommandFault → Option ℕ → FileState → Type 0
+LosesEdition CanStay held edits fault cut file =
+    IsChangeFault fault file.fault × IsLeftWhole CanStay held edits cut file.contents
+
+-- Edits were to be written to the file as an edition, and this text to be printed. Which line was
+-- cut off was told first, if one was. The edition is in the file and the text was printed, or it is
+-- not, which standard error was told.
+pub record WritesEdition (CanStay : Type 0) (old file : FileState) (given : Option (List ℕ))
+    (edits : List Edit) (text : List ℕ) (o e : Output) (status : Status) : Type 0 where
+  pub cut : Option ℕ
+  pub between : Option (List ℕ)
+  pub failed : Bool
+  pub held_back : Bool
+  pub tells : TellsCut (first_output e between failed held_back) cut
+  pub ended : (Prints text o (later_output e between failed) status
+      × IfHeld old given (λ held. HoldsEdition held edits old.fault cut file))
+      ⊎ ((fault : CommandFault) × PrintsNone fault o (later_output e between failed) status
+      × IfHeld old given (λ held. LosesEdition CanStay held edits fault cut file))
+
+-- ---- how the command ends
+
+-- nothing was changed in the file, nothing was printed, and standard error was told why
+abbrev pub Refuses : CommandFault → FileState → FileState → Output → Output → Status → Type 0
+Refuses fault old file o e status = (file ≡ old) × PrintsNone fault o e status
+
+-- the edits of a plan were published, unless there are none, or one is refused, or memory ran out
+abbrev pub PublishesEdits : Type 0 → ObjectState → RegisterModel → FileState → FileState
+    → Option (List ℕ) → List Edit → Output → Output → Status → Type 0
+PublishesEdits CanStay s wanted old file given [] o e status =
+    (file ≡ old) × PrintsIfMade (standing_text s wanted) o e status
+PublishesEdits CanStay s wanted old file given (edit ∷ edits) o e status =
+    Refuses (Refused refusals.NoMemory) old file o e status
+    ⊎ MatchOption (edition_refusal s (edit ∷ edits))
+    (WritesEdition CanStay old file given (edit ∷ edits)
+    (published_text s wanted (edit ∷ edits)) o e status)
+    (λ refusal. Refuses (Refused refusal) old file o e status)
+
+-- from what an object has published to the register that is wanted: there is no plan; or the edits
+-- of one were published
+abbrev pub PublishesPlan : Type 0 → ObjectState → List ℕ → RegisterModel → FileState → FileState
+    → Option (List ℕ) → Output → Output → Status → Type 0
+PublishesPlan CanStay s path wanted old file given o e status =
+    ((file ≡ old) × RefusesPlan s path wanted o e status)
+    ⊎ ((edits : List Edit) × IsPlan s.limits wanted.lands (published s) edits
+    × PublishesEdits CanStay s wanted old file given edits o e status)
+
+-- that, unless edits are pending, which standard error was told
+abbrev pub PublishesUnlessPending : Type 0 → ObjectState → List Edit → List ℕ → RegisterModel
+    → FileState → FileState → Option (List ℕ) → Output → Output → Status → Type 0
+PublishesUnlessPending CanStay s [] path wanted old file given o e status =
+    PublishesPlan CanStay s path wanted old file given o e status
+PublishesUnlessPending CanStay s (edit ∷ edits) path wanted old file given o e status =
+    (file ≡ old) × (o.new ≡ o.old)
+    × TellsIfMade e statuses.Refused (pending_line (length (edit ∷ edits))) status
+
+-- How a publish ends over a file that was `old` and is `file` then, and which a source gave. It
+-- holds no object, and is as it was; or it holds one, and that was done.
+abbrev pub EndsPublish : Type 0 → Limits → List ℕ → RegisterModel → FileState → FileState → Input
+    → Output → Output → Status → Type 0
+EndsPublish CanStay limits path wanted old file given o e status =
+    ((fault : CommandFault) × Refuses fault old file o e status
+    × IfHeld old given.bytes (λ held. HoldsNoObject limits held given.unread fault))
+    ⊎ ((s : ObjectState) × IfHeld old given.bytes (λ held. HoldsObject limits held s)
+    × PublishesUnlessPending CanStay s s.pending path wanted old file given.bytes o e status)

@@ -1,0 +1,72 @@
+-- What the text of a file says, why it says nothing, and what standard error is told of that. This
+-- project's profile.
+use Rattle.std.specs.Prelude.{◌≡◌, ◌⊎◌, ⊤, ℕ, List, ◌++◌, Option, Some, Ok, IfSome, IsUtf8, codes}
+use Rattle.osn_folder.specs.declared.fault.OpenFailed.TheVariants.{Other}
+use Rattle.osn_lines.specs.Faults.{IsReadFault}
+use Rattle.osn_lines.specs.Streams.{Input, Output}
+use Rattle.osn_lines.specs.declared.whole.ReadAllFault.{ReadAllFault}
+use Rattle.osn_lines.specs.declared.whole.ReadAllFault.TheVariants as read_faults
+use Rattle.osn_register.specs.declared.limits.Limits.{Limits}
+use Rattle.osn_register.specs.Plain.{RegisterModel}
+use Rattle.osn_report.specs.Messages.{EndsBy, TellsIfMade}
+use Rattle.osn_report.specs.Unopened.{unopened_line}
+use Rattle.osn_report.specs.declared.fault.CommandFault.TheVariants as command_faults
+use Rattle.osn_report.specs.declared.status.Status.{Status}
+use Rattle.osn_report.specs.declared.status.Status.TheVariants as statuses
+use Rattle.osn_text_reader.specs.Text.{IsFaultOf, lands_of_text}
+use Rattle.osn_text_reader.specs.Words.{text_fault_text}
+use Rattle.osn_text_reader.specs.declared.fault.TextFault.{TextFault}
+use Rattle.osn_text_reader.specs.declared.fault.TextFault.TheVariants as text_faults
+use Rattle.osn_text_commands.specs.declared.text_file.TextFileFault.{TextFileFault}
+use Rattle.osn_text_commands.specs.declared.text_file.TextFileFault.TheVariants as faults
+
+-- why it says none, where its bytes were not read
+abbrev pub by_read : ReadAllFault → TextFileFault
+by_read read_faults.NoMemory = faults.NoMemory
+by_read read_faults.ReadFault = faults.ReadFault
+
+-- these bytes say this register under these limits
+abbrev pub BytesSayRegister : Limits → List ℕ → RegisterModel → Type 0
+BytesSayRegister limits bytes r =
+    (r.limits ≡ limits) × IsUtf8 bytes × (lands_of_text limits bytes ≡ Some (Ok r.lands))
+
+-- they say none, for this reason
+abbrev pub BytesSayNone : Limits → List ℕ → TextFileFault → Type 0
+BytesSayNone limits bytes faults.NoMemory = ⊤
+BytesSayNone limits bytes faults.ReadFault = ⊥
+BytesSayNone limits bytes faults.NotUtf8 = ¬ IsUtf8 bytes
+BytesSayNone limits bytes (faults.Text why) =
+    IsUtf8 bytes × IsFaultOf (lands_of_text limits bytes) why
+
+-- a file of these bytes says this register
+abbrev pub SaysRegister : Limits → Option (List ℕ) → RegisterModel → Type 0
+SaysRegister limits bytes r = IfSome bytes (λ bytes. BytesSayRegister limits bytes r)
+
+-- a file says none, for this reason: a read of it failed, or its bytes say none
+abbrev pub IsTextFileFault : Limits → Input → TextFileFault → Type 0
+IsTextFileFault limits text fault =
+    ((fault ≡ faults.ReadFault) × IsReadFault text.unread text.bytes)
+    ⊎ IfSome text.bytes (λ bytes. BytesSayNone limits bytes fault)
+
+-- ---- what standard error is told
+
+-- the line on a text of this path
+abbrev pub text_line : List ℕ → List ℕ → List ℕ
+text_line path said = codes "oldstyle: " ++ (path ++ (codes ": " ++ (said ++ codes "\n")))
+
+-- standard error was told what a text says wrongly, or that memory ran out
+abbrev pub TellsText : List ℕ → Output → TextFault → Status → Type 0
+TellsText path e (text_faults.Toml why) status = TellsIfMade e statuses.Refused
+    (text_line path (text_fault_text (text_faults.Toml why))) status
+TellsText path e (text_faults.Key why) status = TellsIfMade e statuses.Refused
+    (text_line path (text_fault_text (text_faults.Key why))) status
+TellsText path e text_faults.NoMemory status = EndsBy e command_faults.NoMemory status
+
+-- standard error was told why the file of this path says no register
+abbrev pub TellsTextFile : List ℕ → Output → TextFileFault → Status → Type 0
+TellsTextFile path e faults.NoMemory status = EndsBy e command_faults.NoMemory status
+TellsTextFile path e faults.ReadFault status =
+    TellsIfMade e statuses.ReadFault (unopened_line path Other) status
+TellsTextFile path e faults.NotUtf8 status = TellsIfMade e statuses.Refused
+    (text_line path (codes "it is not UTF-8: save it as UTF-8")) status
+TellsTextFile path e (faults.Text why) status = TellsText path e why status

@@ -1,0 +1,142 @@
+//! The edits of a plan, made one edition: in the object of a journal, and in its file.
+ghost use Rattle.std.specs.Prelude.{◌≡◌, ◌+◌, ◌^◌, ◌<◌, ℕ, List, Option, None, Some, length};
+ghost use Rattle.std.specs.Prelude.{IfErr, IfOk, OnOk, string_bytes};
+ghost use Rattle.std.specs.Io.KnownBytes.{Appends};
+ghost use Rattle.osn_journal.specs.KeptJournal.{file_of};
+ghost use Rattle.osn_lines.specs.Streams.{output_of};
+ghost use Rattle.osn_register.specs.declared.edit.Edit.{Edit};
+ghost use Rattle.osn_serve_commands.specs.Keep.{TellsCut};
+ghost use Rattle.osn_text_commands.specs.Edition.{edition_refusal};
+ghost use Rattle.osn_text_commands.specs.Publish.{published_text};
+ghost use Rattle.osn_text_commands.specs.PublishInside as inside;
+
+use crate::plan_words::push_published;
+use osn_core::Object;
+use osn_files::{WholePart, with_edits, with_publish};
+use osn_folder::{KeptFile, KeptFileFault};
+use osn_journal::append_synced;
+use osn_lines::Sink;
+use osn_plan_page::plan_page;
+use osn_register::{Edit, Refusal, Register};
+use osn_report::CommandFault;
+use osn_serve_commands::{cut_unfinished, missing_text};
+use std::alloc::{AllocError, Global};
+
+/// Stages edits in turn, and publishes them. Answers the number of their edition.
+///
+/// # Errors
+///
+/// The first refusal that applies, or `NoMemory`.
+fn make_edition(object: &mut Object, edits: Vec<Edit>) -> Result<u32, Refusal>
+    ensures lawful { OnOk result (edition_refusal object.old edits.items ≡ None) }
+    ensures number { IfOk result (λ n. n ≡ length object.old.batches + 1) }
+    ensures refused { IfErr result
+        (inside.IsNoMemoryOr (edition_refusal object.old edits.items)) }
+{
+    for edit in edits {
+        object.check(&edit)?;
+        object.admit(edit)?;
+    }
+    object.check_publish()?;
+    Ok(object.make_edition()?)
+}
+
+/// What a file gets of which this part counts: what is missing there, then the lines of edits and
+/// that of their publish.
+fn edition_lines(alloc: Global, part: WholePart, edits: &[Edit]) -> Result<Vec<u8>, AllocError>
+    ensures { IfOk result (λ lines. inside.AreLinesOf part edits.now lines.items) }
+{
+    let missing = missing_text(alloc, part)?;
+    with_publish(with_edits(missing, edits)?)
+}
+
+/// An edition that is not written yet.
+#[derive(Drop)]
+pub(crate) struct Edition {
+    /// What the file of the journal gets.
+    pub(crate) lines: Vec<u8>,
+    /// What is printed once the file has it.
+    pub(crate) text: String,
+}
+
+/// The edits as the next edition of an object, which then has it. It is for the file of which this
+/// part counts.
+///
+/// # Errors
+///
+/// The first refusal that applies, or `NoMemory`.
+pub(crate) fn edition_of(
+    alloc: Global,
+    part: WholePart,
+    object: &mut Object,
+    wanted: &Register,
+    edits: Vec<Edit>,
+) -> Result<Edition, Refusal>
+    ensures lawful { OnOk result (edition_refusal object.old edits.items ≡ None) }
+    ensures lines { IfOk result
+        (λ edition. inside.AreLinesOf part edits.items edition.lines.items) }
+    ensures text { IfOk result (λ edition.
+        string_bytes edition.text ≡ published_text object.old wanted.now edits.items) }
+    ensures refused { IfErr result
+        (inside.IsNoMemoryOr (edition_refusal object.old edits.items)) }
+{
+    let lines = edition_lines(alloc, part, &edits)?;
+    let mut text = plan_page(alloc, object.register(), wanted, &edits)?;
+    let number = make_edition(object, edits)?;
+    push_published(&mut text, number)?;
+    Ok(Edition { lines, text })
+}
+
+/// Appends lines to a file of this many bytes, and answers once they are on the disk. Where that
+/// fails, the file is cut back.
+///
+/// # Errors
+///
+/// Where the file failed.
+fn append_whole<K: KeptFile>(keeper: &mut K, size: u64, lines: &[u8]) -> Result<(), KeptFileFault>
+    ensures sound { OnOk result (K.fault keeper.new ≡ K.fault keeper.old) }
+    ensures ok { OnOk result (Appends (K.contents keeper.old) (K.contents keeper.new) lines.now) }
+    ensures disk { OnOk result (K.synced keeper.new ≡ K.contents keeper.new) }
+    ensures reason { IfErr result (λ why. K.fault keeper.new ≡ Some why) }
+    ensures err { IfErr result (λ _. inside.IsCutBack (inside.CanStay K.cut_back_may_fail) size
+        lines.now (K.contents keeper.old) (K.contents keeper.new)) }
+{
+    match append_synced(keeper, lines) {
+        Ok(()) => Ok(()),
+        Err(fault) => {
+            let _ = keeper.cut_back(size);
+            Err(fault)
+        }
+    }
+}
+
+/// Writes the lines of an edition to the file of which this part counts, and answers once they are
+/// on the disk. A last line that was not finished is cut off first, and standard error is told so.
+///
+/// # Errors
+///
+/// Where the file failed. It is cut back then. Or want of memory, and nothing has changed then.
+pub(crate) fn write_edition<K: KeptFile, E: Sink>(
+    alloc: Global,
+    part: WholePart,
+    keeper: &mut K,
+    lines: &[u8],
+    errors: &mut E,
+) -> Result<(), CommandFault>
+    requires { part.lines < 2 ^ 63 }
+    ensures ok { OnOk result ((cut : Option ℕ)
+        × TellsCut (output_of E.contents E.has_failed E.holds_back errors.old errors.new) cut
+        × ((edits : List Edit) → inside.AreLinesOf part edits lines.now
+        → inside.IsWritten part edits cut (file_of K.contents K.synced K.fault keeper.old)
+        (file_of K.contents K.synced K.fault keeper.new))) }
+    ensures err { IfErr result (λ fault. (cut : Option ℕ)
+        × TellsCut (output_of E.contents E.has_failed E.holds_back errors.old errors.new) cut
+        × ((edits : List Edit) → inside.AreLinesOf part edits lines.now
+        → inside.IsUnwritten (inside.CanStay K.cut_back_may_fail) part edits fault cut
+        (file_of K.contents K.synced K.fault keeper.old)
+        (file_of K.contents K.synced K.fault keeper.new))) }
+{
+    cut_unfinished(alloc, part, keeper, errors)?;
+    append_whole(keeper, part.bytes, lines)?;
+    Ok(())
+}

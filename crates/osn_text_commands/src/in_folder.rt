@@ -1,0 +1,119 @@
+//! The commands `text` and `plan` over the files of a folder, opened by their paths first.
+ghost use Rattle.std.specs.Prelude.{◌≡◌, ◌≢◌, ◌∷◌, [], IfErr, IfOk, OnErr, option_map};
+ghost use Rattle.osn_folder.specs.Folder.{CannotOpen, MayFail};
+ghost use Rattle.osn_folder.specs.declared.fault.OpenFailed.{OpenFailed};
+ghost use Rattle.osn_lines.specs.Streams.{input_of, output_of};
+ghost use Rattle.osn_report.specs.Folders.{ReadsOne, folders_of};
+ghost use Rattle.osn_serve_commands.specs.Serve.{input_if};
+ghost use Rattle.osn_text_commands.specs.InFolder as spec;
+ghost use Rattle.osn_text_commands.specs.Text.{PrintsText};
+
+use crate::plan::plan_command;
+use crate::text::text_command;
+use osn_folder::{Folder, OpenFailed, open_file};
+use osn_lines::Sink;
+use osn_register::Limits;
+use osn_report::{Status, tell_unopened};
+use std::alloc::Global;
+
+/// Opens the journal of a path, and does what `text_command` does.
+///
+/// # Errors
+///
+/// Why the journal could not be opened. Nothing was written then.
+pub fn text_in_folder<D: Folder, W: Sink, E: Sink>(
+    alloc: Global,
+    limits: Limits,
+    folder: &mut D,
+    journal: &str,
+    code: Option<&str>,
+    output: &mut W,
+    errors: &mut E,
+) -> Result<Status, OpenFailed>
+    ensures ok { IfOk result (λ status. ReadsOne journal.now (MayFail D.File.has_failed)
+        (folders_of D.known folder.old folder.new)
+        (λ file. PrintsText limits journal.now file (option_map (λ code. code.now) code.entry)
+        (output_of W.contents W.has_failed W.holds_back output.old output.new)
+        (output_of E.contents E.has_failed E.holds_back errors.old errors.new) status)) }
+    ensures err { OnErr result (CannotOpen (journal.now ∷ [])
+        (D.known folder.old) (D.known folder.new)
+        × (output.new ≡ output.old) × (errors.new ≡ errors.old)) }
+{
+    let mut file = open_file(folder, journal)?;
+    Ok(text_command(alloc, limits, journal, &mut file, code, output, errors))
+}
+
+/// Opens the journal of a path, if one is there.
+///
+/// # Errors
+///
+/// Why a journal that is there could not be opened.
+fn open_if_there<D: Folder>(folder: &mut D, journal: &str) -> Result<Option<D::File>, OpenFailed>
+    ensures ok { IfOk result (λ file. spec.IsOpened journal.now
+        (option_map D.File.remaining file) (D.known folder.old) (D.known folder.new)) }
+    ensures err { OnErr result (CannotOpen (journal.now ∷ [])
+        (D.known folder.old) (D.known folder.new)) }
+    ensures cause { IfErr result (λ cause. cause ≢ OpenFailed.NotFound) }
+{
+    match open_file(folder, journal) {
+        Ok(file) => Ok(Some(file)),
+        Err(OpenFailed::NotFound) => Ok(None),
+        Err(cause) => Err(cause),
+    }
+}
+
+/// Opens the text of a path, and does what `plan_command` does for a journal of its path, which is
+/// there or not.
+fn plan_by<D: Folder, W: Sink, E: Sink>(
+    alloc: Global,
+    limits: Limits,
+    folder: &mut D,
+    path: &str,
+    journal: &mut Option<D::File>,
+    text: &str,
+    output: &mut W,
+    errors: &mut E,
+) -> Status
+    ensures { spec.PrintsPlanBy limits path.now
+        (input_if D.File.remaining D.File.has_failed journal.old journal.new) text.now
+        (MayFail D.File.has_failed) (folders_of D.known folder.old folder.new)
+        (output_of W.contents W.has_failed W.holds_back output.old output.new)
+        (output_of E.contents E.has_failed E.holds_back errors.old errors.new) result }
+{
+    match open_file(folder, text) {
+        Ok(mut file) => plan_command(
+            alloc, limits, path, journal, text, &mut file, output, errors,
+        ),
+        Err(cause) => tell_unopened(alloc, errors, text, cause),
+    }
+}
+
+/// Opens the journal of a path, if one is there, and then a text, and does what `plan_command`
+/// does. Where the text could not be opened, standard error is told why by its path.
+///
+/// # Errors
+///
+/// Why a journal that is there could not be opened. Nothing was written then.
+pub fn plan_in_folder<D: Folder, W: Sink, E: Sink>(
+    alloc: Global,
+    limits: Limits,
+    folder: &mut D,
+    journal: &str,
+    text: &str,
+    output: &mut W,
+    errors: &mut E,
+) -> Result<Status, OpenFailed>
+    ensures ok { IfOk result (spec.PlansInFolder limits journal.now text.now
+        (MayFail D.File.has_failed) (folders_of D.known folder.old folder.new)
+        (output_of W.contents W.has_failed W.holds_back output.old output.new)
+        (output_of E.contents E.has_failed E.holds_back errors.old errors.new)) }
+    ensures err { OnErr result (CannotOpen (journal.now ∷ [])
+        (D.known folder.old) (D.known folder.new)
+        × (output.new ≡ output.old) × (errors.new ≡ errors.old)) }
+    ensures cause { IfErr result (λ cause. cause ≢ OpenFailed.NotFound) }
+{
+    let mut file = open_if_there(folder, journal)?;
+    Ok(plan_by(
+        alloc, limits, folder, journal, &mut file, text, output, errors,
+    ))
+}

@@ -1,0 +1,66 @@
+//! What standard error is told where there is no plan.
+ghost use Rattle.std.specs.Prelude.{◌≡◌, IfOk, string_bytes};
+ghost use Rattle.osn_lines.specs.Streams.{output_of};
+ghost use Rattle.osn_text_commands.specs.PlanFault as spec;
+
+use osn_lines::Sink;
+use osn_plan::PlanFault;
+use osn_register::Refusal;
+use osn_report::{Status, tell_line, tell_no_memory};
+use std::alloc::{AllocError, Global};
+
+/// The line on a name that the text of this path changes.
+fn renamed_line(
+    alloc: Global,
+    path: &str,
+    code: &str,
+    name: &str,
+    wanted: &str,
+) -> Result<String, AllocError>
+    ensures { IfOk result (λ line. string_bytes line
+        ≡ spec.renamed_line path.now code.now name.now wanted.now) }
+{
+    format!(in alloc;
+        "oldstyle: {path}: {code}: a name can't be changed: it is {name}, and the text has \
+{wanted}\n"
+    )
+}
+
+/// The line on an edit that is refused, of the territory of a code that the text of this path has.
+fn refused_line(
+    alloc: Global,
+    path: &str,
+    code: &str,
+    refusal: Refusal,
+) -> Result<String, AllocError>
+    ensures { IfOk result (λ line.
+        string_bytes line ≡ spec.refused_line path.now code.now refusal) }
+{
+    let number = refusal.number();
+    let name = refusal.name();
+    format!(in alloc; "oldstyle: {path}: {code}: {number} {name}\n")
+}
+
+/// Tells standard error why there is no plan to what the text of this path says. Answers the
+/// status.
+pub(crate) fn tell_plan<E: Sink>(
+    alloc: Global,
+    errors: &mut E,
+    path: &str,
+    fault: &PlanFault,
+) -> Status
+    ensures { spec.TellsPlanFault path.now
+        (output_of E.contents E.has_failed E.holds_back errors.old errors.new) fault.now result }
+{
+    match fault {
+        PlanFault::Renamed { code, name, wanted } => {
+            let line = renamed_line(alloc, path, code.as_str(), name.as_str(), wanted.as_str());
+            tell_line(errors, Status::Refused, line)
+        }
+        PlanFault::Refused { code, refusal } => {
+            let line = refused_line(alloc, path, code.as_str(), *refusal);
+            tell_line(errors, Status::Refused, line)
+        }
+        PlanFault::NoMemory => tell_no_memory(errors),
+    }
+}

@@ -1,0 +1,72 @@
+//! The words on a plan and on its publish, beside the plan's own lines.
+ghost use Rattle.std.specs.Prelude.{◌≡◌, ◌++◌, IfOk, OnOk, string_bytes};
+ghost use Rattle.osn_text_commands.specs.PlanWords as spec;
+
+use std::alloc::{AllocError, Global};
+use std::fmt::Write;
+
+/// Appends the last line of a plan of this many edits. The next edition has this number.
+pub(crate) fn push_plan_end(out: &mut String, edits: usize, next: usize) -> Result<(), AllocError>
+    ensures { OnOk result
+        (string_bytes out.new ≡ string_bytes out.old ++ spec.plan_end edits next) }
+{
+    match edits {
+        0 => out.push_str("nothing to change\n"),
+        1 => writeln!(out, "1 edit: publish makes it edition {next}"),
+        _ => writeln!(out, "{edits} edits: publish makes them edition {next}"),
+    }
+}
+
+/// Appends the last line of edits that were published as the edition of this number.
+pub(crate) fn push_published(out: &mut String, edition: u32) -> Result<(), AllocError>
+    ensures { OnOk result
+        (string_bytes out.new ≡ string_bytes out.old ++ spec.published_line edition) }
+{
+    writeln!(out, "published as edition {edition}")
+}
+
+/// Appends the last line of a publish of no edits, after this many editions.
+pub(crate) fn push_standing(out: &mut String, editions: usize) -> Result<(), AllocError>
+    ensures { OnOk result
+        (string_bytes out.new ≡ string_bytes out.old ++ spec.standing_line editions) }
+{
+    writeln!(out, "nothing to change: edition {editions} stands")
+}
+
+fn edits_word(edits: usize) -> &'static str
+    ensures { result.now ≡ spec.edits_word edits }
+{
+    if edits == 1 { "edit" } else { "edits" }
+}
+
+/// What to do with pending edits.
+const ADVICE: &str = ": publish what is pending by serve --keep with {\"op\":\"publish\"}, \
+or take the lines after the last publish out of the journal\n";
+
+/// The line on a journal with this many pending edits, which are so called.
+#[tactic(auto, unfolding(crate::specs::PlanWords::pending_text))]
+fn pending_text(
+    alloc: Global,
+    pending: usize,
+    edits: &str,
+    advice: &str,
+) -> Result<String, AllocError>
+    ensures { IfOk result (λ line.
+        string_bytes line ≡ spec.pending_text pending edits.now advice.now) }
+{
+    format!(in alloc; "oldstyle: publish refuses a journal with {pending} pending {edits}{advice}")
+}
+
+/// The line on a journal with this many pending edits.
+pub(crate) fn pending_line(alloc: Global, pending: usize) -> Result<String, AllocError>
+    ensures { IfOk result (λ line. string_bytes line ≡ spec.pending_line pending) }
+{
+    pending_text(alloc, pending, edits_word(pending), ADVICE)
+}
+
+/// The line on a journal of this path that is not there.
+pub(crate) fn missing_line(alloc: Global, path: &str) -> Result<String, AllocError>
+    ensures { IfOk result (λ line. string_bytes line ≡ spec.missing_line path.now) }
+{
+    format!(in alloc; "oldstyle: {path}: there is no such journal yet: publish makes it\n")
+}

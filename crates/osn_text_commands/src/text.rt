@@ -1,0 +1,85 @@
+//! The command `text`: the territories that a journal published, as a text that an editor changes.
+ghost use Rattle.std.specs.Prelude.{◌≡◌, option_map};
+ghost use Rattle.osn_lines.specs.Streams.{input_of, output_of};
+ghost use Rattle.osn_text_commands.specs.Text as spec;
+
+use osn_core::Object;
+use osn_files::load_journal;
+use osn_lines::{Sink, Source};
+use osn_page_commands::land_refusal_line;
+use osn_register::{Limits, Register};
+use osn_report::{CommandFault, Status, print, report, tell_line};
+use osn_text_writer::{write_territory, write_text};
+use std::alloc::Global;
+
+/// Prints the text of the territory of a code.
+fn print_land<W: Sink, E: Sink>(
+    alloc: Global,
+    register: &Register,
+    path: &str,
+    code: &str,
+    output: &mut W,
+    errors: &mut E,
+) -> Status
+    ensures { spec.PrintsLand register.now.lands path.now code.now
+        (output_of W.contents W.has_failed W.holds_back output.old output.new)
+        (output_of E.contents E.has_failed E.holds_back errors.old errors.new) result }
+{
+    match register.land(code) {
+        Ok((name, territory)) => {
+            let text = write_territory(alloc, code, name, territory);
+            print(text, output, errors)
+        }
+        Err(refusal) => {
+            let line = land_refusal_line(alloc, path, code, refusal);
+            tell_line(errors, Status::Refused, line)
+        }
+    }
+}
+
+/// Prints the text of what an object has published: of all territories, or of the one of a code.
+fn print_lands<W: Sink, E: Sink>(
+    alloc: Global,
+    object: &Object,
+    path: &str,
+    code: Option<&str>,
+    output: &mut W,
+    errors: &mut E,
+) -> Status
+    ensures { spec.PrintsLands (spec.published object.now) path.now
+        (option_map (λ code. code.now) code.entry)
+        (output_of W.contents W.has_failed W.holds_back output.old output.new)
+        (output_of E.contents E.has_failed E.holds_back errors.old errors.new) result }
+{
+    let register = object.register();
+    match code {
+        None => print(write_text(alloc, register), output, errors),
+        Some(code) => print_land(alloc, register, path, code, output, errors),
+    }
+}
+
+/// The command `text`: prints the territories that the journal of this path published under these
+/// limits, or the one of a code, as a text that says them. The journal is read whole before
+/// anything is printed.
+///
+/// Where no text is printed, standard error is told in a line why, and the status says it.
+pub fn text_command<J: Source, W: Sink, E: Sink>(
+    alloc: Global,
+    limits: Limits,
+    path: &str,
+    journal: &mut J,
+    code: Option<&str>,
+    output: &mut W,
+    errors: &mut E,
+) -> Status
+    ensures { spec.PrintsText limits path.now
+        (input_of J.remaining J.has_failed journal.old journal.new)
+        (option_map (λ code. code.now) code.entry)
+        (output_of W.contents W.has_failed W.holds_back output.old output.new)
+        (output_of E.contents E.has_failed E.holds_back errors.old errors.new) result }
+{
+    match load_journal(alloc, limits, journal) {
+        Ok(object) => print_lands(alloc, &object, path, code, output, errors),
+        Err(fault) => report(alloc, errors, CommandFault::File(fault)),
+    }
+}

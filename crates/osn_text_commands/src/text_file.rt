@@ -1,0 +1,115 @@
+//! The file of a text: read, and what standard error is told where it says no register.
+ghost use Rattle.std.specs.Prelude.{◌≡◌, IfErr, IfOk, string_bytes};
+ghost use Rattle.osn_lines.specs.Streams.{input_of, output_of};
+ghost use Rattle.osn_text_commands.specs.TextFile as spec;
+ghost use Rattle.osn_text_reader.specs.Words.{text_fault_text};
+
+use osn_folder::OpenFailed;
+use osn_lines::{ReadAllFault, Sink, Source, read_all};
+use osn_register::{Limits, Register};
+use osn_report::{Status, tell_line, tell_no_memory, tell_unopened};
+use osn_text_reader::{TextFault, parse_text};
+use std::alloc::{AllocError, Global};
+use std::str;
+
+/// Why the file of a text says no register.
+#[derive(Debug, Drop)]
+pub(crate) enum TextFileFault {
+    /// Memory ran out.
+    NoMemory,
+    /// The file could not be read.
+    ReadFault,
+    /// Its bytes are not UTF-8.
+    NotUtf8,
+    /// The text says no register.
+    Text(TextFault),
+}
+
+impl From<ReadAllFault> for TextFileFault {
+    ghost from_gives = { λ fault given. given ≡ spec.by_read fault };
+
+    fn from(fault: ReadAllFault) -> TextFileFault {
+        match fault {
+            ReadAllFault::NoMemory => TextFileFault::NoMemory,
+            ReadAllFault::ReadFault => TextFileFault::ReadFault,
+        }
+    }
+}
+
+/// The register that these bytes say.
+fn register_in(alloc: Global, limits: Limits, bytes: &[u8]) -> Result<Register, TextFileFault>
+    ensures ok { IfOk result (spec.BytesSayRegister limits bytes.now) }
+    ensures err { IfErr result (spec.BytesSayNone limits bytes.now) }
+{
+    match str::from_utf8(bytes) {
+        Ok(text) => parse_text(alloc, limits, text).map_err(TextFileFault::Text),
+        Err(_) => Err(TextFileFault::NotUtf8),
+    }
+}
+
+/// The register that the text of a file says.
+///
+/// # Errors
+///
+/// Why it says none.
+pub(crate) fn read_register<T: Source>(
+    alloc: Global,
+    limits: Limits,
+    text: &mut T,
+) -> Result<Register, TextFileFault>
+    ensures ok { IfOk result (spec.SaysRegister limits (T.remaining text.old)) }
+    ensures err { IfErr result (spec.IsTextFileFault limits
+        (input_of T.remaining T.has_failed text.old text.new)) }
+{
+    let bytes = read_all(alloc, text)?;
+    register_in(alloc, limits, &bytes)
+}
+
+/// The line on what is wrong with the text of this path.
+fn text_line(alloc: Global, path: &str, said: &str) -> Result<String, AllocError>
+    ensures { IfOk result (λ line. string_bytes line ≡ spec.text_line path.now said.now) }
+{
+    format!(in alloc; "oldstyle: {path}: {said}\n")
+}
+
+/// The line on a fault of the text of this path.
+fn fault_line(alloc: Global, path: &str, fault: &TextFault) -> Result<String, AllocError>
+    ensures { IfOk result (λ line.
+        string_bytes line ≡ spec.text_line path.now (text_fault_text fault.now)) }
+{
+    format!(in alloc; "oldstyle: {path}: {fault}\n")
+}
+
+/// Tells standard error what the text of this path says wrongly. Answers the status.
+fn tell_text<E: Sink>(alloc: Global, errors: &mut E, path: &str, fault: &TextFault) -> Status
+    ensures { spec.TellsText path.now
+        (output_of E.contents E.has_failed E.holds_back errors.old errors.new) fault.now result }
+{
+    match fault {
+        TextFault::NoMemory => tell_no_memory(errors),
+        TextFault::Toml(_) | TextFault::Key(_) => {
+            tell_line(errors, Status::Refused, fault_line(alloc, path, fault))
+        }
+    }
+}
+
+/// Tells standard error why the file of this path says no register. Answers the status.
+pub(crate) fn tell_text_file<E: Sink>(
+    alloc: Global,
+    errors: &mut E,
+    path: &str,
+    fault: &TextFileFault,
+) -> Status
+    ensures { spec.TellsTextFile path.now
+        (output_of E.contents E.has_failed E.holds_back errors.old errors.new) fault.now result }
+{
+    match fault {
+        TextFileFault::NoMemory => tell_no_memory(errors),
+        TextFileFault::ReadFault => tell_unopened(alloc, errors, path, OpenFailed::Other),
+        TextFileFault::NotUtf8 => {
+            let line = text_line(alloc, path, "it is not UTF-8: save it as UTF-8");
+            tell_line(errors, Status::Refused, line)
+        }
+        TextFileFault::Text(fault) => tell_text(alloc, errors, path, fault),
+    }
+}

@@ -1,0 +1,272 @@
+-- The text of a register is read as the tables of its territories, in the order of their codes.
+use Rattle.std.proofs.Common.{◌≡◌, ℕ, suc, true, false, cond, ◌==◌, List, [], ◌∷◌, ◌++◌, length}
+use Rattle.std.proofs.Common.{Some, None, option_and_then, map, codes, refl, ap, ◌∙◌, arith}
+use Rattle.std.proofs.Common.{Ordering, Less, Equal, Greater, nat_cmp}
+use Rattle.std.specs.Cmp.Lexicographic.{slice_cmp}
+use Rattle.std.specs.Ordering.{match_ordering}
+use Rattle.std.specs.Str.{bytes_eq}
+use Rattle.toml_parser.specs.Lexical.{first}
+use Rattle.toml_parser.specs.Strings.{Key}
+use Rattle.toml.specs.Data.{string, table, Members, no_members, member}
+use Rattle.toml.specs.Tables.{Nodes, no_nodes, node, open_table, header, get_node, close}
+use Rattle.toml.specs.Tables.{Definition, key_value, std_table, array_table, Expression, Document}
+use Rattle.toml.specs.Tables.{along_header, define}
+use Rattle.toml.specs.Parse.{skip_bom, parse_document}
+use Rattle.toml.proofs.Fill.{run-append}
+use Rattle.toml.proofs.ReadLines.{run, AllPrinted, IsPrinted, line_turn, read_lines}
+use Rattle.toml.proofs.Turns.{document_some, at_key_new}
+use Rattle.std.proofs.lemmas.Map.Text.{is_eq-slice_cmp}
+use Rattle.osn_computus.specs.RuleWords.{rule_word}
+use Rattle.osn_days.specs.declared.calendar.Calendar.{Calendar}
+use Rattle.osn_days.specs.CalendarWords.{calendar_word}
+use Rattle.osn_days.specs.Profile.{newest_rules}
+use Rattle.osn_lands.specs.StyleWords.{style_word}
+use Rattle.osn_register.proofs.LandFacts.{apart_first}
+use Rattle.osn_lands.specs.declared.period.Period.{Period}
+use Rattle.osn_lands.specs.declared.regime.Regime.{Regime}
+use Rattle.osn_lands.specs.Territory.{TerritoryModel, periods_of, regime_at}
+use Rattle.osn_register.specs.Plain.{LandModel, land_of, AreDistinct}
+use Rattle.osn_text_writer.specs.TerritoryText.{register_text}
+use Rattle.osn_text_writer.proofs.Expressions as lines
+use Rattle.osn_text_writer.proofs.JoinedLines.{IsWritten}
+use Rattle.osn_text_writer.proofs.LandNodes.{land_nodes, land_end, run_land}
+use Rattle.osn_text_writer.proofs.SortedLands.{insert_land, insert_land_by, sorted_lands, AreNew}
+use Rattle.osn_text_writer.proofs.SortedLands.{AreNew-none, AreNew-insert_land}
+use Rattle.osn_text_writer.proofs.TableNodes.{with_table, run_below}
+use Rattle.osn_text_writer.proofs.WrittenLines.{IsCons, IsWritable, AreWritable, lands_written}
+
+-- ---- the text is read line by line
+
+-- the expression is one of a territory's table: a pair with a short value, or a header
+abbrev IsPlain : Key → Definition → Type 0
+IsPlain key (key_value d) = IsPrinted key (key_value d)
+IsPlain key std_table = key.0 ≡ []
+IsPlain key array_table = key.0 ≡ []
+
+abbrev ArePlain : List Expression → Type 0
+ArePlain [] = Unit {0}
+ArePlain (e ∷ es) = IsPlain e.0 e.1 × ArePlain es
+
+plain_append : (es fs : List Expression) → ArePlain es → ArePlain fs → ArePlain (es ++ fs)
+plain_append [] fs a b = b
+plain_append (e ∷ es) fs a b = (a.0, plain_append es fs a.1 b)
+
+printed_append : (es fs : List Expression) → AllPrinted es → AllPrinted fs → AllPrinted (es ++ fs)
+printed_append [] fs a b = b
+printed_append (e ∷ es) fs a b = (a.0, printed_append es fs a.1 b)
+
+one_below : (code : List ℕ) (key : Key) (what : Definition) → IsPlain key what
+    → IsPrinted (lines.under_as code key what).0 (lines.under_as code key what).1
+one_below code key (key_value d) plain = plain
+one_below code key std_table plain = rw plain (omega arith)
+one_below code key array_table plain = rw plain (omega arith)
+
+below : (code : List ℕ) (es : List Expression) → ArePlain es
+    → AllPrinted (map (lines.under code) es)
+below code [] plain = tt
+below code (e ∷ es) plain = (one_below code e.0 e.1 plain.0, below code es plain.1)
+
+text_plain : (key text : List ℕ) → IsPlain ([], key) (key_value (string text))
+text_plain key text = (refl, omega arith, refl)
+
+date_plain : (key : List ℕ) (c : Calendar) (day : ℕ)
+    → IsPlain ([], key) (key_value (lines.date_data c day))
+date_plain key c day = (refl, omega arith, refl)
+
+changed_plain : (key before word : List ℕ) → ArePlain (lines.changed_pair key before word)
+changed_plain key before word =
+    elim (bytes_eq before word) as (λ b. ArePlain (cond b [] (lines.pair key (string word) ∷ []))) [
+      | true ↦ tt
+      | false ↦ (text_plain key word, tt)
+    ]
+
+change_plain : (before : Regime) (p : Period) → ArePlain (lines.change_pairs before p)
+change_plain before p =
+    let r = p.regime in (
+      date_plain (codes "from") r.calendar p.first,
+      plain_append (lines.changed_pair (codes "calendar") (calendar_word before.calendar)
+          (calendar_word r.calendar))
+          (lines.changed_pair (codes "style") (style_word before.style) (style_word r.style)
+          ++ lines.changed_pair (codes "rule") (rule_word before.rule) (rule_word r.rule))
+          (changed_plain (codes "calendar") (calendar_word before.calendar)
+          (calendar_word r.calendar))
+          (plain_append (lines.changed_pair (codes "style") (style_word before.style)
+          (style_word r.style))
+          (lines.changed_pair (codes "rule") (rule_word before.rule) (rule_word r.rule))
+          (changed_plain (codes "style") (style_word before.style) (style_word r.style))
+          (changed_plain (codes "rule") (rule_word before.rule) (rule_word r.rule))),
+    )
+
+changes_plain : (before : Regime) (ps : List Period) → ArePlain (lines.changes before ps)
+changes_plain before [] = tt
+changes_plain before (p ∷ ps) =
+    plain_append (lines.next_in (codes "changes") ∷ lines.change_pairs before p)
+    (lines.changes p.regime ps)
+    (refl, change_plain before p) (changes_plain p.regime ps)
+
+easters_plain : (t : TerritoryModel) (es : List (ℕ × ℕ)) → ArePlain (lines.easters t es)
+easters_plain t [] = tt
+easters_plain t (e ∷ es) = (
+  refl,
+  (
+    (refl, omega arith, refl),
+    (
+      date_plain (codes "date") (regime_at t e.1).calendar e.1,
+      easters_plain t es,
+    ),
+  ),
+)
+
+territory_plain : (name : List ℕ) (t : TerritoryModel) (ps : List Period)
+    → ArePlain (lines.after_header name t ps)
+territory_plain name t [] = easters_plain t t.exceptions
+territory_plain name t (p ∷ ps) = (
+  text_plain (codes "name") name,
+  (
+    text_plain (codes "calendar") (calendar_word p.regime.calendar),
+    (
+      text_plain (codes "style") (style_word p.regime.style),
+      (
+        text_plain (codes "rule") (rule_word p.regime.rule),
+        plain_append (lines.changes p.regime ps) (lines.easters t t.exceptions)
+            (changes_plain p.regime ps) (easters_plain t t.exceptions),
+      ),
+    ),
+  ),
+)
+
+all_printed : (ls : List LandModel) → AllPrinted (lines.territories newest_rules ls)
+all_printed [] = tt
+all_printed (l ∷ ls) =
+    printed_append (lines.territory newest_rules l) (lines.territories newest_rules ls) (
+      omega arith,
+      below l.code (lines.after_header l.name l.territory (periods_of newest_rules l.territory))
+          (territory_plain l.name l.territory (periods_of newest_rules l.territory)),
+    )
+    (all_printed ls)
+
+not_bom : (es : List Expression) (text : List ℕ) → IsWritten false es text → AllPrinted es
+    → (first text == 239) ≡ false
+not_bom [] text written printed = rw written refl
+not_bom (e ∷ es) text written printed =
+    let (this, rest, whole, line, more) = written in
+    let turn = line_turn false false e.0 e.1 this rest line printed.0 in
+    rw whole turn.5
+
+no_skip : (text : List ℕ) → (first text == 239) ≡ false → skip_bom text ≡ text
+unfolding skip_bom
+no_skip text other = rw other
+
+-- a text is the document that its lines define
+parsed : (es : List Expression) (text : List ℕ) (doc : Document) → IsWritten false es text
+    → AllPrinted es → run (no_nodes, []) es ≡ Some doc → parse_document text ≡ Some (close doc.0)
+parsed es text doc written printed ran =
+    let room = suc (length text) in
+    let read = read_lines false false es text text (no_nodes, []) room written printed refl
+    (omega arith) in
+    let kept = no_skip text (not_bom es text written printed) in
+    document_some text doc (rw kept (read ∙ ran))
+
+-- ---- the territories, in the order of their codes
+
+abbrev pub table_of : LandModel → Nodes
+table_of l = land_nodes l.name l.territory (periods_of newest_rules l.territory)
+
+abbrev pub nodes_of : List LandModel → Nodes
+nodes_of [] = no_nodes
+nodes_of (l ∷ ls) = node l.code (open_table header (table_of l)) (nodes_of ls)
+
+abbrev pub members_of : List LandModel → Members
+members_of [] = no_members
+members_of (l ∷ ls) = member l.code (table (close (table_of l))) (members_of ls)
+
+close-nodes_of : (ls : List LandModel) → close (nodes_of ls) ≡ members_of ls
+close-nodes_of [] = refl
+close-nodes_of (l ∷ ls) = ap (member l.code (table (close (table_of l)))) (close-nodes_of ls)
+
+insert_by : (o : Ordering) (l m : LandModel) (ms : List LandModel)
+    → with_table l.code (table_of l) (nodes_of ms) ≡ nodes_of (insert_land l ms)
+    → match_ordering o (node l.code (open_table header (table_of l)) (nodes_of (m ∷ ms)))
+    (node m.code (open_table header (table_of l)) (nodes_of ms))
+    (node m.code (open_table header (table_of m)) (with_table l.code (table_of l) (nodes_of ms)))
+    ≡ nodes_of (insert_land_by o l m ms (insert_land l ms))
+insert_by Less l m ms more = refl
+insert_by Equal l m ms more = refl
+insert_by Greater l m ms more = ap (node m.code (open_table header (table_of m))) more
+
+insert-nodes_of : (l : LandModel) (ms : List LandModel)
+    → with_table l.code (table_of l) (nodes_of ms) ≡ nodes_of (insert_land l ms)
+insert-nodes_of l [] = refl
+insert-nodes_of l (m ∷ ms) =
+    insert_by (slice_cmp nat_cmp l.code m.code) l m ms (insert-nodes_of l ms)
+
+no_node : (code : List ℕ) (ls : List LandModel) → land_of code ls ≡ None
+    → get_node code (nodes_of ls) ≡ None
+no_node code [] none = refl
+no_node code (l ∷ ls) none =
+    let (other, more) = apart_first code l ls none in
+    rw (is_eq-slice_cmp code l.code, other) (no_node code ls more)
+
+-- ---- what the lines define
+
+abbrev IsRun : List LandModel → List Expression → List LandModel → Type 0
+IsRun done es after =
+    (s : List (List ℕ)) → (t : List (List ℕ)) × (run (nodes_of done, s) es
+    ≡ Some (nodes_of after, t))
+
+header_run : (l : LandModel) (done : List LandModel) (s : List (List ℕ))
+    → land_of l.code done ≡ None
+    → define (nodes_of done, s) (([], l.code), std_table)
+    ≡ Some (with_table l.code no_nodes (nodes_of done), l.code ∷ [])
+unfolding define along_header
+header_run l done s none =
+    rw (at_key_new l.code std_table (nodes_of done) (no_node l.code done none)) refl
+
+table_run : (l : LandModel) (ps : List Period) → IsCons ps
+    → run (no_nodes, []) (lines.after_header l.name l.territory ps)
+    ≡ Some (land_nodes l.name l.territory ps, land_end l.territory ps)
+table_run l [] some = absurd some
+table_run l (p ∷ ps) some = run_land l.name l.territory p ps
+
+territory_run : (l : LandModel) (done : List LandModel) → IsWritable l → land_of l.code done ≡ None
+    → IsRun done (lines.territory newest_rules l) (insert_land l done)
+territory_run l done can none s =
+    let ps = periods_of newest_rules l.territory in
+    let after = map (lines.under l.code) (lines.after_header l.name l.territory ps) in
+    let in_table = run_below l.code (lines.after_header l.name l.territory ps) no_nodes (table_of l)
+    (nodes_of done) [] (land_end l.territory ps) (table_run l ps can.some) in (
+      l.code ∷ land_end l.territory ps,
+      ap (option_and_then (λ (d : Document). run d after)) (header_run l done s none)
+          ∙ in_table
+          ∙ ap (λ (n : Nodes). Some (n, l.code ∷ land_end l.territory ps)) (insert-nodes_of l done),
+    )
+
+run_then : (done mid after : List LandModel) (es fs : List Expression) → IsRun done es mid
+    → IsRun mid fs after → IsRun done (es ++ fs) after
+run_then done mid after es fs first_part more s =
+    let (t, ran) = first_part s in
+    let (u, rest) = more t in (
+      u,
+      run-append (nodes_of done, s) es fs
+          ∙ ap (option_and_then (λ (d : Document). run d fs)) ran ∙ rest,
+    )
+
+all_run : (ls done : List LandModel) → AreWritable ls → AreNew ls done → AreDistinct ls
+    → IsRun done (lines.territories newest_rules ls) (sorted_lands done ls)
+all_run [] done can new distinct = λ s. (s, refl)
+all_run (l ∷ ls) done can new distinct =
+    run_then done (insert_land l done) (sorted_lands (insert_land l done) ls)
+    (lines.territory newest_rules l)
+    (lines.territories newest_rules ls) (territory_run l done can.0 new.0)
+    (all_run ls (insert_land l done) can.1
+    (AreNew-insert_land l ls done new.0 distinct.0 new.1) distinct.1)
+
+-- a register's text is read as its territories
+pub register_parsed : (ls : List LandModel) → AreWritable ls → AreDistinct ls
+    → parse_document (register_text newest_rules ls) ≡ Some (members_of (sorted_lands [] ls))
+unfolding register_text
+register_parsed ls can distinct =
+    let (path, ran) = all_run ls [] can (AreNew-none ls) distinct [] in
+    parsed (lines.territories newest_rules ls) (register_text newest_rules ls)
+    (nodes_of (sorted_lands [] ls), path) (lands_written false ls can) (all_printed ls) ran
+    ∙ ap Some (close-nodes_of (sorted_lands [] ls))

@@ -1,0 +1,13 @@
+mod TextSteps
+mod PlainText
+mod Expressions
+mod JoinedLines
+mod WrittenLines
+mod TableNodes
+mod LandNodes
+mod SortedLands
+mod Documents
+mod ReadDates
+mod ReadTables
+mod ReadEdits
+mod ReadBack

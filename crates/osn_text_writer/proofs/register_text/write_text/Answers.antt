@@ -1,0 +1,57 @@
+use Rattle.std.proofs.Common.{◌≡◌, ◌++◌, false, string_bytes, ap, sym, arith, subst}
+use Rattle.osn_days.specs.Profile.{newest_rules}
+use Rattle.osn_register.specs.Plain.{LandModel}
+use Rattle.osn_text_writer.specs.Says.{SaysLands}
+use Rattle.osn_text_writer.specs.TerritoryText.{register_text, lands_text}
+use Rattle.std.proofs.lemmas.Option.{slice_get_past}
+use Rattle.osn_text_writer.proofs.ReadBack.{register_says}
+use Rattle.osn_text_writer.proofs.TextSteps.{land_step, lands_end}
+use Rattle.osn_text_writer.proofs.register_text.write_text.Goals as goal
+use Rattle.osn_text_writer.proofs.register_text.write_text.Goals.{else-lands-test}
+use Rattle.osn_text_writer.proofs.register_text.write_text.Goals.{then-lands-test+in_default}
+
+pub lands-init : goal.lands-init
+unfolding register_text
+lands-init c =
+    ap (λ t. t ++ lands_text newest_rules false c.args.register.now.lands)
+    (sym c.in_ok-text.ensures.bytes)
+
+pub lands-preserved : goal.lands-preserved
+lands-preserved c =
+    let l : LandModel = record {
+      code = c.in-Some.code.now;
+      name = c.in-Some.name.now;
+      territory = c.in-Some.territory.now;
+    } in
+    land_step c.args.register.now.lands c.lands.place l _ (string_bytes c.lands.text)
+    (string_bytes c.push_land.new.out) (sym c.in-Some.ensures.value) c.lands.invariant
+    c.in_ok-push_land.ensures
+
+whole : (c : goal.Left-lands) → string_bytes c.lands.text
+    ≡ register_text newest_rules c.args.register.now.lands
+whole c =
+    let lands = c.args.register.now.lands in
+    elim c.lands-test.branch [
+      | else-lands-test w ↦
+          lands_end lands c.lands.place _ (string_bytes c.lands.text)
+          (slice_get_past lands c.lands.place (omega (
+            arith,
+            c.limits-place-end.ensures.well_formed.within,
+            ap (λ m. m.lands) c.limits-place-end.ensures.value,
+            w.lands-test.false,
+          )))
+          c.lands.invariant
+      | then-lands-test+in_default w ↦
+          lands_end lands c.lands.place _ (string_bytes c.lands.text)
+          (sym w.in_default.ensures.value)
+          c.lands.invariant
+    ]
+
+pub returns-clause-text : goal.returns-clause-text
+returns-clause-text c = whole c
+
+pub returns-clause-reads_back : goal.returns-clause-reads_back
+returns-clause-reads_back c =
+    let r = c.args.register.now in
+    subst (λ text. SaysLands r.limits text r.lands) (sym (whole c))
+    (register_says r c.limits-place-end.ensures.well_formed)

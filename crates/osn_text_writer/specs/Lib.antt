@@ -1,0 +1,2 @@
+pub mod TerritoryText
+pub mod Says

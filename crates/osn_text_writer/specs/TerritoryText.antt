@@ -1,0 +1,113 @@
+-- The text of a territory in TOML, and that of a register: this project's profile.
+use Rattle.std.specs.Prelude.{ℕ, Bool, true, false, if◌then◌else◌, List, [], ◌∷◌, ◌++◌, codes}
+use Rattle.std.specs.Fmt.{decimal}
+use Rattle.std.specs.List.{flat_map}
+use Rattle.std.specs.Str.{bytes_eq}
+use Rattle.toml_writer.specs.Text.{string_text}
+use Rattle.osn_computus.specs.RuleWords.{rule_word}
+use Rattle.osn_days.specs.declared.calendar.Calendar.{Calendar}
+use Rattle.osn_days.specs.CalendarWords.{calendar_word}
+use Rattle.osn_days.specs.Chain.{date_of}
+use Rattle.osn_days.specs.DateText.{text_of_date}
+use Rattle.osn_days.specs.Profile.{Profile}
+use Rattle.osn_lands.specs.declared.period.Period.{Period}
+use Rattle.osn_lands.specs.declared.regime.Regime.{Regime}
+use Rattle.osn_lands.specs.StyleWords.{style_word}
+use Rattle.osn_lands.specs.Territory.{TerritoryModel, periods_of, regime_at}
+use Rattle.osn_register.specs.Plain.{LandModel}
+
+-- ---- parts of a line
+
+-- a key with a word: calendar = "julian"
+unfoldable pub word_line : List ℕ → List ℕ → List ℕ
+word_line key word = key ++ (codes " = \"" ++ (word ++ codes "\"\n"))
+
+-- the same, where the word is not the one before
+unfoldable pub changed_line : List ℕ → List ℕ → List ℕ → List ℕ
+changed_line key before word = if bytes_eq before word then [] else word_line key word
+
+-- a day by its date in a calendar: { gregorian = "1752-09-14" }
+unfoldable pub date_table : Calendar → ℕ → List ℕ
+date_table calendar day =
+    codes "{ "
+    ++ (calendar_word calendar
+    ++ (codes " = \"" ++ (text_of_date (date_of calendar day) ++ codes "\" }")))
+
+-- ---- a territory
+
+-- its header and its name
+unfoldable pub name_text : List ℕ → List ℕ → List ℕ
+name_text code name =
+    codes "[" ++ (code ++ (codes "]\nname = " ++ (string_text name ++ codes "\n")))
+
+-- a regime
+unfoldable pub regime_text : Regime → List ℕ
+regime_text regime =
+    word_line (codes "calendar") (calendar_word regime.calendar)
+    ++ (word_line (codes "style") (style_word regime.style)
+    ++ word_line (codes "rule") (rule_word regime.rule))
+
+-- what a regime has that the one before it has not
+unfoldable pub changed_lines : Regime → Regime → List ℕ
+changed_lines before regime =
+    changed_line (codes "calendar") (calendar_word before.calendar) (calendar_word regime.calendar)
+    ++ (changed_line (codes "style") (style_word before.style) (style_word regime.style)
+    ++ changed_line (codes "rule") (rule_word before.rule) (rule_word regime.rule))
+
+-- the header of the change with which a period begins, and its date by the calendar of that period
+unfoldable pub beginning_text : List ℕ → Period → List ℕ
+beginning_text code period =
+    codes "\n[["
+    ++ (code
+    ++ (codes ".changes]]\nfrom = "
+    ++ (date_table period.regime.calendar period.first ++ codes "\n")))
+
+-- the change with which a period begins, after a period of that regime
+unfoldable pub change_text : List ℕ → Regime → Period → List ℕ
+change_text code before period =
+    beginning_text code period ++ changed_lines before period.regime
+
+-- the changes with which these periods begin, after one of that regime
+unfoldable pub changes_text : List ℕ → Regime → List Period → List ℕ
+changes_text code before [] = []
+changes_text code before (p ∷ ps) =
+    change_text code before p ++ changes_text code p.regime ps
+
+-- the name, the regime that it opens with, and the changes after it
+unfoldable pub periods_text : List ℕ → List ℕ → List Period → List ℕ
+periods_text code name [] = []
+periods_text code name (p ∷ ps) =
+    name_text code name ++ (regime_text p.regime ++ changes_text code p.regime ps)
+
+-- a year with its listed Easter, dated by the calendar in force on that day
+unfoldable pub easter_text : List ℕ → TerritoryModel → ℕ × ℕ → List ℕ
+easter_text code t listed =
+    codes "\n[["
+    ++ (code
+    ++ (codes ".easters]]\nyear = "
+    ++ (decimal listed.0
+    ++ (codes "\ndate = "
+    ++ (date_table (regime_at t listed.1).calendar listed.1 ++ codes "\n")))))
+
+-- a territory: its periods in order, then its listed Easters by their years
+unfoldable pub territory_text : Profile → List ℕ → List ℕ → TerritoryModel → List ℕ
+territory_text p code name t =
+    periods_text code name (periods_of p t) ++ flat_map (easter_text code t) t.exceptions
+
+-- ---- a register
+
+-- an empty line, where something stands before
+abbrev pub blank_line : Bool → List ℕ
+blank_line true = codes "\n"
+blank_line false = []
+
+-- territories with an empty line between them, after others or not
+unfoldable pub lands_text : Profile → Bool → List LandModel → List ℕ
+lands_text p follows [] = []
+lands_text p follows (l ∷ ls) =
+    blank_line follows
+    ++ (territory_text p l.code l.name l.territory ++ lands_text p true ls)
+
+-- the territories of a register, in the order in which they were added
+unfoldable pub register_text : Profile → List LandModel → List ℕ
+register_text p lands = lands_text p false lands

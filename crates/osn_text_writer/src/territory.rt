@@ -1,0 +1,129 @@
+//! The text of a territory.
+ghost use Rattle.std.specs.Prelude.{◌≡◌, ◌++◌, IfOk, OnOk, string_bytes};
+ghost use Rattle.std.specs.List.{flat_map};
+ghost use Rattle.osn_days.specs.Profile.{newest_rules};
+ghost use Rattle.osn_lands.specs.Territory.{periods_of};
+ghost use Rattle.osn_text_writer.specs.Says.{SaysLand};
+ghost use Rattle.osn_text_writer.specs.TerritoryText as spec;
+
+use crate::changes::push_changes;
+use crate::date_table::DateTable;
+use crate::toml_string::TomlString;
+use crate::word_line::push_word;
+use osn_days::{Day, Keyword, Year};
+use osn_lands::{Regime, Territory};
+use std::alloc::{AllocError, Global};
+use std::fmt::Write;
+
+/// The room that a text gets at first: that of a territory with two changes takes some 250 bytes.
+const ROOM: usize = 256;
+
+/// Appends the header of a territory and its name.
+#[tactic(auto, unfolding(crate::specs::TerritoryText::name_text))]
+fn push_name(out: &mut String, code: &str, name: &str) -> Result<(), AllocError>
+    ensures { OnOk result (string_bytes out.new
+        ≡ string_bytes out.old ++ spec.name_text code.now name.now) }
+{
+    writeln!(out, "[{code}]\nname = {}", TomlString(name))
+}
+
+/// Appends the lines of a regime.
+#[tactic(auto, unfolding(crate::specs::TerritoryText::regime_text))]
+fn push_regime(out: &mut String, regime: Regime) -> Result<(), AllocError>
+    ensures { OnOk result (string_bytes out.new
+        ≡ string_bytes out.old ++ spec.regime_text regime) }
+{
+    push_word(out, "calendar", regime.calendar.word())?;
+    push_word(out, "style", regime.style.word())?;
+    push_word(out, "rule", regime.rule.word())
+}
+
+/// Appends the name, the regime at first and the changes.
+#[tactic(auto, unfolding(crate::specs::TerritoryText::periods_text))]
+fn push_periods(
+    out: &mut String,
+    code: &str,
+    name: &str,
+    territory: &Territory,
+) -> Result<(), AllocError>
+    ensures { OnOk result (string_bytes out.new ≡ string_bytes out.old
+        ++ spec.periods_text code.now name.now (periods_of newest_rules territory.now)) }
+{
+    let periods = territory.periods();
+    let opening = periods[0].regime;
+    push_name(out, code, name)?;
+    push_regime(out, opening)?;
+    push_changes(out, code, opening, &periods[1..])
+}
+
+/// Appends a year with its listed Easter.
+#[tactic(auto, unfolding(crate::specs::TerritoryText::easter_text))]
+fn push_easter(
+    out: &mut String,
+    code: &str,
+    territory: &Territory,
+    year: Year,
+    day: Day,
+) -> Result<(), AllocError>
+    ensures { OnOk result (string_bytes out.new
+        ≡ string_bytes out.old ++ spec.easter_text code.now territory.now (year, day)) }
+{
+    let date = DateTable {
+        calendar: territory.regime_at(day).calendar,
+        day,
+    };
+    writeln!(
+        out,
+        "\n[[{code}.easters]]\nyear = {}\ndate = {date}",
+        year.number()
+    )
+}
+
+/// Appends the listed Easters, by their years.
+fn push_easters(out: &mut String, code: &str, territory: &Territory) -> Result<(), AllocError>
+    ensures { OnOk result (string_bytes out.new ≡ string_bytes out.old
+        ++ flat_map (spec.easter_text code.now territory.now) territory.now.exceptions) }
+{
+    for (year, day) in territory.exceptions() {
+        push_easter(out, code, territory, *year, *day)?;
+    }
+    Ok(())
+}
+
+/// Appends a territory.
+#[tactic(auto, unfolding(crate::specs::TerritoryText::territory_text))]
+pub(crate) fn push_territory(
+    out: &mut String,
+    code: &str,
+    name: &str,
+    territory: &Territory,
+) -> Result<(), AllocError>
+    ensures { OnOk result (string_bytes out.new ≡ string_bytes out.old
+        ++ spec.territory_text newest_rules code.now name.now territory.now) }
+{
+    push_periods(out, code, name, territory)?;
+    push_easters(out, code, territory)
+}
+
+/// The text of a territory. A change is dated by the calendar that it brings, a listed Easter by
+/// the one in force on its day.
+///
+/// # Errors
+///
+/// Want of memory, and nothing else.
+pub fn write_territory(
+    alloc: Global,
+    code: &str,
+    name: &str,
+    territory: &Territory,
+) -> Result<String, AllocError>
+    ensures text { IfOk result (λ s. string_bytes s
+        ≡ spec.territory_text newest_rules code.now name.now territory.now) }
+    // as a law: the text is read as the territory
+    ensures reads_back { IfOk result (λ s.
+        SaysLand (string_bytes s) code.now name.now territory.now) }
+{
+    let mut text = String::with_capacity(alloc, ROOM)?;
+    push_territory(&mut text, code, name, territory)?;
+    Ok(text)
+}
