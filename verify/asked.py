@@ -76,9 +76,14 @@ STEPS = [
     '{"step":"check","reader":1}',
     '{"step":"answer","reader":1}',
 ]
+KEYS = ['calendar = "julian"', 'style = "january"', 'rule = "julian"']
+TEXT = ["[GB]", 'name = "Great Britain"', *KEYS, "[[GB.changes]]",
+        'from = { gregorian = "1752-09-14" }', 'calendar = "gregorian"', "[[GB.easters]]",
+        "year = 1753", "date = { day = 640017 }", "[SE]", 'name = "Sweden"', *KEYS,
+        "[[SE.changes]]", 'from = { swedish = "1700-03-01" }', 'calendar = "swedish"']
 # Files by their names, and commands over them, each with the lines of its standard input.
 FILES = {"a.journal": BEGUN, "a.script": SCRIPT, "a.questions": QUESTIONS, "a.schedule": STEPS,
-         "a.transcript": TRANSCRIPT, "saved.journal": BEGUN[:2]}
+         "a.transcript": TRANSCRIPT, "saved.journal": BEGUN[:2], "a.toml": TEXT}
 COMMANDS = [
     ("", SESSION),
     ("serve --journal a.journal --save saved.journal", SESSION[:-1]),
@@ -100,6 +105,10 @@ COMMANDS = [
     ("territory a.journal", []),
     ("territory a.journal GB", []),
     ("letters a.journal", ["place,date", "GB,1731/32-02-11", "FR,1543-04-01", "GB,1752-09-05"]),
+    ("text a.journal", []),
+    ("text a.journal ZZ", []),
+    ("plan a.script a.toml", []),
+    ("plan a.script a.schedule", []),
     ("replay --readers 1 a.schedule", []),
     ("desk a.script a.questions", []),
     ("audit a.journal a.transcript", []),
@@ -111,6 +120,9 @@ COMMANDS = [
     ("--version", []),
     ("fly", []),
 ]
+
+# A command that changes a file before it writes on standard output.
+PUBLISHING = ("publish a.script a.toml", [])
 
 # How a command ends that found no memory; a desk may tell of a thread that could not be started.
 NO_MEMORY, NO_PLACE = (4, "oldstyle: no memory\n"), (1, "oldstyle: 93 NoPlace\n")

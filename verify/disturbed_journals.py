@@ -8,14 +8,18 @@ permissions are taken away, which changes nothing either; or another program mov
 another one in its place, cuts it or adds to it. Then the run ends by the fault that says so, tells
 no edition that is sent after that, and the file that it kept has each edition that it told before.
 Two runs that save to one path at once are tried too: one is refused, and nothing is left beside it.
-So is a run that saves to the file that it loaded, where another program has changed its bytes.
+So is a run that saves to the file that it loaded, where another program has changed its bytes, cut
+it, lengthened it, taken it away, or put another file of the same bytes in its place. And one that
+keeps a file through a link, which leads then to a file of the same number on another disk; disks
+in memory stand for these, which only root may mount.
 """
 import os
 import random
+import shutil
 import subprocess
 import tempfile
 
-from common import CommandLine, compact, end, run
+from common import CommandLine, compact, end, mounted, run
 from keeping import HEAD, HELD, PUBLISH, Editor, Run, hold, journal_lines, land, verdict
 
 REPLACED = ("oldstyle: another program moved, replaced or changed the journal: "
@@ -139,26 +143,80 @@ def try_savers(program, folder):
     print("two runs that save to one path: the second is refused", flush=True)
 
 
-def try_changed(program, folder):
+def overwrite(_, path):
+    with open(path, "r+", encoding="utf-8") as file:
+        file.write(HEAD.replace("2", "1"))
+
+
+def take_away(_, path):
+    os.remove(path)
+
+
+def copy_over(_, path):
+    shutil.copy(path, path + ".new")
+    os.replace(path + ".new", path)
+
+
+# What is done to a file that a run is to save to.
+CHANGES = [overwrite, cut, lengthen, take_away, copy_over]
+
+
+def text_at(path):
+    """The text of a file, None where none is there."""
+    if not os.path.exists(path):
+        return None
+    with open(path, encoding="utf-8") as file:
+        return file.read()
+
+
+def try_changed(program, folder, change):
     """A run that saves to the file that it loaded, which someone else has changed meanwhile."""
-    path = os.path.join(folder, "changed.journal")
+    path = os.path.join(folder, f"{change.__name__}.journal")
     with open(path, "w", encoding="utf-8") as file:
-        file.write(HEAD + "\n")
+        file.write(HEAD + "\n" + compact(land(7)) + "\n")
     words = [program, "serve", "--journal", path, "--save", path]
     with subprocess.Popen(words, stdin=subprocess.PIPE, stdout=subprocess.PIPE,
                           stderr=subprocess.PIPE) as saver:
         saver.stdin.write((compact(land(0)) + "\n").encode())
         saver.stdin.flush()
         hold("the saver is not answered", b"staged" in saver.stdout.readline())
-        with open(path, "r+", encoding="utf-8") as file:
-            file.write(HEAD.replace("2", "1"))
+        change(program, path)
+        left = text_at(path)
         told = saver.communicate()[1].decode()
-    hold(f"a changed file is replaced: {saver.returncode} {told!r}",
+    what = f"{change.__name__}: a file that was changed"
+    hold(f"{what} is replaced: {saver.returncode} {told!r}",
          saver.returncode == 3 and told.startswith("oldstyle: the file has changed meanwhile"))
-    hold("the changed file is not left", journal_lines(path)[0] == [HEAD.replace("2", "1")])
+    hold(f"{what} is not left", text_at(path) == left)
     beside = told.rstrip("\n").rsplit(" ", 1)[-1]
-    hold("the journal is not beside it", journal_lines(beside)[0] == [HEAD, compact(land(0))])
-    print("a file that was changed since it was loaded is left as it is", flush=True)
+    hold(f"{what}: the journal is not beside it",
+         journal_lines(beside)[0] == [HEAD, compact(land(7)), compact(land(0))])
+
+
+def try_other_disk(program, folder):
+    """A keeper through a link, which is made to lead to a file of the same number elsewhere."""
+    paths = [os.path.join(folder, name) for name in ("one", "two")]
+    for path in paths:
+        os.mkdir(path)
+    with mounted(paths[0], "size=64k") as one, mounted(paths[1], "size=64k") as two:
+        if one is None or two is None:
+            print("not tried: two disks, which only root may mount")
+            return
+        link, files = os.path.join(folder, "a.link"), [os.path.join(at, "a") for at in paths]
+        os.symlink(files[0], link)
+        with open(files[0], "w", encoding="utf-8") as file:
+            file.write(HEAD + "\n")
+        running = Run(program, link)
+        running.send([land(0), {"op": "publish"}, land(1)])
+        running.wait_for(3)
+        shutil.copy(files[0], files[1])
+        hold("the two files have other numbers",
+             os.stat(files[0]).st_ino == os.stat(files[1]).st_ino)
+        os.symlink(files[1], link + ".new")
+        os.replace(link + ".new", link)
+        running.send([{"op": "publish"}])
+        replies, errors = running.stopped()
+        hold(f"another disk: {len(replies)} replies are told, and {errors!r}",
+             (len(replies), errors) == (3, REPLACED))
 
 
 def main():
@@ -170,9 +228,11 @@ def main():
     with tempfile.TemporaryDirectory() as folder:
         try_runs(options, folder)
         try_savers(options.program, folder)
-        try_changed(options.program, folder)
-    return verdict(f"{options.count} runs, two savers and a changed file: no edition is told that "
-                   "is not in the file")
+        for change in CHANGES:
+            try_changed(options.program, folder, change)
+        try_other_disk(options.program, folder)
+    return verdict(f"{options.count} runs, two savers and {len(CHANGES)} changed files: no edition "
+                   "is told that is not in the file, and none is replaced that was changed")
 
 
 if __name__ == "__main__":

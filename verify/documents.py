@@ -2,40 +2,52 @@
 """Holds what documents show against the program.
 
 A session is the lines of one document that begin with '> ', its requests, and with '< ', its
-replies. A run is a line that begins with '$ ./oldstyle ', from the top of the repository. It may
-end with '< FILE', its input. What it prints, on standard output and then on standard error, are the
-lines after it, up to the next run or the end of the block. Prints each reply and each run that
-differs.
+replies. A run is a line that begins with '$ ./oldstyle ', in a folder that has all that is at the
+top of the repository, and what earlier runs of the document made. It may end with '< FILE', its
+input. What it prints, on standard output and then on standard error, are the lines after it, up to
+the next run or the end of the block. Of '$ cat FILE' these lines make the file. Prints each reply
+and each run that differs.
 """
 import itertools
 import os
 import shlex
+import tempfile
 
 from common import TOP, CommandLine, end, file_at, run
 
-RUN = "$ ./oldstyle "
+RUN, FILE = "$ ./oldstyle ", "$ cat "
 
 
 def marked(lines, mark):
     return [line[len(mark) :] for line in lines if line.startswith(mark)]
 
 
-def runs(lines):
-    """The words of each run, and the lines that it prints."""
+def runs(lines, mark=RUN):
+    """The words after each mark, and the lines that follow."""
     for place, line in enumerate(lines):
-        if line.startswith(RUN):
-            ends = lambda shown: not shown.startswith((RUN, "```"))
-            yield shlex.split(line[len(RUN) :]), list(itertools.takewhile(ends, lines[place + 1 :]))
+        if line.startswith(mark):
+            ends = lambda shown: not shown.startswith((RUN, FILE, "```"))
+            shown = itertools.takewhile(ends, lines[place + 1 :])
+            yield shlex.split(line[len(mark) :]), list(shown)
 
 
-def printed_by(program, words):
+def folder_of(lines, folder):
+    """Makes a folder that has what is at the top, and the files that a document shows."""
+    for name in os.listdir(TOP):
+        os.symlink(os.path.join(TOP, name), os.path.join(folder, name))
+    for (path,), shown in runs(lines, FILE):
+        with open(os.path.join(folder, path), "w", encoding="utf-8") as file:
+            file.write("".join(line + "\n" for line in shown))
+
+
+def printed_by(program, words, folder):
     """The lines that a run prints, with the input of the file that it names after '<'."""
     given = []
     if "<" in words:
         words, (_, path) = words[:-2], words[-2:]
-        with open(os.path.join(TOP, path), encoding="utf-8", newline="\n") as file:
+        with open(os.path.join(folder, path), encoding="utf-8", newline="\n") as file:
             given = file.read().split("\n")[:-1]
-    ended = run(program, words, lines=given, folder=TOP)
+    ended = run(program, words, lines=given, folder=folder)
     return (ended.stdout + ended.stderr).split("\n")[:-1]
 
 
@@ -46,10 +58,12 @@ def told_otherwise(program, lines):
     for request, told, reply in itertools.zip_longest(requests, shown, replies):
         if told != reply:
             yield f"{request}\n  shown {told}\n  told  {reply}"
-    for words, told in runs(lines):
-        printed = printed_by(program, words)
-        if told != printed:
-            yield f"{shlex.join(words)}\n  shown {told}\n  told  {printed}"
+    with tempfile.TemporaryDirectory() as folder:
+        folder_of(lines, folder)
+        for words, told in runs(lines):
+            printed = printed_by(program, words, folder)
+            if told != printed:
+                yield f"{shlex.join(words)}\n  shown {told}\n  told  {printed}"
 
 
 def main():

@@ -17,7 +17,8 @@ its last: of a refused one nothing is saved, and of a service the replies to who
 What is committed is cloned, and the programs are proved and built there, which takes some ten
 minutes where `rt check` has built the libraries in this checkout, and else proves them anew; the
 runs take some two minutes, two at a time. A save that finds no memory to sync the folder has saved,
-and says so: it counts as refused, and is not made again.
+and says so: it counts as refused, and is not made again. A publish that finds no memory to open the
+journal tells a read fault.
 growths/growths.c refuses the growths, and wants a C compiler: `cc`, or what CC names.
 """
 import json
@@ -28,8 +29,9 @@ import tempfile
 from collections import namedtuple
 from concurrent.futures import ThreadPoolExecutor
 
-from asked import BEGUN, COMMANDS, EDITS, LEFT, PUBLISH, QUERIES, QUESTIONS, SCRIPT, SESSION, SETUP
-from asked import STEPS, TRANSCRIPT, filled, held, is_refused, is_transcript, text_of
+from asked import BEGUN, COMMANDS, EDITS, LEFT, PUBLISH, PUBLISHING, QUERIES, QUESTIONS, SCRIPT
+from asked import SESSION, SETUP, STEPS, TRANSCRIPT
+from asked import filled, held, is_refused, is_transcript, text_of
 from common import TOP, CommandLine, end, need
 from clone import add_program, built_program, cloned
 
@@ -57,6 +59,7 @@ WANTS = {"NoMemory\n", "NoPlace\n", "Err(NoMemory)\n", "Err(NoPlace)\n", "Err(Al
 WANTS_BEHIND = re.compile(r"Err\(Interrupted \{ lines: (\d+), cause: NoMemory \}\)\n")
 
 NOT_SYNCED = (3, "oldstyle: the journal is saved, and the disk may not have it yet\n")
+NOT_KEPT = (3, "oldstyle: read fault\n")
 
 Run = namedtuple("Run", "status told errors growths")
 Row = namedtuple("Row", "growths same again wrong")
@@ -209,6 +212,11 @@ def editions_row(program):
 # ---- commands of the program
 
 
+def is_not_kept(words, got):
+    """Whether a command could not open the journal that it keeps, as it finds no memory for it."""
+    return words.startswith("publish") and got[::2] == NOT_KEPT
+
+
 def command_row(program, words, lines):
     """The row of a command. Made again is the command in the folder that the refused one left."""
     command, given = [program, *words.split()], text_of(lines)
@@ -233,7 +241,8 @@ def command_row(program, words, lines):
                 return "same"
             if got[::2] == NOT_SYNCED and got.told == ample.told and held(folder) == after:
                 return "saved"
-            if is_refused(words, *got[::2]) and is_front(got.told) and held(folder) == before:
+            ends = is_refused(words, *got[::2]) or is_not_kept(words, got)
+            if ends and is_front(got.told) and held(folder) == before:
                 return "again" if is_right(run(command, given, 0, folder), folder) else "lost"
             return got
 
@@ -246,7 +255,7 @@ def command_row(program, words, lines):
 def all_rows(program, built):
     yield from call_rows(program, built)
     yield "three editions of the running register", editions_row(built["editions"])
-    for words, lines in COMMANDS:
+    for words, lines in [*COMMANDS, PUBLISHING]:
         yield f"`oldstyle {words}`".replace(" `", "`"), command_row(program, words, lines)
 
 

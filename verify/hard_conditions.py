@@ -27,7 +27,7 @@ PROGRAM = LINE.read().program
 
 ADDRESSES = 6_000_000
 READ_FAULT = (3, "", "oldstyle: read fault\n")
-FOR_PEOPLE = ("read", "day", "month", "territory", "letters")
+FOR_PEOPLE = ("read", "day", "month", "territory", "letters", "text")
 WRITE_FAULT = (3, "oldstyle: write fault\n")
 SAVING = "serve --journal a.journal --save saved.journal"
 GIVEN = text_of(SESSION[:-1])
@@ -122,6 +122,7 @@ READING = [
     "almanac a.journal GB 1752",
     "read a.journal GB 1752-09-05",
     "letters a.journal",
+    "text a.journal",
     "replay --readers 1 a.schedule",
     "desk a.script a.questions",
     "audit a.journal a.transcript",

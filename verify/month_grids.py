@@ -1,11 +1,11 @@
 #!/usr/bin/env python3
 """Holds the months of the countries that ncal knows against the grids that it prints.
 
-`ncal -p | examples/from_ncal.py` makes a journal of the countries. Of each the six months about its
-change and three of other centuries are printed by `month` and by `ncal -S -s`, which has a line for
-each weekday where `month` has one for each week: so the weeks are turned round, and compared line
-by line, without the spaces at ends. The British months are compared with those of `ncal -b` too, as
-they stand. It wants the Debian package ncal.
+`ncal -p | examples/from_ncal.py` makes a text of the countries, which is published. Of each the six
+months about its change and three of other centuries are printed by `month` and by `ncal -S -s`,
+which has a line for each weekday where `month` has one for each week: so the weeks are turned
+round, and compared line by line, without the spaces at ends. The British months are compared with
+those of `ncal -b` too, as they stand. It wants the Debian package ncal.
 """
 import os
 import subprocess
@@ -29,11 +29,12 @@ def countries():
 
 
 def journal_in(program, folder):
-    path = os.path.join(folder, "countries.journal")
+    path, text = os.path.join(folder, "countries.journal"), os.path.join(folder, "countries.toml")
     listed = subprocess.run(["ncal", "-p"], capture_output=True, text=True, check=True).stdout
-    lines = subprocess.run([sys.executable, os.path.join(TOP, "examples", "from_ncal.py")],
-                           input=listed, capture_output=True, text=True, check=True).stdout
-    run(program, ["serve", "--save", path], lines.splitlines())
+    with open(text, "w", encoding="utf-8") as file:
+        subprocess.run([sys.executable, os.path.join(TOP, "examples", "from_ncal.py")],
+                       input=listed, stdout=file, text=True, check=True)
+    run(program, ["publish", path, text])
     return path
 
 

@@ -21,9 +21,12 @@ RANGES = [r"from (.+) to (.+)", r"between (.+) and (.+)", r"(.+) to (.+)",
           r"(?!\d+/\d+ ?[-\u2013])([^-]+?) ?[-\u2013] ?(.+)"]
 BOUND = r"(before|not after|by|after|not before) (.+)"
 
+# A number that may be a day or a month.
+MAY_BE_MONTH = "([1-9]|1[0-2])"
 # Texts of no date, and why they are none.
 NONE = {r" *|n\.d\.|s\.d\.|undated|no date": "no date",
-        r"\d{1,2}([/-])\d{1,2}\1\d{3,4}": "open between day and month"}
+        r"\d{1,2}-\d{1,2}-\d{3,4}": "open between day and month",
+        rf"{MAY_BE_MONTH}/(?!\1/){MAY_BE_MONTH}/\d{{3,4}}": "open between day and month"}
 
 SUPPLIED = r"\[(.*)\]"
 SET_DAY = r"\d{3,5}-\d\d-\d\d[?~%]?"
@@ -71,6 +74,8 @@ def front_of(text, last):
         return date_of(text)
     month = month_of(parts) or last.month
     day = int(parts["day"]) if "day" in parts else None
+    if day is not None and (last.day is None or not 1 <= day <= 31):
+        raise Unread(text)
     return last._replace(month=month, day=day)
 
 

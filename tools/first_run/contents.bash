@@ -25,6 +25,10 @@ append() { echo >> "$1"; }
 move_line() { tail -n 1 "$1" >> "$2" && sed -i '$d' "$1"; }
 change_line() { sed -i 's/^oldstyle: .*/& itoa/' crates.txt; }
 
+# link_source FILE: the file stands elsewhere then, and a link to it in its place.
+link_source() { mv "$1" "$at/source" && ln -s "$at/source" "$1"; }
+change_linked() { link_source "$1" && append "$at/source"; }
+
 try_contents() {
     local file=crates/osn_core/src/lib.rt
     stale "a source that changed" append $file
@@ -34,6 +38,7 @@ try_contents() {
     stale "a file that is new" touch crates/osn_service/proofs/New.antt
     stale "a file of another name" mv $file crates/osn_core/src/other.rt
     stale "a line that moved to another file" move_line crates/osn_days/src/lib.rt $file
+    stale "what a link leads to" change_linked $file
     stale "the list of crates" change_line
     stale "the handles" append HANDLES
     stale "the kit" sed -i '1s/.*/rattle-kit-14a logic 00/' KIT
@@ -43,6 +48,7 @@ try_contents() {
     fresh "all is as it was" true
     fresh "other dates" find . -exec touch {} +
     fresh "older dates" find . -exec touch -d 2001-02-03 {} +
+    fresh "a link to a source" link_source $file
     fresh "tests and mutants" append crates/osn_service_tests/src/lib.rt
     fresh "a remark in the list of crates" sed -i '1s/$/ And more./' crates.txt
     run

@@ -17,8 +17,8 @@ closed=""
 why_no_answer() {
     local file
     if ! only_reads "$@"; then
-        echo "one is given to read, convert, day, month, territory, almanac, letters, audit," \
-            "replay, completions, and serve without --save, --keep and --follow"
+        echo "one is given to read, convert, day, month, territory, almanac, letters, text, plan," \
+            "audit, replay, completions, and serve without --save, --keep and --follow"
     elif takes_input "$@" && [ -t 0 ]; then
         echo "the input is a terminal; give it as < FILE, or by a pipe"
     elif [ -n "$closed" ]; then
@@ -42,7 +42,7 @@ only_reads() {
     done
     case ${1:-} in
         "" | read | convert | day | month | territory | almanac) ;;
-        letters | audit | replay | serve | completions | help) ;;
+        letters | text | plan | audit | replay | serve | completions | help) ;;
         *) asks_help "$@" ;;
     esac
 }

@@ -46,11 +46,11 @@ copy_sources() {
     mkdir -p "$out" && room=$(mktemp -d "${TMPDIR:-/tmp}/oldstyle.XXXXXX") &&
         mkdir -p "$room/copy/.git" "$room/temporary" && chmod 711 "$room" "$room/temporary" &&
         printf '%s\n' "${needed[@]}" > "$room/copy/crates.txt" &&
-        cp -R --parents "${sources[@]}" "$room/copy" &&
+        cp -RL --parents "${sources[@]}" "$room/copy" &&
         copied=$(cd "$room/copy" && sum_of_sources) ||
         give_up "the crates can't be copied to ${room:-a temporary folder}"
     for crate in "${crates[@]}"; do
-        of_crate=$(grep -rhE '^ *(pub(\(.*\))? )?(const )?fn ' "crates/$crate/src" | wc -l)
+        of_crate=$(grep -RhE '^ *(pub(\(.*\))? )?(const )?fn ' "crates/$crate/src" | wc -l)
         functions["$crate"]=$of_crate
         all=$((all + of_crate))
     done

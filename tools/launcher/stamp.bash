@@ -33,11 +33,12 @@ find_sources() {
 }
 
 # Prints the sum of the sources below the current folder, with their names, the list of crates and
-# the kits that the repository names. Dates and rights make no difference.
+# the kits that the repository names. Dates and rights make no difference, nor does a link in place
+# of what it leads to.
 sum_of_sources() {
     {
         printf '%s\n' "${kits[@]}" "${needed[@]}"
-        find "${sources[@]}" -type f -exec b2sum {} + | LC_ALL=C sort
+        find -L "${sources[@]}" -type f -exec b2sum {} + | LC_ALL=C sort
     } | b2sum
 }
 
@@ -55,10 +56,13 @@ is_built() {
 }
 
 # Whether no source was changed since the program was built, is gone (its folder changed), or was
-# put there with an old date (its status changed).
+# put there with an old date (its status changed). Of a link that is asked, and of what it leads to.
 is_newer() {
-    [ -z "$(find crates.txt "${sources[@]}" \
-        \( -newer "$program" -o -cnewer "$program" \) -print -quit)" ]
+    local follow
+    [ -z "$(for follow in -P -L; do
+        find $follow crates.txt "${sources[@]}" \
+            \( -newer "$program" -o -cnewer "$program" \) -print -quit
+    done)" ]
 }
 
 # Takes the program over that `rt` itself left there, once it proved and built it in this folder.

@@ -1,0 +1,104 @@
+#!/usr/bin/env python3
+"""Gives the program what comes from outside, changed at random: tables, dates, requests, trees.
+
+Each input is one of the samples with some bytes taken out, put in, doubled or exchanged. The target
+says what is tried:
+
+  letters  tables in CSV, through `letters`
+  dates    dates as people write them, through `written`, `letters` and `read`
+  web      requests to the page in the browser, as bytes and by its addresses
+  stamp    trees of sources, whose stamp the script `oldstyle` keeps
+  toml     texts of a register, through `plan`, `publish` and `text`, once the program has these
+
+No run may end by a signal, with another status than 0 to 4, or with a fault that isn't told. Each
+line has one reply. Where a program that was written apart knows the answer, it has to be that one:
+reference.py, written.py, letter_rows.py, and a reader of CSV beside them. An input at which
+something is wrong is kept in a file, which is named, and 20 of them end the run.
+
+All that is tried follows from the seed: the rounds of a long run are those of a short one and more.
+"""
+import itertools
+import os
+import random
+import sys
+import tempfile
+import time
+
+from common import CommandLine, end
+
+MOST_FAULTS = 20
+
+
+def letters(program, folder):
+    from fuzz_letters import Letters
+    return Letters(program, folder)
+
+
+def dates(program, folder):
+    from fuzz_dates import Dates
+    return Dates(program, folder)
+
+
+def web(program, folder):
+    from fuzz_web import Web
+    return Web(program, folder)
+
+
+def stamp(program, folder):
+    from fuzz_stamp import Stamps
+    return Stamps(program, folder)
+
+
+def toml(program, folder):
+    from fuzz_toml import Registers
+    return Registers(program, folder)
+
+
+# Each makes what tries a target: its `round` takes a source of chance, and answers how many inputs
+# it tried, and of each that went wrong why, with which words, and the input itself.
+TARGETS = {function.__name__: function for function in (letters, dates, web, stamp, toml)}
+
+
+def keep(target, number, found):
+    """Tells of an input at which something is wrong, and keeps it."""
+    why, words, given = found
+    path = os.path.join(tempfile.gettempdir(), f"fuzz-{target}-{os.getpid()}-{number}")
+    with open(path, "wb") as file:
+        file.write(given)
+    print(f"{path}, {words}: {why}"[:2_000], flush=True)
+
+
+def main():
+    line = CommandLine(__doc__)
+    line.add_argument("target", choices=list(TARGETS), help="what is tried")
+    line.add_program()
+    line.add_count(2_000, "inputs, or some more")
+    line.add_seed()
+    line.add_number("--first", 0, "the first round that is tried", 0)
+    options = line.read()
+    tried = wrong = 0
+    began = time.monotonic()
+    with tempfile.TemporaryDirectory() as folder:
+        try:
+            fuzzed = TARGETS[options.target](options.program, folder)
+        except ImportError as why:
+            sys.exit(f"fuzz.py: {options.target} can't be tried yet: {why.name} is missing")
+        try:
+            for number in itertools.count(options.first):
+                chance = random.Random(options.seed * 1_000_003 + number)
+                count, found = fuzzed.round(chance)
+                for one in found:
+                    keep(options.target, wrong, (f"round {number}: {one[0]}", *one[1:]))
+                    wrong += 1
+                tried += count
+                if tried >= options.count or wrong >= MOST_FAULTS:
+                    break
+        finally:
+            getattr(fuzzed, "close", lambda: None)()
+    rate = tried / (time.monotonic() - began)
+    print(f"{tried} {fuzzed.about}, {rate:.0f} a second: {wrong} went wrong")
+    return 1 if wrong else 0
+
+
+if __name__ == "__main__":
+    end(main)

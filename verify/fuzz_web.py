@@ -1,0 +1,158 @@
+"""Requests to the page in the browser, changed at random: a target of fuzz.py.
+
+A run of `python3 -m web` is sent requests, as bytes that were changed and by addresses whose words
+were. Each has a reply with a status that docs/SERVING.md names, never 500, and a body as long as
+its head says. The page tells no fault of its own, and the next good request is answered. What it
+answers to a date is what the query `written` answers.
+"""
+import json
+import os
+import re
+import socket
+from urllib.parse import quote, urlencode
+
+from common import compact
+from fuzz_dates import CODES, SAMPLES as DATES, WEEKDAYS, WORDS as DATE_WORDS
+from fuzz_letters import JOURNAL, SAMPLES as TABLES
+from mutations import Run, mutated
+from web_runs import Page
+
+AT_ONCE = 40
+SECONDS = 40
+HEAD = re.compile(rb"HTTP/1\.[01] (\d{3}) [^\r\n]*\r\n(.*?)\r\n\r\n", re.S)
+LENGTH = re.compile(rb"^content-length: (\d+)\r?$", re.I | re.M)
+# Those of docs/SERVING.md, and what the standard library replies to what is no HTTP.
+STATUSES = {200, 304, 400, 404, 405, 408, 411, 413, 414, 422, 431, 501, 503, 505}
+PATHS = ["", "answer.json", "month", "year", "day", "place", "letters", "static/page.css",
+         "nowhere"]
+MEMBERS = {"code": [*CODES, "ZZ", "gb", ""], "date": None, "weekday": [*WEEKDAYS, "", "Fryday"],
+           "order": ["", "dmy", "mdy", "ymd"], "year": ["1731", "1752", "0", "10000", "10001"],
+           "month": ["2", "9", "12", "13", "0"], "day": ["639797", "1", "3652059", "0"],
+           "v": ["x"], "other": ["1"]}
+
+
+def get(address, *headers):
+    return "\r\n".join([f"GET {address} HTTP/1.1", "Host: a", *headers, "", ""]).encode()
+
+
+def post(address, body, *headers):
+    head = [f"POST {address} HTTP/1.1", "Host: a", f"Content-Length: {len(body)}", *headers, "", ""]
+    return "\r\n".join(head).encode() + body
+
+
+FORM = b'--b\r\nContent-Disposition: form-data; name="table"; filename="a.csv"\r\n\r\n' + \
+    TABLES[0] + b'\r\n--b\r\nContent-Disposition: form-data; name="order"\r\n\r\ndmy\r\n--b--\r\n'
+SAMPLES = [
+    get("/"), get("/?code=GB&date=11+February+1731%2F2&weekday=Friday"), get("/place?code=SE"),
+    get("/answer.json?code=GB&date=March+1731", "Accept: application/json"), get("/letters"),
+    get("/month?code=GB&year=1752&month=9"), get("/year?code=GB&year=1752"), get("/nowhere"),
+    get("/day?code=GB&day=639797", 'If-None-Match: "5-x", W/"y"'), get("/static/page.css"),
+    b"HEAD / HTTP/1.1\r\n\r\n", b"PUT /letters HTTP/1.0\r\n\r\n", b"GET /\r\n\r\n",
+    post("/letters", TABLES[0]), post("/letters?separator=semicolon&column_place=place", TABLES[1]),
+    post("/letters", FORM, "Content-Type: multipart/form-data; boundary=b"),
+    b"POST /letters HTTP/1.1\r\nTransfer-Encoding: chunked\r\n\r\n3\r\nabc\r\n0\r\n\r\n",
+]
+WORDS = [b"GET ", b"POST ", b"HEAD ", b" HTTP/1.1", b" HTTP/9.9", b" HTTP/1.1\r\n\r\n", b"\r\n\r\n",
+         b"Content-Length: 5\r\n", b"Content-Length: -1\r\n", b"Expect: 100-continue\r\n", b"%00",
+         b"%ff", b"%2e%2e/", b"../", b"/answer.json?", b"/letters", b"code=GB", b"&date=1731", b"+",
+         b"boundary=", b"--b", b'name="table"', b"Host: ", b"X: y\r\n", b" folded\r\n", b"//", b"?"]
+
+
+def sent(page, given):
+    """All that is replied to bytes."""
+    held = b""
+    with socket.create_connection((page.host, page.port), SECONDS) as connection:
+        try:
+            connection.sendall(given)
+            connection.shutdown(socket.SHUT_WR)
+            while block := connection.recv(65_536):
+                held += block
+        except ConnectionError:
+            pass
+    return held
+
+
+def why_wrong(given, held):
+    """What is wrong with a reply."""
+    words = given.partition(b"\n")[0].split()
+    if not words or len(words) == 2 and words[0] == b"GET":
+        # (no request; or one of the first version of HTTP, whose reply has no head)
+        return ""
+    head = HEAD.match(held)
+    if not head or int(head[1]) not in STATUSES:
+        return f"the reply {held[:200]!r}"
+    length, body = LENGTH.search(head[2]), held[head.end():]
+    has_body = words[0] != b"HEAD" and head[1] != b"304"
+    if length and has_body and int(length[1]) != len(body):
+        return f"{len(body)} bytes of a body of {int(length[1])}"
+    return ""
+
+
+class Web:
+    """Some requests each time."""
+
+    about = "requests"
+
+    def __init__(self, program, _folder):
+        self.program, self.page = program, Page(program, JOURNAL)
+        os.set_blocking(self.page.process.stderr.fileno(), False)
+
+    def close(self):
+        self.page.stop()
+
+    def round(self, chance):
+        found, dates = [], []
+        for _ in range(AT_ONCE):
+            given, date = self.request(chance)
+            held = sent(self.page, given)
+            why = why_wrong(given, held)
+            if not why and date:
+                dates.append((given, date, held))
+            found += [(why, "as bytes", given)] if why else []
+        found += self.why_other_dates(dates)
+        if why := self.why_broken():
+            found.append((why, "after these requests", b""))
+        return AT_ONCE, found
+
+    def request(self, chance):
+        """A request, and the question of it where it asks for a date."""
+        if chance.random() < 0.6:
+            return mutated(chance, SAMPLES, WORDS), None
+        date = mutated(chance, DATES, DATE_WORDS).decode(errors="ignore")[:300]
+        path = chance.choice(["answer.json", *PATHS])
+        names = chance.sample(list(MEMBERS), chance.randint(0, 5))
+        members = {name: chance.choice(MEMBERS[name] or [date]) for name in names}
+        if chance.random() < 0.5:
+            path, members = "answer.json", {"code": chance.choice(CODES), "date": date}
+        text = urlencode(members, safe=chance.choice(["", "/", "/:,"]), quote_via=quote)
+        return get(f"/{path}?{text}"), members if path == "answer.json" and set(members) <= {
+            "code", "date", "weekday"} else None
+
+    def why_other_dates(self, dates):
+        """Each date that the page answers otherwise than the query."""
+        asked = [(given, date, json.loads(held[HEAD.match(held).end():])) for given, date, held
+                 in dates if held.startswith(b"HTTP/1.0 200")]
+        asked = [one for one in asked if "written" in one[2]]
+        lines = [compact({"op": "written", "reader": 1, "code": date["code"],
+                          "date": date["date"].strip(),
+                          **({"weekday": date["weekday"]} if date.get("weekday") else {})})
+                 for _, date, _ in asked]
+        done = Run([self.program, "serve", "--journal", JOURNAL],
+                   "".join(line + "\n" for line in lines).encode())
+        replies = done.out.splitlines()
+        if len(replies) != len(lines):
+            return [(f"{len(replies)} replies: {done.told!r}", "serve", "\n".join(lines).encode())]
+        return [(f"{told['written']}, but the query {reply!r}", "a date", given)
+                for (given, _, told), reply in zip(asked, replies)
+                if told["written"] != json.loads(reply).get("answer")]
+
+    def why_broken(self):
+        """What the page told of itself, or that it answers no more."""
+        try:
+            told = os.read(self.page.process.stderr.fileno(), 65_536)
+        except BlockingIOError:
+            told = b""
+        if told or self.page.process.poll() is not None:
+            return f"it told {told!r}, status {self.page.process.poll()}"
+        status = self.page.get("/")[0]
+        return "" if status == 200 else f"a good request is answered by {status}"

@@ -1,0 +1,204 @@
+#!/usr/bin/env python3
+"""Publishes a text where output, files, the disk or memory fail it, and where it is killed.
+
+Standard output is full, closed, or a pipe that nobody reads; files are folders, or not there; the
+disk is full; the length of files or addresses are limited; and the run is killed (SIGKILL) at a
+random moment. Each time the journal has to hold what it held, or the whole edition too, as the
+status says; after a kill or on a full disk a front of it may be left, which is counted. Then every
+edition that there was is still told, and once the condition is over the text is published. A disk
+that is full is one in memory, which only root may mount.
+"""
+import os
+import random
+import resource
+import signal
+import subprocess
+import tempfile
+import time
+
+from common import JULIAN, CommandLine, compact, end, mounted, run
+from keeping import HEAD, PUBLISH, hold, land, verdict
+from text_draws import journal_lines
+from territory_texts import lands_of
+
+WRITE_FAULT = (3, "oldstyle: write fault\n")
+ADDRESSES = 6_000_000
+KEYS = "".join(f'{word} = "{value}"\n' for word, value in JULIAN.items())
+
+
+def text_of(count, changes):
+    """A text of territories with some changes each."""
+    rows = "".join(f'  {{ from = {{ day = {day * 1_000 + 5} }}, style = "{style}" }},\n'
+                   for day, style in zip(range(1, changes + 1), ["pisan", "january"] * changes))
+    return "".join(f'[P{number}]\nname = "Place {number}"\n{KEYS}changes = [\n{rows}]\n'
+                   for number in range(count))
+
+
+class Trial:
+    """A folder with a journal and a text, and what the journal is to hold after a publish."""
+
+    def __init__(self, program, folder, size):
+        self.program, self.journal = program, os.path.join(folder, "a.journal")
+        self.text = os.path.join(folder, "a.toml")
+        said = text_of(*size)
+        with open(self.text, "w", encoding="utf-8") as file:
+            file.write(said)
+        self.before = "".join(line + "\n" for line in [HEAD, compact(land(1)), PUBLISH])
+        lines = list(journal_lines(lands_of(said)))[1:]
+        self.edition = "".join(compact(line) + "\n" for line in lines)
+        self.begin()
+
+    def begin(self):
+        with open(self.journal, "w", encoding="utf-8") as file:
+            file.write(self.before)
+
+    def held(self):
+        with open(self.journal, encoding="utf-8") as file:
+            return file.read()
+
+    def publish(self, journal=None, text=None, **streams):
+        """The status and standard error of a publish in these conditions."""
+        streams = {"stdout": subprocess.PIPE, "stderr": subprocess.PIPE, **streams}
+        done = subprocess.run([self.program, "publish", journal or self.journal,
+                               text or self.text], text=True, timeout=60, check=False, **streams)
+        return done.returncode, done.stderr
+
+    def hold_whole(self, what, told, wanted, is_published):
+        """The run ended so, and the journal has the edition or not."""
+        hold(f"{what} is told {told}", told == wanted)
+        hold(f"{what}: the journal has other lines",
+             self.held() == self.before + self.edition * is_published)
+
+    def hold_next(self, what):
+        """The text is published where nothing is in its way."""
+        self.begin()
+        self.hold_whole(f"after {what}", self.publish(), (0, ""), True)
+
+
+def closed_pipe():
+    near, far = os.pipe()
+    os.close(near)
+    return far
+
+
+def try_outputs(trial):
+    for what, opened in (("output full", lambda: os.open("/dev/full", os.O_RDWR)),
+                         ("output a closed pipe", closed_pipe)):
+        trial.begin()
+        output = opened()
+        trial.hold_whole(what, trial.publish(stdout=output), WRITE_FAULT, True)
+        os.close(output)
+    trial.begin()
+    told = trial.publish(stdout=None, preexec_fn=lambda: os.close(1))
+    trial.hold_whole("output closed", told, WRITE_FAULT, True)
+
+
+def try_files(trial, folder):
+    """Folders, and nothing, in the place of the text and of the journal."""
+    none = os.path.join(folder, "none")
+    inside = os.path.join(none, "journal")
+    for what, given, wanted in (
+            ("a folder as a text", {"text": folder}, f"oldstyle: {folder}: read fault\n"),
+            ("no text", {"text": none}, f"oldstyle: {none}: no such file\n"),
+            ("a folder as a journal", {"journal": folder}, "oldstyle: read fault\n"),
+            ("a journal in no folder", {"journal": inside}, "oldstyle: read fault\n")):
+        trial.begin()
+        trial.hold_whole(what, trial.publish(**given), (3, wanted), False)
+    hold("a folder was made", not os.path.exists(none))
+
+
+def limited(length):
+    signal.signal(signal.SIGXFSZ, signal.SIG_IGN)
+    resource.setrlimit(resource.RLIMIT_FSIZE, (length, length))
+
+
+def try_lengths(trial):
+    """A limit on the length of files, anywhere within the edition."""
+    first, last = len(trial.before.encode()), len((trial.before + trial.edition).encode())
+    for length in range(first, last, max(1, (last - first) // 40)):
+        trial.begin()
+        told = trial.publish(preexec_fn=lambda: limited(length))
+        trial.hold_whole(f"a limit of {length} bytes", told, WRITE_FAULT, False)
+    trial.hold_next("limits")
+
+
+def try_full_disk(program, folder):
+    with mounted(folder, "size=128k") as disk:
+        if disk is None:
+            print("not tried: a full disk, which only root may mount")
+            return
+        trial, other = Trial(program, disk, (40, 10)), os.path.join(disk, "other")
+        try:
+            with open(other, "wb", buffering=0) as file:
+                while file.write(b"a" * 4_096):
+                    pass
+        except OSError:
+            pass
+        trial.hold_whole("a full disk", trial.publish(), WRITE_FAULT, False)
+        os.remove(other)
+        trial.hold_next("a full disk")
+
+
+def try_addresses(trial):
+    """Few addresses: it is published, or memory is refused and nothing changes."""
+    trial.begin()
+    told = trial.publish(preexec_fn=lambda: resource.setrlimit(
+        resource.RLIMIT_AS, (ADDRESSES, ADDRESSES)))
+    is_refused = told == (4, "oldstyle: no memory\n")
+    trial.hold_whole("6 MB of addresses", told, told if is_refused else (0, ""), not is_refused)
+    trial.hold_next("few addresses")
+    return is_refused
+
+
+def try_kill(trial, chance, longest):
+    """A run that is killed. Answers whether the edition is there, and whether a front of it is."""
+    trial.begin()
+    words = [trial.program, "publish", trial.journal, trial.text]
+    with subprocess.Popen(words, stdout=subprocess.DEVNULL) as running:
+        time.sleep(chance.uniform(0, longest))
+        running.kill()
+    found = trial.held()
+    gained = found.removeprefix(trial.before)
+    hold("a kill leaves other lines", found.startswith(trial.before)
+         and trial.edition.startswith(gained))
+    is_whole = gained == trial.edition
+    done = run(trial.program, ["serve", "--follow", trial.journal],
+               [compact({"op": "lands", "reader": 1})])
+    hold(f"after a kill {done.stdout[:200]!r}",
+         f'"edition":{1 + is_whole},' in done.stdout and not done.stderr)
+    return is_whole, 0 < len(gained) < len(trial.edition)
+
+
+def try_kills(trial, options):
+    chance = random.Random(options.seed)
+    begun = time.monotonic()
+    trial.hold_next("nothing")
+    longest = 1.2 * (time.monotonic() - begun)
+    found = [try_kill(trial, chance, longest) for _ in range(options.count)]
+    trial.hold_next("kills")
+    return [sum(column) for column in zip(*found)]
+
+
+def main():
+    line = CommandLine(__doc__)
+    line.add_program()
+    line.add_count(200, "runs that are killed")
+    line.add_seed()
+    options = line.read()
+    with tempfile.TemporaryDirectory() as folder, tempfile.TemporaryDirectory() as disk:
+        trial = Trial(options.program, folder, (5, 4))
+        try_outputs(trial)
+        try_files(trial, folder)
+        try_lengths(trial)
+        try_full_disk(options.program, disk)
+        large = Trial(options.program, folder, (400, 30))
+        is_refused = try_addresses(large)
+        whole, fronts = try_kills(large, options)
+    memory = "refused" if is_refused else "enough"
+    return verdict(f"{options.count} publishes were killed: {whole} are an edition and {fronts} "
+                   f"left a front of one. Streams, files, limits and a full disk leave the journal "
+                   f"whole; 6 MB of addresses were {memory}")
+
+
+if __name__ == "__main__":
+    end(main)

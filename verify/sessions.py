@@ -1,0 +1,65 @@
+"""Sessions of an editor, and what they make of a journal: for system_calls.py and crashes.py."""
+import json
+import os
+from typing import NamedTuple
+
+from common import compact
+from keeping import HEAD, PUBLISH, Editor
+
+LANDS = '{"op":"lands","reader":1}'
+PERIODS = '{"op":"periods","reader":1,"code":"T0"}'
+
+
+class Session(NamedTuple):
+    """Lines that are sent, and those of them that change the register, in order."""
+    sent: list
+    taken: list
+
+    def given(self):
+        return "".join(line + "\n" for line in self.sent).encode()
+
+
+def session(chance, count, begun=()):
+    """A session of an editor who goes on after these lines of a journal, without its head. One
+    line in ten is refused or is no request, and one in ten asks."""
+    editor, sent, taken = editor_after(chance, begun), [], []
+    while len(taken) < count:
+        if chance.random() < 0.1:
+            sent.append(chance.choice([LANDS, PERIODS, "no request", "[]"]))
+        request, is_taken = editor.next()
+        sent.append(compact(request))
+        if is_taken:
+            taken.append(sent[-1])
+    return Session(sent, taken)
+
+
+def editor_after(chance, begun):
+    """An editor who goes on after these lines."""
+    editor = Editor(chance.random())
+    for line in begun:
+        kind = json.loads(line)["op"]
+        editor.towns += kind == "add_land"
+        editor.year += kind == "add_exception"
+        editor.pending = 0 if line == PUBLISH else editor.pending + 1
+    return editor
+
+
+def journal(lines):
+    """The bytes of a journal of these lines."""
+    return "".join(line + "\n" for line in [HEAD, *lines]).encode()
+
+
+def told_lines(out):
+    """How many of the replies in an output tell a change, and the last edition that they tell.
+    A last line that is not whole counts for nothing."""
+    replies = [json.loads(line) for line in out.split(b"\n")[:-1]]
+    changes = [reply for reply in replies if "ok" in reply]
+    return len(changes), max((reply.get("edition", 0) for reply in changes), default=0)
+
+
+def bytes_at(path):
+    """What a file holds, None where none is there."""
+    if not os.path.isfile(path):
+        return None
+    with open(path, "rb") as file:
+        return file.read()

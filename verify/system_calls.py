@@ -1,0 +1,360 @@
+#!/usr/bin/env python3
+"""Traces the program's system calls as it saves, keeps and follows a journal, and refuses them.
+
+Each way to save, to keep and to follow is traced by strace (Debian's package `strace`), with random
+sessions of an editor. The order of the calls is held against what docs/SERVING.md promises, rule by
+rule: what is locked before it is read, what is on the disk before it takes the place of another
+file, what is there before a reply is written. No contract says that a sync or a lock comes at all:
+of the disk nothing is known. A row is written for each rule, with the number of runs that kept it.
+
+Then each call that concerns the folder is refused in turn, with each error that it may meet: a full
+disk, a failed sync, a move that isn't permitted. The journal has to be the old one or the new one,
+whole, with nothing beside it, and what is told has to say which. What a keeper told has to be in
+its file, and the next run goes on from that. Last, a call is delayed while another program puts a
+file where the journal is to be made: that file has to stay.
+"""
+import os
+import random
+import shutil
+import stat
+import subprocess
+import tempfile
+import time
+
+from call_rules import RULES, Trace, Way, is_unfinished, kind_of
+from common import CommandLine, end, need, run
+from keeping import HEAD, HELD, PUBLISH, hold, verdict
+from sessions import LANDS, Session, bytes_at, journal, session, told_lines
+from traces import traced
+
+MODE = 0o640
+# How long a call is delayed, in microseconds, and how many seconds the others wait for it to begin.
+DELAY, WAIT = 3_000_000, 60
+CHANGED = "oldstyle: the file has changed meanwhile and is left as it is: the journal is in "
+NOT_SYNCED = "oldstyle: the journal is saved, and the disk may not have it yet\n"
+REPLACED = ("oldstyle: another program moved, replaced or changed the journal: "
+            "no more is kept in it\n")
+FAULTS = ["oldstyle: read fault\n", "oldstyle: write fault\n"]
+# The errors that a call may meet.
+ERRORS = {
+    "open": ["EACCES", "EMFILE", "ENOSPC"], "lock": ["ENOLCK", "EAGAIN"], "read": ["EIO"],
+    "write": ["ENOSPC", "EIO"], "sync": ["EIO", "ENOSPC"], "cut": ["EIO"], "rights": ["EPERM"],
+    "move": ["EACCES", "EIO"], "link": ["EPERM", "EACCES", "EEXIST"], "remove": ["EACCES"],
+    "look": ["EACCES", "EIO"], "close": ["EIO"],
+}
+# The calls without which nothing is done.
+MUST_BE_TOLD = {"write", "sync", "cut", "rights", "move"}
+counts = {}
+
+
+# ---- ways
+
+
+def ways(chance):
+    """Each way, with random sessions."""
+    begun = session(chance, chance.randint(3, 30)).taken
+    more, anew = session(chance, chance.randint(1, 30), begun), session(chance, 20)
+    old, other = journal(begun), journal(session(chance, 5).taken)
+    place = "a.journal"
+    yield Way("save over what was loaded", f"serve --journal {place} --save {place}", place, old,
+              more, begun)
+    yield Way("save over another file", f"serve --journal b.journal --save {place}", place, other,
+              more, begun)
+    yield Way("save through a link", "serve --save a.link", "far/away.journal", other, anew, [])
+    yield Way("save where nothing is", f"serve --save {place}", place, None, anew, [])
+    yield Way("save in another folder", "serve --save far/new.journal", "far/new.journal", None,
+              anew, [])
+    yield Way("keep a new file", f"serve --keep {place}", place, None, anew, [])
+    yield Way("keep a file", f"serve --keep {place}", place, old, more, begun)
+    yield Way("keep through a link", "serve --keep a.link", "far/away.journal", old, more, begun)
+    yield Way("keep without the last line feed", f"serve --keep {place}", place, old[:-1], more,
+              begun)
+    cut = old + PUBLISH[:chance.randint(1, len(PUBLISH) - 1)].encode()
+    yield Way("keep, cut off", f"serve --keep {place}", place, cut, more, begun)
+    yield Way("keep, with no head", f"serve --keep {place}", place, HEAD[:5].encode(), anew, [])
+    asked = [LANDS] * 3_000
+    yield Way("follow", f"serve --follow {place}", place, old, Session(asked, []), begun)
+    yield Way("read", f"serve --journal {place}", place, old, more, begun)
+    yield Way("read", f"territory {place}", place, old, Session([], []), begun)
+
+
+def fill(folder, way):
+    """A folder with the files of a way."""
+    os.mkdir(os.path.join(folder, "far"))
+    os.symlink("far/away.journal", os.path.join(folder, "a.link"))
+    for name, held in {"b.journal": journal(way.begun), way.place: way.old}.items():
+        if held is not None:
+            path = os.path.join(folder, name)
+            with open(path, "wb") as file:
+                file.write(held)
+            os.chmod(path, MODE)
+
+
+def files_in(folder):
+    """What each file of a folder holds, with its permissions."""
+    found = {}
+    for at, _, names in os.walk(folder):
+        for name in names:
+            path = os.path.join(at, name)
+            if not os.path.islink(path):
+                mode = stat.S_IMODE(os.stat(path).st_mode)
+                found[os.path.relpath(path, folder)] = (mode, bytes_at(path))
+    return found
+
+
+def try_way(program, way, inject=None):
+    """A traced run of a way, and what the folder holds before it and after it."""
+    folder = tempfile.mkdtemp()
+    try:
+        fill(folder, way)
+        before = files_in(folder)
+        done = traced([program, *way.words.split()], folder, way.session.given(), inject)
+        after = files_in(folder)
+        goes_on = run_again(program, way, folder) if way.name.startswith("keep") else None
+        return done, before, after, goes_on
+    finally:
+        shutil.rmtree(folder)
+
+
+def run_again(program, way, folder):
+    """What the next run of a keeper tells, and the file after it."""
+    again = run(program, way.words.split(), [LANDS], folder)
+    return again, bytes_at(os.path.join(folder, way.place))
+
+
+def cut_line(way):
+    """What a run tells before it begins."""
+    if kind_of(way) != "keep" or way.old is None or not is_unfinished(way.old):
+        return ""
+    number = 1 + way.old.count(b"\n")
+    return f"oldstyle: journal line {number} was not finished, and is cut off\n"
+
+
+def new_mode():
+    """The permissions of a file that is made with none given."""
+    mask = os.umask(0)
+    os.umask(mask)
+    return 0o666 & ~mask
+
+
+def hold_rules(program, way):
+    """Holds a run of a way against its rules. Answers its steps."""
+    done, before, after, _ = try_way(program, way)
+    hold(f"{way.name}: {done.status} {done.err!r}", (done.status, done.err) == (0, cut_line(way)))
+    broken = []
+    for rule, is_kept in RULES[kind_of(way)](Trace(done.steps), way):
+        kept, all_runs = counts.get(rule, (0, 0))
+        counts[rule] = (kept + bool(is_kept), all_runs + 1)
+        broken += [] if is_kept else [rule]
+        hold(f"{way.name}: {rule}", is_kept)
+    if broken:
+        print("\n".join(f"    {step}" for step in done.steps), flush=True)
+    wanted = journal([*way.begun, *way.session.taken])
+    if kind_of(way) in ("save", "keep"):
+        mode = MODE if way.old is not None else new_mode()
+        hold(f"{way.name}: other files", after == {**before, way.place: (mode, wanted)})
+    else:
+        hold(f"{way.name}: other files", after == before)
+    return done.steps
+
+
+# ---- refused calls
+
+
+def hold_save(what, way, found, refused):
+    """The journal is the old one or the new one, as it is told, and nothing is beside it."""
+    done, before, after, _ = found
+    new = journal([*way.begun, *way.session.taken])
+    beside = {name: file for name, file in after.items() if name not in before
+              and name != way.place}
+    held = after.get(way.place, (0, None))[1]
+    saved = held == new
+    if done.err.startswith(CHANGED):
+        path = done.err.removeprefix(CHANGED).rstrip("\n")
+        told = not saved and [file[1] for file in beside.values()] == [new] and (
+            list(beside) == [way.place + path.removeprefix(path[:path.rfind(".unfinished")])])
+    else:
+        told = (not beside or refused.kind == "remove") and saved == (
+            done.err in ("", NOT_SYNCED)) and (done.err in ("", NOT_SYNCED, HELD[2], *FAULTS))
+    hold(f"{what}: {done.status} {done.err!r}, and beside it {sorted(beside)}", told
+         and done.status == (3 if done.err else 0))
+    hold(f"{what}: it is told as done", done.status or refused.kind not in MUST_BE_TOLD)
+    hold(f"{what}: the journal is neither the old one nor the new one", held in (way.old, new))
+    hold(f"{what}: its permissions", way.old is None or after[way.place][0] == MODE)
+    hold(f"{what}: other files", {**after, way.place: 0, **beside} == {**before, way.place: 0,
+                                                                        **beside})
+
+
+def hold_keep(what, way, found, refused):
+    """What was told is in the file, which is a front of what was sent, and the next run goes on."""
+    done, before, after, (again, later) = found
+    changes, edition = told_lines(done.out)
+    held, new = after.get(way.place, (0, None))[1], journal([*way.begun, *way.session.taken])
+    known = [HELD[2], REPLACED, *FAULTS]
+    told = done.err.split("was not finished, and is cut off\n")[-1]
+    hold(f"{what}: {done.status} {done.err!r}", told in ("", *known)
+         and done.status == (3 if told else 0))
+    hold(f"{what}: other files", {**after, way.place: 0} == {**before, way.place: 0})
+    hold(f"{what}: it is told as done", done.status == 3 and not told_after(done.steps)
+         or refused.kind not in MUST_BE_TOLD and not is_look_at_change(done.steps))
+    if changes:
+        least = journal([*way.begun, *way.session.taken[:changes]])
+        hold(f"{what}: {changes} changes were told, and not all are held",
+             held is not None and held.startswith(least) and new.startswith(held))
+    elif held != way.old:
+        hold(f"{what}: it holds something else", held is None or new.startswith(held)
+             or held + b"\n" == new[:len(held) + 1])
+        hold(f"{what}: what it held is lost", way.old is None or is_unfinished(way.old)
+             or held.startswith(way.old))
+    # (An empty one may stay: where its lock or its look fails, it may be another run's.)
+    hold(f"{what}: a new file is left that was not kept", way.old is not None or not held
+         or told != FAULTS[0] or refused.kind in ("remove", "read"))
+    hold(f"{what}: a file is taken away that another run keeps",
+         told != HELD[2] or held is not None)
+    editions = (later or b"").count(PUBLISH.encode() + b"\n")
+    hold(f"{what}: the next run is told {again.stderr!r} {again.stdout!r}",
+         again.returncode == 0 and f'"edition":{editions},' in again.stdout
+         and editions >= edition)
+
+
+def refused_at(steps):
+    return next(place for place, step in enumerate(steps) if step.was_refused)
+
+
+def told_after(steps):
+    """How many changes are told after the refused call."""
+    told = steps[refused_at(steps):]
+    return told_lines(b"".join(step.data for step in told if step.name == "out"))[0]
+
+
+def is_look_at_change(steps):
+    """Whether the refused call is a look at a file after a change of it was asked for."""
+    place = refused_at(steps)
+    asked = any((step.kind, step.name) == ("read", "in") for step in steps[:place])
+    return asked and steps[place].kind == "look"
+
+
+def hold_look(what, _, found, __):
+    """Nothing is changed, and what is told is known."""
+    done, before, after, _ = found
+    known = done.err in ("", *FAULTS) or done.err.startswith("oldstyle: a.journal: ")
+    hold(f"{what}: {done.status} {done.err!r}", known and done.status == (3 if done.err else 0))
+    hold(f"{what}: other files", after == before)
+
+
+HOLDS = {"save": hold_save, "keep": hold_keep, "follow": hold_look, "read": hold_look}
+
+
+def refuse_calls(program, way, steps):
+    """Refuses each call of the folder in turn. Answers how many were."""
+    tried = 0
+    for step in steps:
+        if step.name in ("in", "out", "err"):
+            continue
+        for error in ERRORS.get(step.kind, []):
+            inject = f"{step.call}:error={error}:when={step.turn}"
+            found = try_way(program, way, inject)
+            what = f"{way.name}, with {step.kind} {step.name} refused ({inject})"
+            met = [other for other in found[0].steps if other.was_refused]
+            hold(f"{what}: {len(met)} calls were refused", len(met) == 1)
+            HOLDS[kind_of(way)](what, way, found, step)
+            tried += 1
+    return tried
+
+
+# ---- what others do meanwhile
+
+
+def try_put_meanwhile(program, inject):
+    """A save where nothing was, and where another program puts a file before the move."""
+    with tempfile.TemporaryDirectory() as folder:
+        path, other = os.path.join(folder, "new.journal"), b"Honoured Sir"
+        words = ["strace", "-f", "-qq", "-o", "/dev/null", "-e", "trace=link,linkat", *inject]
+        with subprocess.Popen([*words, program, "serve", "--save", path], stdin=subprocess.PIPE,
+                              stdout=subprocess.PIPE, stderr=subprocess.PIPE) as saver:
+            saver.stdin.write(LANDS.encode() + b"\n")
+            saver.stdin.flush()
+            saver.stdout.readline()
+            with open(path, "wb") as file:
+                file.write(other)
+            told = saver.communicate()[1].decode()
+        beside = bytes_at(path + ".unfinished")
+        hold(f"a file put where nothing was, {inject}: {saver.returncode} {told!r}",
+             saver.returncode == 3 and told.startswith(CHANGED))
+        hold(f"a file put where nothing was, {inject}: it is lost, or the journal is",
+             (bytes_at(path), beside) == (other, journal([])))
+
+
+def slowed(program, path, *inject):
+    """A keeper of a path whose calls on that, or on its folder, are delayed or refused."""
+    words = ["strace", "-f", "-qq", "-o", path + ".trace", "-P", path, "-P", os.path.dirname(path)]
+    for what in inject:
+        words += ["-e", f"inject={what}"]
+    return subprocess.Popen([*words, program, "serve", "--keep", path], stdin=subprocess.DEVNULL,
+                            stdout=subprocess.PIPE, stderr=subprocess.PIPE)
+
+
+def wait_until(holds):
+    last = time.monotonic() + WAIT
+    while not holds() and time.monotonic() < last:
+        time.sleep(0.01)
+
+
+def try_moved_there(program):
+    """A file that another program moves to a path while a keeper makes one there."""
+    with tempfile.TemporaryDirectory() as folder:
+        path, other = os.path.join(folder, "new.journal"), b"Honoured Sir"
+        with open(path + ".other", "wb") as file:
+            file.write(other)
+        with slowed(program, path, f"flock:delay_enter={DELAY}:when=1") as keeper:
+            wait_until(lambda: os.path.exists(path))
+            os.replace(path + ".other", path)
+            keeper.communicate()
+        hold("a keeper takes a file away that was moved to its path", bytes_at(path) == other)
+
+
+def try_kept_meanwhile(program):
+    """A new journal that another run keeps, and has ended to keep, while this one opens it, and
+    which this one can't keep then."""
+    with tempfile.TemporaryDirectory() as folder:
+        path = os.path.join(folder, "new.journal")
+        inject = (f"openat:delay_enter={DELAY}:when=1", "fsync:error=EIO:when=1")
+        with slowed(program, path, *inject) as keeper:
+            # (it has looked twice that nothing is there)
+            wait_until(lambda: (bytes_at(path + ".trace") or b"").count(b"\n") >= 2)
+            other = run(program, ["serve", "--keep", path], session(random.Random(1), 3).sent)
+            held = bytes_at(path)
+            keeper.communicate()
+        hold(f"the other keeper is told {other.stderr!r}", other.returncode == 0)
+        hold("a keeper takes a journal away that another run kept", bytes_at(path) == held)
+
+
+def main():
+    line = CommandLine(__doc__)
+    line.add_program()
+    line.add_count(10, "sessions for each way")
+    line.add_seed()
+    options = line.read()
+    need("strace", "Debian's package strace")
+    traced_runs = refused = 0
+    for number in range(options.count):
+        chance = random.Random(options.seed * 1_000_003 + number)
+        for way in ways(chance):
+            steps = hold_rules(options.program, way)
+            traced_runs += 1
+            if number == 0:
+                refused += refuse_calls(options.program, way, steps)
+    for inject in ([], ["-e", "inject=link,linkat:error=EPERM"]):
+        try_put_meanwhile(options.program, inject)
+    try_moved_there(options.program)
+    try_kept_meanwhile(options.program)
+    print("| Rule | Runs that kept it |\n|---|---|")
+    for rule, (kept, runs) in counts.items():
+        print(f"| {rule} | {kept} of {runs} |")
+    print(f"{traced_runs} runs were traced, and {refused} with a call refused")
+    return verdict(f"each run kept its rules, of which there are {len(counts)}; with each call "
+                   "refused the journal was the old one or the new one, whole")
+
+
+if __name__ == "__main__":
+    end(main)

@@ -1,0 +1,208 @@
+"""What a text of territories says: its edits, its faults with their places, and the edits between
+two registers. It is for register_text.py and europe.py.
+
+Written from docs/TERRITORIES.md alone, over Python's own reader of TOML. The register that a text
+says is what `reference.py` makes of its edits. A register here is a dictionary of lands by their
+codes, in the order in which they were added.
+"""
+import bisect
+import datetime
+import functools
+import re
+import tomllib
+
+from random_lands import CALENDARS, chain, key
+from reference import REGIME, Fault, Service
+
+TERRITORY = ["name", "calendar", "style", "rule", "note", "changes", "easters"]
+CHANGE = ["from", "calendar", "style", "rule", "note"]
+EASTER = ["year", "date", "note"]
+WORDS = ["calendar", "style", "rule"]
+DATE = re.compile(r"([0-9]{3,9})-([0-9]{1,2})-([0-9]{1,2})")
+
+
+class TextFault(Exception):
+    """What is wrong with a text, and the keys that lead there."""
+
+    def __init__(self, path, reason, said=None):
+        super().__init__(path, reason, said)
+        self.path, self.reason, self.said = path, reason, said
+
+
+chain = functools.cache(chain)
+
+
+def date_on(calendar, day):
+    """The year, month and day of a day in a calendar."""
+    number = chain(calendar)[day]
+    return number // 10_000, number // 100 % 100, number % 100
+
+
+def day_of(calendar, year, month, day):
+    """The day of a date in a calendar, or None where the calendar has no such date."""
+    dates = chain(calendar)
+    place = bisect.bisect_left(dates, key(year, month, day))
+    is_date = 1 <= place < len(dates) and date_on(calendar, place) == (year, month, day)
+    return place if is_date else None
+
+
+# ---- what a text says
+
+
+def edits_of(text):
+    """The edits that a text says, each with the path of its table."""
+    tables = tomllib.loads(text)
+    return [edit for code in sorted(tables, key=str.encode)
+            for edit in territory_edits(code, tables[code])]
+
+
+def lands_of(text, **limits):
+    """The territories that a text says, or its first fault."""
+    service = Service(**limits)
+    for path, request in edits_of(text):
+        try:
+            service.stage(request["op"], request)
+        except Fault as fault:
+            raise TextFault(path, "Refused", fault.members["name"]) from None
+    return service.draft
+
+
+def territory_edits(code, table):
+    members = table_of(table, code, TERRITORY)
+    name = text_at(members, code, "name")
+    regime = regime_of(members, code, {})
+    note_of(members, code)
+    yield code, {"op": "add_land", "code": code, "name": name, **regime}
+    last = None
+    for place, item in enumerate(list_of(members, code, "changes"), 1):
+        path = f"{code}.changes.{place}"
+        day, regime = change_of(table_of(item, path, CHANGE), path, regime)
+        if last is not None and day <= last:
+            raise TextFault(path, "NotLater")
+        last = day
+        yield path, {"op": "add_change", "code": code, "day": day, **regime}
+    for place, item in enumerate(list_of(members, code, "easters"), 1):
+        path = f"{code}.easters.{place}"
+        year, day = easter_of(table_of(item, path, EASTER), path)
+        yield path, {"op": "add_exception", "code": code, "year": year, "day": day}
+
+
+def change_of(members, path, before):
+    day, regime = day_at(members, path, "from"), regime_of(members, path, before)
+    note_of(members, path)
+    return day, regime
+
+
+def easter_of(members, path):
+    year = needed(members, path, "year")
+    if type(year) is not int:
+        raise TextFault(f"{path}.year", "NotWhole")
+    day = day_at(members, path, "date")
+    note_of(members, path)
+    return year, day
+
+
+def regime_of(members, path, before):
+    """The regime of a table: what it says, and else what was so before."""
+    regime = {}
+    for word in WORDS:
+        if word not in members and word in before:
+            regime[word] = before[word]
+        elif text_at(members, path, word) not in REGIME[word]:
+            raise TextFault(f"{path}.{word}", f"No{word.capitalize()}", members[word])
+        else:
+            regime[word] = members[word]
+    return regime
+
+
+def note_of(members, path):
+    if "note" in members:
+        text_at(members, path, "note")
+
+
+def day_at(members, path, name):
+    """The day at a key: a date in a calendar, or a day number."""
+    given, path = needed(members, path, name), f"{path}.{name}"
+    if not isinstance(given, dict) or len(given) != 1:
+        raise TextFault(path, "NotDay")
+    (calendar, said), = given.items()
+    if calendar == "day" and type(said) is int:
+        return said
+    if calendar in CALENDARS and isinstance(said, (datetime.date, datetime.time)):
+        raise TextFault(path, "Unquoted")
+    is_date = calendar in CALENDARS and isinstance(said, str) and DATE.fullmatch(said)
+    if not is_date:
+        raise TextFault(path, "NotDay")
+    day = day_of(calendar, *map(int, is_date.groups()))
+    if day is None:
+        raise TextFault(path, "NoSuchDate", calendar)
+    return day
+
+
+def table_of(value, path, known):
+    if not isinstance(value, dict):
+        raise TextFault(path, "NotTable")
+    for name in sorted(value, key=str.encode):
+        if name not in known:
+            raise TextFault(f"{path}.{name}", "UnknownKey", name)
+    return value
+
+
+def needed(members, path, name):
+    if name not in members:
+        raise TextFault(f"{path}.{name}", "Missing")
+    return members[name]
+
+
+def text_at(members, path, name):
+    text = needed(members, path, name)
+    if not isinstance(text, str):
+        raise TextFault(f"{path}.{name}", "NotText")
+    return text
+
+
+def list_of(members, path, name):
+    items = members.get(name, [])
+    if not isinstance(items, list):
+        raise TextFault(f"{path}.{name}", "NotList")
+    return items
+
+
+# ---- the edits between two registers
+
+
+def differences(lands, wanted):
+    """The edits that change lands into what the wanted ones say, in no order that counts: an Easter
+    on another day is dropped and added."""
+    for code, land in wanted.items():
+        yield from territory_differences(code, lands.get(code), land)
+
+
+def territory_differences(code, land, wanted):
+    if land is None:
+        regime = dict(zip(WORDS, wanted.starts[1]))
+        yield {"op": "add_land", "code": code, "name": wanted.name, **regime}
+    starts = {1: wanted.starts[1]} if land is None else land.starts
+    for day in sorted(starts.keys() - wanted.starts.keys()):
+        yield {"op": "drop_change", "code": code, "day": day}
+    for day, regime in sorted(wanted.starts.items()):
+        if starts.get(day) != regime:
+            op = "alter_change" if day in starts else "add_change"
+            yield {"op": op, "code": code, "day": day, **dict(zip(WORDS, regime))}
+    easters = {} if land is None else land.exceptions
+    for year in sorted(year for year in easters if wanted.exceptions.get(year) != easters[year]):
+        yield {"op": "drop_exception", "code": code, "year": year}
+    for year, day in sorted(wanted.exceptions.items()):
+        if easters.get(year) != day:
+            yield {"op": "add_exception", "code": code, "year": year, "day": day}
+
+
+def after(lands, wanted):
+    """The register after a publish: each wanted territory as it is wanted, the others as before."""
+    return {**lands, **wanted}
+
+
+def shown(lands):
+    """A register as a value that can be compared, with its order."""
+    return [(code, land.name, sorted(land.starts.items()), sorted(land.exceptions.items()))
+            for code, land in lands.items()]

@@ -1,0 +1,144 @@
+"""What `text`, `plan` and `publish` print, and what they tell of a text's faults, line by line.
+
+Written from docs/TERRITORIES.md alone, for register_text.py.
+"""
+from page_texts import YEARS, numbered
+from territory_texts import WORDS, date_on
+from written import Territory
+
+DAY = ('write { gregorian = "1752-09-14" }, with julian or swedish in its place, '
+       "or { day = 639797 }")
+ALLOWED = {
+    "name": "write a text", "note": "write a text", "from": DAY, "date": DAY,
+    "calendar": "write julian, gregorian or swedish",
+    "style": "write january, annunciation, nativity, september, pisan or easter",
+    "rule": "write julian or gregorian",
+    "changes": "write a list of tables", "easters": "write a list of tables",
+    "year": "write a whole number",
+}
+KEYS = {
+    "changes": "a change has from, calendar, style, rule and note",
+    "easters": "a listed Easter has year, date and note",
+    None: "a territory has name, calendar, style, rule, note, changes and easters",
+}
+REFUSED = {
+    "BadCode": (1, "a code has 2 to 8 capital letters or digits, the first a letter"),
+    "BadName": (2, "a name has 1 to 64 bytes, and no control character"),
+    "DayOffLine": (5, "a day is 1 to 3652059"),
+    "OpeningPeriod": (8, "a change is later than day 1, on which the territory begins"),
+    "YearOffRange": (9, "a year is 1 to 9999"),
+    "ExceptionExists": (10, "a year has one listed Easter"),
+    "TooManyLands": (12, "the register has room for no further territory"),
+    "TooManyChanges": (13, "the register has room for no further change there"),
+    "TooManyExceptions": (14, "the register has room for no further listed Easter there"),
+    "StyleNeedsJulian": (19, "years from Easter go with the Julian calendar and the Julian rule "
+                             "alone"),
+}
+
+
+# ---- the text of a register
+
+
+def date_table(calendar, day):
+    return '{ %s = "%04d-%02d-%02d" }' % (calendar, *date_on(calendar, day))
+
+
+def territory_lines(code, land):
+    """The lines of a territory. That of its name ends before the name."""
+    before = land.starts[1]
+    yield from [f"[{code}]", "name = "]
+    yield from (f'{word} = "{value}"' for word, value in zip(WORDS, before))
+    for day in sorted(land.starts)[1:]:
+        regime = land.starts[day]
+        yield from ["", f"[[{code}.changes]]", f"from = {date_table(regime[0], day)}"]
+        yield from (f'{word} = "{new}"' for word, old, new in zip(WORDS, before, regime)
+                    if old != new)
+        before = regime
+    for year, day in sorted(land.exceptions.items()):
+        calendar = land.period(day)[2][0]
+        yield from ["", f"[[{code}.easters]]", f"year = {year}",
+                    f"date = {date_table(calendar, day)}"]
+
+
+def register_lines(lands):
+    for place, (code, land) in enumerate(lands.items()):
+        yield from [""] * (place > 0)
+        yield from territory_lines(code, land)
+
+
+# ---- a plan
+
+
+def parts_of(regime):
+    calendar, style, rule = regime
+    return [f"{calendar} calendar", f"years from {YEARS[style]}", f"{rule} rule"]
+
+
+def other_parts(before, regime):
+    """What a regime has that the one before has not."""
+    other = [part for part in parts_of(regime) if before is None or part not in parts_of(before)]
+    return ", ".join(other) or "no other regime"
+
+
+def edit_line(lands, wanted, edit):
+    """The line of an edit, between the territories that there are and those that are wanted."""
+    code, op = edit["code"], edit["op"]
+    regime = tuple(edit.get(word) for word in WORDS)
+    if op == "add_land":
+        return f"{code}: new territory {edit['name']}: {other_parts(None, regime)}"
+    if op == "alter_change" and edit["day"] == 1:
+        return f"{code}: opening: {other_parts(lands[code].starts[1], regime)}"
+    if op in ("add_change", "alter_change"):
+        before = wanted[code].period(edit["day"] - 1)[2]
+        day = numbered(Territory(wanted[code]), edit["day"])
+        return f"{code}: from {day}: {other_parts(before, regime)}"
+    if op == "drop_change":
+        return f"{code}: no change any more on {numbered(Territory(lands[code]), edit['day'])}"
+    if op == "add_exception":
+        day = numbered(Territory(wanted[code]), edit["day"])
+        return f"{code}: Easter of {edit['year']} on {day}"
+    return f"{code}: no listed Easter of {edit['year']} any more"
+
+
+def absent_lines(lands, wanted):
+    return [f"{code}: not in the text, stays as it is" for code in lands if code not in wanted]
+
+
+def plan_end(count, editions):
+    if count == 0:
+        return "nothing to change"
+    edits = "1 edit: publish makes it" if count == 1 else f"{count} edits: publish makes them"
+    return f"{edits} edition {editions + 1}"
+
+
+def publish_end(count, editions):
+    if count == 0:
+        return f"nothing to change: edition {editions} stands"
+    return f"published as edition {editions + 1}"
+
+
+# ---- faults
+
+
+def fault_words(fault):
+    """What is told of a fault, with the path to it."""
+    key = fault.path.rsplit(".", 1)[-1]
+    words = {
+        "UnknownKey": lambda: f"unknown key: {KEYS[part_of(fault.path, fault.said)]}",
+        "NotTable": lambda: "write a table",
+        "NotLater": lambda: "not later than the change before it",
+        "Missing": lambda: f"missing: {ALLOWED[key]}",
+        "Unquoted": lambda: 'put the date in quotes, as { gregorian = "1752-09-14" }',
+        "NoSuchDate": lambda: f"no such day in the {fault.said} calendar",
+        "Refused": lambda: "{1} {0}: {2}".format(fault.said, *REFUSED[fault.said]),
+    }
+    words |= {f"No{word.capitalize()}": lambda: f'"{fault.said}" is no {key}: {ALLOWED[key]}'
+              for word in WORDS}
+    said = words.get(fault.reason, lambda: ALLOWED[key])()
+    return f"{fault.path}: {said}"
+
+
+def part_of(path, name):
+    """Whether a key of this path is one of a change, of a listed Easter or of a territory."""
+    tables = path.removesuffix("." + name).split(".")
+    return tables[-2] if len(tables) > 1 and tables[-2] in KEYS else None
