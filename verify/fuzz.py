@@ -8,11 +8,11 @@ says what is tried:
   dates    dates as people write them, through `written`, `letters` and `read`
   web      requests to the page in the browser, as bytes and by its addresses
   stamp    trees of sources, whose stamp the script `oldstyle` keeps
-  toml     texts of a register, through `plan`, `publish` and `text`, once the program has these
+  toml     texts of a register, through `plan`, `publish` and `text`
 
 No run may end by a signal, with another status than 0 to 4, or with a fault that isn't told. Each
 line has one reply. Where a program that was written apart knows the answer, it has to be that one:
-reference.py, written.py, letter_rows.py, and a reader of CSV beside them. An input at which
+reference.py, written.py, letter_rows.py, territory_texts.py, and a reader of CSV. An input at which
 something is wrong is kept in a file, which is named, and 20 of them end the run.
 
 All that is tried follows from the seed: the rounds of a long run are those of a short one and more.
