@@ -44,9 +44,9 @@ def editor_after(chance, begun):
     return editor
 
 
-def journal(lines):
+def journal(lines, head=HEAD):
     """The bytes of a journal of these lines."""
-    return "".join(line + "\n" for line in [HEAD, *lines]).encode()
+    return "".join(line + "\n" for line in [head, *lines]).encode()
 
 
 def told_lines(out):

@@ -42,8 +42,12 @@ journal_object limits file = object_of limits (lines file)
 
 -- the rules of a follower: no line changes anything
 abbrev pub following : ℕ → Bool → ServeRules
-following readers stop =
-    record { readers = readers; read_only = true; stop_at_refusal = stop }
+following readers stop = record {
+  readers = readers;
+  read_only = true;
+  takes_sources = true;
+  stop_at_refusal = stop;
+}
 
 -- the outcomes of the lines of a text, by an object
 abbrev pub outcomes : ServeRules → ObjectState → List ℕ → List Outcome
