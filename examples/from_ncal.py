@@ -3,7 +3,8 @@
 
 The Debian package ncal has a list of countries, each with the last day of its Julian calendar. Its
 next day is Gregorian. What that list says is the list's claim, and none of this project's: it is a
-start for an editor, who has to hold each territory against the country's own records. Years begin
+start for an editor, who has to hold each territory against the country's own records, and to cite
+these as the source of the change. Years begin
 on 1 January in this text, and the rule of Easter is that of the calendar, or EASTER (`julian` or
 `gregorian`) throughout. Where the text is in countries.toml, it is published so:
 ./oldstyle publish countries.journal countries.toml
@@ -25,6 +26,7 @@ rule = "{opening}"
 from = {{ gregorian = "{day}" }}
 calendar = "gregorian"
 rule = "{later}"
+source = "the list of ncal -p"
 """
 
 

@@ -129,13 +129,16 @@ NEXT = {"idle": "look", "noted": "pin", "marked": "check", "entered": "answer", 
 WORK = {"ready": ["stage", "stage", "publish"], "draining": ["claim"], "claimed": ["absorb"]}
 READER, EDITOR = list(NEXT.values()), ["stage", "publish", "claim", "absorb"]
 CODES = ["RM", "GB", "FR", "DE", "rm"]
+# The last two are refused in the form of the line.
+SOURCES = ["a bull", "an edict", "\u00e9dit", "s" * 1_000, "", 5]
 
 
 def query(chance):
     code = chance.choice(CODES)
     day = chance.choice([0, 1, 547_226, 563_670, 577_736])
     return chance.choice([{"op": "lands"}, {"op": "periods", "code": code},
-                          {"op": "day", "code": code, "day": day}])
+                          {"op": "day", "code": code, "day": day},
+                          {"op": "easter", "code": code, "year": 1582}])
 
 
 def regime(chance):
@@ -149,8 +152,10 @@ def edit(chance):
     edits = [{"op": "add_land", "name": "Sample", **regime(chance)},
              {"op": "add_change", "day": 577_736, **regime(chance)},
              {"op": "alter_change", "day": chance.choice([1, 577_736]), **regime(chance)},
-             {"op": "drop_change", "day": 577_736}]
-    return {**chance.choice(edits), "code": chance.choice(CODES)}
+             {"op": "drop_change", "day": 577_736},
+             {"op": "add_exception", "year": 1582, "day": 577_742}]
+    source = {"source": chance.choice(SOURCES)} if chance.random() < 0.4 else {}
+    return {**chance.choice(edits), "code": chance.choice(CODES), **source}
 
 
 def schedule(chance, machine):

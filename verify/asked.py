@@ -14,8 +14,8 @@ BRITAIN = [
     '{"op":"add_land","code":"GB","name":"Great Britain","calendar":"julian",'
     '"style":"annunciation","rule":"julian"}',
     f'{{"op":"add_change","code":"GB","day":639551,{REGIME}}}',
-    f'{{"op":"add_change","code":"GB","day":639797,{GREGORIAN}}}',
-    '{"op":"add_exception","code":"GB","year":1753,"day":640010}',
+    f'{{"op":"add_change","code":"GB","day":639797,{GREGORIAN},"source":"24 Geo. II c. 23"}}',
+    '{"op":"add_exception","code":"GB","year":1753,"day":640010,"source":"a rubric"}',
 ]
 FRANCE = ['{"op":"add_land","code":"FR","name":"France","calendar":"julian","style":"easter",'
           '"rule":"julian"}']
@@ -23,7 +23,7 @@ SETUP = [*BRITAIN, *FRANCE, PUBLISH]
 EDITS = [
     ADD_ROME,
     f'{{"op":"add_change","code":"FR","day":577736,{GREGORIAN}}}',
-    f'{{"op":"alter_change","code":"GB","day":639551,{GREGORIAN}}}',
+    f'{{"op":"alter_change","code":"GB","day":639551,{GREGORIAN},"source":"an act"}}',
     '{"op":"drop_change","code":"GB","day":639551}',
     '{"op":"add_exception","code":"FR","year":1724,"day":629412}',
     '{"op":"drop_exception","code":"GB","year":1753}',
@@ -48,7 +48,7 @@ LEFT = [
     '{"op":"easter","reader":1,"code":"GB","year":1753}',
     '{"op":"easter","reader":1,"code":"FR","year":1724}',
 ]
-BEGUN = ['{"journal":2}', *SETUP, ADD_ROME]
+BEGUN = ['{"journal":4}', *SETUP, ADD_ROME]
 SCRIPT = [*BEGUN, PUBLISH]
 SESSION = [*SETUP, *EDITS, *QUERIES, "no request", PUBLISH, PUBLISH, READ_TWO_DAYS]
 QUESTIONS = [query.replace('"reader":1', f'"reader":{1 + place % 2}')
@@ -78,12 +78,14 @@ STEPS = [
 ]
 KEYS = ['calendar = "julian"', 'style = "january"', 'rule = "julian"']
 TEXT = ["[GB]", 'name = "Great Britain"', *KEYS, "[[GB.changes]]",
-        'from = { gregorian = "1752-09-14" }', 'calendar = "gregorian"', "[[GB.easters]]",
-        "year = 1753", "date = { day = 640017 }", "[SE]", 'name = "Sweden"', *KEYS,
+        'from = { gregorian = "1752-09-14" }', 'calendar = "gregorian"', 'source = "an act"',
+        "[[GB.easters]]", "year = 1753", "date = { day = 640017 }", 'source = "a rubric"',
+        "[SE]", 'name = "Sweden"', *KEYS,
         "[[SE.changes]]", 'from = { swedish = "1700-03-01" }', 'calendar = "swedish"']
 # Files by their names, and commands over them, each with the lines of its standard input.
 FILES = {"a.journal": BEGUN, "a.script": SCRIPT, "a.questions": QUESTIONS, "a.schedule": STEPS,
-         "a.transcript": TRANSCRIPT, "saved.journal": BEGUN[:2], "a.toml": TEXT}
+         "a.transcript": TRANSCRIPT, "saved.journal": BEGUN[:2], "a.toml": TEXT,
+         "a.older": ['{"journal":2}', ADD_ROME, PUBLISH]}
 COMMANDS = [
     ("", SESSION),
     ("serve --journal a.journal --save saved.journal", SESSION[:-1]),
@@ -121,8 +123,8 @@ COMMANDS = [
     ("fly", []),
 ]
 
-# A command that changes a file before it writes on standard output.
-PUBLISHING = ("publish a.script a.toml", [])
+# Commands that change a file before they write on standard output; the second saves it anew.
+PUBLISHING = [("publish a.script a.toml", []), ("publish a.older a.toml", [])]
 
 # How a command ends that found no memory; a desk may tell of a thread that could not be started.
 NO_MEMORY, NO_PLACE = (4, "oldstyle: no memory\n"), (1, "oldstyle: 93 NoPlace\n")

@@ -27,7 +27,8 @@ def edit(chance):
              {"op": "add_change", "day": 577_736, **JULIAN, **style},
              {"op": "drop_change", "day": 577_736},
              {"op": "add_exception", "year": 1724, "day": 629_412}]
-    return {**chance.choice(edits), "code": chance.choice(CODES)}
+    source = {"source": chance.choice(["a bull", "\u00e9dit 5"])} if chance.random() < 0.4 else {}
+    return {**chance.choice(edits), "code": chance.choice(CODES), **source}
 
 
 def query(chance):

@@ -157,17 +157,36 @@ def figures(year):
     return {"golden": year % 19 + 1, "indiction": (year + 2) % 15 + 1, "year": year, **rules}
 
 
-# Territories: start days with regimes, and years with days.
+# Territories: start days with regimes, and years with days; the sources of either, where given.
 
 
 class Land:
     def __init__(self, name, regime):
         self.name, self.starts, self.exceptions = name, {1: regime}, {}
+        self.sources, self.easter_sources = {}, {}
 
     def copy(self):
         land = Land(self.name, None)
         land.starts, land.exceptions = dict(self.starts), dict(self.exceptions)
+        land.sources, land.easter_sources = dict(self.sources), dict(self.easter_sources)
         return land
+
+    def start(self, day, regime, source=None):
+        """A period starts on a day, or is altered: an earlier source of it is lost."""
+        self.starts[day] = regime
+        cite(self.sources, day, source)
+
+    def end_start(self, day):
+        del self.starts[day]
+        cite(self.sources, day, None)
+
+    def list_easter(self, year, day, source=None):
+        self.exceptions[year] = day
+        cite(self.easter_sources, year, source)
+
+    def end_easter(self, year):
+        del self.exceptions[year]
+        cite(self.easter_sources, year, None)
 
     def periods(self):
         starts = sorted(self.starts)
@@ -217,6 +236,13 @@ class Land:
             "label": written(label_of(*regime[:2], day)),
             "weekday": WEEKDAYS[day % 7],
         }
+
+
+def cite(sources, of, source):
+    """Puts a source in the place of the one that there was, or None."""
+    sources.pop(of, None)
+    if source is not None:
+        sources[of] = source
 
 
 def written(date):

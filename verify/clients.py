@@ -97,8 +97,10 @@ def worked(register):
     yield "weekdays", fits and [reading.weekday_fits for reading in friday] == [True, False]
     yield "two runs of March 1731", len(register.read("GB", "March 1731").runs) == 2
     yield "territories", [land.code for land in register.lands()] == "RM GB SE RU DE".split()
-    styles = [period.style for period in register.periods("GB")]
+    periods = register.periods("GB")
+    styles = [period.style for period in periods]
     yield "periods", styles == ["annunciation", "january", "january"]
+    yield "no sources", [period.source for period in periods] == [None] * 3
 
 
 def piped(register, program, options):
@@ -191,6 +193,18 @@ def faults(register, program, folder):
         raised(lambda: next(rows)), LookupError)
     yield from ended(program)
     yield from followed(program, os.path.join(folder, "followed.journal"))
+
+
+def cited(program, journal):
+    """A period with a source, and one without."""
+    regime = {"code": "GB", "calendar": "julian", "rule": "julian"}
+    opening = {"op": "add_land", "name": "n", "style": "annunciation", **regime}
+    change = {"op": "add_change", "day": 639551, "style": "january", **regime, "source": "an act"}
+    lines = [{"journal": 4}, opening, change, {"op": "publish"}]
+    put(journal, "".join(compact(line) + "\n" for line in lines).encode())
+    with oldstyle.Register(journal, program=program) as register:
+        found = [period.source for period in register.periods("GB")]
+    yield f"sources: {found}", found == [None, "an act"]
 
 
 def ended(program):
@@ -294,6 +308,7 @@ def checks(options, folder):
             yield from in_frames(register)
         if options.speed:
             speed(register, program, options.speed)
+    yield from cited(program, os.path.join(folder, "cited.journal"))
     yield from client_files.checks(options, folder)
 
 

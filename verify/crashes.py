@@ -7,7 +7,8 @@ written since, any front of the bytes may be. A name that was made, moved or tak
 folder was synced may be so or as before. Each such state is built: all names, and fronts at each
 line and at random places. A journal that is saved has to be the old one or the new one, whole, and
 the new one where the run had ended well. Of one that is kept the next keeper has to load each
-edition that was told before, and no line that was not sent.
+edition that was told before, and no line that was not sent. A keeper with `--upgrade` does both:
+the old journal stands, or the one of version 4, whole, and this one before anything is told.
 
 A keeper is also killed at each call (SIGKILL) before it keeps a new file again, since the second
 run may rest on what the first had not synced. What the folder holds after such a stop has to be
@@ -21,11 +22,12 @@ import tempfile
 from typing import NamedTuple
 
 from common import CommandLine, end, need, run
-from keeping import HEAD, PUBLISH, hold, verdict
-from sessions import LANDS, bytes_at, journal, session, told_lines
+from keeping import HEAD, HEAD_4, PUBLISH, hold, verdict
+from sessions import LANDS, bytes_at, journal, last_edition, session, told_lines
 from traces import traced
 
 FRONTS = 6
+SECOND = "serve --keep a"
 counts = {"states": 0, "loaded": 0, "cuts": 0, "stops": 0}
 
 
@@ -160,9 +162,17 @@ class Way(NamedTuple):
     begun: list
     taken: list
     given: bytes
+    head: str = HEAD
+
+    def lines(self, count=None):
+        """The bytes of the head and of so many of the lines."""
+        return journal([*self.begun, *self.taken][:count], self.head)
 
     def new(self):
-        return journal([*self.begun, *self.taken])
+        return self.lines()
+
+    def upgrades(self):
+        return "--upgrade" in self.words
 
     def keeps(self):
         return "--keep" in self.words
@@ -184,6 +194,9 @@ def ways(chance):
         yield Way("serve --keep a", "a", held, begun, more.taken, more.given())
     for held in (None, HEAD[:4].encode(), b""):
         yield Way("serve --keep a", "a", held, [], anew.taken, anew.given())
+    for held in (old, old + cut):
+        yield Way("serve --keep a --upgrade", "a", held, begun, more.taken, more.given(), HEAD_4)
+    yield Way("serve --keep a --upgrade", "a", None, [], anew.taken, anew.given(), HEAD_4)
 
 
 def steps_of(program, way, folder, inject=None):
@@ -227,8 +240,13 @@ def is_told(way, held, told):
         return held in (way.old, way.new())
     changes, edition = told_lines(told)
     lines, sure = [*way.begun, *way.taken], way.whole()
+    if way.upgrades():
+        if held == way.old and not told:
+            return True
+        is_new = way.old is None and not held and not told
+        sure = b"" if is_new else way.lines(len(way.begun))
     if edition:
-        sure = journal(lines[:published(lines[:len(way.begun) + changes])])
+        sure = way.lines(published(lines[:len(way.begun) + changes]))
     held = held or b""
     return held.startswith(sure) and (way.new().startswith(held) or held == way.old)
 
@@ -327,17 +345,17 @@ def try_stops(program, way, chance):
 
 
 def go_on(program, way, stopped, chance, what):
-    """A keeper over what a killed one left, and each crash of the machine after its first reply."""
+    """A keeper over what a killed run left, and each crash of the machine after its first reply,
+    which asks and so tells the edition that it found."""
     disk, folder = stopped
-    if not way.keeps():
-        return
     held = bytes_at(os.path.join(folder, way.place)) or b""
     lines = held[:held.rfind(b"\n") + 1].decode().splitlines()[1:]
     more = session(chance, 4, lines)
-    second = way._replace(old=held, begun=lines, taken=more.taken, given=more.given())
+    given = LANDS.encode() + b"\n" + more.given()
+    second = way._replace(words=SECOND, old=held, begun=lines, taken=more.taken, given=given)
     done, steps = steps_of(program, second, folder)
     hold(f"{what}, and the next run: {done.status} {done.err!r}", done.status == 0)
-    lost = [told_lines(later)[1] for moment, later in moments(disk, numbered_anew(steps))
+    lost = [last_edition(later) for moment, later in moments(disk, numbered_anew(steps))
             if is_lost(second, moment, later, chance)]
     hold(f"{what}, and the next run told edition {lost[:1]}: a crash may leave fewer", not lost)
 
@@ -349,7 +367,7 @@ def numbered_anew(steps):
 
 def is_lost(way, moment, told, chance):
     """Whether a crash may leave fewer editions than were told."""
-    edition = told_lines(told)[1]
+    edition = last_edition(told)
     states = list(moment.left_by_crash(chance)) if edition else []
     counts["states"] += len(states)
     return any((state.get(way.place) or b"").count(PUBLISH.encode() + b"\n") < edition

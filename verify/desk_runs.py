@@ -25,14 +25,16 @@ def editions(chance):
     for place in range(EDITIONS):
         if place % 3 == 0 and len(codes) < LANDS:
             codes.append(f"L{len(codes):02}")
-            name, regime = f"Sample {place}", {**JULIAN, "style": chance.choice(STYLES)}
+            name = f"Sample {place}"
+            regime = {**JULIAN, "style": chance.choice(STYLES), "source": f"bull {place}"}
             batches.append([{"op": "add_land", "code": codes[-1], "name": name, **regime}])
         else:
             day = 560_000 + place
             opening = chance.choice([JULIAN, GREGORIAN, {**JULIAN, "style": "easter"}])
             regime = {**JULIAN, "style": chance.choice(STYLES)}
             batches.append([
-                {"op": "alter_change", "code": chance.choice(codes), "day": 1, **opening},
+                {"op": "alter_change", "code": chance.choice(codes), "day": 1, **opening,
+                 **chance.choice([{}, {"source": f"act {place}"}])},
                 {"op": "add_change", "code": chance.choice(codes), "day": day, **regime},
             ])
     return batches
@@ -97,7 +99,7 @@ def main():
     oldstyle, chance, met = options.program, random.Random(options.seed), set()
     batches, asked = editions(chance), queries(chance)
     told = told_by_service(oldstyle, batches, asked)
-    script = [compact({"journal": 2})]
+    script = [compact({"journal": 4})]
     for batch in batches:
         script += [compact(edit) for edit in batch] + [compact({"op": "publish"})]
     with tempfile.TemporaryDirectory() as room:

@@ -1,14 +1,14 @@
 #!/usr/bin/env python3
 """Holds examples/europe.toml against what can be computed, and against the list of ncal.
 
-The text is read by `territory_texts.py`, without the program. Of each change that brings another
-calendar or beginning of the year the note says which day was followed by which: both dates and
-both weekdays are those of the days by `calendars.py`. A listed Easter is a Sunday a week from the
-rule's. Where `ncal -p` knows a country, the last day of its Julian calendar is that of the text.
-It wants the Debian package ncal.
+The text is read by `territory_texts.py`, without the program. Each change has a source. Of each
+one that brings another calendar or beginning of the year the note says which day was followed by
+which: both dates and both weekdays are those of the days by `calendars.py`. A listed Easter is a
+Sunday a week from the rule's. Where `ncal -p` knows a country, the last day of its Julian calendar
+is that of the text. It wants the Debian package ncal.
 
 Then the program publishes the text into a new journal, and has to tell the same periods and listed
-Easters. `--text-alone` leaves that out, and needs no program.
+Easters, with their sources. `--text-alone` leaves that out, and needs no program.
 """
 import json
 import os
@@ -20,7 +20,8 @@ import tomllib
 from calendars import dates, easter
 from common import TOP, CommandLine, compact, end, need, run
 from keeping import hold, verdict
-from territory_texts import lands_of
+from reference import cited
+from territory_texts import WORDS, lands_of
 
 EUROPE = os.path.join(TOP, "examples", "europe.toml")
 # The countries of ncal, and what the text says of them. Those of which it says other things, or
@@ -37,10 +38,12 @@ def words_of(found):
 
 
 def hold_notes(code, land, changes):
-    """Each change of a calendar or of a year's beginning has a note with both of its days."""
+    """Each change has a source, and that of a calendar or of a year's beginning a note with both of
+    its days."""
     for (first, last, old), (change, _, new), said in zip(land.periods(), land.periods()[1:],
                                                           changes):
         note = " ".join(said["note"].split())
+        hold(f"{code}: day {change} has no source", land.sources.get(change) == said["source"])
         wanted = f"{words_of(land.found(last))} was followed by {words_of(land.found(change))}"
         if old[:2] != new[:2]:
             hold(f"{code}: the note says no {wanted!r}", wanted in note)
@@ -83,10 +86,11 @@ def hold_program(program, lands):
                   for code, land in lands.items() for year in land.exceptions]
         told = run(program, ["serve", "--journal", journal], map(compact, asked))
     answers = [json.loads(line).get("answer") for line in told.stdout.splitlines()]
-    wanted = [{"periods": [dict(zip(("calendar", "style", "rule"), regime), first=first, last=last)
-                           for first, last, regime in land.periods()]} for land in lands.values()]
-    wanted += [{"days": [land.found(day)], "listed": True}
-               for land in lands.values() for day in land.exceptions.values()]
+    wanted = [{"periods": [
+        {**dict(zip(WORDS, regime)), "first": first, "last": last, **cited(land.sources, first)}
+        for first, last, regime in land.periods()]} for land in lands.values()]
+    wanted += [{"days": [land.found(day)], "listed": True, **cited(land.easter_sources, year)}
+               for land in lands.values() for year, day in land.exceptions.items()]
     hold(f"the program answers {answers}", answers == wanted)
 
 

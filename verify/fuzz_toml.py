@@ -3,8 +3,7 @@
 Each text goes through `plan`, and one that is taken is published into a new journal. `text` of that
 journal is a text of the same register: it plans nothing there, and another journal that it is
 published into is written as the same text. A run ends with a status that docs/TERRITORIES.md
-names, within a minute, and tells a fault in one line. A control character in a key or a word is
-told as it is, so that such a fault may have more lines.
+names, within a minute, and tells a fault in one line that has no control character.
 
 What a text says, or its first fault, is by territory_texts.py, where Python's own reader of TOML
 reads the text. Readers differ in whole numbers of more than 64 bits, and in how deep they go.
@@ -15,15 +14,14 @@ import subprocess
 import tomllib
 
 from common import TOP
+from keeping import HEAD_4
 from mutations import SECONDS, Run, mutated
 from territory_texts import TextFault, lands_of, shown
 from text_pages import fault_words
 
 NOTHING = b"nothing to change\n"
-SYNTAX = re.compile(rb"oldstyle: [^\n]*: line [1-9]\d*, column [1-9]\d*: [^\n]+\n")
-NO_UTF_8 = b": it is not UTF-8: save it as UTF-8\n"
-CONTROL = re.compile("[\0-\x1f\x7f]")
-HEAD = b'{"journal":2}\n'
+CONTROL = re.compile(rb"[\0-\x1f\x7f]")
+HEAD = f"{HEAD_4}\n".encode()
 # How deep both readers go, and a text of so many bytes at most is changed.
 DEPTH, LONGEST = 60, 20_000
 LARGE = [100, 1_000, 30_000]
@@ -190,8 +188,7 @@ class Registers(Program):
         if fault is not None:
             wanted = f"oldstyle: {self.path('a.toml')}: {fault}\n".encode()
             self.is_right(f"told {told!r}, wanted {wanted!r}", told == wanted)
-        is_odd = fault is not None and CONTROL.search(fault)
-        self.is_right(f"told {told!r}, in {told.count(10)} lines", told.count(b"\n") == 1 or is_odd)
+        self.is_right(f"told {told!r}, with control characters", not CONTROL.search(told[:-1]))
         done = self.run("publish", "empty", "a.toml")
         self.is_right(f"publish tells {done and done.told!r}, plan {told!r}",
                       done and done.told == told)

@@ -255,7 +255,7 @@ def command_row(program, words, lines):
 def all_rows(program, built):
     yield from call_rows(program, built)
     yield "three editions of the running register", editions_row(built["editions"])
-    for words, lines in [*COMMANDS, PUBLISHING]:
+    for words, lines in [*COMMANDS, *PUBLISHING]:
         yield f"`oldstyle {words}`".replace(" `", "`"), command_row(program, words, lines)
 
 

@@ -1,12 +1,13 @@
 #!/usr/bin/env python3
-"""Publishes a text where output, files, the disk or memory fail it, and where it is killed.
+"""Publishes texts where output, files, the disk or memory fail it, and where it is killed.
 
 Standard output is full, closed, or a pipe that nobody reads; files are folders, or not there; the
 disk is full; the length of files or addresses are limited; and the run is killed (SIGKILL) at a
 random moment. Each time the journal has to hold what it held, or the whole edition too, as the
-status says; after a kill or on a full disk a front of it may be left, which is counted. Then every
-edition that there was is still told, and once the condition is over the text is published. A disk
-that is full is one in memory, which only root may mount.
+status says. After a kill a front of it may be left, which is counted. A text with sources, whose
+journal of version 2 is saved anew as version 4, leaves none: the old journal stands or the new one.
+Then every edition that there was is still told, and once the condition is over the text is
+published. A disk that is full is one in memory, which only root may mount.
 """
 import os
 import random
@@ -17,35 +18,38 @@ import tempfile
 import time
 
 from common import JULIAN, CommandLine, compact, end, mounted, run
-from keeping import HEAD, PUBLISH, hold, land, verdict
+from keeping import HEAD, HEAD_4, PUBLISH, hold, land, verdict
 from text_draws import journal_lines
 from territory_texts import lands_of
 
 WRITE_FAULT = (3, "oldstyle: write fault\n")
 ADDRESSES = 6_000_000
 KEYS = "".join(f'{word} = "{value}"\n' for word, value in JULIAN.items())
+SOURCE = ', source = "24 Geo. II c. 23"'
 
 
-def text_of(count, changes):
-    """A text of territories with some changes each."""
-    rows = "".join(f'  {{ from = {{ day = {day * 1_000 + 5} }}, style = "{style}" }},\n'
+def text_of(count, changes, source):
+    """A text of territories with some changes each, which have a source or none."""
+    rows = "".join(f'  {{ from = {{ day = {day * 1_000 + 5} }}, style = "{style}"{source} }},\n'
                    for day, style in zip(range(1, changes + 1), ["pisan", "january"] * changes))
     return "".join(f'[P{number}]\nname = "Place {number}"\n{KEYS}changes = [\n{rows}]\n'
                    for number in range(count))
 
 
 class Trial:
-    """A folder with a journal and a text, and what the journal is to hold after a publish."""
+    """A folder with a journal and a text, and what the journal is to hold after a publish. Where
+    the text has sources, the journal is saved anew."""
 
-    def __init__(self, program, folder, size):
+    def __init__(self, program, folder, size, source=""):
         self.program, self.journal = program, os.path.join(folder, "a.journal")
-        self.text = os.path.join(folder, "a.toml")
-        said = text_of(*size)
+        self.text, self.is_anew = os.path.join(folder, "a.toml"), bool(source)
+        said = text_of(*size, source)
         with open(self.text, "w", encoding="utf-8") as file:
             file.write(said)
-        self.before = "".join(line + "\n" for line in [HEAD, compact(land(1)), PUBLISH])
-        lines = list(journal_lines(lands_of(said)))[1:]
-        self.edition = "".join(compact(line) + "\n" for line in lines)
+        lines = "".join(line + "\n" for line in [compact(land(1)), PUBLISH])
+        edition = "".join(compact(line) + "\n" for line in list(journal_lines(lands_of(said)))[1:])
+        self.before = f"{HEAD}\n{lines}"
+        self.after = f"{HEAD_4 if source else HEAD}\n{lines}{edition}"
         self.begin()
 
     def begin(self):
@@ -67,7 +71,13 @@ class Trial:
         """The run ended so, and the journal has the edition or not."""
         hold(f"{what} is told {told}", told == wanted)
         hold(f"{what}: the journal has other lines",
-             self.held() == self.before + self.edition * is_published)
+             self.held() == (self.after if is_published else self.before))
+        hold(f"{what}: a file is left beside it", not self.unfinished())
+
+    def unfinished(self):
+        """The files beside the journal that a save has left."""
+        folder = os.path.dirname(self.journal)
+        return [os.path.join(folder, name) for name in os.listdir(folder) if "unfinished" in name]
 
     def hold_next(self, what):
         """The text is published where nothing is in its way."""
@@ -114,7 +124,7 @@ def limited(length):
 
 def try_lengths(trial):
     """A limit on the length of files, anywhere within the edition."""
-    first, last = len(trial.before.encode()), len((trial.before + trial.edition).encode())
+    first, last = len(trial.before.encode()), len(trial.after.encode())
     for length in range(first, last, max(1, (last - first) // 40)):
         trial.begin()
         told = trial.publish(preexec_fn=lambda: limited(length))
@@ -122,12 +132,12 @@ def try_lengths(trial):
     trial.hold_next("limits")
 
 
-def try_full_disk(program, folder):
+def try_full_disk(program, folder, source):
     with mounted(folder, "size=128k") as disk:
         if disk is None:
             print("not tried: a full disk, which only root may mount")
             return
-        trial, other = Trial(program, disk, (40, 10)), os.path.join(disk, "other")
+        trial, other = Trial(program, disk, (40, 10), source), os.path.join(disk, "other")
         try:
             with open(other, "wb", buffering=0) as file:
                 while file.write(b"a" * 4_096):
@@ -158,15 +168,17 @@ def try_kill(trial, chance, longest):
         time.sleep(chance.uniform(0, longest))
         running.kill()
     found = trial.held()
-    gained = found.removeprefix(trial.before)
-    hold("a kill leaves other lines", found.startswith(trial.before)
-         and trial.edition.startswith(gained))
-    is_whole = gained == trial.edition
+    is_whole, is_old = found == trial.after, found == trial.before
+    is_front = found.startswith(trial.before) and trial.after.startswith(found)
+    hold("a kill leaves other lines", is_whole or is_old or is_front and not trial.is_anew)
+    for path in trial.unfinished():
+        hold("a kill leaves a file beside the journal", trial.is_anew)
+        os.remove(path)
     done = run(trial.program, ["serve", "--follow", trial.journal],
                [compact({"op": "lands", "reader": 1})])
     hold(f"after a kill {done.stdout[:200]!r}",
          f'"edition":{1 + is_whole},' in done.stdout and not done.stderr)
-    return is_whole, 0 < len(gained) < len(trial.edition)
+    return is_whole, not is_whole and not is_old
 
 
 def try_kills(trial, options):
@@ -179,25 +191,30 @@ def try_kills(trial, options):
     return [sum(column) for column in zip(*found)]
 
 
+def try_all(options, source):
+    """Each condition for a text with sources or without. Answers what is told of it."""
+    with tempfile.TemporaryDirectory() as folder, tempfile.TemporaryDirectory() as disk:
+        trial = Trial(options.program, folder, (5, 4), source)
+        try_outputs(trial)
+        try_files(trial, folder)
+        try_lengths(trial)
+        try_full_disk(options.program, disk, source)
+        large = Trial(options.program, folder, (400, 30), source)
+        is_refused = try_addresses(large)
+        whole, fronts = try_kills(large, options)
+    memory = "refused" if is_refused else "enough"
+    return f"{whole} are an edition, {fronts} left a front of one, 6 MB of addresses were {memory}"
+
+
 def main():
     line = CommandLine(__doc__)
     line.add_program()
     line.add_count(200, "runs that are killed")
     line.add_seed()
     options = line.read()
-    with tempfile.TemporaryDirectory() as folder, tempfile.TemporaryDirectory() as disk:
-        trial = Trial(options.program, folder, (5, 4))
-        try_outputs(trial)
-        try_files(trial, folder)
-        try_lengths(trial)
-        try_full_disk(options.program, disk)
-        large = Trial(options.program, folder, (400, 30))
-        is_refused = try_addresses(large)
-        whole, fronts = try_kills(large, options)
-    memory = "refused" if is_refused else "enough"
-    return verdict(f"{options.count} publishes were killed: {whole} are an edition and {fronts} "
-                   f"left a front of one. Streams, files, limits and a full disk leave the journal "
-                   f"whole; 6 MB of addresses were {memory}")
+    plain, anew = try_all(options, ""), try_all(options, SOURCE)
+    return verdict(f"{options.count} publishes were killed: {plain}. As many that save the journal "
+                   f"anew: {anew}. Streams, files, limits and a full disk leave the journal whole")
 
 
 if __name__ == "__main__":

@@ -9,8 +9,8 @@ is, and with a further member that no op has and whose value is a list, which is
 first way and asks for the same. Both replies have to be the same. A line that is no object has no
 second form.
 
-Where an older program is named, which has to know the same ops, files of the lines are sent to
-both, and they have to write the same bytes.
+Where an older program is named, which has to know the same ops and members, files of the lines are
+sent to both, and they have to write the same bytes.
 """
 import random
 import subprocess
@@ -19,7 +19,7 @@ from common import CommandLine, end
 
 LINE = CommandLine(__doc__)
 LINE.add_program()
-LINE.add_older("an older program, which knows the same ops")
+LINE.add_older("an older program, which knows the same ops and members")
 LINE.add_count(100_000, "lines")
 LINE.add_seed()
 OPTIONS = LINE.read()
@@ -29,11 +29,12 @@ LINES_A_FILE = 32
 OPS = ["add_land", "add_change", "alter_change", "drop_change", "add_exception", "drop_exception",
        "publish", "read", "day", "periods", "lands", "easter", "figures", "written", "fly"]
 NAMES = ["op", "reader", "code", "name", "year", "month", "day", "calendar", "style", "rule",
-         "date", "weekday", "step", "ask", "journal", "Op", "op ", "", "~", "é",
+         "date", "weekday", "source", "step", "ask", "journal", "Op", "op ", "", "~", "é",
          "o\\u0070", "\\u006fp", "co\\u0064e", "\\n"]
 TEXTS = OPS + ["GB", "RM", "A1B2C3D4", "gb", "TOOLONGCODE", "Great Britain", "julian", "gregorian",
                "swedish", "january", "annunciation", "easter", "pisan", "friday", "n.d.",
-               "x" * 64, "x" * 65, "é", "", "G\\u0042", "\\u0047B", "a\\\"b", "\\\\", "\\/",
+               "x" * 64, "x" * 65, "x" * 1_000, "x" * 1_001, "é" * 501, "é", "",
+               "G\\u0042", "\\u0047B", "a\\\"b", "\\\\", "\\/",
                "\\ud83d\\ude00", "\\ud83d", "\t", "\\t", "\x7f", "\\x", "\\u00"]
 NUMBERS = ["0", "1", "2", "7", "12", "13", "31", "1752", "9999", "10000", "639797", "3652059",
            "3652060", "-1", "-0", "-7", "00", "01", "1.0", "1.5", "1e0", "1E2", "12e-1", "1e400",
@@ -44,10 +45,10 @@ OTHERS = ["null", "true", "false", "[]", "{}", "[1]", '{"op":"lands"}', "[[[[]]]
 SPACES = ["", "", "", "", " ", "  ", "\t", "\r", "\u00a0"]
 
 USUAL = {
-    "add_land": ["code", "name", "calendar", "style", "rule"],
-    "add_change": ["code", "day", "calendar", "style", "rule"],
-    "alter_change": ["code", "day", "calendar", "style", "rule"],
-    "drop_change": ["code", "day"], "add_exception": ["code", "year", "day"],
+    "add_land": ["code", "name", "calendar", "style", "rule", "source"],
+    "add_change": ["code", "day", "calendar", "style", "rule", "source"],
+    "alter_change": ["code", "day", "calendar", "style", "rule", "source"],
+    "drop_change": ["code", "day"], "add_exception": ["code", "year", "day", "source"],
     "drop_exception": ["code", "year"], "read": ["reader", "code", "year", "month", "day"],
     "day": ["reader", "code", "day"], "periods": ["reader", "code"], "lands": ["reader"],
     "easter": ["reader", "code", "year"], "figures": ["reader", "year"],
@@ -59,6 +60,7 @@ VALUES = {
     "calendar": ['"julian"', '"gregorian"'], "style": ['"january"', '"annunciation"'],
     "rule": ['"julian"', '"gregorian"'], "date": ['"3 September 1752"', '"March 1731"', '"z"'],
     "weekday": ['"Friday"', '"SUNDAY"', '"Fryday"'],
+    "source": ['"24 Geo. II c. 23"', '"a \\"bull\\""', '""', '"\\u00e9"'],
 }
 
 

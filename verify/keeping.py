@@ -8,6 +8,7 @@ import time
 from common import JULIAN, compact
 
 HEAD, PUBLISH = compact({"journal": 2}), compact({"op": "publish"})
+HEAD_4 = compact({"journal": 4})
 HELD = (3, "", "oldstyle: another run of the program keeps that journal\n")
 faults = []
 

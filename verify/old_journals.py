@@ -1,12 +1,13 @@
 #!/usr/bin/env python3
-"""Holds what an older program and a newer one make of random journals of version 1.
+"""Holds what an older program and a newer one make of random journals of versions 1 and 2.
 
 Each journal has edits of all six kinds and publishes, in any spelling that is allowed,
-and mostly edits that are pending. Some have a line that is refused or no request, so that nothing
+and mostly edits that are pending. Some edits have a member `source`, which these versions ignore,
+whatever it is. Some journals have a line that is refused or no request, so that nothing
 is loaded. Both programs load each journal, answer queries of all six kinds, make some further
 edits, and save. What they have to agree in: their statuses and messages, their replies, and what
 they save, but for the head: the newer one writes {"journal":2}, and the older one may write
-{"journal":1}.
+{"journal":1}. Where the older one knows no version 2, all journals are of version 1.
 
 By the older program's rules the line ends on 31 December 2999, and by the newer one's on that of
 9999; the journals and queries are of days and years that both have, or neither. In a reply of the
@@ -19,7 +20,7 @@ import random
 import subprocess
 import tempfile
 
-from common import CommandLine, compact, end
+from common import JULIAN, CommandLine, compact, end, run
 
 # The last day and year by the older program's rules, and what is off the line by those of both.
 HIGH, LAST_YEAR = 1_095_362, 2_999
@@ -30,16 +31,19 @@ OFF_DAY, OFF_YEAR, OFF_LABEL_YEAR = 3_652_060, 10_000, 10_001
 NEW_HIGH, LAST_FULL_YEAR = 3_652_059, 2_997
 
 CALENDARS = ["julian", "gregorian", "swedish"]
-STYLES = ["january", "annunciation", "nativity", "september"]
+STYLES = {1: ["january", "annunciation", "nativity", "september"]}
+STYLES[2] = STYLES[1] + ["pisan", "easter"]
 RULES = ["julian", "gregorian"]
 CODES = ["RM", "GB", "FR", "SE", "DE", "A1B2C3D4"]
 NAMES = ["Rome", "Sample", "Île é", "x" * 64, 'A "quoted" \\ name', "two  spaces"]
-HEADS = ['{"journal":1}', ' {"note":[1,2.5,null],"journal":1}\t', '{ "journal" : 1 }']
+HEADS = ['{"journal":%s}', ' {"note":[1,2.5,null],"journal":%s}\t', '{ "journal" : %s }']
+# What a source may be that is ignored.
+SOURCES = ["24 Geo. II c. 23", "", "x" * 1_001, "a\nb", "\u007f", 5, None, True, ["a"], {"b": 1.5}]
 
 # Days near which something happens: the line's ends, Swedish dates, and changes of calendar.
 DAYS = [1, 2, 3, HIGH, 620_617, 625_000, 625_001, 577_736, 639_551, 639_797, 700_214]
 
-# Lines of which each ends a journal of version 1, whatever was before it.
+# Lines of which each ends a journal of version 1, whatever was before it; of version 2 some.
 BAD_LINES = [
     "", "[1]", "{", '{"op":"fly"}', '{"op":7}', '{"op":"lands","reader":1}', '{"journal":1}',
     '{"op":"add_land","code":"ZZ","name":"Later","calendar":"julian","style":"pisan",'
@@ -54,9 +58,10 @@ BAD_HEADS = ["", "{}", '{"journal":0}', '{"journal":3}', '{"journal":"1"}', '{"j
 HEAD, NEXT_HEAD = b'{"journal":1}\n', b'{"journal":2}\n'
 
 
-def random_regime(chance):
-    words = {"calendar": CALENDARS, "style": STYLES, "rule": RULES}
-    return {member: chance.choice(among) for member, among in words.items()}
+def random_regime(chance, version):
+    words = {"calendar": CALENDARS, "style": STYLES[version], "rule": RULES}
+    regime = {member: chance.choice(among) for member, among in words.items()}
+    return {**regime, **JULIAN, "style": "easter"} if regime["style"] == "easter" else regime
 
 
 def random_day(chance):
@@ -79,8 +84,12 @@ def random_label_year(chance):
 class Lands:
     """The territories of a journal, so that its edits are lawful unless they are to be refused."""
 
-    def __init__(self, chance):
+    def __init__(self, chance, version):
         self.chance, self.changes, self.exceptions = chance, {}, {}
+        self.version = version
+
+    def regime(self):
+        return random_regime(self.chance, self.version)
 
     def edit(self):
         """An edit that is lawful."""
@@ -89,14 +98,14 @@ class Lands:
             code = chance.choice(absent)
             self.changes[code], self.exceptions[code] = set(), set()
             name = chance.choice(NAMES)
-            return {"op": "add_land", "code": code, "name": name, **random_regime(chance)}
+            return {"op": "add_land", "code": code, "name": name, **self.regime()}
         code = chance.choice(list(self.changes))
         changes, exceptions = self.changes[code], self.exceptions[code]
         op = chance.choice(["add_change", "alter_change", "drop_change",
                             "add_exception", "drop_exception"])
         if op == "alter_change":
             day = chance.choice([1, *sorted(changes)])
-            return {"op": op, "code": code, "day": day, **random_regime(chance)}
+            return {"op": op, "code": code, "day": day, **self.regime()}
         if op == "drop_change" and changes:
             day = chance.choice(sorted(changes))
             changes.remove(day)
@@ -108,9 +117,9 @@ class Lands:
         day, year = random_day(chance), chance.randint(1, LAST_YEAR)
         if op == "add_change" and day > 1 and day not in changes and len(changes) < 40:
             changes.add(day)
-            return {"op": op, "code": code, "day": day, **random_regime(chance)}
+            return {"op": op, "code": code, "day": day, **self.regime()}
         if year in exceptions:
-            return {"op": "alter_change", "code": code, "day": 1, **random_regime(chance)}
+            return {"op": "alter_change", "code": code, "day": 1, **self.regime()}
         exceptions.add(year)
         return {"op": "add_exception", "code": code, "year": year, "day": day}
 
@@ -120,9 +129,9 @@ class Lands:
         changes, exceptions = self.changes[code], self.exceptions[code]
         taken = chance.choice([1, *sorted(changes)])
         edits = [
-            {"op": "add_land", "code": code, "name": "Again", **random_regime(chance)},
-            {"op": "add_change", "code": code, "day": taken, **random_regime(chance)},
-            {"op": "alter_change", "code": code, "day": OFF_DAY, **random_regime(chance)},
+            {"op": "add_land", "code": code, "name": "Again", **self.regime()},
+            {"op": "add_change", "code": code, "day": taken, **self.regime()},
+            {"op": "alter_change", "code": code, "day": OFF_DAY, **self.regime()},
             {"op": "drop_change", "code": code, "day": 1},
             {"op": "drop_change", "code": "ZZ", "day": 2},
             {"op": "add_exception", "code": code, "year": OFF_YEAR, "day": 5},
@@ -131,6 +140,11 @@ class Lands:
         edits += [{"op": "add_exception", "code": code, "year": year, "day": 7}
                   for year in sorted(exceptions)[:1]]
         return chance.choice(edits)
+
+
+def ignored(chance, value):
+    """A line of a journal with a source, which is ignored, or as it is."""
+    return {**value, "source": chance.choice(SOURCES)} if chance.random() < 0.3 else value
 
 
 def spelt(chance, value):
@@ -145,18 +159,19 @@ def spelt(chance, value):
     return json.dumps(dict(members), separators=separators, ensure_ascii=is_plain)
 
 
-def random_journal(chance):
+def random_journal(chance, version):
     """The lines of a journal, and the territories that it has where it isn't refused."""
-    lands, lines, pending = Lands(chance), [chance.choice(HEADS)], False
+    lands, lines, pending = Lands(chance, version), [chance.choice(HEADS) % version], False
     for _ in range(chance.choice([0, 1, 3, 10, 30, 60])):
         is_publish = pending and chance.random() < 0.25
-        lines.append(spelt(chance, {"op": "publish"} if is_publish else lands.edit()))
+        line = {"op": "publish"} if is_publish else lands.edit()
+        lines.append(spelt(chance, ignored(chance, line)))
         pending = not is_publish
     spoiling = chance.random()
     if spoiling < 0.1:
         lines.insert(chance.randint(1, len(lines)), chance.choice(BAD_LINES))
     elif spoiling < 0.2 and lands.changes:
-        lines.append(spelt(chance, lands.refused_edit()))
+        lines.append(spelt(chance, ignored(chance, lands.refused_edit())))
     elif spoiling < 0.23:
         lines[0] = chance.choice(BAD_HEADS)
     elif spoiling < 0.26 and not pending:
@@ -227,12 +242,12 @@ def on_shorter_line(request, reply):
     return compact(told)
 
 
-def compared(requests, run):
+def compared(requests, done):
     """What a run is compared by, its replies being those of the shorter line."""
-    replies = run[2].decode().splitlines()
+    replies = done[2].decode().splitlines()
     if len(replies) == len(requests):
         replies = [on_shorter_line(*pair) for pair in zip(requests, replies)]
-    return run[0], run[1], replies, run[3]
+    return done[0], done[1], replies, done[3]
 
 
 def difference(old, new):
@@ -250,6 +265,12 @@ def difference(old, new):
     return None
 
 
+def knows_version_2(program, journal):
+    with open(journal, "wb") as file:
+        file.write(NEXT_HEAD)
+    return run(program, ["serve", "--journal", journal]).returncode == 0
+
+
 def main():
     line = CommandLine(__doc__)
     line.add_older("the older program", required=True)
@@ -260,22 +281,23 @@ def main():
     chance, failed, refused = random.Random(options.seed), 0, 0
     with tempfile.TemporaryDirectory() as room:
         journal, saved = (os.path.join(room, name) for name in ("journal", "saved"))
+        versions = [1, 2] if knows_version_2(options.older, journal) else [1]
         for place in range(options.count):
-            lines, lands = random_journal(chance)
+            lines, lands = random_journal(chance, chance.choice(versions))
             requests = random_requests(chance, lands)
             with open(journal, "w", encoding="utf-8", newline="\n") as file:
                 file.write("\n".join(lines) + chance.choice(["\n", ""]))
             text = "".join(line + "\n" for line in requests).encode()
-            runs = [made(program, journal, text, saved)
+            made_by = [made(program, journal, text, saved)
                     for program in (options.older, options.program)]
-            old, new = (compared(requests, run) for run in runs)
+            old, new = (compared(requests, one) for one in made_by)
             refused += old[0] == 1
             if told := difference(old, new):
                 failed += 1
                 if failed <= 10:
                     print(f"journal {place}, {len(lines)} lines: {told}")
-    print(f"{options.count} journals, {refused} of them refused by the older program: {failed} "
-          "differ")
+    print(f"{options.count} journals of versions {versions}, {refused} of them refused by the "
+          f"older program: {failed} differ")
     return 1 if failed else 0
 
 

@@ -77,10 +77,15 @@ def nearest_lines(territory, date):
     return [f"nearest: {numbered(territory, day)}" for day in territory.nearest(date)]
 
 
+def source_lines(sources, of):
+    return [f"(source: {sources[of]})"] if of in sources else []
+
+
 def skip_lines(territory, date, change):
     before = change - 1
     yield (f"skipped: {named(territory, before)} was followed by "
            f"{numbered(territory, change)}")
+    yield from source_lines(territory.land.sources, change)
     old, new = (territory.regime_at(day)[1] for day in (before, change))
     if old != new:
         yield (f"the year's beginning changed: until then years from {YEARS[old]}, "
@@ -130,18 +135,31 @@ def period_line(territory, first, last, regime):
             f"(years from {YEARS[style]}), {rule} rule")
 
 
+def period_lines(territory, first, last, regime):
+    """The line of a period, and that of its source."""
+    yield period_line(territory, first, last, regime)
+    yield from source_lines(territory.land.sources, first)
+
+
+def easter_lines(territory, year, day):
+    """The line of a listed Easter, and that of its source."""
+    yield f"listed Easter of {year}: {numbered(territory, day)}"
+    yield from source_lines(territory.land.easter_sources, year)
+
+
 def day_page(place, day):
     territory = place.territory
     period = next(one for one in territory.periods if one[0] <= day <= one[1])
     return [f"day {day} in {place.heading()}", day_line(territory, day),
-            period_line(territory, *period)]
+            *period_lines(territory, *period)]
 
 
 def territory_page(place):
     territory = place.territory
     easters = sorted(territory.land.exceptions.items())
-    return [place.heading(), *(period_line(territory, *one) for one in territory.periods),
-            *(f"listed Easter of {year}: {numbered(territory, day)}" for year, day in easters)]
+    return [place.heading(),
+            *(line for one in territory.periods for line in period_lines(territory, *one)),
+            *(line for one in easters for line in easter_lines(territory, *one))]
 
 
 def list_page(lands, edition):

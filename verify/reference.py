@@ -2,7 +2,8 @@
 """Answers request lines as the program does, slowly: the service written apart.
 
 It was written from docs/FORMATS.md and docs/CALENDARS.md alone, for eight readers and the
-standard limits: verify/reference.py < examples/rome.jsonl. Calendars are walks along every day of
+standard limits: verify/reference.py < examples/rome.jsonl. Edits have the members of the newest
+version of journals, or those of an earlier one. Calendars are walks along every day of
 the line, a reading is a search through every day, Easter is found by the tables of the moon. Its
 replies are to be those of the program, byte for byte. Of `written` it answers days, months, years,
 ranges and bounds in their usual English forms, and ends at any other text.
@@ -26,14 +27,16 @@ NAMES |= {10: "ExceptionExists", 11: "NoSuchException", 12: "TooManyLands", 13: 
 NAMES |= {14: "TooManyExceptions", 15: "NothingPending", 16: "JournalFull", 17: "EditionsFull"}
 NAMES |= {18: "BadDate", 19: "StyleNeedsJulian", 31: "LineTooLong", 32: "NotJson"}
 NAMES |= {33: "NotObject", 34: "BadField", 35: "UnknownOp", 36: "UnknownReader"}
+NAMES |= {46: "NeedsUpgrade"}
+NEWEST, LONGEST_SOURCE = 4, 1_000
 REGIME = {"calendar": ("julian", "gregorian", "swedish"), "rule": ("julian", "gregorian")}
 REGIME["style"] = ("january", "annunciation", "nativity", "september", "pisan", "easter")
 MEMBERS = {
-    "add_land": "code name calendar style rule",
-    "add_change": "code day calendar style rule",
-    "alter_change": "code day calendar style rule",
+    "add_land": "code name calendar style rule source",
+    "add_change": "code day calendar style rule source",
+    "alter_change": "code day calendar style rule source",
     "drop_change": "code day",
-    "add_exception": "code year day",
+    "add_exception": "code year day source",
     "drop_exception": "code year",
     "publish": "",
     "read": "reader code year month day",
@@ -68,7 +71,7 @@ class Whole(int):
     """A whole number of JSON, so that a float and a boolean are none."""
 
 
-def request_of(line, readers):
+def request_of(line, readers, version=NEWEST):
     if len(line) > LONGEST_LINE:
         raise Fault(31)
     try:
@@ -90,6 +93,9 @@ def request_of(line, readers):
             is_right = isinstance(got, str)
         elif member == "weekday":
             is_right = member not in value or isinstance(got, str) and is_weekday(got)
+        elif member == "source":
+            is_right = version < NEWEST or member not in value or (
+                isinstance(got, str) and is_source(got))
         elif member in REGIME:
             is_right = isinstance(got, str) and got in REGIME[member]
         else:
@@ -98,14 +104,20 @@ def request_of(line, readers):
             raise Fault(34, field=member)
     if "reader" in MEMBERS[op] and not 1 <= value["reader"] <= readers:
         raise Fault(36)
+    if version < NEWEST:
+        value.pop("source", None)
     return op, value
 
 
 class Service:
+    """The service, whose lines have the members of a version."""
+
     def __init__(
-        self, readers=8, lands=500, changes=40, exceptions=200, edits=20_000, editions=5_000
+        self, readers=8, lands=500, changes=40, exceptions=200, edits=20_000, editions=5_000,
+        version=NEWEST, takes_sources=True
     ):
         self.readers, self.published, self.draft = readers, {}, {}
+        self.version, self.takes_sources = version, takes_sources
         self.edits, self.pending, self.edition = 0, 0, 0
         self.most = dict(
             lands=lands, changes=changes, exceptions=exceptions, edits=edits, editions=editions
@@ -113,13 +125,15 @@ class Service:
 
     def reply(self, line):
         try:
-            op, value = request_of(line, self.readers)
+            op, value = request_of(line, self.readers, self.version)
             if op == "publish":
                 members = self.publish()
             elif "reader" in MEMBERS[op]:
                 told = self.ask(op, value)
                 members = {"edition": self.edition, "reader": value["reader"], **told}
             else:
+                is_given = "source" in MEMBERS[op] and "source" in value
+                refuse((lambda: is_given and not self.takes_sources, 46))
                 members = self.stage(op, value)
         except Fault as fault:
             members = fault.members
@@ -164,18 +178,19 @@ class Service:
     def stage(self, op, value):
         code, day, year = value["code"], value.get("day"), value.get("year")
         regime = tuple(value.get(member) for member in ("calendar", "style", "rule"))
-        land = self.draft.get(code)
+        land, source = self.draft.get(code), value.get("source")
         refuse(*self.refusals(op, value, regime, land))
         if op == "add_land":
             self.draft[code] = Land(value["name"], regime)
+            self.draft[code].start(1, regime, source)
         elif op in ("add_change", "alter_change"):
-            land.starts[day] = regime
+            land.start(day, regime, source)
         elif op == "drop_change":
-            del land.starts[day]
+            land.end_start(day)
         elif op == "add_exception":
-            land.exceptions[year] = day
+            land.list_easter(year, day, source)
         else:
-            del land.exceptions[year]
+            land.end_easter(year)
         self.edits, self.pending = self.edits + 1, self.pending + 1
         return {"ok": "staged", "pending": self.pending}
 
@@ -196,19 +211,21 @@ class Service:
         land = self.published.get(code)
         refuse((lambda: not is_code(code), 1), (lambda: land is None, 3))
         if op == "periods":
-            periods = land.periods()
-            return {"periods": [{"first": p[0], "last": p[1], **regime_of(p[2])} for p in periods]}
+            return {"periods": [
+                {"first": first, "last": last, **regime_of(regime), **cited(land.sources, first)}
+                for first, last, regime in land.periods()]}
         if op == "written":
             return written_answer(land, value["date"], value.get("weekday"))
         if op == "day":
             refuse((lambda: not 1 <= day <= HIGH, 5))
             first, last, regime = land.period(day)
-            found = land.found(day)
-            return {"first": first, "found": found, "last": last, "regime": regime_of(regime)}
+            return {"first": first, "found": land.found(day), "last": last,
+                    "regime": regime_of(regime), **cited(land.sources, first)}
         if op == "easter":
             refuse((lambda: not 1 <= year <= LAST_YEAR, 9))
             days = [land.found(d) for d in land.easters(year)]
-            return {"days": days, "listed": year in land.exceptions}
+            listed = {"listed": year in land.exceptions}
+            return {"days": days, **listed, **cited(land.easter_sources, year)}
         refuse((lambda: not 0 <= year <= LAST_LABEL_YEAR, 9))
         refuse((lambda: not 1 <= month <= 12 or not 1 <= day <= 31, 18))
         key = key_of(year, month, day)
@@ -240,6 +257,11 @@ def written_answer(land, text, given):
     }
 
 
+def cited(sources, of):
+    """The member that tells a source, where there is one."""
+    return {"source": sources[of]} if of in sources else {}
+
+
 def regime_of(regime):
     return dict(zip(("calendar", "style", "rule"), regime))
 
@@ -257,6 +279,17 @@ def is_code(code):
 def is_name(name):
     encoded = name.encode()
     return 1 <= len(encoded) <= 64 and all(byte >= 0x20 and byte != 0x7F for byte in encoded)
+
+
+def is_source(text):
+    encoded = text.encode()
+    return 1 <= len(encoded) <= LONGEST_SOURCE and all(
+        byte >= 0x20 and byte != 0x7F for byte in encoded)
+
+
+def version_of(head):
+    """The version that the first line of a journal says."""
+    return json.loads(head)["journal"]
 
 
 def main():

@@ -3,11 +3,12 @@
 
 from calendars import HIGH, MONTHS, WEEKDAYS, dates, style_year
 from common import compact
-from reference import Service
+from reference import NEWEST, Service
 
 STYLES = ["january", "annunciation", "nativity", "september", "pisan", "easter"]
 CALENDARS = ["julian", "gregorian", "swedish"]
 NAMES = {"XX": "Some \u00e9 place", "YY": "Another"}
+SOURCES = ["24 Geo. II c. 23", "\u00e9dit de Paris", "(a bull)", 'a "decree"', "s" * 1_000]
 
 
 def regime(chance):
@@ -16,6 +17,11 @@ def regime(chance):
         return {"calendar": "julian", "style": style, "rule": "julian"}
     return {"calendar": chance.choice(CALENDARS), "style": style,
             "rule": chance.choice(["julian", "gregorian"])}
+
+
+def source(chance, share):
+    """The source of an edit as its member, or now and then none."""
+    return {"source": chance.choice(SOURCES)} if chance.random() < share else {}
 
 
 def middle_day(chance):
@@ -28,11 +34,14 @@ def journal_lines(chance, middle):
     """A territory with some changes about a day in two editions, and edits that wait."""
     days = sorted(chance.sample(range(middle - 1_500, middle + 1_500), chance.randint(0, 6)))
     years = chance.sample(range(1, 10_000), chance.randint(0, 3))
-    yield {"op": "add_land", "code": "XX", "name": NAMES["XX"], **regime(chance)}
+    share = chance.choice([0, 0, 0.5, 1])
+    yield {"op": "add_land", "code": "XX", "name": NAMES["XX"], **regime(chance),
+           **source(chance, share)}
     yield {"op": "publish"}
-    yield from ({"op": "add_change", "code": "XX", "day": day, **regime(chance)} for day in days)
-    yield from ({"op": "add_exception", "code": "XX", "year": year, "day": chance.randint(1, HIGH)}
-                for year in years)
+    yield from ({"op": "add_change", "code": "XX", "day": day, **regime(chance),
+                 **source(chance, share)} for day in days)
+    yield from ({"op": "add_exception", "code": "XX", "year": year, "day": chance.randint(1, HIGH),
+                 **source(chance, share)} for year in years)
     yield {"op": "add_land", "code": "YY", "name": NAMES["YY"], **regime(chance)}
     yield {"op": "publish"}
     for year in range(1, 1 + chance.choice([0, 0, 1, 2, 3])):
@@ -41,9 +50,10 @@ def journal_lines(chance, middle):
 
 def write_journal(path, lines):
     """Writes a journal, and answers the service that has run its lines."""
-    service = Service()
+    service, lines = Service(), list(lines)
+    version = NEWEST if any("source" in line for line in lines) else 2
     with open(path, "w", encoding="utf-8") as file:
-        file.write(compact({"journal": 2}) + "\n")
+        file.write(compact({"journal": version}) + "\n")
         for line in map(compact, lines):
             file.write(line + "\n")
             if '"fault"' in service.reply(line.encode()):

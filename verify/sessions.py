@@ -44,9 +44,9 @@ def editor_after(chance, begun):
     return editor
 
 
-def journal(lines):
+def journal(lines, head=HEAD):
     """The bytes of a journal of these lines."""
-    return "".join(line + "\n" for line in [HEAD, *lines]).encode()
+    return "".join(line + "\n" for line in [head, *lines]).encode()
 
 
 def told_lines(out):
@@ -55,6 +55,13 @@ def told_lines(out):
     replies = [json.loads(line) for line in out.split(b"\n")[:-1]]
     changes = [reply for reply in replies if "ok" in reply]
     return len(changes), max((reply.get("edition", 0) for reply in changes), default=0)
+
+
+def last_edition(out):
+    """The last edition that an output tells, in a reply to a change or to a question. A last line
+    that is not whole counts for nothing."""
+    replies = [json.loads(line) for line in out.split(b"\n")[:-1]]
+    return max((reply.get("edition", 0) for reply in replies), default=0)
 
 
 def bytes_at(path):

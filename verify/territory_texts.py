@@ -12,11 +12,11 @@ import re
 import tomllib
 
 from random_lands import CALENDARS, chain, key
-from reference import REGIME, Fault, Service
+from reference import REGIME, Fault, Service, cited, is_source
 
-TERRITORY = ["name", "calendar", "style", "rule", "note", "changes", "easters"]
-CHANGE = ["from", "calendar", "style", "rule", "note"]
-EASTER = ["year", "date", "note"]
+TERRITORY = ["name", "calendar", "style", "rule", "source", "note", "changes", "easters"]
+CHANGE = ["from", "calendar", "style", "rule", "source", "note"]
+EASTER = ["year", "date", "source", "note"]
 WORDS = ["calendar", "style", "rule"]
 DATE = re.compile(r"([0-9]{3,9})-([0-9]{1,2})-([0-9]{1,2})")
 
@@ -71,26 +71,25 @@ def territory_edits(code, table):
     members = table_of(table, code, TERRITORY)
     name = text_at(members, code, "name")
     regime = regime_of(members, code, {})
-    note_of(members, code)
-    yield code, {"op": "add_land", "code": code, "name": name, **regime}
+    source = source_of(members, code)
+    yield code, {"op": "add_land", "code": code, "name": name, **regime, **source}
     last = None
     for place, item in enumerate(list_of(members, code, "changes"), 1):
         path = f"{code}.changes.{place}"
-        day, regime = change_of(table_of(item, path, CHANGE), path, regime)
+        day, regime, source = change_of(table_of(item, path, CHANGE), path, regime)
         if last is not None and day <= last:
             raise TextFault(path, "NotLater")
         last = day
-        yield path, {"op": "add_change", "code": code, "day": day, **regime}
+        yield path, {"op": "add_change", "code": code, "day": day, **regime, **source}
     for place, item in enumerate(list_of(members, code, "easters"), 1):
         path = f"{code}.easters.{place}"
-        year, day = easter_of(table_of(item, path, EASTER), path)
-        yield path, {"op": "add_exception", "code": code, "year": year, "day": day}
+        year, day, source = easter_of(table_of(item, path, EASTER), path)
+        yield path, {"op": "add_exception", "code": code, "year": year, "day": day, **source}
 
 
 def change_of(members, path, before):
     day, regime = day_at(members, path, "from"), regime_of(members, path, before)
-    note_of(members, path)
-    return day, regime
+    return day, regime, source_of(members, path)
 
 
 def easter_of(members, path):
@@ -98,8 +97,7 @@ def easter_of(members, path):
     if type(year) is not int:
         raise TextFault(f"{path}.year", "NotWhole")
     day = day_at(members, path, "date")
-    note_of(members, path)
-    return year, day
+    return year, day, source_of(members, path)
 
 
 def regime_of(members, path, before):
@@ -115,9 +113,16 @@ def regime_of(members, path, before):
     return regime
 
 
-def note_of(members, path):
+def source_of(members, path):
+    """The source of a table as a member of its edit, where it has one; after that its note."""
+    source = {}
+    if "source" in members:
+        source["source"] = text_at(members, path, "source")
+        if not is_source(source["source"]):
+            raise TextFault(f"{path}.source", "NotSource")
     if "note" in members:
         text_at(members, path, "note")
+    return source
 
 
 def day_at(members, path, name):
@@ -173,28 +178,41 @@ def list_of(members, path, name):
 
 def differences(lands, wanted):
     """The edits that change lands into what the wanted ones say, in no order that counts: an Easter
-    on another day is dropped and added."""
+    on another day, or with another source, is dropped and added."""
     for code, land in wanted.items():
         yield from territory_differences(code, lands.get(code), land)
 
 
 def territory_differences(code, land, wanted):
     if land is None:
-        regime = dict(zip(WORDS, wanted.starts[1]))
-        yield {"op": "add_land", "code": code, "name": wanted.name, **regime}
-    starts = {1: wanted.starts[1]} if land is None else land.starts
-    for day in sorted(starts.keys() - wanted.starts.keys()):
+        regime, source = dict(zip(WORDS, wanted.starts[1])), cited(wanted.sources, 1)
+        yield {"op": "add_land", "code": code, "name": wanted.name, **regime, **source}
+    there, starts = periods_of(land), periods_of(wanted)
+    there = {1: starts[1]} if land is None else there
+    for day in sorted(there.keys() - starts.keys()):
         yield {"op": "drop_change", "code": code, "day": day}
-    for day, regime in sorted(wanted.starts.items()):
-        if starts.get(day) != regime:
-            op = "alter_change" if day in starts else "add_change"
-            yield {"op": op, "code": code, "day": day, **dict(zip(WORDS, regime))}
-    easters = {} if land is None else land.exceptions
-    for year in sorted(year for year in easters if wanted.exceptions.get(year) != easters[year]):
+    for day, (regime, source) in sorted(starts.items()):
+        if there.get(day) != (regime, source):
+            op = "alter_change" if day in there else "add_change"
+            yield {"op": op, "code": code, "day": day, **dict(zip(WORDS, regime)), **source}
+    there, easters = easters_of(land), easters_of(wanted)
+    for year in sorted(year for year in there if easters.get(year) != there[year]):
         yield {"op": "drop_exception", "code": code, "year": year}
-    for year, day in sorted(wanted.exceptions.items()):
-        if easters.get(year) != day:
-            yield {"op": "add_exception", "code": code, "year": year, "day": day}
+    for year, (day, source) in sorted(easters.items()):
+        if there.get(year) != (day, source):
+            yield {"op": "add_exception", "code": code, "year": year, "day": day, **source}
+
+
+def periods_of(land):
+    """The regimes of a territory by their first days, each with its source as a member."""
+    starts = {} if land is None else land.starts
+    return {day: (regime, cited(land.sources, day)) for day, regime in starts.items()}
+
+
+def easters_of(land):
+    """The listed Easters of a territory by their years, each with its source as a member."""
+    exceptions = {} if land is None else land.exceptions
+    return {year: (day, cited(land.easter_sources, year)) for year, day in exceptions.items()}
 
 
 def after(lands, wanted):
@@ -204,5 +222,6 @@ def after(lands, wanted):
 
 def shown(lands):
     """A register as a value that can be compared, with its order."""
-    return [(code, land.name, sorted(land.starts.items()), sorted(land.exceptions.items()))
+    return [(code, land.name, sorted(land.starts.items()), sorted(land.exceptions.items()),
+             sorted(land.sources.items()), sorted(land.easter_sources.items()))
             for code, land in lands.items()]

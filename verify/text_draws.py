@@ -2,14 +2,18 @@
 import json
 import random
 
-from calendars import HIGH, LAST_YEAR, Land
+from calendars import HIGH, LAST_YEAR, Land, cite
 from random_lands import (CALENDARS, RULES, chain, days_that_begin, easter_days, random_exceptions,
                           random_regime, random_starts)
+from reference import cited
 from territory_texts import WORDS, date_on
 
 NAMES = ["Rome", "Great Britain", "\u00c5ngermanland", "\u0420\u0438\u043c", "a \"quoted\" name",
          "it's", "C:\\path\\to", "# no comment", "[table]", "  ", "x = 1", "\U0001f5d3 days",
          "{ day = 1 }", "n" * 64, "\u00e9" * 32, "'''", '"""', "\u0085\u2028"]
+SOURCES = ["24 Geo. II c. 23", "a bull", "\"quoted\"", "\u0434\u0435\u043a\u0440\u0435\u0442", "x",
+           "s" * 1_000, "\u00e9" * 500, "\U0001f5d3" * 250, " ", "; source: y", "a://b/?c=d#e",
+           "it's; a 'source'", "\\u0041", "\u0085\u2028"]
 FIRST, LATER = "ABCDEFGHIJKLMNOPQRSTUVWXYZ", "ABCDEFGHIJKLMNOPQRSTUVWXYZ0123456789"
 
 
@@ -37,7 +41,18 @@ class Draws:
         land.starts = starts
         if self.chance.random() < 0.5:
             land.exceptions = random_exceptions(self.chance)
+        if self.chance.random() < 0.6:
+            self.cite_some(land)
         return land
+
+    def source(self):
+        return self.chance.choice(SOURCES)
+
+    def cite_some(self, land):
+        """Gives sources to some of the periods and of the listed Easters."""
+        share = self.chance.choice([0.1, 0.5, 1])
+        for sources, keys in ((land.sources, land.starts), (land.easter_sources, land.exceptions)):
+            sources |= {key: self.source() for key in keys if self.chance.random() < share}
 
     def register(self, most=5):
         """Territories, in the order of their codes or not."""
@@ -58,20 +73,26 @@ class Draws:
         return {**wanted, **{code: further[code] for code in sorted(further.keys() - lands.keys())}}
 
     def changed(self, land):
-        """A territory with a few other changes and listed Easters."""
+        """A territory with a few other changes, listed Easters and sources."""
         land = land.copy()
         for _ in range(self.chance.randint(1, 4)):
-            kind, days = self.chance.randrange(5), sorted(land.starts)
+            kind, days = self.chance.randrange(7), sorted(land.starts)
+            source = self.chance.choice([None, None, self.source()])
             if kind == 0 and len(days) > 1:
-                del land.starts[self.chance.choice(days[1:])]
+                land.end_start(self.chance.choice(days[1:]))
             elif kind == 1 and len(days) <= 40:
-                land.starts[self.chance.randint(2, HIGH)] = random_regime(self.chance)
+                land.start(self.chance.randint(2, HIGH), random_regime(self.chance), source)
             elif kind == 2:
-                land.starts[self.chance.choice(days)] = random_regime(self.chance)
+                land.start(self.chance.choice(days), random_regime(self.chance), source)
             elif kind == 3 and land.exceptions:
-                del land.exceptions[self.chance.choice(list(land.exceptions))]
+                land.end_easter(self.chance.choice(list(land.exceptions)))
+            elif kind == 4:
+                cite(land.sources, self.chance.choice(days), source)
+            elif kind == 5 and land.exceptions:
+                cite(land.easter_sources, self.chance.choice(list(land.exceptions)), source)
             else:
-                land.exceptions[self.chance.randint(1, LAST_YEAR)] = self.chance.randint(1, HIGH)
+                land.list_easter(self.chance.randint(1, LAST_YEAR), self.chance.randint(1, HIGH),
+                                 source)
         return land
 
     # ---- texts
@@ -94,6 +115,7 @@ class Draws:
             else:
                 parts += [self.table(f"[[{code}.{name}]]", table) for table in tables]
         given = [f"{name} = {value}" for name, value in members.items()]
+        given += self.cited(land.sources, 1)
         return self.table(f"[{code}]", given + self.note()) + "".join(parts)
 
     def table(self, head, members):
@@ -108,14 +130,18 @@ class Draws:
             regime = land.starts[day]
             said = [f"{word} = {self.string(new)}" for word, old, new in zip(WORDS, before, regime)
                     if old != new or self.chance.random() < 0.2]
-            yield [self.day("from", day)] + said + self.note()
+            yield [self.day("from", day)] + said + self.cited(land.sources, day) + self.note()
             before = regime
 
     def easters(self, land):
         years = list(land.exceptions)
         self.chance.shuffle(years)
         for year in years:
-            yield [f"year = {year}", self.day("date", land.exceptions[year])] + self.note()
+            given = [f"year = {year}", self.day("date", land.exceptions[year])]
+            yield given + self.cited(land.easter_sources, year) + self.note()
+
+    def cited(self, sources, of):
+        return [f"source = {self.string(sources[of])}"] if of in sources else []
 
     def note(self):
         return [f"note = {self.string(self.chance.choice(NAMES))}"] * (self.chance.random() < 0.3)
@@ -143,15 +169,22 @@ class Draws:
         return json.dumps(text, ensure_ascii=False)
 
 
-def journal_lines(lands):
+def version_for(lands):
+    """The version that is written of lands: 4 where a source is given, else 2."""
+    return 4 if any(land.sources or land.easter_sources for land in lands.values()) else 2
+
+
+def journal_lines(lands, version=None):
     """The lines of a journal that publishes lands as one edition, if there are any."""
-    yield {"journal": 2}
+    yield {"journal": version or version_for(lands)}
     for code, land in lands.items():
         for day in sorted(land.starts):
             op = {"op": "add_land", "name": land.name} if day == 1 else {"op": "add_change",
                                                                          "day": day}
-            yield {**op, "code": code, **dict(zip(WORDS, land.starts[day]))}
+            yield {**op, "code": code, **dict(zip(WORDS, land.starts[day])),
+                   **cited(land.sources, day)}
         for year, day in sorted(land.exceptions.items()):
-            yield {"op": "add_exception", "code": code, "year": year, "day": day}
+            yield {"op": "add_exception", "code": code, "year": year, "day": day,
+                   **cited(land.easter_sources, year)}
     if lands:
         yield {"op": "publish"}

@@ -6,6 +6,7 @@ import json
 
 from calendars import HIGH
 from random_lands import CALENDARS
+from reference import cited
 from territory_texts import WORDS, date_on
 
 DAY = datetime.date(1752, 9, 14)
@@ -19,7 +20,8 @@ NO_DAYS = [0, -1, HIGH + 1, 1, "1", 1.0, True, 2**63 - 1, DAY]
 NO_WORDS = ["Julian", "roman", "", "julian ", "pisa", "astronomical", "swedish", "easter"]
 NO_CODES = ["gb", "G", "GB-ENG", "", "ABCDEFGHI", "G B", "1A", "\u00c9A", "A.B", "A\nB"]
 NO_NAMES = ["", "n" * 65, "\u00e9" * 33, "a\u0001b", "a\u007fb", "a\nb"]
-UNKNOWN = ["nmae", "Name", "source", "changes ", "", "day", "easter", "note.text", "from", "year"]
+NO_SOURCES = ["", "s" * 1_001, "\u00e9" * 501, "a\nb", "a\u007f", "\u0001", "\t", 5, ["a"], {}]
+UNKNOWN = ["nmae", "Name", "sources", "changes ", "", "day", "easter", "note.text", "from", "year"]
 
 
 def tables_of(chance, lands):
@@ -27,11 +29,11 @@ def tables_of(chance, lands):
     tables = {}
     for code, land in lands.items():
         table = {"name": land.name, **dict(zip(WORDS, land.starts[1]))}
-        changes = [{"from": day_table(chance, day), **dict(zip(WORDS, land.starts[day]))}
-                   for day in sorted(land.starts)[1:]]
-        easters = [{"year": year, "date": day_table(chance, day)}
-                   for year, day in land.exceptions.items()]
-        tables[code] = {**table, "changes": changes, "easters": easters}
+        changes = [{"from": day_table(chance, day), **dict(zip(WORDS, land.starts[day])),
+                    **cited(land.sources, day)} for day in sorted(land.starts)[1:]]
+        easters = [{"year": year, "date": day_table(chance, day),
+                    **cited(land.easter_sources, year)} for year, day in land.exceptions.items()]
+        tables[code] = {**table, **cited(land.sources, 1), "changes": changes, "easters": easters}
     return tables
 
 
@@ -53,13 +55,13 @@ def spoil(chance, tables):
     lists = [table[name] for name in ("changes", "easters") if isinstance(table.get(name), list)]
     parts = [part for items in lists for part in items if isinstance(part, dict)]
     part = chance.choice(parts) if parts and chance.random() < 0.7 else table
-    kind = chance.randrange(12)
+    kind = chance.randrange(13)
     if kind == 0:
         part[chance.choice(UNKNOWN)] = "text"
     elif kind == 1 and part:
         del part[chance.choice(list(part))]
     elif kind == 2 and part:
-        part[chance.choice([*part, "note"])] = any_value(chance)
+        part[chance.choice([*part, "note", "source"])] = any_value(chance)
     elif kind == 3:
         part[chance.choice(WORDS)] = chance.choice(NO_WORDS)
     elif kind == 4:
@@ -70,6 +72,8 @@ def spoil(chance, tables):
         tables[code] = any_value(chance)
     elif kind == 7:
         table[chance.choice(["changes", "easters"])] = any_value(chance)
+    elif kind == 12:
+        part["source"] = copy.deepcopy(chance.choice(NO_SOURCES))
     elif kind == 8 and lists:
         chance.choice(lists).reverse()
     else:

@@ -2,6 +2,8 @@
 
 Written from docs/TERRITORIES.md alone, for register_text.py.
 """
+import re
+
 from page_texts import YEARS, numbered
 from territory_texts import WORDS, date_on
 from written import Territory
@@ -10,6 +12,7 @@ DAY = ('write { gregorian = "1752-09-14" }, with julian or swedish in its place,
        "or { day = 639797 }")
 ALLOWED = {
     "name": "write a text", "note": "write a text", "from": DAY, "date": DAY,
+    "source": "write a text of 1 to 1,000 bytes, with no control character",
     "calendar": "write julian, gregorian or swedish",
     "style": "write january, annunciation, nativity, september, pisan or easter",
     "rule": "write julian or gregorian",
@@ -17,10 +20,12 @@ ALLOWED = {
     "year": "write a whole number",
 }
 KEYS = {
-    "changes": "a change has from, calendar, style, rule and note",
-    "easters": "a listed Easter has year, date and note",
-    None: "a territory has name, calendar, style, rule, note, changes and easters",
+    "changes": "a change has from, calendar, style, rule, source and note",
+    "easters": "a listed Easter has year, date, source and note",
+    None: "a territory has name, calendar, style, rule, source, note, changes and easters",
 }
+# The control characters, which are told by their numbers.
+CONTROL = re.compile("[\0-\x1f\x7f-\x9f]")
 REFUSED = {
     "BadCode": (1, "a code has 2 to 8 capital letters or digits, the first a letter"),
     "BadName": (2, "a name has 1 to 64 bytes, and no control character"),
@@ -43,21 +48,37 @@ def date_table(calendar, day):
     return '{ %s = "%04d-%02d-%02d" }' % (calendar, *date_on(calendar, day))
 
 
+def source_lines(sources, of):
+    """The line of a source, where there is one. It ends before the source."""
+    return ["source = "] if of in sources else []
+
+
+def texts_of(lands):
+    """The names and sources in the order of their lines."""
+    for land in lands.values():
+        yield land.name
+        yield from (land.sources[day] for day in sorted(land.sources))
+        yield from (land.easter_sources[year] for year in sorted(land.easter_sources))
+
+
 def territory_lines(code, land):
-    """The lines of a territory. That of its name ends before the name."""
+    """The lines of a territory. Those of its name and of sources end before the text."""
     before = land.starts[1]
     yield from [f"[{code}]", "name = "]
     yield from (f'{word} = "{value}"' for word, value in zip(WORDS, before))
+    yield from source_lines(land.sources, 1)
     for day in sorted(land.starts)[1:]:
         regime = land.starts[day]
         yield from ["", f"[[{code}.changes]]", f"from = {date_table(regime[0], day)}"]
         yield from (f'{word} = "{new}"' for word, old, new in zip(WORDS, before, regime)
                     if old != new)
+        yield from source_lines(land.sources, day)
         before = regime
     for year, day in sorted(land.exceptions.items()):
         calendar = land.period(day)[2][0]
         yield from ["", f"[[{code}.easters]]", f"year = {year}",
                     f"date = {date_table(calendar, day)}"]
+        yield from source_lines(land.easter_sources, year)
 
 
 def register_lines(lands):
@@ -82,6 +103,15 @@ def other_parts(before, regime):
 
 def edit_line(lands, wanted, edit):
     """The line of an edit, between the territories that there are and those that are wanted."""
+    line = edit_words(lands, wanted, edit)
+    if "source" in edit:
+        return f"{line}; source: {edit['source']}"
+    is_lost = edit["op"] == "alter_change" and edit["day"] in lands[edit["code"]].sources
+    return line + "; no source any more" * is_lost
+
+
+def edit_words(lands, wanted, edit):
+    """The line of an edit up to its source."""
     code, op = edit["code"], edit["op"]
     regime = tuple(edit.get(word) for word in WORDS)
     if op == "add_land":
@@ -135,7 +165,7 @@ def fault_words(fault):
     words |= {f"No{word.capitalize()}": lambda: f'"{fault.said}" is no {key}: {ALLOWED[key]}'
               for word in WORDS}
     said = words.get(fault.reason, lambda: ALLOWED[key])()
-    return f"{fault.path}: {said}"
+    return CONTROL.sub(lambda found: f"\\u{ord(found[0]):04X}", f"{fault.path}: {said}")
 
 
 def part_of(path, name):

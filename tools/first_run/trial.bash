@@ -8,7 +8,7 @@ chmod 755 "$work"
 trap end_trial EXIT
 trap 'exit 130' INT TERM
 unset FAKE_KIT FAKE_BROKEN FAKE_DIES FAKE_SIZE FAKE_PAUSE FAKE_TRY FAKE_FAULT FAKE_OTHER NO_COLOR
-crates=$(grep '^[a-z]' "$top/crates.txt" | grep -cvE '^(osn_wire|osn_test_texts|osn_[a-z]*_tests)')
+crates=$(grep '^[a-z]' "$top/crates.txt" | grep -cvE '^(osn_wire|osn_test_[a-z]*|osn_[a-z]*_tests)')
 held=0
 failed=0
 

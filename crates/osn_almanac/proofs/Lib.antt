@@ -1,2 +1,3 @@
+mod EndFacts
 pub mod Text
 pub mod TrimmedFacts

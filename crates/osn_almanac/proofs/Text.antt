@@ -1,6 +1,7 @@
 -- Columns, and the text of lines.
 use Rattle.std.proofs.Common.{◌≡◌, ◌≤◌, ℕ, ◌-◌, ◌^◌, List, [], ◌∷◌, ◌++◌, length, map}
-use Rattle.std.proofs.Common.{refl, sym, ap, ◌∙◌, arith, lit<, lit≤, append_assoc}
+use Rattle.std.proofs.Common.{refl, sym, ap, ◌∙◌, arith, lit<, lit≤, append_assoc, append-nil}
+use Rattle.std.proofs.Common.{Option, Some, None}
 use Rattle.std.specs.List.{flat_map, concat}
 use Rattle.std.specs.Fmt.{padded, char_count, styled_decimal, format_spec, decimal}
 use Rattle.std.proofs.Padding.{take_chars_all, repeat_ascii, padded_integral_right}
@@ -8,6 +9,8 @@ use Rattle.osn_days.specs.declared.weekday.Weekday.{Weekday}
 use Rattle.osn_days.specs.declared.weekday.Weekday.TheVariants.{Sunday, Monday, Tuesday, Wednesday}
 use Rattle.osn_days.specs.declared.weekday.Weekday.TheVariants.{Thursday, Friday, Saturday}
 use Rattle.osn_days.specs.Weekday.{weekday_name}
+use Rattle.osn_pages.specs.SourceLine.{source_line, source_text}
+use Rattle.osn_almanac.specs.Almanac.{source_lines}
 use Rattle.osn_almanac.specs.Columns.{left_in, day_column}
 
 -- what `{:<13}` and its like write of a text
@@ -54,7 +57,18 @@ concat_each f [] = refl
 concat_each f (x ∷ xs) =
     concat_append (f x) (flat_map f xs) ∙ ap (λ t. concat (f x) ++ t) (concat_each f xs)
 
+-- the line of a source, where one is given
+pub concat_source : (source : Option (List ℕ)) → concat (source_lines source) ≡ source_text source
+concat_source None = refl
+concat_source (Some source) = append-nil (source_line source)
+
 -- parts that are pushed in turn
+pub two_parts : (a b : List (List ℕ)) (t0 t1 t2 : List ℕ) → t1 ≡ t0 ++ concat a
+    → t2 ≡ t1 ++ concat b → t2 ≡ t0 ++ concat (a ++ b)
+two_parts a b t0 t1 t2 e1 e2 =
+    e2 ∙ ap (λ t. t ++ concat b) e1 ∙ append_assoc t0 (concat a) (concat b)
+    ∙ ap (λ t. t0 ++ t) (sym (concat_append a b))
+
 pub five_parts : (a b c d e : List (List ℕ)) (t0 t1 t2 t3 t4 t5 : List ℕ) → t0 ≡ []
     → t1 ≡ t0 ++ concat a → t2 ≡ t1 ++ concat b → t3 ≡ t2 ++ concat c → t4 ≡ t3 ++ concat d
     → t5 ≡ t4 ++ concat e → t5 ≡ concat (a ++ (b ++ (c ++ (d ++ e))))

@@ -1,7 +1,7 @@
 -- The almanac of a territory and year from what the register answers, line by line, each with its
 -- line feed: this project's profile.
 use Rattle.std.specs.Prelude.{ℕ, Bool, ◌&&◌, nat_lt, if◌then◌else◌, ℤ, pos, ◌+ℤ◌, List, [], ◌∷◌}
-use Rattle.std.specs.Prelude.{◌++◌, map, Option, true, false, codes}
+use Rattle.std.specs.Prelude.{◌++◌, map, Option, Some, None, true, false, codes}
 use Rattle.std.specs.Fmt.{decimal, signed_decimal}
 use Rattle.std.specs.List.{flat_map, concat}
 use Rattle.std.specs.Ordering.{int_eq}
@@ -23,11 +23,13 @@ use Rattle.osn_register.specs.declared.answer.Answer.{Answer}
 use Rattle.osn_register.specs.declared.answer.Answer.TheVariants as answers
 use Rattle.osn_register.specs.declared.answer.Found.{Found}
 use Rattle.osn_register.specs.declared.answer.Land.{Land}
+use Rattle.osn_register.specs.declared.answer.PeriodAndSource.{PeriodAndSource}
 use Rattle.osn_register.specs.declared.query.Query.TheVariants.{Read, DayIn, Easter, YearFigures}
 use Rattle.osn_register.specs.declared.query.Query.TheVariants.{Lands, Periods}
 use Rattle.osn_register.specs.declared.refusal.Refusal.{Refusal}
 use Rattle.osn_register.specs.Answer.{answer, easter_refusal}
 use Rattle.osn_register.specs.Plain.{LandModel}
+use Rattle.osn_pages.specs.SourceLine.{source_line}
 use Rattle.osn_almanac.specs.declared.feast.Feast.{Feast}
 use Rattle.osn_almanac.specs.Columns.{day_line, absent_line}
 use Rattle.osn_almanac.specs.Feast.{feast_name, days_after_easter, feasts}
@@ -80,6 +82,13 @@ figures_lines
     ∷ []
 figures_lines other = []
 
+-- ---- a source
+
+-- the line that cites it, where one is given
+abbrev pub source_lines : Option (List ℕ) → List (List ℕ)
+source_lines None = []
+source_lines (Some source) = source_line source ∷ []
+
 -- ---- the changes
 
 -- the period begins with a change, on a day that has a Gregorian date in the year
@@ -104,11 +113,15 @@ change_line p period =
     (calendar_word period.regime.calendar) (style_word period.regime.style)
     (rule_word period.regime.rule)
 
-unfoldable pub change_of : Profile → ℤ → Period → List (List ℕ)
-change_of p year period = if is_change_in year period then change_line p period ∷ [] else []
+-- that line, and that of the source
+abbrev pub cited_change : Profile → PeriodAndSource → List (List ℕ)
+cited_change p item = change_line p item.period ∷ source_lines item.source
 
-abbrev pub changes_text : Profile → ℤ → Period → List ℕ
-changes_text p year period = concat (change_of p year period)
+unfoldable pub change_of : Profile → ℤ → PeriodAndSource → List (List ℕ)
+change_of p year item = if is_change_in year item.period then cited_change p item else []
+
+abbrev pub changes_text : Profile → ℤ → PeriodAndSource → List ℕ
+changes_text p year item = concat (change_of p year item)
 
 abbrev pub change_lines : Profile → ℤ → Answer → List (List ℕ)
 change_lines p year (answers.Periods periods) = flat_map (change_of p year) periods
@@ -138,9 +151,13 @@ feast_lines p lands code easter = map (feast_line p lands code easter.day) feast
 abbrev pub feasts_text : Profile → List LandModel → List ℕ → Found → List ℕ
 feasts_text p lands code easter = concat (feast_lines p lands code easter)
 
+-- whether there was an Easter and by what, and the source of that
+abbrev pub cited_heading : List Found → Bool → Option (List ℕ) → List (List ℕ)
+cited_heading found listed source = easter_heading found listed ∷ source_lines source
+
 abbrev pub easter_lines : Profile → List LandModel → List ℕ → Answer → List (List ℕ)
-easter_lines p lands code (answers.Easters found listed) =
-    easter_heading found listed ∷ flat_map (feast_lines p lands code) found
+easter_lines p lands code (answers.Easters found listed source) =
+    cited_heading found listed source ++ flat_map (feast_lines p lands code) found
 easter_lines p lands code other = []
 
 -- ---- the months

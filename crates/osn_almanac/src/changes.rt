@@ -1,4 +1,4 @@
-//! The changes that fall in the year.
+//! The changes that fall in the year, with their sources.
 ghost use Rattle.std.specs.Prelude.{◌≡◌, ◌++◌, OnOk, string_bytes};
 ghost use Rattle.std.specs.List.{flat_map, concat};
 ghost use Rattle.osn_days.specs.Profile.{newest_rules};
@@ -8,7 +8,8 @@ ghost use Rattle.osn_almanac.specs.Almanac as spec;
 
 use osn_days::{Calendar, Day, Keyword, date_of};
 use osn_lands::{Period, dual_text};
-use osn_register::{Answer, BorrowedQuery, Register};
+use osn_pages::push_source;
+use osn_register::{Answer, BorrowedQuery, PeriodAndSource, Register};
 use std::alloc::{AllocError, Global};
 use std::fmt::Write;
 
@@ -57,19 +58,33 @@ fn push_change(alloc: Global, out: &mut String, period: &Period) -> Result<(), A
     )
 }
 
-/// Appends the line of a change, where it is one of the year.
+/// Appends the line of a change, and that of its source.
+#[tactic(auto, using(crate::proofs::Text::concat_source))]
+fn push_cited_change(
+    alloc: Global,
+    out: &mut String,
+    item: &PeriodAndSource,
+) -> Result<(), AllocError>
+    ensures { OnOk result (string_bytes out.new
+        ≡ string_bytes out.old ++ concat (spec.cited_change newest_rules item.now)) }
+{
+    push_change(alloc, out, &item.period)?;
+    push_source(out, item.source.as_ref())
+}
+
+/// Appends the lines of a change, where it is one of the year.
 #[tactic(auto, unfolding(crate::specs::Almanac::change_of))]
 fn push_change_of(
     alloc: Global,
     out: &mut String,
     year: i64,
-    period: &Period,
+    item: &PeriodAndSource,
 ) -> Result<(), AllocError>
     ensures { OnOk result (string_bytes out.new
-        ≡ string_bytes out.old ++ spec.changes_text newest_rules year period.now) }
+        ≡ string_bytes out.old ++ spec.changes_text newest_rules year item.now) }
 {
-    if is_change_in(year, period) {
-        push_change(alloc, out, period)?;
+    if is_change_in(year, &item.period) {
+        push_cited_change(alloc, out, item)?;
     }
     Ok(())
 }
@@ -79,13 +94,13 @@ fn push_changes_among(
     alloc: Global,
     out: &mut String,
     year: i64,
-    periods: &[Period],
+    periods: &[PeriodAndSource],
 ) -> Result<(), AllocError>
     ensures { OnOk result (string_bytes out.new ≡ string_bytes out.old
         ++ flat_map (spec.changes_text newest_rules year) periods.now) }
 {
-    for period in periods {
-        push_change_of(alloc, out, year, period)?;
+    for item in periods {
+        push_change_of(alloc, out, year, item)?;
     }
     Ok(())
 }

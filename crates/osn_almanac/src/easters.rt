@@ -1,4 +1,4 @@
-//! The Easters of the year, and the feasts that are counted from them.
+//! The Easters of the year, with their source, and the feasts that are counted from them.
 ghost use Rattle.std.specs.Prelude.{◌≡◌, ◌++◌, OnOk, pos, ◌+ℤ◌, string_bytes};
 ghost use Rattle.std.specs.List.{flat_map, concat};
 ghost use Rattle.osn_days.specs.Profile.{newest_rules};
@@ -10,7 +10,8 @@ ghost use Rattle.osn_almanac.specs.Feast.{days_after_easter};
 use crate::columns::{push_absent, push_day};
 use crate::feast::{FEASTS, Feast};
 use osn_days::Day;
-use osn_register::{Answer, BorrowedQuery, Found, Register};
+use osn_pages::push_source;
+use osn_register::{Answer, BorrowedQuery, Found, Register, Source};
 use std::alloc::AllocError;
 
 /// The line that says whether the territory had an Easter in the year, and by what.
@@ -109,7 +110,22 @@ fn push_each(
     Ok(())
 }
 
-/// Appends a line on the Easters, and their feasts, by what is answered.
+/// Appends the line on the Easters, and that of their source.
+#[tactic(auto, using(crate::proofs::Text::concat_source))]
+fn push_easter_heading(
+    out: &mut String,
+    found: &[Found],
+    listed: bool,
+    source: &Option<Source>,
+) -> Result<(), AllocError>
+    ensures { OnOk result (string_bytes out.new ≡ string_bytes out.old
+        ++ concat (spec.cited_heading found.now listed source.now)) }
+{
+    out.push_str(easter_heading(found, listed))?;
+    push_source(out, source.as_ref())
+}
+
+/// Appends the lines on the Easters, and their feasts, by what is answered.
 fn push_easters_in(
     out: &mut String,
     register: &Register,
@@ -120,15 +136,19 @@ fn push_easters_in(
         (spec.easter_lines newest_rules register.now.lands code.now easters.now)) }
 {
     match easters {
-        Answer::Easters { found, listed } => {
-            out.push_str(easter_heading(found.as_slice(), *listed))?;
+        Answer::Easters {
+            found,
+            listed,
+            source,
+        } => {
+            push_easter_heading(out, found.as_slice(), *listed, source)?;
             push_each(out, register, code, found.as_slice())
         }
         _ => Ok(()),
     }
 }
 
-/// Appends a line on the Easters of the year, and their feasts.
+/// Appends the lines on the Easters of the year, and their feasts.
 pub(crate) fn push_easters(
     out: &mut String,
     register: &Register,

@@ -7,7 +7,8 @@ use Rattle.osn_days.specs.Profile.{newest_rules}
 use Rattle.osn_register.specs.declared.edit.Edit.{Edit}
 use Rattle.osn_register.specs.declared.limits.Limits.{Limits}
 use Rattle.osn_register.specs.Plain.{LandModel, refusal, effect, applied_all}
-use Rattle.osn_core.specs.Sequential.{joined, AreLawful}
+use Rattle.osn_register.specs.Lawful.{AreLawful}
+use Rattle.osn_core.specs.Sequential.{joined}
 use Rattle.osn_core.proofs.Lawful.{applied_all-append, applied-lawful, AreLawful-front}
 use Rattle.osn_core.proofs.Lawful.{AreLawful-after}
 

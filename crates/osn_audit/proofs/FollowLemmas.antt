@@ -13,7 +13,8 @@ use Rattle.osn_register.specs.declared.answer.Answer.{Answer}
 use Rattle.osn_register.specs.declared.query.Query.{Query}
 use Rattle.osn_register.specs.Plain.{folded}
 use Rattle.osn_core.specs.declared.step.Reply.{Reply}
-use Rattle.osn_core.specs.Sequential.{ObjectState, lands_of, joined, reply_at, AreLawful, IsSound}
+use Rattle.osn_register.specs.Lawful.{AreLawful}
+use Rattle.osn_core.specs.Sequential.{ObjectState, lands_of, joined, reply_at, IsSound}
 use Rattle.osn_core.proofs.Lawful.{AreLawful-front}
 use Rattle.osn_format.specs.declared.wire_fault.WireFault.TheVariants.{UnknownEdition, EditionFell}
 use Rattle.osn_audit.specs.Audit.{known_edition}

@@ -3,7 +3,8 @@ ghost use Rattle.std.specs.Prelude.{◌≡◌, ◌≤◌, [], IfOk, OnOk, length
 ghost use Rattle.osn_days.specs.Profile.{newest_rules};
 ghost use Rattle.osn_register.specs.BorrowedQuery.{as_query};
 ghost use Rattle.osn_register.specs.Plain.{applied_all, folded};
-ghost use Rattle.osn_core.specs.Sequential.{AreLawful, joined, reply_at};
+ghost use Rattle.osn_register.specs.Lawful.{AreLawful};
+ghost use Rattle.osn_core.specs.Sequential.{joined, reply_at};
 ghost use Rattle.osn_audit.specs.InsideFollower.{IsAt};
 
 use osn_core::{Batch, Object};

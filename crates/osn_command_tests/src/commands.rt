@@ -1,13 +1,12 @@
 //! The commands of the program over memory: the status, the output and the text on standard error.
 use crate::compare::same;
-use crate::printed::{Left, Wanted, is_left, left_by, sink};
-use osn_commands::{run, tell_no_words};
-use osn_folder::{Disk, Folder};
+use osn_commands::tell_no_words;
 use osn_lines::Plain;
 use osn_register::Limits;
 use osn_report::Status;
 use osn_serve_commands::{ServeResult, serve_command};
 use osn_service::ServeRules;
+use osn_test_runs::{Left, RunRow, Wanted, are_run, is_left, left_by, left_over, sink};
 use osn_test_texts::joined;
 use std::alloc::Global;
 use std::io::{ErrorKind, Read, Write};
@@ -134,7 +133,7 @@ fn is_saved(
 fn are_served(rt: &impl Abort, alloc: Global, rows: &[Row]) -> Result<(), Fail> {
     for (journal, requests, wanted, saved) in rows {
         let (left, journal) = served(alloc, *journal, requests);
-        is_left(rt, alloc, left, wanted)?;
+        is_left(alloc, left, wanted)?;
         is_saved(rt, alloc, journal, *saved)?;
     }
     Ok(())
@@ -220,49 +219,6 @@ const LINES: [(&str, u8); 6] = [
     ("oldstyle replay --readers 65 none", 2),
 ];
 
-/// What a command line leaves over this input and the files of a folder.
-pub fn left_in<R: Threads + Wait + AllocGlobal, D: Folder>(
-    rt: &R,
-    folder: &mut D,
-    line: &str,
-    read: &str,
-) -> Result<Left, Fail> {
-    let words: Vec<&str> = line.split_whitespace().collect(rt.alloc())?;
-    left_of(rt, folder, &words, read)
-}
-
-/// What the words of a command line leave.
-pub fn left_of<R: Threads + Wait + AllocGlobal, D: Folder>(
-    rt: &R,
-    folder: &mut D,
-    words: &[&str],
-    read: &str,
-) -> Result<Left, Fail> {
-    let mut output = sink(rt.alloc());
-    let mut errors = sink(rt.alloc());
-    let mut input = Plain::new(read.as_bytes());
-    let terminal = Some(sink(rt.alloc()));
-    let status = run(
-        rt,
-        folder,
-        words,
-        &mut input,
-        &mut output,
-        &mut errors,
-        terminal,
-    );
-    Ok(left_by(status, output, errors))
-}
-
-/// The same over the files of the system.
-pub fn left_over<R: Files<File = fs::File> + Threads + Wait + AllocGlobal>(
-    rt: &R,
-    line: &str,
-    read: &str,
-) -> Result<Left, Fail> {
-    left_in(rt, &mut Disk::new(rt), line, read)
-}
-
 /// Checks that standard error is told something where the status is not 0, and nothing else.
 fn have_status<R: Files<File = fs::File> + Threads + Wait + AllocGlobal + Abort>(
     rt: &R,
@@ -280,9 +236,6 @@ fn have_status<R: Files<File = fs::File> + Threads + Wait + AllocGlobal + Abort>
 fn words_and_statuses(rt: HostRuntime) -> Result<(), Fail> {
     have_status(&rt, &LINES)
 }
-
-/// A command line, its standard input, and the outcome that is wanted.
-pub type RunRow = (&'static str, &'static str, Wanted);
 
 const FAULTS: [RunRow; 8] = [
     (
@@ -330,18 +283,6 @@ const FAULTS: [RunRow; 8] = [
         ),
     ),
 ];
-
-/// Checks that runs leave this, one after another.
-pub fn are_run<R: Files<File = fs::File> + Threads + Wait + AllocGlobal + Abort>(
-    rt: &R,
-    rows: &[RunRow],
-) -> Result<(), Fail> {
-    for (line, read, wanted) in rows {
-        let left = left_over(rt, line, read)?;
-        is_left(rt, rt.alloc(), left, wanted)?;
-    }
-    Ok(())
-}
 
 #[test]
 fn faults_of_files(rt: HostRuntime) -> Result<(), Fail> {

@@ -1,8 +1,8 @@
 //! Dates in other than the usual forms: what the commands print, what they say of texts that are no
 //! date, and how they end where a date means no day.
-use crate::commands::RunRow;
-use crate::journals::EUROPE;
 use crate::word_runs::{Misused, are_misused, are_run, are_run_over};
+use osn_test_runs::RunRow;
+use osn_test_texts::EUROPE;
 use std::test::Fail;
 
 /// Dates that are taken.

@@ -1,9 +1,8 @@
 //! Tables of letters by the options of the command line: a table of places, dates in three columns
 //! and the tally of remarks. What stands after each row was written apart, by counts of days.
-use crate::commands::RunRow;
-use crate::files::{File, PUBLISHED};
-use crate::journals::EUROPE;
 use crate::word_runs::{Misused, are_misused, are_run, are_run_over};
+use osn_test_runs::{File, PUBLISHED, RunRow};
+use osn_test_texts::EUROPE;
 use std::test::Fail;
 
 const PLACES: &str = "code;place;note\nGB; England ;and Wales\nGB;England;\nFR;Paris;\n";

@@ -4,12 +4,12 @@ ghost use Rattle.std.specs.Prelude.{◌≡◌, ◌∷◌, ◌++◌, [], Some, op
 ghost use Rattle.osn_folder.specs.Folder.{Becomes, Opens};
 ghost use Rattle.osn_command_tests.specs.Memory.{holds, known_of};
 
-use crate::files::File;
 use crate::kept_journals::MemoryFile;
 use osn_folder::{
     ChangeFailed, Folder, FollowFault, FollowedFile, KeepFault, MoveFault, OpenFailed, SaveFault,
 };
 use osn_lines::Plain;
+use osn_test_runs::File;
 use osn_test_texts::joined;
 use std::alloc::{AllocError, Global};
 use std::io::Cursor;

@@ -1,5 +1,5 @@
 //! The exact messages about mistakes in the words of the command line.
-use crate::commands::{RunRow, are_run};
+use osn_test_runs::{RunRow, are_run};
 use std::test::Fail;
 
 const MISTAKES: [RunRow; 22] = [

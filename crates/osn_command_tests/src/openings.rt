@@ -1,9 +1,7 @@
 //! Which files a run opens and changes, over a folder in memory.
-use crate::commands::{RunRow, left_in};
 use crate::compare::same;
-use crate::files::{ADDED, NAMED, NOTED, RUNS, SAVED};
 use crate::memory::{Change, MemoryFolder, holding};
-use crate::printed::is_left;
+use osn_test_runs::{ADDED, NAMED, NOTED, RUNS, RunRow, SAVED, is_left, left_in};
 use std::alloc::{AllocError, Global};
 use std::process::Abort;
 use std::sync::Wait;
@@ -59,7 +57,7 @@ fn is_run<'a, R: Threads + Wait + AllocGlobal + Abort>(
     let ((line, read, wanted), opened, changed) = row;
     let mut folder = holding(rt, &NAMED)?;
     let left = left_in(rt, &mut folder, line, read)?;
-    is_left(rt, rt.alloc(), left, wanted)?;
+    is_left(rt.alloc(), left, wanted)?;
     are_opened(rt, rt.alloc(), &folder.opened, opened)?;
     are_changed(rt, rt.alloc(), &folder.changes, NAMED.len(), changed)?;
     Ok(folder)

@@ -6,7 +6,7 @@ use osn_invocation::PageWords;
 use osn_lines::Plain;
 use osn_page_commands::page_command;
 use osn_register::Limits;
-use osn_report::Status;
+use osn_test_runs::{Wanted, is_left, left_by, sink};
 use osn_test_texts::joined;
 use std::alloc::Global;
 use std::process::Abort;
@@ -14,45 +14,6 @@ use std::str;
 use std::sync::Wait;
 use std::test::Fail;
 use std::thread::Threads;
-
-/// How a command ended: its status, its output and its text on standard error.
-#[derive(Drop)]
-pub struct Left {
-    pub status: Status,
-    pub written: Vec<u8>,
-    pub errors: Vec<u8>,
-}
-
-type Memory = Plain<Vec<u8>>;
-
-pub fn sink(alloc: Global) -> Memory {
-    Plain::new(Vec::new(alloc))
-}
-
-pub fn left_by(status: Status, output: Memory, errors: Memory) -> Left {
-    Left {
-        status,
-        written: output.into_inner(),
-        errors: errors.into_inner(),
-    }
-}
-
-/// Checks that some bytes are this text.
-fn is_text(rt: &impl Abort, bytes: &[u8], wanted: &str) -> Result<(), Fail> {
-    same(rt, str::from_utf8(bytes)?, wanted);
-    Ok(())
-}
-
-/// The number of a status, the output and the text on standard error.
-pub type Wanted = (u8, &'static str, &'static str);
-
-pub fn is_left(rt: &impl Abort, alloc: Global, left: Left, wanted: &Wanted) -> Result<(), Fail> {
-    let (status, written, told) = wanted;
-    let written = joined(alloc, written)?;
-    same(rt, left.status.code(), *status);
-    is_text(rt, &left.written, written.as_str())?;
-    is_text(rt, &left.errors, told)
-}
 
 const RM: &str = r#"{"journal":1}
 {"op":"add_land","code":"RM","name":"Rome","calendar":"julian","style":"january","rule":"julian"}
@@ -101,7 +62,7 @@ fn almanacs(rt: &impl Abort, alloc: Global, rows: &[Almanac]) -> Result<(), Fail
             &mut output,
             &mut errors,
         );
-        is_left(rt, alloc, left_by(status, output, errors), wanted)?;
+        is_left(alloc, left_by(status, output, errors), wanted)?;
     }
     Ok(())
 }
@@ -218,7 +179,7 @@ fn replays(rt: &impl Abort, alloc: Global, rows: &[Replay]) -> Result<(), Fail> 
             &mut output,
             &mut errors,
         );
-        is_left(rt, alloc, left_by(status, output, errors), wanted)?;
+        is_left(alloc, left_by(status, output, errors), wanted)?;
     }
     Ok(())
 }
@@ -321,7 +282,7 @@ fn desks<R: Threads + Wait + Abort + AllocGlobal>(rt: &R, rows: &[Desk]) -> Resu
             &mut output,
             &mut errors,
         );
-        is_left(rt, alloc, left_by(status, output, errors), wanted)?;
+        is_left(alloc, left_by(status, output, errors), wanted)?;
     }
     Ok(())
 }
@@ -370,7 +331,7 @@ fn audits(rt: &impl Abort, alloc: Global, rows: &[Audit]) -> Result<(), Fail> {
             &mut output,
             &mut errors,
         );
-        is_left(rt, alloc, left_by(status, output, errors), wanted)?;
+        is_left(alloc, left_by(status, output, errors), wanted)?;
     }
     Ok(())
 }

@@ -1,6 +1,6 @@
 //! Words of the command line that are taken, and what is printed for them.
-use crate::commands::RunRow;
 use crate::word_runs::are_run;
+use osn_test_runs::RunRow;
 use std::test::Fail;
 
 /// Words that are taken.

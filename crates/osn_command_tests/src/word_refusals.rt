@@ -1,6 +1,6 @@
 //! Messages about codes that no territory has, and about tables of letters that end early.
-use crate::commands::RunRow;
 use crate::word_runs::are_run;
+use osn_test_runs::RunRow;
 use std::test::Fail;
 
 /// Codes, and tables of letters.

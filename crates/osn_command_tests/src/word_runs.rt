@@ -1,8 +1,6 @@
 //! How a run of some words is checked, with a bar between two of them.
-use crate::commands::{RunRow, left_of};
-use crate::files::{File, NAMED};
 use crate::memory::holding;
-use crate::printed::is_left;
+use osn_test_runs::{File, NAMED, RunRow, is_left, left_of};
 use std::process::Abort;
 use std::sync::Wait;
 use std::test::Fail;
@@ -21,7 +19,7 @@ fn is_run<R: Threads + Wait + AllocGlobal + Abort>(
     let mut folder = holding(rt, files)?;
     let words: Vec<&str> = line.split('|').collect(rt.alloc())?;
     let left = left_of(rt, &mut folder, &words, read)?;
-    is_left(rt, rt.alloc(), left, wanted)
+    is_left(rt.alloc(), left, wanted)
 }
 
 /// Checks that each run leaves this, over these files.

@@ -29,7 +29,8 @@ use Rattle.osn_report.specs.declared.status.Status.{Status}
 use Rattle.osn_report.specs.declared.status.Status.TheVariants as statuses
 use Rattle.osn_report.specs.Unopened.{unopened_line}
 use Rattle.osn_serve_commands.specs.InFolder.{RunsServing, opened_by}
-use Rattle.osn_text_commands.specs.InFolder.{PlansInFolder, PublishesInFolder}
+use Rattle.osn_text_commands.specs.InFolder.{PlansInFolder}
+use Rattle.osn_text_commands.specs.PublishFolder.{PublishesInFolder}
 use Rattle.osn_text_commands.specs.Text.{PrintsText}
 use Rattle.osn_commands.specs.Completions.{PrintsCompletions}
 use Rattle.osn_commands.specs.Limits.{limits_of_words}

@@ -2,12 +2,15 @@
 use Rattle.std.proofs.Common.{◌≡◌, ℕ, ◌+◌, ◌-◌, ◌<◌, ◌≤◌, inl, inr, List, [], ◌∷◌, ◌++◌, length}
 use Rattle.std.proofs.Common.{get_or, take, None, refl, sym, ap, subst, ◌∙◌, arith, append_assoc}
 use Rattle.std.proofs.Common.{append-nil, length-append}
+use Rattle.std.specs.List.{All}
 use Rattle.std.proofs.lemmas.List.{get_or-append-add}
+use Rattle.std.proofs.lemmas.List.Elements.{All-push}
 use Rattle.osn_days.specs.Profile.{newest_rules}
 use Rattle.osn_register.specs.declared.limits.Limits.{Limits}
 use Rattle.osn_register.specs.declared.edit.Edit.{Edit}
+use Rattle.osn_register.specs.Lawful.{AreLawful}
 use Rattle.osn_register.specs.Plain.{LandModel, RegisterModel, refusal, effect, applied_all}
-use Rattle.osn_core.specs.Sequential.{joined, last_batch, lands_of, without_last, AreLawful}
+use Rattle.osn_core.specs.Sequential.{joined, last_batch, lands_of, without_last, HasLawfulSource}
 use Rattle.osn_core.specs.Draft.{DraftState, object_of, edit_refusal, edition_refusal}
 use Rattle.osn_core.specs.Draft.{draft_with_edit, draft_with_edition}
 use Rattle.osn_core.specs.LiveAndStandbyInside.{AreInStep, lagging_lands}
@@ -67,9 +70,9 @@ other_standby d bs lag other h none = ap (λ (r : RegisterModel). r.lands) h.oth
 
 -- an edit is staged in a standby that lacks nothing
 pub one_staged : (d : DraftState) (bs : List (List Edit)) (lag : ℕ) (other : RegisterModel)
-    (e : Edit) → AreInStep d bs lag other → lag ≡ 0 → edit_refusal d e ≡ None →
+    (e : Edit) → AreInStep d bs lag other → lag ≡ 0 → edit_refusal d e ≡ None → HasLawfulSource e →
     AreInStep (draft_with_edit d e) bs lag other
-one_staged d bs lag other e h none lawful =
+one_staged d bs lag other e h none lawful source =
     let s = object_of d bs in
     let limits = d.register.limits in
     let allowed = lawful_in_draft newest_rules s e (sym (edit_refused d bs e h.draft) ∙ lawful) in
@@ -87,6 +90,8 @@ one_staged d bs lag other e h none lawful =
         none_empty = h.sound.none_empty;
         edits = omega (arith, has_room d e lawful, h.draft.edits, edits_with s e);
         editions = h.sound.editions;
+        sources = subst (All HasLawfulSource) (sym regroup)
+            (All-push HasLawfulSource (joined bs ++ d.pending) e h.sound.sources source);
       };
     }
 
@@ -116,6 +121,7 @@ one_published d bs lag other h lawful =
         none_empty = NoneEmpty-push bs d.pending h.sound.none_empty room.0;
         edits = omega (arith, h.sound.edits, edits_published s);
         editions = omega (arith, room.1, h.draft.editions, length-append bs (d.pending ∷ []));
+        sources = subst (All HasLawfulSource) (sym (append-nil _ ∙ pushed)) h.sound.sources;
       };
     }
 

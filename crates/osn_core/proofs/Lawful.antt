@@ -5,9 +5,9 @@ use Rattle.std.proofs.lemmas.List.{drop_more, take_more, take-append-drop}
 use Rattle.osn_days.specs.Profile.{Profile}
 use Rattle.osn_register.specs.declared.limits.Limits.{Limits}
 use Rattle.osn_register.specs.declared.edit.Edit.{Edit}
+use Rattle.osn_register.specs.Lawful.{AreLawful}
 use Rattle.osn_register.specs.Plain.{LandModel, refusal, effect, applied, applied_all}
 use Rattle.osn_register.specs.Plain.{unless_refused}
-use Rattle.osn_core.specs.Sequential.{AreLawful}
 
 pub applied_all-append : (p : Profile) (limits : Limits) (lands : List LandModel)
     (es fs : List Edit) →

@@ -1,7 +1,7 @@
 -- The sequential object: batches of published edits, and edits that are pending.
-use Rattle.std.specs.Prelude.{ℕ, ◌≡◌, ◌+◌, ◌-◌, ◌≤◌, ◌<◌, nat_lt, slice_get, unwrap_or, ◌==◌}
+use Rattle.std.specs.Prelude.{ℕ, ◌+◌, ◌-◌, ◌≤◌, ◌<◌, nat_lt, slice_get, unwrap_or, ◌==◌}
 use Rattle.std.specs.Prelude.{if◌then◌else◌, List, [], ◌∷◌, ◌++◌, length, take, Option, Some, None}
-use Rattle.std.specs.List.{sum_by}
+use Rattle.std.specs.List.{sum_by, All}
 use Rattle.osn_days.specs.Profile.{Profile}
 use Rattle.osn_register.specs.declared.limits.Limits.{Limits}
 use Rattle.osn_register.specs.declared.edit.Edit.{Edit}
@@ -10,8 +10,10 @@ use Rattle.osn_register.specs.declared.refusal.Refusal.{Refusal}
 use Rattle.osn_register.specs.declared.refusal.Refusal.TheVariants.{NothingPending, JournalFull}
 use Rattle.osn_register.specs.declared.refusal.Refusal.TheVariants.{EditionsFull}
 use Rattle.osn_register.specs.Refusal.{or_else}
-use Rattle.osn_register.specs.Plain.{LandModel, refusal, effect, applied_all}
+use Rattle.osn_register.specs.Lawful.{AreLawful, source_given}
+use Rattle.osn_register.specs.Plain.{LandModel, refusal, applied_all}
 use Rattle.osn_register.specs.Answer.{answer}
+use Rattle.osn_register.specs.Sources.{IsGiven}
 use Rattle.osn_core.specs.declared.step.Reply.{Reply}
 use Rattle.osn_core.specs.declared.step.Out.{Out}
 use Rattle.osn_core.specs.declared.step.Out.TheVariants.{Staged, Published, Refused}
@@ -94,11 +96,9 @@ abbrev pub reply_at : Profile → Limits → List (List Edit) → Query → Repl
 reply_at p limits batches q =
     record { edition = length batches; answer = answer p (lands_of p limits batches) q }
 
--- each edit is lawful where it stands, from these territories on
-abbrev pub AreLawful : Profile → Limits → List LandModel → List Edit → Type 0
-AreLawful p limits lands [] = Unit {0}
-AreLawful p limits lands (e ∷ es) =
-    (refusal p limits lands e ≡ None) × AreLawful p limits (effect lands e) es
+-- an edit gives no source, or one that may be given
+abbrev pub HasLawfulSource : Edit → Type 0
+HasLawfulSource e = IsGiven (source_given e)
 
 -- no batch is empty
 abbrev pub NoneEmpty : List (List Edit) → Type 0
@@ -111,3 +111,4 @@ pub record IsSound (p : Profile) (s : ObjectState) : Type 0 where
   pub none_empty : NoneEmpty s.batches
   pub edits : edits_in s ≤ s.limits.edits
   pub editions : length s.batches ≤ s.limits.editions
+  pub sources : All HasLawfulSource (joined s.batches ++ s.pending)

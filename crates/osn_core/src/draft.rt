@@ -4,6 +4,7 @@ ghost use Rattle.std.specs.Prelude.{◌≡◌, ◌+◌, length, None, IfOk, OnOk
 ghost use Rattle.osn_register.specs.Refusal.{IsTestOf};
 ghost use Rattle.osn_core.specs.Draft.{first_draft, edit_refusal, edition_refusal, draft_with_edit};
 ghost use Rattle.osn_core.specs.Draft.{draft_with_edition};
+ghost use Rattle.osn_core.specs.Sequential.{HasLawfulSource};
 
 use crate::batch::Batch;
 use osn_register::{Edit, Limits, Refusal, Register};
@@ -99,6 +100,7 @@ impl Draft {
         requires { edit_refusal self.old edit ≡ None }
         ensures ok { OnOk result (self.new ≡ draft_with_edit self.old edit) }
         ensures count { IfOk result (λ n. n ≡ length self.new.pending) }
+        ensures source { OnOk result (HasLawfulSource edit) }
         ensures err { OnErr result (self.new ≡ self.old) }
     {
         // The edits are fewer than the limit, so one more fits.

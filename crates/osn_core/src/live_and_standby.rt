@@ -5,6 +5,7 @@ ghost use Rattle.osn_days.specs.Profile.{newest_rules};
 ghost use Rattle.osn_register.specs.Refusal.{IsTestOf};
 ghost use Rattle.osn_core.specs.Sequential.{with_pending, with_edition, stage_refusal};
 ghost use Rattle.osn_core.specs.Sequential.{publish_refusal, lands_of, last_batch, IsSound};
+ghost use Rattle.osn_core.specs.Sequential.{HasLawfulSource};
 ghost use Rattle.osn_core.specs.LiveAndStandbyInside.{first_copies, lagging_lands};
 
 use crate::batch::Batch;
@@ -125,6 +126,7 @@ impl LiveAndStandby {
         ensures ok { OnOk result
             (self.new ≡ record { object = with_pending self.old.object edit; lag = 0 }) }
         ensures count { IfOk result (λ n. n ≡ length self.new.object.pending) }
+        ensures source { OnOk result (HasLawfulSource edit) }
         ensures err { OnErr result (self.new ≡ self.old) }
     {
         self.take_standby();

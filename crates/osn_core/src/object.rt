@@ -6,6 +6,7 @@ ghost use Rattle.osn_register.specs.BorrowedQuery.{as_query};
 ghost use Rattle.osn_register.specs.Answer.{refusal_in, query_refusal, takes_memory};
 ghost use Rattle.osn_core.specs.Sequential.{opened, with_pending, with_edition, stage_refusal};
 ghost use Rattle.osn_core.specs.Sequential.{publish_refusal, reply_at, lands_of, IsSound};
+ghost use Rattle.osn_core.specs.Sequential.{HasLawfulSource};
 
 use crate::batch::Batch;
 use crate::live_and_standby::LiveAndStandby;
@@ -145,6 +146,8 @@ impl Object {
         requires { stage_refusal newest_rules self.old edit ≡ None }
         ensures ok { OnOk result (self.new ≡ with_pending self.old edit) }
         ensures count { IfOk result (λ n. n ≡ length self.new.pending) }
+        // Each edit that is given has one that may be.
+        ensures source { OnOk result (HasLawfulSource edit) }
         ensures err { OnErr result (self.new ≡ self.old) }
     {
         self.copies.catch_up()?;

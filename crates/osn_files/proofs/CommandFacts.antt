@@ -8,7 +8,6 @@ use Rattle.std.proofs.lemmas.Bool.{and_parts, false≢true}
 use Rattle.serde_json.specs.Data.{Data, object, Members}
 use Rattle.serde_json.specs.Read.{of_json}
 use Rattle.serde_json.specs.Written.{compact_text, outline}
-use Rattle.osn_days.specs.Profile.{newest_rules}
 use Rattle.osn_lands.specs.Territory.{TerritoryModel}
 use Rattle.osn_lines.specs.Lines.{lines}
 use Rattle.osn_register.specs.declared.refusal.Refusal.{Refusal}
@@ -17,6 +16,7 @@ use Rattle.osn_register.specs.Plain as plain
 use Rattle.osn_register.specs.Plain.{LandModel, refusal}
 use Rattle.osn_register.specs.Refusal.{or_else}
 use Rattle.osn_core.specs.declared.command.Command.{Command}
+use Rattle.osn_format.specs.declared.version.Version.{Version}
 use Rattle.osn_request.specs.Request.{object_of}
 use Rattle.osn_files.specs.Commands.{command_in}
 use Rattle.osn_files.specs.JournalText.{line_text}
@@ -37,10 +37,10 @@ IsLine-fit ms n h room back = record {
   utf8 = utf8-line ms n h;
 }
 
--- a value on a line of its own, which says this command
-pub record Says (d : Data) (c : Command) : Type 0 where
+-- a value on a line of its own, which says this command by the rules of a version
+pub record Says (version : Version) (d : Data) (c : Command) : Type 0 where
   pub line : IsLine d
-  pub command : command_in newest_rules d ≡ Ok c
+  pub command : command_in version d ≡ Ok c
 
 -- the first test does not apply, and neither do those after it
 pub next_test : (b : Bool) (f : Refusal) (r : Option Refusal) → cond b (Some f) r ≡ None

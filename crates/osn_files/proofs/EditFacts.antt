@@ -1,15 +1,15 @@
 -- An edit that is lawful is read back from its line.
 use Rattle.std.proofs.Common.{◌≡◌, ℕ, ◌<◌, ◌≤◌, ◌&&◌, Bool, true}
 use Rattle.std.proofs.Common.{false}
-use Rattle.std.proofs.Common.{nat_le, List, [], ◌∷◌, length, codes}
-use Rattle.std.proofs.Common.{Some, Ok, refl}
+use Rattle.std.proofs.Common.{nat_le, ◌+◌, List, [], ◌∷◌, length, codes}
+use Rattle.std.proofs.Common.{Option, None, Some, Ok, refl}
 use Rattle.std.proofs.Common.{arith}
 use Rattle.std.proofs.Common.{leb-true, ◌||◌, ◌⊎◌, inl, inr}
 use Rattle.std.specs.List.{list_all}
 use Rattle.std.proofs.lemmas.Bool.{and_parts, lt-ltb}
 use Rattle.std.proofs.lemmas.Str.{IsUtf8-from_is_utf8}
 use Rattle.json.proofs.Printed.Utf8.{IsUtf8-are_ascii, are_ascii}
-use Rattle.serde_json.specs.Data.{Data, string}
+use Rattle.serde_json.specs.Data.{Data, Members, string}
 use Rattle.osn_days.specs.declared.calendar.Calendar.{Calendar}
 use Rattle.osn_days.specs.declared.calendar.Calendar.TheVariants as calendars
 use Rattle.osn_days.specs.Profile.{newest_rules}
@@ -22,9 +22,11 @@ use Rattle.osn_lands.specs.declared.style.Style.{Style}
 use Rattle.osn_lands.specs.declared.style.Style.TheVariants as styles
 use Rattle.osn_lands.specs.StyleWords.{style_word, style_named}
 use Rattle.osn_register.specs.Code.{is_code, is_name, is_code_byte, is_capital}
+use Rattle.osn_register.specs.Sources.{IsGiven, is_source}
+use Rattle.osn_format.specs.Json.{source_member}
 use Rattle.osn_format.specs.declared.member.Member.TheVariants as members
 use Rattle.osn_request.specs.Field.{text_at, regime_of}
-use Rattle.osn_files.proofs.TextFacts.{Fits, Fits-string}
+use Rattle.osn_files.proofs.TextFacts.{Fits, Fits-string, Fit, Fit-member}
 
 Fits-wider : (d : Data) (m n : ℕ) → Fits d m → m ≤ n → Fits d n
 Fits-wider d m n h more = record {
@@ -120,3 +122,27 @@ Fits-name name h =
     let short : length name ≤ 64 = leb-true _ _ (and_parts _ _ p.0).1 in
     let utf8 = IsUtf8-from_is_utf8 name (and_parts _ _ p.1).1 in
     Fits-wider _ _ _ (Fits-string name utf8) (omega arith)
+
+Fit-wider : (ms : Members) (m n : ℕ) → Fit ms m → m ≤ n → Fit ms n
+Fit-wider ms m n h more = record {
+  short = λ later. omega (arith, h.short later, more);
+  utf8 = h.utf8;
+  no_feed = h.no_feed;
+  numbers = h.numbers;
+  shallow = h.shallow;
+}
+
+-- a source has at most 1,000 bytes of UTF-8
+Fits-source : (source : List ℕ) → is_source source ≡ true → Fits (string source) 6002
+Fits-source source h =
+    let p = and_parts _ _ h in
+    let short : length source ≤ 1000 = leb-true _ _ (and_parts _ _ p.0).1 in
+    let utf8 = IsUtf8-from_is_utf8 source (and_parts _ _ p.1).1 in
+    Fits-wider _ _ _ (Fits-string source utf8) (omega arith)
+
+-- a source before other members, where one is given
+pub Fit-source : (source : Option (List ℕ)) (ms : Members) (n : ℕ) → IsGiven source → Fit ms n
+    → Fit (source_member source ms) (6042 + n)
+Fit-source None ms n given rest = Fit-wider ms n (6042 + n) rest (omega arith)
+Fit-source (Some source) ms n given rest =
+    Fit-member (codes "source") _ ms _ n refl (Fits-source source given) rest

@@ -9,17 +9,17 @@ use Rattle.osn_register.specs.declared.limits.Limits.{Limits}
 use Rattle.osn_register.specs.declared.refusal.Refusal.{Refusal}
 use Rattle.osn_register.specs.declared.refusal.Refusal.TheVariants.{NothingPending, JournalFull}
 use Rattle.osn_register.specs.declared.refusal.Refusal.TheVariants.{EditionsFull}
+use Rattle.osn_register.specs.Lawful.{AreLawful}
 use Rattle.osn_register.specs.Plain.{LandModel, refusal, applied_all}
 use Rattle.osn_register.specs.Refusal.{or_else}
 use Rattle.osn_core.specs.declared.command.Command.{Command}
 use Rattle.osn_core.specs.declared.command.Command.TheVariants.{Stage, Publish}
-use Rattle.osn_core.specs.Sequential.{ObjectState, opened, joined, AreLawful, edits_in}
+use Rattle.osn_core.specs.Sequential.{ObjectState, opened, joined, edits_in}
 use Rattle.osn_core.specs.Sequential.{stage_refusal, publish_refusal, with_pending, with_edition}
 use Rattle.osn_core.proofs.Batches.{joined-push}
 use Rattle.osn_core.proofs.Lawful.{AreLawful-push, AreLawful-front}
 use Rattle.osn_format.specs.declared.wire_fault.WireFault.{WireFault}
 use Rattle.osn_format.specs.declared.version.Version.{Version}
-use Rattle.osn_format.specs.Version.{rules_of}
 use Rattle.osn_request.specs.Request.{object_of}
 use Rattle.osn_files.specs.declared.fault.LineFault.{LineFault}
 use Rattle.osn_files.specs.Commands.{command_in}
@@ -137,7 +137,7 @@ module _ (p : Profile) {limits greater : Limits} (more : AreGreater limits great
   line_under version s made line lawful h =
       read_under (object_of line) (after_object p version (smaller s))
       (after_object p version (larger s)) made
-      (λ d. read_under (command_in (rules_of version) d) (after_command p (smaller s))
+      (λ d. read_under (command_in version d) (after_command p (smaller s))
       (after_command p (larger s)) made (λ c. command_under s made c lawful)) h
 
   -- what a line makes is the same, and so is what those after it make of that

@@ -16,10 +16,10 @@ use Rattle.osn_register.specs.declared.edit.Edit.TheVariants.{DropException}
 use Rattle.osn_register.specs.declared.limits.Limits.{Limits}
 use Rattle.osn_register.specs.declared.refusal.Refusal.{Refusal}
 use Rattle.osn_register.specs.Code.{is_code, is_name}
+use Rattle.osn_register.specs.Lawful.{AreLawful}
 use Rattle.osn_register.specs.Plain as plain
 use Rattle.osn_register.specs.Plain.{LandModel, refusal, effect, applied_all}
 use Rattle.osn_register.specs.Refusal.{or_else}
-use Rattle.osn_core.specs.Sequential.{AreLawful}
 use Rattle.osn_core.proofs.Lawful.{applied-lawful}
 use Rattle.osn_files.specs.GreaterLimits.{AreGreater}
 use Rattle.osn_files.proofs.CommandFacts.{next_test, both_none}
@@ -105,12 +105,12 @@ module _ (p : Profile) {limits greater : Limits} (more : AreGreater limits great
   -- an edit that limits don't refuse
   pub refusal_under : (lands : List LandModel) (e : Edit) → refusal p limits lands e ≡ None
       → refusal p greater lands e ≡ None
-  refusal_under lands (AddLand code name r) h = add_land_passes lands code name r h
-  refusal_under lands (AddChange code day r) h =
+  refusal_under lands (AddLand code name r source) h = add_land_passes lands code name r h
+  refusal_under lands (AddChange code day r source) h =
       in_territory lands code _ _ (add_change_passes day r) h
-  refusal_under lands (AlterChange code day r) h = h
+  refusal_under lands (AlterChange code day r source) h = h
   refusal_under lands (DropChange code day) h = h
-  refusal_under lands (AddException code year day) h =
+  refusal_under lands (AddException code year day source) h =
       in_territory lands code _ _ (add_exception_passes year day) h
   refusal_under lands (DropException code year) h = h
 

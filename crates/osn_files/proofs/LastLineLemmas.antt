@@ -7,7 +7,7 @@ use Rattle.std.proofs.lemmas.Bool.{lt-ltb}
 use Rattle.std.proofs.lemmas.List.{take_min}
 use Rattle.std.specs.Prelude.{min, not, is_ok, is_some, nat_eq, if◌then◌else◌}
 use Rattle.std.specs.List.{starts_with}
-use Rattle.osn_format.specs.Version.{newest_version}
+use Rattle.osn_format.specs.Version.{plain_version}
 use Rattle.osn_request.specs.Request.{value_of}
 use Rattle.osn_files.specs.JournalText.{line_text}
 use Rattle.osn_files.specs.LastLine.{is_unfinished, last_line}
@@ -50,7 +50,7 @@ long_is_finished : (n : ℕ) (line : List ℕ) → nat_lt 65536 (length line) �
     → is_unfinished n line ≡ false
 long_is_finished zero line long =
     ap (λ t. (if t then false else not (is_some (value_of line)))
-    && starts_with nat_eq (line_text (head_data newest_version)) line) long
+    && starts_with nat_eq (line_text (head_data plain_version)) line) long
 long_is_finished (suc n) line long =
     ap (λ t. if t then false else not (is_some (value_of line))) long
 

@@ -14,21 +14,19 @@ use Rattle.osn_lines.specs.Lines.{lines, EndsWithFeed}
 use Rattle.osn_lines.proofs.FeedLemmas.{lines-append}
 use Rattle.osn_format.specs.declared.version.Version.{Version}
 use Rattle.osn_format.specs.declared.wire_fault.WireFault.{WireFault}
-use Rattle.osn_format.specs.Version.{newest_version}
 use Rattle.osn_request.specs.Request.{object_of}
 use Rattle.osn_files.specs.declared.fault.LineFault.{LineFault}
 use Rattle.osn_files.specs.Journal.{load, after_object, after_command}
 use Rattle.osn_files.specs.Journal as journal
-use Rattle.osn_files.specs.JournalText.{line_text, edit_data, publish_data, journal_text}
+use Rattle.osn_files.specs.JournalText.{line_text, edit_data, publish_data, journal_text_of}
 use Rattle.osn_files.specs.JournalText.{edits_text, batch_text, batches_text}
-use Rattle.osn_files.specs.Loaded.{IsOfVersion, IsJournalOf}
+use Rattle.osn_files.specs.Loaded.{HasEdits, IsOfVersion, IsJournalOf}
 use Rattle.osn_files.specs.Loaded.{LoadsByLines}
 use Rattle.osn_files.specs.Turns.{on_read, go_on, in_turn}
 use Rattle.osn_files.specs.Version.{head_data}
 use Rattle.osn_files.proofs.CommandFacts.{IsLine, both_none}
-use Rattle.osn_files.proofs.LawFacts.{load-journal_text}
+use Rattle.osn_files.proofs.LawFacts.{load-journal_text_of}
 use Rattle.osn_files.proofs.SaysFacts.{Says-lawful, Says-publish, IsLine-head, version_of-head}
-use Rattle.osn_files.proofs.VersionFacts.{edit_command}
 
 -- ---- lines that are run in turn
 
@@ -114,18 +112,18 @@ IsJournalOf-line version limits s t text d line makes h =
 pub loads_by_lines : (version : Version) (limits : Limits) (s : ObjectState) (text : List ℕ)
     → IsJournalOf version limits s text → LoadsByLines version limits s text
 loads_by_lines version limits s text h = record {
-  edit = λ e has lawful.
+  edit = λ e has given lawful.
       let lands = draft_lands newest_rules s in
       let says =
-      Says-lawful s.limits lands e
+      Says-lawful version s.limits lands e has given
       (both_none (refusal newest_rules s.limits lands e) _ lawful).0 in
-      let command = edit_command version (edit_data e) e has says.command in
       IsJournalOf-line version limits s (with_pending s e) text (edit_data e) says.line
-      (ap (λ r. on_read r (after_command newest_rules s)) command
+      (ap (λ r. on_read r (after_command newest_rules s)) says.command
       ∙ ap (λ r. journal.unless_refused r (with_pending s e)) lawful)
       h;
   publish = λ lawful.
-      IsJournalOf-line version limits s (with_edition s) text publish_data Says-publish.line
+      IsJournalOf-line version limits s (with_edition s) text publish_data
+      (Says-publish version).line
       (ap (λ r. journal.unless_refused r (with_edition s)) lawful) h;
 }
 
@@ -149,19 +147,19 @@ ends_batches text (b ∷ bs) h =
     subst EndsWithFeed (append_assoc text (batch_text b) (batches_text bs))
     (ends_batches (text ++ batch_text b) bs published)
 
-pub IsJournalOf-written : (s : ObjectState) → IsSound newest_rules s
-    → IsJournalOf newest_version s.limits s (journal_text s)
-IsJournalOf-written s sound =
-    let head = line_text (head_data newest_version) in
+pub IsJournalOf-written : (version : Version) (s : ObjectState) → IsSound newest_rules s
+    → HasEdits version s → IsJournalOf version s.limits s (journal_text_of version s)
+IsJournalOf-written version s sound has =
+    let head = line_text (head_data version) in
     let batches = batches_text s.batches in
     let edits = edits_text s.pending in
     record {
       head =
-          subst (IsOfVersion newest_version) (sym (IsLine-head.first (batches ++ edits)))
-          version_of-head;
+          subst (IsOfVersion version) (sym ((IsLine-head version).first (batches ++ edits)))
+          (version_of-head version);
       ends =
           subst EndsWithFeed (append_assoc head batches edits)
           (ends_edits (head ++ batches) s.pending
-          (ends_batches head s.batches (ends_line [] (head_data newest_version))));
-      loads = load-journal_text s sound;
+          (ends_batches head s.batches (ends_line [] (head_data version))));
+      loads = load-journal_text_of version s sound has;
     }

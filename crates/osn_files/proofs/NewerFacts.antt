@@ -17,10 +17,10 @@ use Rattle.osn_register.specs.declared.edit.Edit.TheVariants.{DropException}
 use Rattle.osn_register.specs.declared.limits.Limits.{Limits}
 use Rattle.osn_register.specs.declared.refusal.Refusal.{Refusal}
 use Rattle.osn_register.specs.Code.{is_code, is_name}
+use Rattle.osn_register.specs.Lawful.{AreLawful}
 use Rattle.osn_register.specs.Plain as plain
-use Rattle.osn_register.specs.Plain.{LandModel, refusal, effect, applied_all, folded}
+use Rattle.osn_register.specs.Plain.{LandModel, refusal, effect, applied_all}
 use Rattle.osn_register.specs.Refusal.{or_else}
-use Rattle.osn_core.specs.Sequential.{AreLawful}
 use Rattle.osn_core.proofs.Lawful.{applied-lawful}
 use Rattle.osn_files.proofs.CommandFacts.{next_test, un_not, both_none}
 use Rattle.osn_files.proofs.OldFacts.{IsFixed, HasFixed, HaveFixed}
@@ -120,15 +120,15 @@ drop_exception_passes p q year t longer h =
 -- an edit that rules don't refuse
 pub refusal_passes : (p q : Profile) (limits : Limits) (lands : List LandModel) (e : Edit)
     → IsLonger p q → HasFixed e → refusal p limits lands e ≡ None → refusal q limits lands e ≡ None
-refusal_passes p q limits lands (AddLand code name r) longer fixed h =
+refusal_passes p q limits lands (AddLand code name r source) longer fixed h =
     add_land_passes p q limits lands code name r fixed h
-refusal_passes p q limits lands (AddChange code day r) longer fixed h =
+refusal_passes p q limits lands (AddChange code day r source) longer fixed h =
     territory_passes lands code _ _ (λ t. add_change_passes p q limits day r t longer fixed) h
-refusal_passes p q limits lands (AlterChange code day r) longer fixed h =
+refusal_passes p q limits lands (AlterChange code day r source) longer fixed h =
     territory_passes lands code _ _ (λ t. alter_change_passes p q day r t longer fixed) h
 refusal_passes p q limits lands (DropChange code day) longer fixed h =
     territory_passes lands code _ _ (λ t. drop_change_passes p q day t longer) h
-refusal_passes p q limits lands (AddException code year day) longer fixed h =
+refusal_passes p q limits lands (AddException code year day source) longer fixed h =
     territory_passes lands code _ _ (λ t. add_exception_passes p q limits year day t longer) h
 refusal_passes p q limits lands (DropException code year) longer fixed h =
     territory_passes lands code _ _ (λ t. drop_exception_passes p q year t longer) h

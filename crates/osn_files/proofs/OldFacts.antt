@@ -21,6 +21,7 @@ use Rattle.osn_request.specs.declared.request.op.Op.{Op}
 use Rattle.osn_request.specs.declared.request.op.Op.TheVariants as ops
 use Rattle.osn_request.specs.declared.request.op.EditOp.{EditOp}
 use Rattle.osn_request.specs.declared.request.op.EditOp.TheVariants as edit_ops
+use Rattle.osn_format.specs.declared.version.Version.TheVariants.{First}
 use Rattle.osn_format.specs.declared.wire_fault.WireFault.{WireFault}
 use Rattle.osn_format.specs.declared.wire_fault.WireFault.TheVariants.{BadField}
 use Rattle.osn_request.specs.EditRequest.{edit_of, add_land_of, add_change_of, alter_change_of}
@@ -36,11 +37,11 @@ IsFixed r = is_from_easter r.style ≡ false
 
 -- so does that of an edit's regime, where the edit has one
 abbrev pub HasFixed : Edit → Type 0
-HasFixed (AddLand code name regime) = IsFixed regime
-HasFixed (AddChange code day regime) = IsFixed regime
-HasFixed (AlterChange code day regime) = IsFixed regime
+HasFixed (AddLand code name regime source) = IsFixed regime
+HasFixed (AddChange code day regime source) = IsFixed regime
+HasFixed (AlterChange code day regime source) = IsFixed regime
 HasFixed (DropChange code day) = Unit {0}
-HasFixed (AddException code year day) = Unit {0}
+HasFixed (AddException code year day source) = Unit {0}
 HasFixed (DropException code year) = Unit {0}
 
 -- and that of each of some edits
@@ -100,7 +101,7 @@ fixed_regime d r e =
     a ea)
     r e
 
-fixed_add_land : (d : Data) (e : Edit) → add_land_of first_rules d ≡ Ok e → HasFixed e
+fixed_add_land : (d : Data) (e : Edit) → add_land_of First d ≡ Ok e → HasFixed e
 unfolding add_land_of
 fixed_add_land d e is =
     then_ok HasFixed (text_at members.Code d) _
@@ -111,7 +112,7 @@ fixed_add_land d e is =
     a ea)
     e is
 
-fixed_add_change : (d : Data) (e : Edit) → add_change_of first_rules d ≡ Ok e → HasFixed e
+fixed_add_change : (d : Data) (e : Edit) → add_change_of First d ≡ Ok e → HasFixed e
 unfolding add_change_of
 fixed_add_change d e is =
     then_ok HasFixed (text_at members.Code d) _
@@ -122,7 +123,7 @@ fixed_add_change d e is =
     a ea)
     e is
 
-fixed_alter_change : (d : Data) (e : Edit) → alter_change_of first_rules d ≡ Ok e → HasFixed e
+fixed_alter_change : (d : Data) (e : Edit) → alter_change_of First d ≡ Ok e → HasFixed e
 unfolding alter_change_of
 fixed_alter_change d e is =
     then_ok HasFixed (text_at members.Code d) _
@@ -142,7 +143,7 @@ fixed_drop_change d e is =
     a ea)
     e is
 
-fixed_add_exception : (d : Data) (e : Edit) → add_exception_of d ≡ Ok e → HasFixed e
+fixed_add_exception : (d : Data) (e : Edit) → add_exception_of First d ≡ Ok e → HasFixed e
 unfolding add_exception_of
 fixed_add_exception d e is =
     then_ok HasFixed (text_at members.Code d) _
@@ -162,7 +163,7 @@ fixed_drop_exception d e is =
     a ea)
     e is
 
-fixed_edit : (op : EditOp) (d : Data) (e : Edit) → edit_of first_rules op d ≡ Ok e → HasFixed e
+fixed_edit : (op : EditOp) (d : Data) (e : Edit) → edit_of First op d ≡ Ok e → HasFixed e
 fixed_edit edit_ops.AddLand d e is = fixed_add_land d e is
 fixed_edit edit_ops.AddChange d e is = fixed_add_change d e is
 fixed_edit edit_ops.AlterChange d e is = fixed_alter_change d e is
@@ -170,18 +171,18 @@ fixed_edit edit_ops.DropChange d e is = fixed_drop_change d e is
 fixed_edit edit_ops.AddException d e is = fixed_add_exception d e is
 fixed_edit edit_ops.DropException d e is = fixed_drop_exception d e is
 
-fixed_command_by : (d : Data) (op : Op) (c : Command) → command_by first_rules d op ≡ Ok c
+fixed_command_by : (d : Data) (op : Op) (c : Command) → command_by First d op ≡ Ok c
     → CommandHasFixed c
 fixed_command_by d (ops.Edit op) c is =
-    then_ok CommandHasFixed (edit_of first_rules op d) (λ e. Ok (Stage e))
+    then_ok CommandHasFixed (edit_of First op d) (λ e. Ok (Stage e))
     (λ e is_e b eb. at_ok CommandHasFixed (Stage e) b (fixed_edit op d e is_e) eb)
     c is
 fixed_command_by d ops.Publish c is = at_ok CommandHasFixed Publish c tt is
 fixed_command_by d (ops.Query op) c is = absurd (cc)
 
--- a command that is read by the first rules
-pub fixed_command : (d : Data) (c : Command) → command_in first_rules d ≡ Ok c → CommandHasFixed c
+-- a command that is read by the rules of the first version
+pub fixed_command : (d : Data) (c : Command) → command_in First d ≡ Ok c → CommandHasFixed c
 fixed_command d c is =
-    then_ok CommandHasFixed (op_of d) (command_by first_rules d)
+    then_ok CommandHasFixed (op_of d) (command_by First d)
     (λ op _ a ea. fixed_command_by d op a ea)
     c is

@@ -9,11 +9,12 @@ use Rattle.osn_register.specs.declared.edit.Edit.{Edit}
 use Rattle.osn_register.specs.declared.limits.Limits.{Limits}
 use Rattle.osn_register.specs.declared.refusal.Refusal.{Refusal}
 use Rattle.osn_register.specs.declared.refusal.Refusal.TheVariants.{JournalFull}
+use Rattle.osn_register.specs.Lawful.{AreLawful}
 use Rattle.osn_register.specs.Plain.{RegisterModel, refusal, applied_all}
 use Rattle.osn_register.specs.Refusal.{or_else}
 use Rattle.osn_core.specs.declared.command.Command.{Command}
 use Rattle.osn_core.specs.declared.command.Command.TheVariants.{Stage, Publish}
-use Rattle.osn_core.specs.Sequential.{ObjectState, opened, joined, AreLawful, draft_lands, edits_in}
+use Rattle.osn_core.specs.Sequential.{ObjectState, opened, joined, draft_lands, edits_in}
 use Rattle.osn_core.specs.Sequential.{stage_refusal, publish_refusal, with_pending, with_edition}
 use Rattle.osn_core.proofs.Batches.{joined-push}
 use Rattle.osn_core.proofs.Lawful.{AreLawful-push}
@@ -168,7 +169,7 @@ line_goes : (limits : Limits) (s made : ObjectState) (r : Result Data WireFault)
     → on_read r (after_object first_rules First s) ≡ Ok made
     → Goes limits (on_read r (after_object newest_rules First s)) made
 line_goes limits s made (Ok d) old is =
-    read_goes limits s made (command_in first_rules d) old (fixed_command d) is
+    read_goes limits s made (command_in First d) old (fixed_command d) is
 line_goes limits s made (Err f) old is = absurd (cc)
 
 abbrev after_first_head : Profile → ℕ → ObjectState → List (List ℕ)

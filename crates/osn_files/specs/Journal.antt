@@ -10,7 +10,6 @@ use Rattle.osn_core.specs.declared.command.Command.TheVariants.{Stage, Publish}
 use Rattle.osn_core.specs.Sequential.{ObjectState, opened, with_pending, with_edition}
 use Rattle.osn_core.specs.Sequential.{stage_refusal, publish_refusal}
 use Rattle.osn_format.specs.declared.version.Version.{Version}
-use Rattle.osn_format.specs.Version.{rules_of}
 use Rattle.osn_files.specs.declared.fault.LineFault.{LineFault}
 use Rattle.osn_files.specs.declared.fault.LineFault.TheVariants.{Register}
 use Rattle.osn_files.specs.Commands.{command_in}
@@ -25,10 +24,10 @@ abbrev pub after_command : Profile → ObjectState → Command → Result Object
 after_command p s (Stage e) = unless_refused (stage_refusal p s e) (with_pending s e)
 after_command p s Publish = unless_refused (publish_refusal s) (with_edition s)
 
--- the object after what a line's object says, which is read by the words of a version, or why it is
+-- the object after what a line's object says, which is read by the rules of a version, or why it is
 -- refused
 abbrev pub after_object : Profile → Version → ObjectState → Data → Result ObjectState LineFault
-after_object p version s d = on_read (command_in (rules_of version) d) (after_command p s)
+after_object p version s d = on_read (command_in version d) (after_command p s)
 
 -- the object of a journal's lines, or the first fault and the number of its line, counted from 1
 abbrev pub load : Profile → Limits → List (List ℕ) → Result ObjectState (ℕ × LineFault)

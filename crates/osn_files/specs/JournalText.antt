@@ -1,8 +1,9 @@
 -- The text of a journal: a head, the edits of each batch with a publish after them, and then the
--- pending edits, a line each. The members of a line stand in ascending order of their names. This
--- project's profile.
-use Rattle.std.specs.Prelude.{ℕ, ℤ, List, [], ◌∷◌, ◌++◌, codes}
-use Rattle.std.specs.List.{flat_map}
+-- pending edits, a line each. The members of a line stand in ascending order of their names. A
+-- source has a member where one is given, and there alone. This project's profile.
+use Rattle.std.specs.Prelude.{ℕ, ℤ, Bool, ◌||◌, if◌then◌else◌, List, [], ◌∷◌, ◌++◌, codes}
+use Rattle.std.specs.Prelude.{Option, is_some}
+use Rattle.std.specs.List.{flat_map, list_any}
 use Rattle.serde_json.specs.Data.{Data, string, object, member, no_members}
 use Rattle.serde_json.specs.Written.{compact_text}
 use Rattle.osn_days.specs.CalendarWords.{calendar_word}
@@ -13,45 +14,53 @@ use Rattle.osn_register.specs.declared.edit.Edit.{Edit}
 use Rattle.osn_register.specs.declared.edit.Edit.TheVariants.{AddLand, AddChange, AlterChange}
 use Rattle.osn_register.specs.declared.edit.Edit.TheVariants.{DropChange, AddException}
 use Rattle.osn_register.specs.declared.edit.Edit.TheVariants.{DropException}
+use Rattle.osn_register.specs.Lawful.{source_given}
 use Rattle.osn_core.specs.Sequential.{ObjectState}
-use Rattle.osn_format.specs.Json.{signed}
-use Rattle.osn_format.specs.Version.{newest_version}
+use Rattle.osn_format.specs.Json.{signed, source_member}
+use Rattle.osn_format.specs.declared.version.Version.{Version}
+use Rattle.osn_format.specs.declared.version.Version.TheVariants.{Fourth}
+use Rattle.osn_format.specs.Version.{plain_version}
 use Rattle.osn_files.specs.Version.{head_data}
 
 -- what an edit of this op asks for that changes the regime of a territory from a day on
-abbrev pub change_data : List ℕ → List ℕ → ℤ → Regime → Data
-change_data op code day regime = object (
+abbrev pub change_data : List ℕ → List ℕ → ℤ → Regime → Option (List ℕ) → Data
+change_data op code day regime source = object (
     member (codes "calendar") (string (calendar_word regime.calendar))
     (member (codes "code") (string code)
     (member (codes "day") (signed day)
     (member (codes "op") (string op)
     (member (codes "rule") (string (rule_word regime.rule))
+    (source_member source
     (member (codes "style") (string (style_word regime.style))
-    no_members))))))
+    no_members)))))))
 
 -- an edit with the members of its row, and what it asks for
 abbrev pub edit_data : Edit → Data
-edit_data (AddLand code name regime) = object (
+edit_data (AddLand code name regime source) = object (
     member (codes "calendar") (string (calendar_word regime.calendar))
     (member (codes "code") (string code)
     (member (codes "name") (string name)
     (member (codes "op") (string (codes "add_land"))
     (member (codes "rule") (string (rule_word regime.rule))
+    (source_member source
     (member (codes "style") (string (style_word regime.style))
-    no_members))))))
-edit_data (AddChange code day regime) = change_data (codes "add_change") code day regime
-edit_data (AlterChange code day regime) = change_data (codes "alter_change") code day regime
+    no_members)))))))
+edit_data (AddChange code day regime source) =
+    change_data (codes "add_change") code day regime source
+edit_data (AlterChange code day regime source) =
+    change_data (codes "alter_change") code day regime source
 edit_data (DropChange code day) = object (
     member (codes "code") (string code)
     (member (codes "day") (signed day)
     (member (codes "op") (string (codes "drop_change"))
     no_members)))
-edit_data (AddException code year day) = object (
+edit_data (AddException code year day source) = object (
     member (codes "code") (string code)
     (member (codes "day") (signed day)
     (member (codes "op") (string (codes "add_exception"))
+    (source_member source
     (member (codes "year") (signed year)
-    no_members))))
+    no_members)))))
 edit_data (DropException code year) = object (
     member (codes "code") (string code)
     (member (codes "op") (string (codes "drop_exception"))
@@ -77,7 +86,26 @@ batch_text batch = edits_text batch ++ line_text publish_data
 abbrev pub batches_text : List (List Edit) → List ℕ
 batches_text = flat_map batch_text
 
+-- the whole journal, with a head that says this version
+abbrev pub journal_text_of : Version → ObjectState → List ℕ
+journal_text_of version s =
+    line_text (head_data version) ++ (batches_text s.batches ++ edits_text s.pending)
+
+-- whether an edit gives a source, and whether one of some edits does
+abbrev pub gives_source : Edit → Bool
+gives_source e = is_some (source_given e)
+
+abbrev pub give_source : List Edit → Bool
+give_source = list_any gives_source
+
+-- whether one of an object does, published or pending
+abbrev pub gives_any_source : ObjectState → Bool
+gives_any_source s = list_any give_source s.batches || give_source s.pending
+
+-- the version that a journal's head says: the third where an edit gives a source, and nowhere else
+abbrev pub version_for : ObjectState → Version
+version_for s = if gives_any_source s then Fourth else plain_version
+
 -- the whole journal
 abbrev pub journal_text : ObjectState → List ℕ
-journal_text s =
-    line_text (head_data newest_version) ++ (batches_text s.batches ++ edits_text s.pending)
+journal_text s = journal_text_of (version_for s) s

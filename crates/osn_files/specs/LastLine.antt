@@ -5,7 +5,7 @@ use Rattle.std.specs.Prelude.{nat_lt, not, is_some, if◌then◌else◌}
 use Rattle.std.specs.List.{starts_with}
 use Rattle.osn_lines.specs.Lines.{longest_line}
 use Rattle.osn_request.specs.Request.{value_of}
-use Rattle.osn_format.specs.Version.{newest_version}
+use Rattle.osn_format.specs.Version.{plain_version}
 use Rattle.osn_files.specs.JournalText.{line_text}
 use Rattle.osn_files.specs.Version.{head_data}
 use Rattle.osn_files.specs.declared.last_line.LastLine.{LastLine}
@@ -16,11 +16,11 @@ abbrev pub is_no_json : List ℕ → Bool
 is_no_json line = if nat_lt longest_line (length line) then false else not (is_some (value_of line))
 
 -- Whether bytes after this many lines, and with no line feed after them, were not finished: they
--- are no JSON text. In place of the first line they are also a front of the head that a journal
--- gets. So a file that is no journal has no such line.
+-- are no JSON text. In place of the first line they are also a front of the head that a new
+-- journal gets. So a file that is no journal has no such line.
 abbrev pub is_unfinished : ℕ → List ℕ → Bool
 is_unfinished zero bytes =
-    is_no_json bytes && starts_with nat_eq (line_text (head_data newest_version)) bytes
+    is_no_json bytes && starts_with nat_eq (line_text (head_data plain_version)) bytes
 is_unfinished (suc n) bytes = is_no_json bytes
 
 -- how the last line stands, by the number of line feeds and the bytes after the last one

@@ -1,7 +1,6 @@
 //! The command of a line of a journal or a script.
 ghost use Rattle.osn_request.specs.LineObject.{line_data};
 ghost use Rattle.osn_request.specs.Request.{GivesLast};
-ghost use Rattle.osn_format.specs.Version.{rules_of};
 ghost use Rattle.osn_files.specs.Commands as spec;
 
 use osn_core::Command;
@@ -18,7 +17,7 @@ pub(crate) fn command_in(
     version: Version,
     object: &LineObject<'_>,
 ) -> Result<Command, RequestError>
-    ensures { GivesLast result (spec.command_in (rules_of version) (line_data object.now)) }
+    ensures { GivesLast result (spec.command_in version (line_data object.now)) }
 {
     match op_of(object)? {
         Op::Edit(op) => Ok(Command::Stage(edit_of(alloc, version, op, object)?)),

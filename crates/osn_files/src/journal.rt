@@ -19,8 +19,8 @@ use osn_register::Limits;
 use std::alloc::Global;
 
 /// The object of a journal, which is a head and then edits and publishes, a line each. They are
-/// read by the words of the head's version, and run in turn, by the newest rules, on a new object
-/// of these limits. Edits after the last publish are pending.
+/// read in the form of the head's version, and run in turn, by the newest rules, on a new object of
+/// these limits. Edits after the last publish are pending.
 ///
 /// Besides the object, memory holds what `take_lines` has, and the value of one line.
 ///
@@ -74,7 +74,7 @@ pub fn load_with_version<R: Source>(
 pub struct JournalPart {
     /// The object after them.
     pub object: Object,
-    /// The version by whose words they were read.
+    /// The version in whose form they were read.
     pub version: Version,
     /// How many lines the part has.
     pub lines: u64,

@@ -1,7 +1,7 @@
 //! How the last line of a file stands: whether its line feed is there, or it was not finished.
 ghost use Rattle.std.specs.Prelude.{◌≡◌, ◌≤◌, ℕ, List, [], ◌++◌, IfOk, OnOk, length, nat_eq};
 ghost use Rattle.std.specs.List.{starts_with};
-ghost use Rattle.osn_format.specs.Version.{newest_version};
+ghost use Rattle.osn_format.specs.Version.{plain_version};
 ghost use Rattle.osn_files.specs.JournalText.{line_text};
 ghost use Rattle.osn_files.specs.LastLine as spec;
 ghost use Rattle.osn_files.specs.LastLineInside.{IsFrontOf};
@@ -41,10 +41,10 @@ fn is_no_json(alloc: Global, line: &[u8]) -> Result<bool, AllocError>
     }
 }
 
-/// Whether bytes are a front of the head that a journal gets.
+/// Whether bytes are a front of the head that a new journal gets.
 fn is_head_front(alloc: Global, bytes: &[u8]) -> Result<bool, AllocError>
     ensures { IfOk result (λ is.
-        is ≡ starts_with nat_eq (line_text (head_data newest_version)) bytes.now) }
+        is ≡ starts_with nat_eq (line_text (head_data plain_version)) bytes.now) }
 {
     let head = head_line(alloc, HEAD_ROOM)?;
     Ok(head.starts_with(bytes))

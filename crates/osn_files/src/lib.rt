@@ -33,4 +33,6 @@ pub use schedule::read_schedule;
 pub use script::read_script;
 pub use stop::LineStop;
 pub use whole_lines::{WholePart, whole_part};
-pub use written::{head_line, journal_text, with_edit, with_edits, with_publish};
+pub use written::{
+    give_source, head_line, journal_text, journal_text_of, with_edit, with_edits, with_publish,
+};

@@ -48,7 +48,6 @@ impl LineFold for Object {
     ghost use Rattle.std.specs.Prelude.{is_ok};
     ghost use Rattle.osn_days.specs.Profile.{newest_rules};
     ghost use Rattle.osn_core.specs.Sequential.{ObjectState};
-    ghost use Rattle.osn_format.specs.Version.{rules_of};
     ghost use Rattle.osn_files.specs.Commands.{command_in};
     ghost use Rattle.osn_files.specs.Journal.{after_object};
 
@@ -58,7 +57,7 @@ impl LineFold for Object {
 
     ghost step = { λ _. after_object newest_rules };
 
-    ghost is_formed = { λ _ version d. is_ok (command_in (rules_of version) d) };
+    ghost is_formed = { λ _ version d. is_ok (command_in version d) };
 
     fn take_object(
         &mut self,

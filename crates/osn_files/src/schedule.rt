@@ -23,7 +23,6 @@ struct Steps {
 impl LineFold for Steps {
     ghost use Rattle.std.specs.Prelude.{List, is_ok};
     ghost use Rattle.osn_core.specs.declared.step.Step.{Step};
-    ghost use Rattle.osn_format.specs.Version.{rules_of};
     ghost use Rattle.osn_files.specs.Schedule.{with_step, step_in};
 
     ghost State = { List Step };
@@ -32,7 +31,7 @@ impl LineFold for Steps {
 
     ghost step = { λ s. with_step s.readers };
 
-    ghost is_formed = { λ s version d. is_ok (step_in (rules_of version) s.readers d) };
+    ghost is_formed = { λ s version d. is_ok (step_in version s.readers d) };
 
     fn take_object(
         &mut self,

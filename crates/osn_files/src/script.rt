@@ -16,7 +16,6 @@ use std::alloc::Global;
 impl LineFold for Vec<Command> {
     ghost use Rattle.std.specs.Prelude.{List, is_ok};
     ghost use Rattle.osn_core.specs.declared.command.Command.{Command};
-    ghost use Rattle.osn_format.specs.Version.{rules_of};
     ghost use Rattle.osn_files.specs.Commands.{command_in};
     ghost use Rattle.osn_files.specs.Script.{with_command};
 
@@ -26,7 +25,7 @@ impl LineFold for Vec<Command> {
 
     ghost step = { λ _. with_command };
 
-    ghost is_formed = { λ _ version d. is_ok (command_in (rules_of version) d) };
+    ghost is_formed = { λ _ version d. is_ok (command_in version d) };
 
     fn take_object(
         &mut self,
@@ -42,7 +41,7 @@ impl LineFold for Vec<Command> {
     }
 }
 
-/// The commands of a script, which has the form of a journal. They are read, by the words of the
+/// The commands of a script, which has the form of a journal. They are read, in the form of the
 /// head's version, and not run, so a line is refused for its form alone.
 ///
 /// # Errors

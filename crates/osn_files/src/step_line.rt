@@ -2,7 +2,6 @@
 ghost use Rattle.std.specs.Prelude.{◌≡◌};
 ghost use Rattle.osn_request.specs.LineObject.{line_data};
 ghost use Rattle.osn_request.specs.Request.{GivesLast};
-ghost use Rattle.osn_format.specs.Version.{rules_of};
 ghost use Rattle.osn_files.specs.Schedule as spec;
 
 use osn_core::Step;
@@ -71,7 +70,7 @@ fn look_of(alloc: Global, readers: u32, object: &LineObject<'_>) -> Result<Step,
 }
 
 fn stage_of(alloc: Global, version: Version, object: &LineObject<'_>) -> Result<Step, RequestError>
-    ensures { GivesLast result (spec.stage_of (rules_of version) (line_data object.now)) }
+    ensures { GivesLast result (spec.stage_of version (line_data object.now)) }
 {
     match op_of(object)? {
         Op::Edit(op) => Ok(Step::Stage(edit_of(alloc, version, op, object)?)),
@@ -88,7 +87,7 @@ fn step_by(
     object: &LineObject<'_>,
 ) -> Result<Step, RequestError>
     ensures { GivesLast result
-        (spec.step_by (rules_of version) readers (line_data object.now) kind) }
+        (spec.step_by version readers (line_data object.now) kind) }
 {
     match kind {
         StepKind::Look => look_of(alloc, readers, object),
@@ -121,7 +120,7 @@ pub(crate) fn step_in(
     readers: u32,
     object: &LineObject<'_>,
 ) -> Result<Step, RequestError>
-    ensures { GivesLast result (spec.step_in (rules_of version) readers (line_data object.now)) }
+    ensures { GivesLast result (spec.step_in version readers (line_data object.now)) }
 {
     step_by(alloc, version, readers, kind_of(object)?, object)
 }

@@ -1,14 +1,16 @@
 //! Writes a journal.
 ghost use Rattle.std.specs.Prelude.{◌≡◌, ◌++◌, Ok, IfOk, OnOk, string_bytes, codes};
+ghost use Rattle.std.specs.List.{list_any};
 ghost use Rattle.serde_json.specs.Data.{Data};
 ghost use Rattle.osn_days.specs.Profile.{newest_rules};
 ghost use Rattle.osn_lines.specs.Lines.{lines};
 ghost use Rattle.osn_core.specs.Sequential.{IsSound};
 ghost use Rattle.osn_register.specs.declared.edit.Edit.TheVariants as edits;
-ghost use Rattle.osn_format.specs.Json.{value_tokens, member_tokens};
-ghost use Rattle.osn_format.specs.Version.{newest_version};
+ghost use Rattle.osn_format.specs.Json.{value_tokens, member_tokens, source_tokens};
+ghost use Rattle.osn_format.specs.Version.{plain_version};
 ghost use Rattle.osn_files.specs.Journal.{load};
 ghost use Rattle.osn_files.specs.JournalText as spec;
+ghost use Rattle.osn_files.specs.Loaded.{HasEdits};
 ghost use Rattle.osn_files.specs.Version.{head_data};
 
 use json::Writer;
@@ -16,20 +18,32 @@ use osn_core::{Batch, Object};
 use osn_days::Keyword;
 use osn_format::{Member, Version, write_number, write_signed, write_text};
 use osn_lands::Regime;
-use osn_register::{Edit, Text};
+use osn_register::{Edit, Source, Text};
 use std::alloc::{AllocError, Global};
 
 /// The room that a journal gets at first.
 const ROOM: usize = 65_536;
+
+/// Writes the member of a source, where one is given.
+fn write_source(out: &mut Writer, source: &Option<Source>) -> Result<(), AllocError>
+    ensures tokens { OnOk result (out.new.tokens ≡ out.old.tokens ++ source_tokens source.now) }
+    ensures before { out.new.before ≡ out.old.before }
+{
+    match source {
+        Some(source) => write_text(out, "source", source.as_str()),
+        None => Ok(()),
+    }
+}
 
 fn write_add_land(
     out: &mut Writer,
     code: &Text,
     name: &Text,
     regime: Regime,
+    source: &Option<Source>,
 ) -> Result<(), AllocError>
     ensures tokens { OnOk result (out.new.tokens ≡ out.old.tokens
-        ++ value_tokens (spec.edit_data (edits.AddLand code.now name.now regime))) }
+        ++ value_tokens (spec.edit_data (edits.AddLand code.now name.now regime source.now))) }
     ensures before { out.new.before ≡ out.old.before }
 {
     out.begin_object()?;
@@ -38,6 +52,7 @@ fn write_add_land(
     write_text(out, "name", name.as_str())?;
     write_text(out, "op", "add_land")?;
     write_text(out, "rule", regime.rule.word())?;
+    write_source(out, source)?;
     write_text(out, "style", regime.style.word())?;
     out.end_object()
 }
@@ -49,9 +64,10 @@ fn write_change(
     code: &Text,
     day: i64,
     regime: Regime,
+    source: &Option<Source>,
 ) -> Result<(), AllocError>
     ensures tokens { OnOk result (out.new.tokens ≡ out.old.tokens
-        ++ value_tokens (spec.change_data op.now code.now day regime)) }
+        ++ value_tokens (spec.change_data op.now code.now day regime source.now)) }
     ensures before { out.new.before ≡ out.old.before }
 {
     out.begin_object()?;
@@ -60,6 +76,7 @@ fn write_change(
     write_signed(out, "day", day)?;
     write_text(out, "op", op)?;
     write_text(out, "rule", regime.rule.word())?;
+    write_source(out, source)?;
     write_text(out, "style", regime.style.word())?;
     out.end_object()
 }
@@ -76,15 +93,22 @@ fn write_drop_change(out: &mut Writer, code: &Text, day: i64) -> Result<(), Allo
     out.end_object()
 }
 
-fn write_add_exception(out: &mut Writer, code: &Text, year: i64, day: i64) -> Result<(), AllocError>
+fn write_add_exception(
+    out: &mut Writer,
+    code: &Text,
+    year: i64,
+    day: i64,
+    source: &Option<Source>,
+) -> Result<(), AllocError>
     ensures tokens { OnOk result (out.new.tokens ≡ out.old.tokens
-        ++ value_tokens (spec.edit_data (edits.AddException code.now year day))) }
+        ++ value_tokens (spec.edit_data (edits.AddException code.now year day source.now))) }
     ensures before { out.new.before ≡ out.old.before }
 {
     out.begin_object()?;
     write_text(out, "code", code.as_str())?;
     write_signed(out, "day", day)?;
     write_text(out, "op", "add_exception")?;
+    write_source(out, source)?;
     write_signed(out, "year", year)?;
     out.end_object()
 }
@@ -107,15 +131,31 @@ fn write_edit(out: &mut Writer, edit: &Edit) -> Result<(), AllocError>
     ensures before { out.new.before ≡ out.old.before }
 {
     match edit {
-        Edit::AddLand { code, name, regime } => write_add_land(out, code, name, *regime),
-        Edit::AddChange { code, day, regime } => {
-            write_change(out, "add_change", code, *day, *regime)
-        }
-        Edit::AlterChange { code, day, regime } => {
-            write_change(out, "alter_change", code, *day, *regime)
-        }
+        Edit::AddLand {
+            code,
+            name,
+            regime,
+            source,
+        } => write_add_land(out, code, name, *regime, source),
+        Edit::AddChange {
+            code,
+            day,
+            regime,
+            source,
+        } => write_change(out, "add_change", code, *day, *regime, source),
+        Edit::AlterChange {
+            code,
+            day,
+            regime,
+            source,
+        } => write_change(out, "alter_change", code, *day, *regime, source),
         Edit::DropChange { code, day } => write_drop_change(out, code, *day),
-        Edit::AddException { code, year, day } => write_add_exception(out, code, *year, *day),
+        Edit::AddException {
+            code,
+            year,
+            day,
+            source,
+        } => write_add_exception(out, code, *year, *day, source),
         Edit::DropException { code, year } => write_drop_exception(out, code, *year),
     }
 }
@@ -150,7 +190,16 @@ fn end_line(out: Writer) -> Result<Vec<u8>, AllocError>
     Ok(bytes)
 }
 
-/// The bytes of the first line of a journal: a head of the newest version. They get this room at
+/// The bytes of a head that says this version, with this room at first.
+fn head_of(alloc: Global, version: Version, room: usize) -> Result<Vec<u8>, AllocError>
+    ensures { IfOk result (λ bytes. bytes.items ≡ spec.line_text (head_data version)) }
+{
+    let mut out = Writer::new(Vec::with_capacity(alloc, room)?);
+    write_head(&mut out, version)?;
+    end_line(out)
+}
+
+/// The bytes of the first line of a new journal: a head of the plain version. They get this room at
 /// first, so that more can be put after them.
 ///
 /// # Errors
@@ -158,11 +207,9 @@ fn end_line(out: Writer) -> Result<Vec<u8>, AllocError>
 /// Only where no memory is found.
 pub fn head_line(alloc: Global, room: usize) -> Result<Vec<u8>, AllocError>
     ensures { IfOk result (λ bytes.
-        bytes.items ≡ spec.line_text (head_data newest_version)) }
+        bytes.items ≡ spec.line_text (head_data plain_version)) }
 {
-    let mut out = Writer::new(Vec::with_capacity(alloc, room)?);
-    write_head(&mut out, Version::newest())?;
-    end_line(out)
+    head_of(alloc, Version::plain(), room)
 }
 
 /// The bytes, and after them an edit as a line of a journal.
@@ -219,20 +266,73 @@ fn with_batches(bytes: Vec<u8>, batches: &[Batch]) -> Result<Vec<u8>, AllocError
     Ok(more)
 }
 
-/// The bytes of the journal of an object.
-fn journal_bytes(alloc: Global, object: &Object) -> Result<Vec<u8>, AllocError>
-    ensures text { IfOk result (λ bytes. bytes.items ≡ spec.journal_text object.now) }
+/// Whether one of some edits gives a source, so that their journal is of version 4.
+pub fn give_source(edits: &[Edit]) -> bool
+    ensures { result ≡ spec.give_source edits.now }
+{
+    edits.iter().any(|edit| edit.source().is_some())
+}
+
+/// Whether an edit of one of some batches gives a source.
+fn batches_give_source(batches: &[Batch]) -> bool
+    ensures { result ≡ list_any spec.give_source batches.now }
+{
+    batches.iter().any(|batch| give_source(batch.edits()))
+}
+
+/// Whether an edit of an object gives a source, published or pending.
+fn gives_any_source(object: &Object) -> bool
+    ensures { result ≡ spec.gives_any_source object.now }
+{
+    batches_give_source(object.batches()) || give_source(object.pending())
+}
+
+/// The version that the head of an object's journal says.
+fn version_for(object: &Object) -> Version
+    ensures { result ≡ spec.version_for object.now }
+{
+    if gives_any_source(object) {
+        Version::Fourth
+    } else {
+        Version::plain()
+    }
+}
+
+/// The bytes of the journal of an object, with a head that says this version.
+fn journal_bytes(alloc: Global, version: Version, object: &Object) -> Result<Vec<u8>, AllocError>
+    ensures text { IfOk result (λ bytes. bytes.items ≡ spec.journal_text_of version object.now) }
     ensures sound { IsSound newest_rules object.now }
 {
     let batches = object.batches();
-    let head = head_line(alloc, ROOM)?;
+    let head = head_of(alloc, version, ROOM)?;
     let published = with_batches(head, batches)?;
     with_edits(published, object.pending())
 }
 
-/// The journal of an object: a head of the newest version, the edits of each batch with a publish
-/// after them, and then the pending edits. What is loaded from it under the object's limits is
-/// that object again.
+/// The journal of an object, as `journal_text`, with a head that says this version. Where the
+/// version has each edit of the object, what is loaded from it is that object again.
+///
+/// # Errors
+///
+/// Only where no memory is found.
+pub fn journal_text_of(
+    alloc: Global,
+    version: Version,
+    object: &Object,
+) -> Result<String, AllocError>
+    ensures text { IfOk result (λ text.
+        string_bytes text ≡ spec.journal_text_of version object.now) }
+    ensures law { HasEdits version object.now →
+        load newest_rules object.now.limits (lines (spec.journal_text_of version object.now))
+        ≡ Ok object.now }
+{
+    let bytes = journal_bytes(alloc, version, object)?;
+    Ok(unsafe { String::from_utf8_unchecked(bytes) })
+}
+
+/// The journal of an object: a head, the edits of each batch with a publish after them, and then
+/// the pending edits. The head says version 4 where an edit gives a source, else the plain
+/// one. What is loaded from it under the object's limits is that object again.
 ///
 /// # Errors
 ///
@@ -242,6 +342,5 @@ pub fn journal_text(alloc: Global, object: &Object) -> Result<String, AllocError
     ensures law { load newest_rules object.now.limits (lines (spec.journal_text object.now))
         ≡ Ok object.now }
 {
-    let bytes = journal_bytes(alloc, object)?;
-    Ok(unsafe { String::from_utf8_unchecked(bytes) })
+    journal_text_of(alloc, version_for(object), object)
 }

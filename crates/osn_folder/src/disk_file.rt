@@ -1,5 +1,5 @@
 //! The files of the disk that are kept.
-ghost use Rattle.std.specs.Prelude.{◌≡◌, None, IfOk, false};
+ghost use Rattle.std.specs.Prelude.{◌≡◌, None, IfOk, IfSome, false};
 ghost use Rattle.osn_lines.specs.Plain.{failed_of};
 
 use crate::disk_lock::{is_at, lock};
@@ -147,7 +147,7 @@ fn made(change: io::Result<()>) -> Result<(), KeptFileFault> {
 }
 
 /// Opens a file to be kept, or makes it, and gives what reads it from its first byte on. One that
-/// was made and can't be kept is taken away again, unless somebody else has it.
+/// was made and can't be kept is taken away again, where it is empty and nobody else has it.
 pub(crate) fn keep_file<'a, R: Files<File = File> + AllocGlobal>(
     files: &'a R,
     path: &str,
@@ -186,37 +186,68 @@ fn open_locked<'a, R: Files<File = File> + AllocGlobal>(
     else {
         return Err(KeepFault::NotOpened);
     };
-    lock(&file)?;
-    if !matches!(is_settled(files, path, &file), Ok(true)) {
-        if is_new {
-            remove_made(files, path, &file);
+    match settle(files, path, &file) {
+        Ok(settled) => Ok(kept_file(files, file, settled)),
+        Err(fault) => {
+            if is_new && fault == KeepFault::NotOpened {
+                remove_made(files, path, &file);
+            }
+            Err(fault)
         }
-        return Err(KeepFault::NotOpened);
-    }
-    match kept_file(files, path, file) {
-        Ok(kept) => Ok(kept),
-        Err(_) => Err(KeepFault::NotOpened),
     }
 }
 
-/// Whether a file that was locked is the one at its path, and no other was put there meanwhile. The
-/// name of an empty one is on the disk then, since the run that made it may not have come to that.
-fn is_settled<R: Files<File = File> + AllocGlobal>(
+/// What is found out of a file before it is kept.
+#[derive(Drop)]
+struct SettledFile {
+    /// The path that it was opened by.
+    path: String,
+    /// How many bytes it holds.
+    length: u64,
+    /// What reads it.
+    source: Plain<File>,
+}
+
+/// Locks a file, and finds out what has to be known before it is kept.
+fn settle<R: Files<File = File> + AllocGlobal>(
     files: &R,
     path: &str,
     file: &File,
-) -> io::Result<bool> {
-    let held = file.metadata()?;
-    if !held.is_file() || !is_at(files, path, file)? {
-        return Ok(false);
+) -> Result<SettledFile, KeepFault>
+    ensures { IfOk result (λ settled. failed_of settled.source ≡ false) }
+{
+    lock(file)?;
+    match settle_locked(files, path, file) {
+        Ok(Some(settled)) => Ok(settled),
+        Ok(None) | Err(_) => Err(KeepFault::NotOpened),
     }
-    if held.len() == 0 {
-        sync_name(files, path)?;
-    }
-    Ok(true)
 }
 
-/// Takes a file that was made and is locked away again, if it is the one at its path and is empty.
+/// What is found out of a file that was locked, if it is the one at its path, and no other was put
+/// there meanwhile. What it holds and its name are on the disk then, since the run that wrote it
+/// may not have come to that.
+fn settle_locked<R: Files<File = File> + AllocGlobal>(
+    files: &R,
+    path: &str,
+    file: &File,
+) -> io::Result<Option<SettledFile>>
+    ensures { IfOk result (λ found. IfSome found (λ settled.
+        failed_of settled.source ≡ false)) }
+{
+    let held = file.metadata()?;
+    if !held.is_file() || !is_at(files, path, file)? {
+        return Ok(None);
+    }
+    file.sync_all()?;
+    sync_name(files, path)?;
+    Ok(Some(SettledFile {
+        path: String::from_str(files.alloc(), path)?,
+        length: held.len(),
+        source: Plain::new(file.try_clone()?),
+    }))
+}
+
+/// Takes a file that was made away again, if it is the one at its path and is empty.
 fn remove_made(files: &impl Files, path: &str, file: &File) {
     let is_empty = file.metadata().is_ok_and(|found| found.len() == 0);
     if is_empty && matches!(is_at(files, path, file), Ok(true)) {
@@ -224,22 +255,21 @@ fn remove_made(files: &impl Files, path: &str, file: &File) {
     }
 }
 
-/// A file that was locked, and what reads it.
-fn kept_file<'a, R: Files<File = File> + AllocGlobal>(
+/// A file that was settled, and what reads it.
+fn kept_file<'a, R: Files<File = File>>(
     files: &'a R,
-    path: &str,
     file: File,
-) -> io::Result<(DiskFile<'a, R>, Plain<File>)>
-    ensures { IfOk result (λ kept. (kept.0.fault ≡ None) × (failed_of kept.1 ≡ false)) }
+    settled: SettledFile,
+) -> (DiskFile<'a, R>, Plain<File>)
+    ensures fault { result.0.fault ≡ None }
+    ensures source { result.1 ≡ settled.source }
 {
-    let length = file.metadata()?.len();
-    let source = Plain::new(file.try_clone()?);
     let kept = DiskFile {
         files,
-        path: String::from_str(files.alloc(), path)?,
+        path: settled.path,
         file,
-        length,
+        length: settled.length,
         fault: None,
     };
-    Ok((kept, source))
+    (kept, settled.source)
 }

@@ -1,5 +1,6 @@
 //! A file that is kept while a program runs.
-ghost use Rattle.std.specs.Prelude.{◌≡◌, ℕ, List, Bool, true, Option, take, option_map, OnOk, OnErr};
+ghost use Rattle.std.specs.Prelude.{◌≡◌, ℕ, List, Bool, true, Option, take, option_map};
+ghost use Rattle.std.specs.Prelude.{OnOk, OnErr};
 ghost use Rattle.std.specs.Io.KnownBytes.{Appends};
 ghost use Rattle.osn_folder.specs.KeptFile.{fault_after};
 ghost use Rattle.osn_folder.specs.declared.fault.KeptFileFault.{KeptFileFault};
@@ -44,8 +45,8 @@ pub trait KeptFile {
         ensures disk { OnErr result (synced self.new ≡ synced self.old) }
         ensures fault { fault self.new ≡ fault_after result (fault self.old) };
 
-    /// Cuts it back to its first bytes after a change of it has failed. One that has no more is left
-    /// as it is. The fault stays noted: no further change is made.
+    /// Cuts it back to its first bytes after a change of it has failed. One that has no more is
+    /// left as it is. The fault stays noted: no further change is made.
     ///
     /// # Errors
     ///

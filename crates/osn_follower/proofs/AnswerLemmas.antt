@@ -11,6 +11,7 @@ use Rattle.std.specs.List.{All}
 use Rattle.std.specs.Io.KnownBytes.{Appends}
 use Rattle.std.specs.declared.convert.Infallible.{Infallible}
 use Rattle.osn_core.specs.Sequential.{ObjectState}
+use Rattle.osn_format.specs.Version.{newest_version}
 use Rattle.osn_format.specs.declared.wire_fault.WireFault.{WireFault}
 use Rattle.osn_lines.specs.Faults.{IsReadFault}
 use Rattle.osn_lines.specs.Lines.{lines}
@@ -20,11 +21,12 @@ use Rattle.osn_reply.specs.ReplyText.{reply_line}
 use Rattle.osn_reply.specs.declared.outcome.Outcome.{Outcome}
 use Rattle.osn_request.specs.declared.request.Request.{Request}
 use Rattle.osn_request.specs.declared.request.Request.TheVariants.{Stage, Publish, Ask}
+use Rattle.osn_request.specs.Request.{request}
 use Rattle.osn_service.specs.Refusals.{IsFirstRefused as IsFirst, NoneRefused}
 use Rattle.osn_service.specs.Served as served
 use Rattle.osn_service.specs.Served.{after_lines, outputs}
 use Rattle.osn_service.specs.Serves.{RefusesNone, Serves, ServesStore, ServesToRefusal}
-use Rattle.osn_service.specs.Session.{allowed, line_after, line_outcome, line_request, state_after}
+use Rattle.osn_service.specs.Session.{allowed, line_after, line_outcome, state_after}
 use Rattle.osn_service.specs.Faults.{MatchServed}
 use Rattle.osn_service.specs.declared.fault.ServeFault.{ServeFault}
 use Rattle.osn_service.specs.declared.fault.ServeFault.TheVariants.{NoMemory, ReadFault, WriteFault}
@@ -38,17 +40,19 @@ use Rattle.osn_follower.specs.Outcomes.{outcomes, texts}
 
 -- ---- lines that change nothing
 
-leaves : (s : ObjectState) (r : Result Request WireFault) → state_after s (allowed true r) ≡ s
-leaves s (Ok (Stage edit)) = refl
-leaves s (Ok Publish) = refl
-leaves s (Ok (Ask reader query)) = refl
-leaves s (Err fault) = refl
+leaves : (takes_sources : Bool) (s : ObjectState) (r : Result Request WireFault)
+    → state_after s (allowed true takes_sources r) ≡ s
+leaves takes_sources s (Ok (Stage edit)) = refl
+leaves takes_sources s (Ok Publish) = refl
+leaves takes_sources s (Ok (Ask reader query)) = refl
+leaves takes_sources s (Err fault) = refl
 
 module _ (rules : ServeRules) (s : ObjectState) (reads : rules.read_only ≡ true) where
   stays : (line : List ℕ) → line_after rules s line ≡ s
   stays line =
-      let asked = line_request (record rules { read_only = false }) line in
-      ap (λ b. state_after s (allowed b asked)) reads ∙ leaves s asked
+      let asked = request newest_version rules.readers line in
+      ap (λ b. state_after s (allowed b rules.takes_sources asked)) reads
+      ∙ leaves rules.takes_sources s asked
 
   stays_all : (ls : List (List ℕ)) → after_lines rules s ls ≡ s
   stays_all [] = refl

@@ -32,7 +32,6 @@ use Rattle.osn_follower.specs.FollowerInside.{IsJournalOf}
 use Rattle.osn_follower.specs.Follows.{IsRefused}
 use Rattle.osn_follower.specs.JournalInside.{later, journal_after, up_to_most}
 use Rattle.osn_follower.specs.Outcomes as specs
-use Rattle.osn_follower.specs.Outcomes.{journal_object}
 
 -- ---- lines in turn
 

@@ -13,7 +13,6 @@ use Rattle.osn_register.specs.declared.refusal.Refusal.{Refusal}
 use Rattle.osn_lines.specs.Lines.{lines}
 use Rattle.osn_format.specs.declared.version.Version.{Version}
 use Rattle.osn_format.specs.declared.wire_fault.WireFault.{WireFault}
-use Rattle.osn_format.specs.Version.{rules_of}
 use Rattle.osn_request.specs.Request.{object_of}
 use Rattle.osn_files.specs.Commands.{command_in}
 use Rattle.osn_files.specs.Journal.{after_command, after_object, unless_refused}
@@ -61,7 +60,7 @@ by_read s (Err f) = tt
 
 by_line : (version : Version) (s : ObjectState) (r : Result Data WireFault)
     → AllBegin s (on_read r (after_object newest_rules version s))
-by_line version s (Ok d) = by_read s (command_in (rules_of version) d)
+by_line version s (Ok d) = by_read s (command_in version d)
 by_line version s (Err f) = tt
 
 -- further lines keep the batches

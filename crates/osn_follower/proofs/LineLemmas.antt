@@ -6,11 +6,11 @@ use Rattle.std.proofs.Common.{inl, inr, append-nil, append_assoc, length-append,
 use Rattle.std.proofs.Math.Seq.{take-append-add, drop-append-add}
 use Rattle.std.proofs.lemmas.Bool.{eqb-true, lt-ltb}
 use Rattle.std.proofs.lemmas.List.{length-drop, length-take-le}
-use Rattle.osn_days.specs.Profile.{newest_rules}
 use Rattle.osn_core.specs.Sequential.{ObjectState}
 use Rattle.osn_lines.specs.Ended.{with_byte, ended_length, ended_bytes, unended_bytes}
 use Rattle.osn_lines.specs.Lines.{lines, onto_first, longest_line}
 use Rattle.osn_lines.proofs.EndedLemmas.{ended-before, ended-within, ended-le}
+use Rattle.osn_format.specs.Version.{newest_version}
 use Rattle.osn_format.specs.declared.wire_fault.WireFault.TheVariants.{LineTooLong}
 use Rattle.osn_request.specs.Field.{◌>>=◌}
 use Rattle.osn_request.specs.Request.{object_in, request_of, value_of}
@@ -91,10 +91,11 @@ abbrev IsLong : List ℕ → Type 0
 IsLong line = longest_line < length line
 
 too_long : (rules : ServeRules) (s : ObjectState) (line : List ℕ) → IsLong line
-    → line_outcome rules s line ≡ outcome_of s (allowed rules.read_only (Err LineTooLong))
+    → line_outcome rules s line
+    ≡ outcome_of s (allowed rules.read_only rules.takes_sources (Err LineTooLong))
 too_long rules s line long =
-    ap (λ t. outcome_of s (allowed rules.read_only
-    (cond t (Err LineTooLong) (object_in (value_of line)) >>= request_of newest_rules
+    ap (λ t. outcome_of s (allowed rules.read_only rules.takes_sources
+    (cond t (Err LineTooLong) (object_in (value_of line)) >>= request_of newest_version
     rules.readers)))
     (lt-ltb longest_line (length line) long)
 

@@ -1,8 +1,7 @@
 -- What a follower has between two looks: the journal as far as its lines have come, and what has
 -- come of the next request line.
-use Rattle.std.specs.Prelude.{◌≡◌, ◌+◌, ◌<◌, ◌≤◌, ◌⊎◌, ◌++◌, ◌∷◌, [], ℕ, true, false, List, length}
-use Rattle.std.specs.Prelude.{map}
-use Rattle.std.specs.Prelude.{Option, Some, None, Ok, min}
+use Rattle.std.specs.Prelude.{◌≡◌, ◌+◌, ◌<◌, ◌≤◌, ◌⊎◌, ◌++◌, [], ℕ, true, false, List, length}
+use Rattle.std.specs.Prelude.{Option, None, Ok, min}
 use Rattle.std.specs.List.{All}
 use Rattle.std.specs.Io.KnownBytes.{Appends}
 use Rattle.osn_days.specs.Profile.{newest_rules}
@@ -15,7 +14,6 @@ use Rattle.osn_reply.specs.declared.outcome.Outcome.{Outcome}
 use Rattle.osn_files.specs.Journal.{after_object, load}
 use Rattle.osn_files.specs.Turns.{in_turn}
 use Rattle.osn_folder.specs.FollowedFile.{IsOfWholeLines}
-use Rattle.osn_service.specs.Session.{line_outcome}
 use Rattle.osn_service.specs.declared.rules.ServeRules.{ServeRules}
 use Rattle.osn_follower.specs.declared.journal.FollowedJournal.{FollowedJournal}
 use Rattle.osn_follower.specs.declared.line_front.LineFront.{LineFront}

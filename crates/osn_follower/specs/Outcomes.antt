@@ -1,7 +1,7 @@
 -- The outcomes of a follower: at each look at the file, the lines that have come whole since the
 -- look before are answered from the journal that the file then holds.
-use Rattle.std.specs.Prelude.{◌≡◌, ◌==◌, ℕ, true, Bool, List, [], ◌∷◌, ◌++◌, take, map, length}
-use Rattle.std.specs.Prelude.{Result, Ok, Err, if◌then◌else◌}
+use Rattle.std.specs.Prelude.{ℕ, true, Bool, List, [], ◌∷◌, ◌++◌, take, map}
+use Rattle.std.specs.Prelude.{Result, Ok, Err}
 use Rattle.std.specs.List.{flat_map}
 use Rattle.osn_days.specs.Profile.{newest_rules}
 use Rattle.osn_register.specs.declared.limits.Limits.{Limits}
@@ -42,8 +42,12 @@ journal_object limits file = object_of limits (lines file)
 
 -- the rules of a follower: no line changes anything
 abbrev pub following : ℕ → Bool → ServeRules
-following readers stop =
-    record { readers = readers; read_only = true; stop_at_refusal = stop }
+following readers stop = record {
+  readers = readers;
+  read_only = true;
+  takes_sources = true;
+  stop_at_refusal = stop;
+}
 
 -- the outcomes of the lines of a text, by an object
 abbrev pub outcomes : ServeRules → ObjectState → List ℕ → List Outcome

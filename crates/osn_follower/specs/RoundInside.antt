@@ -1,16 +1,12 @@
 -- What one round of a follower has done: it reads once, looks once, and answers.
 use Rattle.std.specs.Prelude.{◌≡◌, ◌≤◌, ◌⊎◌, ℕ, Bool, true, false, List, [], ◌∷◌, ◌++◌, length}
-use Rattle.std.specs.Prelude.{Option, Some, Result, Ok, Err, MatchResult}
+use Rattle.std.specs.Prelude.{Option, Result, Ok, Err}
 use Rattle.std.specs.List.{All}
 use Rattle.osn_core.specs.Sequential.{ObjectState}
 use Rattle.osn_lines.specs.Ended.{ended_bytes, unended_bytes}
 use Rattle.osn_lines.specs.declared.fault.Interrupted.{Interrupted}
-use Rattle.osn_files.specs.Faults.{MatchFileFault}
 use Rattle.osn_files.specs.declared.fault.FileFault.{FileFault}
 use Rattle.osn_files.specs.declared.fault.FileFault.TheVariants as files
-use Rattle.osn_files.specs.declared.fault.LineFault.{LineFault}
-use Rattle.osn_register.specs.declared.limits.Limits.{Limits}
-use Rattle.osn_reply.specs.Outcome.{is_refused}
 use Rattle.osn_reply.specs.declared.outcome.Outcome.{Outcome}
 use Rattle.osn_service.specs.Faults as service
 use Rattle.osn_service.specs.Faults.{MatchServed}
@@ -18,16 +14,15 @@ use Rattle.osn_service.specs.declared.fault.ServeFault.{ServeFault}
 use Rattle.osn_service.specs.declared.fault.ServeFault.TheVariants.{NoMemory}
 use Rattle.osn_service.specs.declared.rules.ServeRules.{ServeRules}
 use Rattle.osn_service.specs.declared.service.Served.{Served}
-use Rattle.osn_files.specs.declared.journal.JournalPart.{JournalPart}
 use Rattle.osn_follower.specs.declared.fault.FollowerFault.{FollowerFault}
 use Rattle.osn_follower.specs.declared.fault.FollowerFault.TheVariants.{Serve, Journal}
 use Rattle.osn_follower.specs.declared.follower.Follower.{Follower}
 use Rattle.osn_follower.specs.declared.follower.RequestLines.{RequestLines}
 use Rattle.osn_follower.specs.declared.journal.FollowedJournal.{FollowedJournal}
 use Rattle.osn_follower.specs.declared.line_front.LineFront.{LineFront}
-use Rattle.osn_follower.specs.Arrivals.{Arrival, Arrive, Ended, Gained, arrival_of}
+use Rattle.osn_follower.specs.Arrivals.{Arrival, Arrive, Gained, arrival_of}
 use Rattle.osn_follower.specs.Follows.{WritesAll, WritesFirst, WritesInPart, IsFirstRefused}
-use Rattle.osn_follower.specs.Follows.{IsRefused, IsAtEnd, MatchFollower, Ends}
+use Rattle.osn_follower.specs.Follows.{IsRefused, MatchFollower, Ends}
 use Rattle.osn_follower.specs.Follows.{HasNoRefusal}
 use Rattle.osn_follower.specs.FollowerInside.{StandsFor, StandsForLines, IsJournalOf, IsFollowing}
 use Rattle.osn_follower.specs.Outcomes.{outcomes, outcomes_of, with_feed}

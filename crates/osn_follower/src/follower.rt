@@ -242,6 +242,7 @@ pub fn follow<A: Arrivals, W: Sink>(
     let rules = ServeRules {
         readers,
         read_only: true,
+        takes_sources: true,
         stop_at_refusal,
     };
     let Ok(mut buffer) = read_buffer(alloc) else {

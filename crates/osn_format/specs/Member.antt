@@ -2,9 +2,9 @@
 use Rattle.std.specs.Prelude.{ℕ, List, codes}
 use Rattle.osn_format.specs.declared.member.Member.{Member}
 use Rattle.osn_format.specs.declared.member.Member.TheVariants.{Op, Code, Name, Calendar, Style}
-use Rattle.osn_format.specs.declared.member.Member.TheVariants.{Rule, Reader, Year, Month, Day}
-use Rattle.osn_format.specs.declared.member.Member.TheVariants.{Date, Weekday, Journal, Step, Ask}
-use Rattle.osn_format.specs.declared.member.Member.TheVariants.{Reply, Edition}
+use Rattle.osn_format.specs.declared.member.Member.TheVariants.{Rule, Source, Reader, Year, Month}
+use Rattle.osn_format.specs.declared.member.Member.TheVariants.{Day, Date, Weekday, Journal, Step}
+use Rattle.osn_format.specs.declared.member.Member.TheVariants.{Ask, Reply, Edition}
 
 abbrev pub member_name : Member → List ℕ
 member_name Op = codes "op"
@@ -13,6 +13,7 @@ member_name Name = codes "name"
 member_name Calendar = codes "calendar"
 member_name Style = codes "style"
 member_name Rule = codes "rule"
+member_name Source = codes "source"
 member_name Reader = codes "reader"
 member_name Year = codes "year"
 member_name Month = codes "month"

@@ -7,7 +7,7 @@ use Rattle.osn_format.specs.declared.wire_fault.WireFault.TheVariants.{UnknownOp
 use Rattle.osn_format.specs.declared.wire_fault.WireFault.TheVariants.{BadHead, UnknownStep}
 use Rattle.osn_format.specs.declared.wire_fault.WireFault.TheVariants.{NotAQuery, WrongReply}
 use Rattle.osn_format.specs.declared.wire_fault.WireFault.TheVariants.{UnknownEdition, EditionFell}
-use Rattle.osn_format.specs.declared.wire_fault.WireFault.TheVariants.{ReadOnly}
+use Rattle.osn_format.specs.declared.wire_fault.WireFault.TheVariants.{ReadOnly, NeedsUpgrade}
 
 abbrev pub wire_fault_number : WireFault → ℕ
 wire_fault_number LineTooLong = 31
@@ -23,6 +23,7 @@ wire_fault_number WrongReply = 42
 wire_fault_number UnknownEdition = 43
 wire_fault_number EditionFell = 44
 wire_fault_number ReadOnly = 45
+wire_fault_number NeedsUpgrade = 46
 
 abbrev pub wire_fault_name : WireFault → List ℕ
 wire_fault_name LineTooLong = codes "LineTooLong"
@@ -38,3 +39,4 @@ wire_fault_name WrongReply = codes "WrongReply"
 wire_fault_name UnknownEdition = codes "UnknownEdition"
 wire_fault_name EditionFell = codes "EditionFell"
 wire_fault_name ReadOnly = codes "ReadOnly"
+wire_fault_name NeedsUpgrade = codes "NeedsUpgrade"

@@ -17,6 +17,8 @@ pub enum Member {
     Style,
     /// The rule of Easter of a regime.
     Rule,
+    /// Where what is added or altered was found, a text.
+    Source,
     /// The number of the reader who asks, from 1.
     Reader,
     /// A year of a label, or one whose Easter or figures are meant.
@@ -53,6 +55,7 @@ impl Member {
             Member::Calendar => "calendar",
             Member::Style => "style",
             Member::Rule => "rule",
+            Member::Source => "source",
             Member::Reader => "reader",
             Member::Year => "year",
             Member::Month => "month",

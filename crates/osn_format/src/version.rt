@@ -12,12 +12,22 @@ pub enum Version {
     First,
     /// The second version: two styles more.
     Second,
+    /// Version 4: an edit may give a source. No version has the number 3, which the head of a
+    /// journal is refused for.
+    Fourth,
 }
 
 impl Version {
-    /// The version that is written, and by which requests are read.
+    /// The version by which requests, questions and schedules are read.
     pub fn newest() -> Version
         ensures { result ≡ spec.newest_version }
+    {
+        Self::Fourth
+    }
+
+    /// The version that is written where no source is given, and that a new kept file begins with.
+    pub fn plain() -> Version
+        ensures { result ≡ spec.plain_version }
     {
         Self::Second
     }
@@ -29,6 +39,7 @@ impl Version {
         match self {
             Version::First => 1,
             Version::Second => 2,
+            Version::Fourth => 4,
         }
     }
 
@@ -39,6 +50,7 @@ impl Version {
         match number {
             1 => Some(Version::First),
             2 => Some(Version::Second),
+            4 => Some(Version::Fourth),
             _ => None,
         }
     }
@@ -52,7 +64,17 @@ impl Version {
                 Style::January | Style::Annunciation | Style::Nativity | Style::September => true,
                 Style::Pisan | Style::Easter => false,
             },
-            Version::Second => true,
+            Version::Second | Version::Fourth => true,
+        }
+    }
+
+    /// Whether an edit may give a source in a line of this version.
+    pub fn has_sources(self) -> bool
+        ensures { result ≡ spec.has_sources self }
+    {
+        match self {
+            Version::First | Version::Second => false,
+            Version::Fourth => true,
         }
     }
 }

@@ -33,6 +33,8 @@ pub enum WireFault {
     EditionFell,
     /// The service takes no edit and no publish.
     ReadOnly,
+    /// The edit gives a source, and the kept file is of a version that has none.
+    NeedsUpgrade,
 }
 
 impl WireFault {
@@ -54,6 +56,7 @@ impl WireFault {
             WireFault::UnknownEdition => 43,
             WireFault::EditionFell => 44,
             WireFault::ReadOnly => 45,
+            WireFault::NeedsUpgrade => 46,
         }
     }
 
@@ -75,6 +78,7 @@ impl WireFault {
             WireFault::UnknownEdition => "UnknownEdition",
             WireFault::EditionFell => "EditionFell",
             WireFault::ReadOnly => "ReadOnly",
+            WireFault::NeedsUpgrade => "NeedsUpgrade",
         }
     }
 }

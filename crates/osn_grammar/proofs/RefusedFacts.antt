@@ -1,21 +1,11 @@
 -- Several days in digits are refused by every other form than that of a set.
-use Rattle.std.proofs.Common.{◌≡◌, ℕ, ◌+◌, ◌/◌, ◌^◌, ◌<◌, ◌≤◌, ◌&&◌, ◌==◌, not, Bool, true, false}
-use Rattle.std.proofs.Common.{List, [], ◌∷◌, if◌then◌else◌, subst₂}
-use Rattle.std.proofs.Common.{◌++◌, codes, length, filter, map, unsigned_abs, Option, Some, None}
-use Rattle.std.proofs.Common.{option_map, Result, Ok, Err, is_err, refl, ap, ◌∙◌, sym, subst, arith}
-use Rattle.std.proofs.Common.{append_assoc, append-nil}
+use Rattle.std.proofs.Common.{◌≡◌, ℕ, ◌+◌, not, true, false}
+use Rattle.std.proofs.Common.{List, [], ◌∷◌}
+use Rattle.std.proofs.Common.{◌++◌, length, filter, unsigned_abs, Option, Some, None}
+use Rattle.std.proofs.Common.{Result, Ok, Err, is_err, refl, ap, arith}
 use Rattle.std.proofs.lemmas.Bool.{ne_eqb}
-use Rattle.std.proofs.lemmas.List.Elements.{All-nil, All-cons, All-head, All-tail, All-append}
-use Rattle.std.proofs.lemmas.List.Elements.{filter-append}
-use Rattle.std.proofs.lemmas.List.Splits.{slice_split_at, slice_split_none}
-use Rattle.std.specs.List.{All, join_by, list_any}
-use Rattle.std.specs.Option.{option_and_then, option_to_list, unwrap_or}
-use Rattle.std.specs.Result.{result_ok}
-use Rattle.std.specs.Str.{all_ascii_digits}
-use Rattle.std.proofs.lemmas.Str.Parse.{tells_all_ascii_digits}
+use Rattle.std.specs.List.{list_any}
 use Rattle.osn_days.specs.declared.date.Date.{Date}
-use Rattle.osn_days.specs.DateText.{at_least, date_text, text_of_date}
-use Rattle.osn_days.proofs.DateDigits.{four_digits}
 use Rattle.osn_days.specs.declared.weekday.Weekday.{Weekday}
 use Rattle.osn_grammar.specs.declared.part.Part.{Part}
 use Rattle.osn_grammar.specs.declared.part.Part.TheVariants.{Number, Dash, Open, Bracket}
@@ -29,24 +19,16 @@ use Rattle.osn_grammar.specs.declared.written.Written.TheVariants as say
 use Rattle.osn_grammar.specs.declared.written.WrittenDate.{WrittenDate}
 use Rattle.osn_grammar.specs.declared.extent.Joining.TheVariants as joins
 use Rattle.osn_grammar.specs.Extent.{extent_of, first_read, range, range_after}
-use Rattle.osn_grammar.specs.InDigits.{HasFourDigits, sign, signed}
+use Rattle.osn_grammar.specs.InDigits.{sign, signed}
 use Rattle.osn_grammar.specs.Parts.{tells_time}
-use Rattle.osn_grammar.specs.Reading.{all_members, date_of, date_unless, is_undated, member_in}
-use Rattle.osn_grammar.specs.Reading.{member_of, members, or_set, reading_of_parts, unread}
-use Rattle.osn_grammar.specs.Reading.{with_signs, is_about}
+use Rattle.osn_grammar.specs.Reading.{date_of, date_unless, is_undated}
+use Rattle.osn_grammar.specs.Reading.{reading_of_parts, unread}
+use Rattle.osn_grammar.specs.Reading.{is_about}
 use Rattle.osn_grammar.specs.Reading.{is_doubt, is_bracket, weekday_after, reckoning_after}
-use Rattle.osn_grammar.specs.Scan.{first_of, is_name, next_is, part_of_run, parts_after, parts_in}
-use Rattle.osn_grammar.specs.Sets.{between_commas, days_in_digits, is_sign}
-use Rattle.osn_grammar.specs.SetsInDigits.{AreSetsRead, Days, HaveFourDigits, days_text}
-use Rattle.osn_grammar.specs.SetsInDigits.{extent_of_days, member, set_text}
+use Rattle.osn_grammar.specs.SetsInDigits.{Days}
 use Rattle.osn_grammar.specs.Simple.{◌>>=◌, simple_date}
-use Rattle.osn_grammar.proofs.DigitLaw.{IsDay, padded_digits, parts_of, sign_parts, signed_reads}
-use Rattle.osn_grammar.proofs.DigitLaw.{text_is, year_small}
-use Rattle.osn_grammar.proofs.SetFacts.{last_without}
-use Rattle.osn_grammar.proofs.TextFacts.{Ends, IsMark, Reads, Scans, bracket, begun_scans}
-use Rattle.osn_grammar.proofs.TextFacts.{closed_scans, is_low-append, joined_reads, mark_closes}
-use Rattle.osn_grammar.proofs.TextFacts.{nothing_closes, parts_scanned, reads_scan}
-use Rattle.osn_grammar.proofs.WordFacts.{bracket_begins}
+use Rattle.osn_grammar.proofs.DigitLaw.{parts_of}
+use Rattle.osn_grammar.proofs.TextFacts.{bracket}
 
 bind_err : {A B : Type 0} (r : Result A DateFault) (f : A → Result B DateFault) → is_err r ≡ true
     → is_err (r >>= f) ≡ true

@@ -40,13 +40,14 @@ abbrev pub year_arg : Rule
 year_arg =
     record (required_arg (codes "year")) { parser = Some (Signed (pos 0) (pos 4294967295)) }
 
--- `serve [--journal FILE] [--save FILE] [--keep FILE] [--follow FILE] [--readers N] [--read-only]
--- [--stop-at-refusal]`
+-- `serve [--journal FILE] [--save FILE] [--keep FILE] [--upgrade] [--follow FILE] [--readers N]
+-- [--read-only] [--stop-at-refusal]`
 abbrev pub serve_grammar : App
-serve_grammar = with_rule (with_rule (with_rule (with_rule (with_rule (with_rule
+serve_grammar = with_rule (with_rule (with_rule (with_rule (with_rule (with_rule (with_rule
     (with_rule (new_app (codes "serve")) (value_option (codes "journal")))
-    (value_option (codes "save"))) (value_option (codes "keep"))) (value_option (codes "follow")))
-    readers_option) (flag_option (codes "read-only"))) (flag_option (codes "stop-at-refusal"))
+    (value_option (codes "save"))) (value_option (codes "keep"))) (flag_option (codes "upgrade")))
+    (value_option (codes "follow"))) readers_option) (flag_option (codes "read-only")))
+    (flag_option (codes "stop-at-refusal"))
 
 -- `replay --readers N SCHEDULE`
 abbrev pub replay_grammar : App

@@ -33,9 +33,11 @@ pub data PageWordsModel : Type 0 where
   month_words : Text → Text → Text → PageWordsModel
   territory_words : Option Text → PageWordsModel
 
--- what the service is asked for beside files: how many readers ask, and whether edits and publishes
--- are refused. It says whether the first line that is refused is the last to be answered
+-- what the service is asked for beside files: whether a journal that is kept is saved anew first,
+-- how many readers ask, and whether edits and publishes are refused. It says whether the first line
+-- that is refused is the last to be answered
 pub record ServiceModel : Type 0 where
+  pub upgrade : Bool
   pub readers : ℕ
   pub read_only : Bool
   pub stop_at_refusal : Bool
@@ -114,6 +116,7 @@ is_given name given = nat_lt 0 (count_of name given)
 abbrev pub serve_command : List Row → CommandModel
 serve_command given = serving (first_of (codes "journal") given) (first_of (codes "save") given)
     (first_of (codes "keep") given) (first_of (codes "follow") given) (record {
+      upgrade = is_given (codes "upgrade") given;
       readers = number_of 8 (codes "readers") given;
       read_only = is_given (codes "read-only") given;
       stop_at_refusal = is_given (codes "stop-at-refusal") given;
@@ -252,6 +255,7 @@ page_words (pages.Territory code) = territory_words (option_map (λ code. code.n
 
 abbrev pub service_model : ServeOptions → ServiceModel
 service_model given = record {
+  upgrade = given.upgrade;
   readers = given.readers;
   read_only = given.read_only;
   stop_at_refusal = given.stop_at_refusal;

@@ -88,6 +88,9 @@ fn serve_grammar<'a>(alloc: Global) -> Result<Command<'a>, AllocError>
         .arg(option_arg(alloc, "keep", "FILE").help(
             "The journal to begin with, to which each change is appended while the service runs",
         ))?
+        .arg(flag_arg(alloc, "upgrade").help(
+            "Saves the journal of --keep as version 4 first, where it is of an earlier one",
+        ))?
         .arg(option_arg(alloc, "follow", "FILE").help(
             "The journal that another run keeps: each line is answered from its newest edition",
         ))?
@@ -104,9 +107,10 @@ const SERVE_EXAMPLE: &str = "Example:
   ./oldstyle serve --journal examples/samples.journal --save new.journal < examples/added.jsonl
 
 Requests and replies are JSON lines. With --save, the journal is saved only if all lines were
-answered. With --keep, each change is in the journal before its reply is written. With --follow,
-edits are refused, and FILE need not be there yet. With --stop-at-refusal, a batch of edits is
-published whole or not at all.";
+answered. With --keep, each change is in the journal before its reply is written. A journal of an
+earlier version than 3 takes no source of an edit: --upgrade saves it anew as version 4, whole or
+not at all. With --follow, edits are refused, and FILE need not be there yet. With
+--stop-at-refusal, a batch of edits is published whole or not at all.";
 
 pub(crate) const ORDER_HELP: &str =
     "How a date of three numbers, as 11/2/1731, is read: dmy or mdy";

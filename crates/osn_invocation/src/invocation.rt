@@ -33,6 +33,8 @@ pub struct ServeOptions<'a> {
     pub save: Option<&'a str>,
     /// Where the journal is kept while the service runs, if anywhere.
     pub keep: Option<&'a str>,
+    /// Whether the journal that is kept is saved anew first, where it is of an earlier version.
+    pub upgrade: bool,
     /// The journal that another run keeps and this one follows, if any.
     pub follow: Option<&'a str>,
     /// How many readers ask.
@@ -252,6 +254,7 @@ fn serve_of<'a>(given: &ArgMatches<'a>) -> CommandWords<'a>
         journal: value_of(given, "journal"),
         save: value_of(given, "save"),
         keep: value_of(given, "keep"),
+        upgrade: is_given(given, "upgrade"),
         follow: value_of(given, "follow"),
         readers: number_of(given, "readers", READERS),
         read_only: is_given(given, "read-only"),

@@ -14,7 +14,7 @@ use Rattle.osn_service.specs.declared.store.StoreFault.{StoreFault}
 use Rattle.osn_service.specs.declared.store.StoreFault.TheVariants.{NotKept}
 use Rattle.osn_journal.specs.KeptJournal.{FileState}
 use Rattle.osn_journal.specs.ChangeInside.{change_line, IsAppended, IsSynced, FailsAtLine, HasLine}
-use Rattle.osn_journal.specs.ChangeInside.{Keeping}
+use Rattle.osn_journal.specs.ChangeInside.{GivesLawful, Keeping}
 
 -- a line was appended or not
 pub appended_or_failed : {A : Type 0} (line : List ℕ) (r : Result A KeptFileFault)
@@ -50,14 +50,14 @@ synced_or_failed line (Err why) a b c h same ok err fault = record {
 -- a change was made, and what the file told of its line is told of the store
 pub Keeping-result : {A : Type 0} (change : Change) (s t : ObjectState) (line : List ℕ)
     (r : Result A KeptFileFault) (told : Result A (StoreFault KeptFileFault))
-    (old new : FileState) → t ≡ changed s change → line ≡ change_line change
+    (old new : FileState) → t ≡ changed s change → GivesLawful change → line ≡ change_line change
     → MatchResult r (λ x. told ≡ Ok x) (λ why. IsErrAnd told (λ fault. fault ≡ NotKept why))
     → MatchResult r (λ _. HasLine change line old new) (FailsAtLine line old new)
     → Keeping change s t old new told
-Keeping-result change s t line (Ok done) told old new made is said h =
+Keeping-result change s t line (Ok done) told old new made lawful is said h =
     subst (Keeping change s t old new) (sym said)
-    (made, subst (λ l. HasLine change l old new) is h)
-Keeping-result change s t line (Err why) told old new made is said h =
+    (made, lawful, subst (λ l. HasLine change l old new) is h)
+Keeping-result change s t line (Err why) told old new made lawful is said h =
     let fault = err_from_is_err_and told said in
     subst (Keeping change s t old new) (sym (fault.1 ∙ ap Err fault.2))
     (made, subst (λ l. FailsAtLine l old new why) is h)

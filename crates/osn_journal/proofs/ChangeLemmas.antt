@@ -9,20 +9,21 @@ use Rattle.osn_register.specs.declared.limits.Limits.{Limits}
 use Rattle.osn_core.proofs.Batches.{joined-push}
 use Rattle.osn_core.specs.Sequential.{ObjectState, joined, with_pending}
 use Rattle.osn_format.specs.declared.version.Version.{Version}
-use Rattle.osn_files.specs.JournalText.{journal_text}
+use Rattle.osn_files.specs.JournalText.{journal_text_of}
 use Rattle.osn_files.specs.Loaded.{HasEdit, HasEdits, IsJournalOf}
 use Rattle.osn_files.proofs.LoadFacts.{loads_by_lines}
 use Rattle.osn_service.specs.Change.{change_refusal, changed}
 use Rattle.osn_service.specs.declared.store.Change.{Change}
 use Rattle.osn_service.specs.declared.store.Change.TheVariants.{Stage, Publish}
-use Rattle.osn_journal.specs.ChangeInside.{change_line}
+use Rattle.osn_journal.specs.ChangeInside.{change_line, GivesLawful}
 use Rattle.osn_journal.proofs.JournalLemmas.{grows_by_lines}
 
 -- the journal grows by the line of a change
-pub grows_by_line : (s : ObjectState) (change : Change)
-    → journal_text (changed s change) ≡ journal_text s ++ change_line change
-grows_by_line s (Stage e) = (grows_by_lines s).edit e
-grows_by_line s Publish = (grows_by_lines s).publish
+pub grows_by_line : (version : Version) (s : ObjectState) (change : Change)
+    → journal_text_of version (changed s change)
+    ≡ journal_text_of version s ++ change_line change
+grows_by_line version s (Stage e) = (grows_by_lines version s).edit e
+grows_by_line version s Publish = (grows_by_lines version s).publish
 
 -- the edits with one more at their end
 staged : (version : Version) (s : ObjectState) (e : Edit) → HasEdits version (with_pending s e)
@@ -52,10 +53,10 @@ HasEdit-last version s e h =
 -- a text that is loaded as an object is loaded with a change that was let in, by the line of the
 -- change
 pub loads_by_line : (version : Version) (limits : Limits) (s : ObjectState) (change : Change)
-    (text : List ℕ) → change_refusal s change ≡ None → HasEdits version (changed s change)
-    → IsJournalOf version limits s text
+    (text : List ℕ) → change_refusal s change ≡ None → GivesLawful change
+    → HasEdits version (changed s change) → IsJournalOf version limits s text
     → IsJournalOf version limits (changed s change) (text ++ change_line change)
-loads_by_line version limits s (Stage e) text lawful has h =
-    (loads_by_lines version limits s text h).edit e (HasEdit-last version s e has) lawful
-loads_by_line version limits s Publish text lawful has h =
+loads_by_line version limits s (Stage e) text lawful source has h =
+    (loads_by_lines version limits s text h).edit e (HasEdit-last version s e has) source lawful
+loads_by_line version limits s Publish text lawful source has h =
     (loads_by_lines version limits s text h).publish lawful

@@ -3,13 +3,14 @@ use Rattle.std.proofs.Common.{◌≡◌, ◌∙◌, ℕ, List, [], ◌∷◌, �
 use Rattle.std.proofs.lemmas.List.{flat_map_more}
 use Rattle.osn_register.specs.declared.edit.Edit.{Edit}
 use Rattle.osn_core.specs.Sequential.{ObjectState}
-use Rattle.osn_format.specs.Version.{newest_version}
+use Rattle.osn_format.specs.declared.version.Version.{Version}
 use Rattle.osn_files.specs.JournalText.{batches_text, batch_text, edits_text}
 use Rattle.osn_files.specs.JournalText.{edit_data, publish_data, line_text}
 use Rattle.osn_files.specs.Version.{head_data}
 use Rattle.osn_files.proofs.LoadFacts.{loads_by_lines, IsJournalOf-written}
-use Rattle.osn_files.proofs.VersionFacts.{newest_edit}
+use Rattle.osn_files.proofs.VersionFacts.{newest_edit, has_own_edits}
 use Rattle.osn_journal.specs.Laws.{GrowsByLines, DoesEachJournalGrowByLines}
+use Rattle.osn_journal.proofs.VersionLemmas.{plain_edit}
 
 -- the lines of edits after a text, with one edit more
 pub edits_more : (text : List ℕ) (es : List Edit) (e : Edit)
@@ -17,9 +18,9 @@ pub edits_more : (text : List ℕ) (es : List Edit) (e : Edit)
 edits_more text es e = flat_map_more (λ e. line_text (edit_data e)) text es e
 
 -- a change adds its line to the journal of an object
-pub grows_by_lines : (s : ObjectState) → GrowsByLines s
-grows_by_lines s =
-    let head = line_text (head_data newest_version) in
+pub grows_by_lines : (version : Version) (s : ObjectState) → GrowsByLines version s
+grows_by_lines version s =
+    let head = line_text (head_data version) in
     let batches = batches_text s.batches in
     let edits = edits_text s.pending in
     let publish = line_text publish_data in
@@ -42,5 +43,7 @@ each_journal_grows_by_lines = record {
   grows = grows_by_lines;
   loads = loads_by_lines;
   newest = newest_edit;
+  plain = plain_edit;
+  own = has_own_edits;
   written = IsJournalOf-written;
 }

@@ -5,13 +5,13 @@ use Rattle.std.specs.Io.KnownBytes.{Appends}
 use Rattle.osn_core.specs.Sequential.{ObjectState}
 use Rattle.osn_lines.proofs.ByteLemmas.{Appends-nothing, Appends-then}
 use Rattle.osn_folder.specs.declared.fault.KeptFileFault.{KeptFileFault}
-use Rattle.osn_files.specs.JournalText.{journal_text}
+use Rattle.osn_files.specs.JournalText.{journal_text_of}
 use Rattle.osn_files.specs.Loaded.{IsJournalOf}
 use Rattle.osn_service.specs.Change.{change_refusal, changed}
 use Rattle.osn_service.specs.declared.store.Change.{Change}
 use Rattle.osn_service.specs.declared.store.Change.TheVariants.{Stage, Publish}
 use Rattle.osn_journal.specs.KeptJournal.{IsOnDisk, Keeps, FileState, KeepsAll, KeepsUntil}
-use Rattle.osn_journal.specs.ChangeInside.{change_line, FailsAtLine, HasLine}
+use Rattle.osn_journal.specs.ChangeInside.{change_line, GivesLawful, FailsAtLine, HasLine}
 use Rattle.osn_journal.proofs.ChangeLemmas.{grows_by_line, loads_by_line, HasEdits-before}
 use Rattle.osn_journal.proofs.JournalLemmas.{edits_more}
 
@@ -20,7 +20,7 @@ pub KeepsAll-nothing : (s : ObjectState) (file : FileState) → KeepsAll s s fil
 KeepsAll-nothing s file = record {
   keeps = record {
     added = [];
-    grows = sym (append-nil (journal_text s));
+    grows = λ version. sym (append-nil (journal_text_of version s));
     journal = Appends-nothing file.contents;
     loads = λ version limits text has h.
         subst (IsJournalOf version limits s) (sym (append-nil text)) h;
@@ -87,15 +87,15 @@ IsOnDisk-change s Publish old new h d =
 
 -- a change that was let in, whose line the file has
 pub KeepsAll-change : (s : ObjectState) (change : Change) (old new : FileState)
-    → change_refusal s change ≡ None → HasLine change (change_line change) old new
-    → KeepsAll s (changed s change) old new
-KeepsAll-change s change old new lawful h = record {
+    → change_refusal s change ≡ None → GivesLawful change
+    → HasLine change (change_line change) old new → KeepsAll s (changed s change) old new
+KeepsAll-change s change old new lawful source h = record {
   keeps = record {
     added = change_line change;
-    grows = grows_by_line s change;
+    grows = λ version. grows_by_line version s change;
     journal = appends change (change_line change) old new h;
     loads = λ version limits text has j.
-        loads_by_line version limits s change text lawful has j;
+        loads_by_line version limits s change text lawful source has j;
     disk = IsOnDisk-change s change old new h;
   };
   sound = stays_sound change (change_line change) old new h;
@@ -113,9 +113,10 @@ KeepsAll-then s t change a b c before one =
     record {
       keeps = record {
         added = h.added ++ k.added;
-        grows =
-            k.grows
-            ∙ (ap (λ l. l ++ k.added) h.grows ∙ append_assoc (journal_text s) h.added k.added);
+        grows = λ version.
+            k.grows version
+            ∙ (ap (λ l. l ++ k.added) (h.grows version)
+            ∙ append_assoc (journal_text_of version s) h.added k.added);
         journal =
             Appends-then a.contents b.contents c.contents h.added k.added h.journal k.journal;
         loads = λ version limits text has j.
@@ -138,7 +139,7 @@ KeepsUntil-from s t change why a b c before h = record {
         subst (λ (o : Option (List ℕ)). Keeps s t a.contents b.contents a.synced o) (sym h.disk)
         before.keeps;
     line = change_line change;
-    next = grows_by_line t change;
+    next = λ version. grows_by_line version t change;
     bytes = h.bytes;
     journal = h.journal;
   };

@@ -1,3 +1,4 @@
+mod VersionLemmas
 mod JournalLemmas
 mod ChangeLemmas
 mod KeepingLemmas

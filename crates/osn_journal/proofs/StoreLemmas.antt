@@ -53,7 +53,7 @@ module _ {K : Type 0} (contents synced : K → Option (List ℕ))
           (sym h.0)
           (KeepsAll-then (object_of begun) (object_of old) change (file_at begun) (file_at old)
           (file_at new) before
-          (KeepsAll-change (object_of old) change (file_at old) (file_at new) lawful h.1));
+          (KeepsAll-change (object_of old) change (file_at old) (file_at new) lawful h.1 h.2));
     }
     Makes-changed (Err why) h = tt
 

@@ -1,7 +1,7 @@
 -- What became of one change, and of its line.
-use Rattle.std.specs.Prelude.{◌≡◌, ℕ, List, take, Some, Result, Ok, Err}
+use Rattle.std.specs.Prelude.{◌≡◌, ⊤, ℕ, List, take, Some, Result, Ok, Err}
 use Rattle.std.specs.Io.KnownBytes.{Appends}
-use Rattle.osn_core.specs.Sequential.{ObjectState}
+use Rattle.osn_core.specs.Sequential.{ObjectState, HasLawfulSource}
 use Rattle.osn_folder.specs.declared.fault.KeptFileFault.{KeptFileFault}
 use Rattle.osn_files.specs.JournalText.{edit_data, publish_data, line_text}
 use Rattle.osn_service.specs.Change.{changed}
@@ -15,6 +15,11 @@ use Rattle.osn_journal.specs.KeptJournal.{FileState}
 abbrev pub change_line : Change → List ℕ
 change_line (Stage edit) = line_text (edit_data edit)
 change_line Publish = line_text publish_data
+
+-- the source of a change is one that may be given
+abbrev pub GivesLawful : Change → Type 0
+GivesLawful (Stage edit) = HasLawfulSource edit
+GivesLawful Publish = ⊤
 
 -- a line was appended, and no more than before is on the disk for sure
 pub record IsAppended (line : List ℕ) (old new : FileState) : Type 0 where
@@ -44,7 +49,7 @@ HasLine Publish line old new = IsSynced line old new
 abbrev pub Keeping : {A : Type 0} → Change → ObjectState → ObjectState → FileState → FileState
     → Result A (StoreFault KeptFileFault) → Type 0
 Keeping change s t old new (Ok _) =
-    (t ≡ changed s change) × HasLine change (change_line change) old new
+    (t ≡ changed s change) × GivesLawful change × HasLine change (change_line change) old new
 Keeping change s t old new (Err NoMemory) = (t ≡ s) × (new ≡ old)
 Keeping change s t old new (Err (NotKept why)) =
     (t ≡ changed s change) × FailsAtLine (change_line change) old new why

@@ -1,6 +1,6 @@
 -- The file that is kept while lines are served. The lines of what was changed stand after what it
 -- held, and up to the last publish all of it is on the disk.
-use Rattle.std.specs.Prelude.{◌≡◌, ℕ, List, ◌++◌, take, Option, Some, IfSome, Result}
+use Rattle.std.specs.Prelude.{◌≡◌, ⊤, ℕ, false, List, ◌++◌, take, Option, Some, IfSome, Result}
 use Rattle.std.specs.Io.KnownBytes.{Appends}
 use Rattle.osn_register.specs.declared.limits.Limits.{Limits}
 use Rattle.osn_core.specs.Sequential.{ObjectState}
@@ -8,7 +8,8 @@ use Rattle.osn_lines.specs.declared.fault.Interrupted.{Interrupted}
 use Rattle.osn_lines.specs.Lines.{lines}
 use Rattle.osn_folder.specs.declared.fault.KeptFileFault.{KeptFileFault}
 use Rattle.osn_format.specs.declared.version.Version.{Version}
-use Rattle.osn_files.specs.JournalText.{journal_text, edits_text}
+use Rattle.osn_format.specs.declared.version.Version.TheVariants.{First, Second, Fourth}
+use Rattle.osn_files.specs.JournalText.{journal_text_of, edits_text}
 use Rattle.osn_files.specs.Loaded.{HasEdits, IsJournalOf}
 use Rattle.osn_service.specs.declared.fault.ServiceFault.{ServiceFault}
 use Rattle.osn_service.specs.declared.rules.ServeRules.{ServeRules}
@@ -31,9 +32,10 @@ pub record IsOnDisk (s : ObjectState) (contents synced : Option (List ℕ)) : Ty
 -- The file was kept for an object that was s and is t.
 pub record Keeps (s t : ObjectState) (old new old_synced new_synced : Option (List ℕ))
     : Type 0 where
-  -- what the journal of t has more than that of s was appended, where it is known what was held
+  -- what the journal of t has more than that of s, under a head of the same version, was appended,
+  -- where it is known what was held
   pub added : List ℕ
-  pub grows : journal_text t ≡ journal_text s ++ added
+  pub grows : (version : Version) → journal_text_of version t ≡ journal_text_of version s ++ added
   pub journal : Appends old new added
   -- after whatever is loaded as s it is loaded as t, by a version that has the edits of t
   pub loads : (version : Version) (limits : Limits) (text : List ℕ) → HasEdits version t
@@ -48,9 +50,23 @@ pub record KeepsInPart (s u t : ObjectState) (old new old_synced new_synced : Op
   pub contents : Option (List ℕ)
   pub keeps : Keeps s u old contents old_synced new_synced
   pub line : List ℕ
-  pub next : journal_text t ≡ journal_text u ++ line
+  pub next : (version : Version) → journal_text_of version t ≡ journal_text_of version u ++ line
   pub bytes : ℕ
   pub journal : Appends contents new (take bytes line)
+
+-- ---- which versions have the edits
+
+-- a version has each edit that the rules take. The first lacks two styles, and the second each edit
+-- that gives a source
+abbrev pub HasWhatIsTaken : Version → ServeRules → Type 0
+HasWhatIsTaken First rules = ⊥
+HasWhatIsTaken Second rules = rules.takes_sources ≡ false
+HasWhatIsTaken Fourth rules = ⊤
+
+-- A version that has each edit that the rules take, and those of the object s, has those of t.
+abbrev pub KeepsEdits : ServeRules → ObjectState → ObjectState → Type 0
+KeepsEdits rules s t =
+    (version : Version) → HasWhatIsTaken version rules → HasEdits version s → HasEdits version t
 
 -- ---- whether the file failed
 

@@ -1,7 +1,7 @@
 //! The service that keeps its journal in a file.
 ghost use Rattle.osn_lines.specs.Streams.{input_of, output_of};
 ghost use Rattle.osn_service.specs.Serves.{ServesStore};
-ghost use Rattle.osn_journal.specs.KeptJournal.{KeepsFile, file_of};
+ghost use Rattle.osn_journal.specs.KeptJournal.{KeepsEdits, KeepsFile, file_of};
 ghost use Rattle.osn_journal.specs.Laws.{DoesEachJournalGrowByLines};
 
 use crate::kept_object::KeptObject;
@@ -18,8 +18,9 @@ use std::alloc::Global;
 /// before its reply is written. A publish is also on the disk before that. What is refused appends
 /// nothing. What the file held is not read, and need not be what is written of the object. If it
 /// ends with a line feed and is loaded as the object that is given, it is loaded as what becomes of
-/// it. Where its head says the first version, it is so only as long as no edit has a style that
-/// this version lacks.
+/// it, as long as the version that its head says has each edit. Version 4 has every one.
+/// The second has those that give no source, so the rules are to take none there. The first lacks
+/// two styles too.
 ///
 /// # Errors
 ///
@@ -42,6 +43,7 @@ pub fn serve_kept<R: Source, W: Sink, K: KeptFile>(
     ensures keeps { KeepsFile rules object.old object.new (R.remaining source.old)
         (file_of K.contents K.synced K.fault keeper.old)
         (file_of K.contents K.synced K.fault keeper.new) result }
+    ensures edits { KeepsEdits rules object.old object.new }
     // as a law: what a change adds to a journal is a line, by which it is loaded with that change
     ensures lines { DoesEachJournalGrowByLines }
 {

@@ -1,5 +1,5 @@
 -- That the texts which are written of several days or runs are read as sets of them.
-use Rattle.std.specs.Prelude.{◌≡◌, ℕ, ◌==◌, Bool, if◌then◌else◌, List, [], ◌∷◌, map, Option, Some}
+use Rattle.std.specs.Prelude.{◌≡◌, ℕ, ◌==◌, Bool, if◌then◌else◌, List, ◌∷◌, map, Some}
 use Rattle.std.specs.Prelude.{None, Ok}
 use Rattle.std.specs.List.{All}
 use Rattle.osn_days.specs.declared.calendar.Calendar.TheVariants.{Gregorian}

@@ -99,8 +99,8 @@ impl Tally {
         self.remarked > 0
     }
 
-    /// The tally in lines, each after `front`: `rows: 6`, `rows with a remark: 3`. Then it tells for
-    /// each remark that a row has, in the order of their words, how many rows have it, as
+    /// The tally in lines, each after `front`: `rows: 6`, `rows with a remark: 3`. Then it tells
+    /// for each remark that a row has, in the order of their words, how many rows have it, as
     /// `several days: 2`.
     ///
     /// # Errors

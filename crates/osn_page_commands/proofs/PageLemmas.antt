@@ -1,6 +1,5 @@
 -- A command that prints a page, or tells why there is none, did what its contract says.
-use Rattle.std.proofs.Common.{◌≡◌, ◌⊎◌, Bool, List, ℕ, None, Ok, ◌∙◌, ap, refl, subst₂, inl, inr}
-use Rattle.std.specs.Option.{MatchOption}
+use Rattle.std.proofs.Common.{◌≡◌, Bool, List, ℕ, None, Ok, ◌∙◌, ap, refl, subst₂, inl, inr}
 use Rattle.osn_core.specs.Sequential.{ObjectState}
 use Rattle.osn_invocation.specs.Invocation.{PageWordsModel}
 use Rattle.osn_lines.specs.Streams.{Input, Output}
@@ -9,7 +8,7 @@ use Rattle.osn_register.specs.declared.limits.Limits.{Limits}
 use Rattle.osn_register.specs.declared.refusal.Refusal.{Refusal}
 use Rattle.osn_register.specs.declared.refusal.Refusal.TheVariants as refusals
 use Rattle.osn_page_commands.specs.PageWords.{code_of, date_text_of, topic_of_words}
-use Rattle.osn_page_commands.specs.Page.{PrintsTopic, PrintsPage, PrintsPageOf, IsRefused}
+use Rattle.osn_page_commands.specs.Page.{PrintsTopic, PrintsPage, PrintsPageOf}
 use Rattle.osn_page_commands.specs.Page.{topic_refusal, topic_text, published, refusal_line}
 use Rattle.osn_page_commands.specs.Page.{ended, lacks_strict_day}
 use Rattle.osn_page_commands.specs.declared.page_words.Topic.{Topic}

@@ -9,6 +9,7 @@ use Rattle.std.specs.Str.{bytes_eq}
 use Rattle.std.proofs.lemmas.Bool.Decides.{nat_tests}
 use Rattle.std.proofs.lemmas.Int.{ints}
 use Rattle.std.proofs.lemmas.List.{get_or_default}
+use Rattle.std.proofs.lemmas.List.Elements.{All-map}
 use Rattle.osn_days.specs.Profile.{Profile, newest_rules}
 use Rattle.osn_lands.specs.declared.period.Period.{Period}
 use Rattle.osn_lands.specs.Territory.{TerritoryModel, CoversLine, Holds, periods_of}
@@ -16,19 +17,21 @@ use Rattle.osn_lands.proofs.CoverFacts.{within_at}
 use Rattle.osn_lands.proofs.RegimeFacts.{regime_found}
 use Rattle.osn_register.specs.declared.answer.Answer.{Answer}
 use Rattle.osn_register.specs.declared.answer.Answer.TheVariants.{OnDay}
+use Rattle.osn_register.specs.declared.answer.PeriodAndSource.{PeriodAndSource}
 use Rattle.osn_register.specs.declared.limits.Limits.{Limits}
 use Rattle.osn_register.specs.declared.refusal.Refusal.{Refusal}
 use Rattle.osn_register.specs.declared.refusal.Refusal.TheVariants.{DayOffLine}
-use Rattle.osn_register.specs.Answer.{unless, day_answer, periods_answer, on_day}
+use Rattle.osn_register.specs.Answer.{unless, day_answer, periods_answer, on_day, and_source}
 use Rattle.osn_register.specs.Answer.{found_on, found_under, period_on}
-use Rattle.osn_register.specs.Plain.{LandModel, land_of, territory_of, code_refusal, is_off_line}
-use Rattle.osn_register.specs.Plain.{AreSound}
+use Rattle.osn_register.specs.Plain.{LandModel, land_of, territory_of, sources_of, code_refusal}
+use Rattle.osn_register.specs.Plain.{AreSound, is_off_line}
 use Rattle.osn_register.specs.Refusal.{first_refusal, or_else}
+use Rattle.osn_register.specs.Sources.{SourcesModel}
 use Rattle.osn_register.proofs.CoverFacts.{period_on-place}
 use Rattle.osn_lands.specs.Dated.{dated_on}
 use Rattle.osn_pages.specs.Law.{periods_in, ArePeriodsAnswered}
 use Rattle.osn_pages.specs.Page.{day_lines, AnswersPeriods}
-use Rattle.osn_pages.specs.Periods.{period_line}
+use Rattle.osn_pages.specs.Periods.{period_lines}
 use Rattle.osn_pages.specs.Reading.{plain_day_line}
 use Rattle.osn_pages.specs.declared.page.Page.{Page}
 use Rattle.osn_pages.specs.declared.page.Page.TheVariants as pages
@@ -50,67 +53,85 @@ on_line : (p : Profile) (d : ℕ) → 1 ≤ d → d ≤ p.high → is_off_line p
 on_line p d low high = grind (arith, ints, nat_tests)
 
 -- the answer about a day, where the code is refused so
-abbrev answer_on : Profile → Option Refusal → Option TerritoryModel → ℕ → Answer
-answer_on p refused t d =
+abbrev answer_on : Profile → Option Refusal → Option TerritoryModel → Option SourcesModel → ℕ
+    → Answer
+answer_on p refused t sources d =
     unless (or_else refused (first_refusal ((is_off_line p (pos d), DayOffLine) ∷ [])))
-    (day_answer p t d)
+    (day_answer p t sources d)
 
 -- the period at a place is answered to each of its days
-answer_at_place : (p : Profile) (t : TerritoryModel) (i d : ℕ) (q : Period)
-    → CoversLine p (periods_of p t) → i < length (periods_of p t) → q ≡ get_or (periods_of p t) i q
-    → 1 ≤ q.first → q.last ≤ p.high → Holds d q
-    → answer_on p None (Some t) d ≡ OnDay (found_under p q.regime d) q
-answer_at_place p t i d q covers within is low high held =
+answer_at_place : (p : Profile) (t : TerritoryModel) (sources : Option SourcesModel) (i d : ℕ)
+    (q : Period) → CoversLine p (periods_of p t) → i < length (periods_of p t)
+    → q ≡ get_or (periods_of p t) i q → 1 ≤ q.first → q.last ≤ p.high → Holds d q
+    → answer_on p None (Some t) sources d
+    ≡ OnDay (found_under p q.regime d) (and_source sources q)
+answer_at_place p t sources i d q covers within is low high held =
     let ps = periods_of p t in
     let there : HoldsAt (Holds d) ps i =
     λ x. subst (Holds d) (is ∙ get_or_default ps i q x within) held in
     let regime = regime_found p t ps i q d refl covers within there is in
-    ap (λ b. unless (first_refusal ((b, DayOffLine) ∷ [])) (day_answer p (Some t) d))
+    ap (λ b. unless (first_refusal ((b, DayOffLine) ∷ [])) (day_answer p (Some t) sources d))
     (on_line p d (omega (arith, low, held.0)) (omega (arith, high, held.1)))
-    ∙ ap (λ found. on_day found (found_on p t d))
+    ∙ ap (λ found. on_day sources found (found_on p t d))
     (period_on-place ps ps i 1 p.high d q refl covers within there is)
-    ∙ ap (λ r. let a : Answer = OnDay (found_under p r d) q in a) (sym regime)
+    ∙ ap (λ r. let a : Answer = OnDay (found_under p r d) (and_source sources q) in a) (sym regime)
 
--- each period, where the code is refused so
-abbrev AreAnsweredIf : Profile → Option Refusal → Option TerritoryModel → Type 0
-AreAnsweredIf p refused t =
-    All (λ (q : Period). (q.first ≤ q.last) × ((d : ℕ) → Holds d q
-    → answer_on p refused t d ≡ OnDay (found_under p q.regime d) q))
-    (periods_in (unless refused (periods_answer p t)))
+-- a period with its source, where the code is refused so
+abbrev IsAnsweredIf : Profile → Option Refusal → Option TerritoryModel → Option SourcesModel
+    → PeriodAndSource → Type 0
+IsAnsweredIf p refused t sources item =
+    (item.period.first ≤ item.period.last) × ((d : ℕ) → Holds d item.period
+    → answer_on p refused t sources d ≡ OnDay (found_under p item.period.regime d) item)
 
-are_answered : (p : Profile) (t : Option TerritoryModel)
-    → IfSome t (λ t. CoversLine p (periods_of p t)) → AreAnsweredIf p None t
-are_answered p None covers i other within = absurd (omega arith)
-are_answered p (Some t) covers i other within =
+-- each period
+abbrev AreAnsweredIf : Profile → Option Refusal → Option TerritoryModel → Option SourcesModel
+    → Type 0
+AreAnsweredIf p refused t sources =
+    All (IsAnsweredIf p refused t sources)
+    (periods_in (unless refused (periods_answer p t sources)))
+
+each_answered : (p : Profile) (t : TerritoryModel) (sources : Option SourcesModel)
+    → CoversLine p (periods_of p t)
+    → All (λ q. IsAnsweredIf p None (Some t) sources (and_source sources q)) (periods_of p t)
+each_answered p t sources covers i other within =
     let ps = periods_of p t in
     let q = get_or ps i other in
     let is : q ≡ get_or ps i q = get_or_default ps i other q within in
     let range = within_at ps i 1 p.high q covers within is in (
       range.1,
-      λ d held. answer_at_place p t i d q covers within is range.0 range.2 held,
+      λ d held. answer_at_place p t sources i d q covers within is range.0 range.2 held,
     )
+
+are_answered : (p : Profile) (t : Option TerritoryModel) (sources : Option SourcesModel)
+    → IfSome t (λ t. CoversLine p (periods_of p t)) → AreAnsweredIf p None t sources
+are_answered p None sources covers = λ i other within. absurd (omega arith)
+are_answered p (Some t) sources covers =
+    All-map (IsAnsweredIf p None (Some t) sources) (and_source sources) (periods_of p t)
+    (each_answered p t sources covers)
 
 pub are_periods_answered : (p : Profile) (limits : Limits) (lands : List LandModel) (code : List ℕ)
     → AreSound p limits lands → code_refusal lands code ≡ None → ArePeriodsAnswered p lands code
 unfolding ArePeriodsAnswered
 are_periods_answered p limits lands code sound lawful =
-    subst (λ refused. AreAnsweredIf p refused (territory_of code lands)) (sym lawful)
-    (are_answered p (territory_of code lands) (covers_line_of p limits code lands sound))
+    subst (λ refused. AreAnsweredIf p refused (territory_of code lands) (sources_of code lands))
+    (sym lawful) (are_answered p (territory_of code lands) (sources_of code lands)
+    (covers_line_of p limits code lands sound))
 
--- the line of a day, and then that of the period that holds it
-pub day_and_period : (t : TerritoryModel) (d : ℕ) (period : Period) (t0 t1 t2 : List ℕ)
-    → period_on (periods_of newest_rules t) d ≡ Some period
+-- the line of a day, and then those of the period that holds it
+pub day_and_period : (t : TerritoryModel) (sources : Option SourcesModel) (d : ℕ) (period : Period)
+    (t0 t1 t2 : List ℕ) → period_on (periods_of newest_rules t) d ≡ Some period
     → t1 ≡ t0 ++ plain_day_line (dated_on newest_rules t d)
-    → t2 ≡ t1 ++ period_line newest_rules period
-    → t2 ≡ t0 ++ day_lines newest_rules t d
-day_and_period t d period t0 t1 t2 held first second =
-    let line = period_line newest_rules period in
+    → t2 ≡ t1 ++ period_lines newest_rules sources period
+    → t2 ≡ t0 ++ day_lines newest_rules t sources d
+day_and_period t sources d period t0 t1 t2 held first second =
+    let line = period_lines newest_rules sources period in
     let day = plain_day_line (dated_on newest_rules t d) in
     second
     ∙ ap (λ s. s ++ line) first
     ∙ append_assoc t0 day line
     ∙ ap (λ s. t0 ++ (day ++ s)) (sym (append-nil line))
-    ∙ ap (λ o. t0 ++ (day ++ flat_map (period_line newest_rules) (option_to_list o))) (sym held)
+    ∙ ap (λ o. t0 ++ (day ++ flat_map (period_lines newest_rules sources) (option_to_list o)))
+    (sym held)
 
 -- each page
 pub answers_periods : (page : Page) (p : Profile) (limits : Limits) (lands : List LandModel)

@@ -10,6 +10,7 @@ use Rattle.osn_grammar.specs.declared.written.WrittenDate.{WrittenDate as AnyDat
 use Rattle.osn_lands.specs.declared.dated.DatedDay.{DatedDay}
 use Rattle.osn_lands.specs.declared.runs.Run.{Run}
 use Rattle.osn_lands.specs.Territory.{TerritoryModel}
+use Rattle.osn_register.specs.Sources.{SourcesModel}
 use Rattle.osn_written.specs.declared.absence.Absence.{Absence}
 use Rattle.osn_written.specs.declared.finding.NoDay.{NoDay}
 use Rattle.osn_written.specs.declared.finding.NoDay.TheVariants.{Absent, LastAbsent, OutOfOrder}
@@ -28,10 +29,10 @@ use Rattle.osn_pages.specs.Why.{why_lines, why_text}
 -- ---- one day
 
 -- the days that a date means, and where it means none why
-abbrev pub reading_lines : Profile → TerritoryModel → WrittenDate → Option Weekday → List DatedDay
-    → List ℕ
-reading_lines p t w given [] = why_lines p t w
-reading_lines p t w given (day ∷ days) = days_text w given (day ∷ days)
+abbrev pub reading_lines : Profile → TerritoryModel → Option SourcesModel → WrittenDate
+    → Option Weekday → List DatedDay → List ℕ
+reading_lines p t sources w given [] = why_lines p t sources w
+reading_lines p t sources w given (day ∷ days) = days_text w given (day ∷ days)
 
 -- ---- a month, a year, a range or a bound
 
@@ -41,34 +42,41 @@ off_the_line kinds.Before = codes "no day of the line is before it\n"
 off_the_line kind = codes "no day of the line is after it\n"
 
 -- why the last date of a range means no day
-abbrev pub last_absent_lines : Profile → TerritoryModel → WrittenDate → Absence → List ℕ
-last_absent_lines p t last absence = codes "of the last date:\n" ++ why_text p t last absence
+abbrev pub last_absent_lines : Profile → TerritoryModel → Option SourcesModel → WrittenDate
+    → Absence → List ℕ
+last_absent_lines p t sources last absence =
+    codes "of the last date:\n" ++ why_text p t sources last absence
 
--- why no day is meant, as the territory by whose reckoning the date is read has it
-abbrev pub no_day_lines : Profile → TerritoryModel → Extent → NoDay → List ℕ
-no_day_lines p t e (Absent absence) = why_text p t (first_day_of (ends_of e).0) absence
-no_day_lines p t e (LastAbsent absence) =
-    last_absent_lines p t (first_day_of (ends_of e).1) absence
-no_day_lines p t e OutOfOrder = codes "the first date is after the last one\n"
-no_day_lines p t e OffTheLine = off_the_line (kind_of e)
+-- why no day is meant, as the territory by whose reckoning the date is read has it, with the
+-- sources of the place
+abbrev pub no_day_lines : Profile → TerritoryModel → Option SourcesModel → Extent → NoDay → List ℕ
+no_day_lines p t sources e (Absent absence) =
+    why_text p t sources (first_day_of (ends_of e).0) absence
+no_day_lines p t sources e (LastAbsent absence) =
+    last_absent_lines p t sources (first_day_of (ends_of e).1) absence
+no_day_lines p t sources e OutOfOrder = codes "the first date is after the last one\n"
+no_day_lines p t sources e OffTheLine = off_the_line (kind_of e)
 
 -- the days, as the place itself dated them, or why no day is meant
-abbrev pub found_lines : Profile → TerritoryModel → TerritoryModel → Extent
+abbrev pub found_lines : Profile → TerritoryModel → TerritoryModel → Option SourcesModel → Extent
     → Result (List Run) NoDay → List ℕ
-found_lines p own t e (Ok runs) = runs_text p own (kind_of e) runs
-found_lines p own t e (Err reason) = no_day_lines p t e reason
+found_lines p own t sources e (Ok runs) = runs_text p own (kind_of e) runs
+found_lines p own t sources e (Err reason) = no_day_lines p t sources e reason
 
 -- ---- any date
 
 -- the date by the reckoning of a territory, in a place of its own reckoning
-abbrev pub lines_of : Profile → TerritoryModel → TerritoryModel → AnyDate → Option Weekday
-    → Option WrittenDate → List ℕ
-lines_of p own t w given (Some day) = reading_lines p t day given (meaning p t day given)
-lines_of p own t w given None = found_lines p own t w.extent (extent_meant p t w.extent)
+abbrev pub lines_of : Profile → TerritoryModel → TerritoryModel → Option SourcesModel → AnyDate
+    → Option Weekday → Option WrittenDate → List ℕ
+lines_of p own t sources w given (Some day) =
+    reading_lines p t sources day given (meaning p t day given)
+lines_of p own t sources w given None =
+    found_lines p own t sources w.extent (extent_meant p t w.extent)
 
 -- where the date names a calendar it is read as if the place had gone by that one
-abbrev pub date_lines : Profile → TerritoryModel → AnyDate → Option Weekday → List ℕ
-date_lines p t w given = lines_of p t (reckoned t w.reckoning) w given (one_day w)
+abbrev pub date_lines : Profile → TerritoryModel → Option SourcesModel → AnyDate → Option Weekday
+    → List ℕ
+date_lines p t sources w given = lines_of p t (reckoned t w.reckoning) sources w given (one_day w)
 
 -- the date means no day
 abbrev pub has_no_day : Profile → TerritoryModel → AnyDate → Bool

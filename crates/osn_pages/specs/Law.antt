@@ -5,10 +5,10 @@ use Rattle.std.specs.List.{All}
 use Rattle.osn_days.specs.declared.calendar.Calendar.{Calendar}
 use Rattle.osn_days.specs.Line.{IsDay}
 use Rattle.osn_days.specs.Profile.{Profile}
-use Rattle.osn_lands.specs.declared.period.Period.{Period}
 use Rattle.osn_lands.specs.Territory.{Holds}
 use Rattle.osn_register.specs.declared.answer.Answer.{Answer}
 use Rattle.osn_register.specs.declared.answer.Answer.TheVariants as answers
+use Rattle.osn_register.specs.declared.answer.PeriodAndSource.{PeriodAndSource}
 use Rattle.osn_register.specs.declared.query.Query.TheVariants.{DayIn, Periods}
 use Rattle.osn_register.specs.Answer.{answer, found_under}
 use Rattle.osn_register.specs.Plain.{LandModel}
@@ -28,16 +28,17 @@ unfoldable pub AreCalendarWordsWritten : Profile → Type 0
 AreCalendarWordsWritten p =
     (c : Calendar) (d : ℕ) → IsDay p d → IsDateOf p c d (calendar_words c d)
 
--- a period has a day, and to each of its days the register answers that period, with the day as the
--- period's regime dates it
-abbrev pub IsPeriodAnswered : Profile → List LandModel → List ℕ → Period → Type 0
-IsPeriodAnswered p lands code period =
-    (period.first ≤ period.last)
-    × ((d : ℕ) → Holds d period
-    → answer p lands (DayIn code (pos d)) ≡ answers.OnDay (found_under p period.regime d) period)
+-- a period has a day, and to each of its days the register answers that period and its source, with
+-- the day as the period's regime dates it
+abbrev pub IsPeriodAnswered : Profile → List LandModel → List ℕ → PeriodAndSource → Type 0
+IsPeriodAnswered p lands code item =
+    (item.period.first ≤ item.period.last)
+    × ((d : ℕ) → Holds d item.period
+    → answer p lands (DayIn code (pos d))
+    ≡ answers.OnDay (found_under p item.period.regime d) item)
 
--- the periods that are answered
-abbrev pub periods_in : Answer → List Period
+-- the periods that are answered, with their sources
+abbrev pub periods_in : Answer → List PeriodAndSource
 periods_in (answers.Periods periods) = periods
 periods_in other = []
 

@@ -9,7 +9,8 @@ use Rattle.osn_lands.specs.Runs.{days_of_month}
 use Rattle.osn_lands.specs.Territory.{TerritoryModel, periods_of}
 use Rattle.osn_register.specs.Answer.{period_on}
 use Rattle.osn_register.specs.Named.{named_of}
-use Rattle.osn_register.specs.Plain.{LandModel}
+use Rattle.osn_register.specs.Plain.{LandModel, sources_of}
+use Rattle.osn_register.specs.Sources.{SourcesModel}
 use Rattle.osn_pages.specs.declared.page.Page.{Page}
 use Rattle.osn_pages.specs.declared.page.Page.TheVariants as pages
 use Rattle.osn_pages.specs.declared.page.Published.{Published}
@@ -17,7 +18,7 @@ use Rattle.osn_pages.specs.DateLines.{date_lines}
 use Rattle.osn_pages.specs.Grid.{grids}
 use Rattle.osn_pages.specs.Heading.{land_heading, heading, pending_line}
 use Rattle.osn_pages.specs.Law.{ArePeriodsAnswered}
-use Rattle.osn_pages.specs.Periods.{period_line}
+use Rattle.osn_pages.specs.Periods.{period_lines}
 use Rattle.osn_pages.specs.Reading.{plain_day_line}
 use Rattle.osn_pages.specs.Remarks.{remark_lines, subject}
 use Rattle.osn_pages.specs.Territory.{territory_lines}
@@ -25,39 +26,42 @@ use Rattle.osn_pages.specs.Territory.{territory_lines}
 -- ---- what a page says of a territory
 
 -- a day as the territory dated it, and the period that holds it
-abbrev pub day_lines : Profile → TerritoryModel → ℕ → List ℕ
-day_lines p t d =
+abbrev pub day_lines : Profile → TerritoryModel → Option SourcesModel → ℕ → List ℕ
+day_lines p t sources d =
     plain_day_line (dated_on p t d)
-    ++ flat_map (period_line p) (option_to_list (period_on (periods_of p t) d))
+    ++ flat_map (period_lines p sources) (option_to_list (period_on (periods_of p t) d))
 
 -- a month as the territory dated it
 abbrev pub month_lines : Profile → TerritoryModel → ℕ → ℕ → List ℕ
 month_lines p t year month = grids (map (dated_on p t) (days_of_month p t (pos year) month))
 
 -- the lines of a page, its heading first
-unfoldable pub land_lines : Profile → List ℕ → TerritoryModel → List ℕ → ℕ → Page → List ℕ
-land_lines p name t code edition (pages.Reading date given) =
+unfoldable pub land_lines : Profile → List ℕ → TerritoryModel → Option SourcesModel → List ℕ → ℕ
+    → Page → List ℕ
+land_lines p name t sources code edition (pages.Reading date given) =
     heading (subject date) name code edition
-    ++ (date_lines p t date given ++ remark_lines p t date given)
-land_lines p name t code edition (pages.OfDay day) =
-    heading (codes "day " ++ decimal day) name code edition ++ day_lines p t day
-land_lines p name t code edition (pages.Month year month) =
+    ++ (date_lines p t sources date given ++ remark_lines p t date given)
+land_lines p name t sources code edition (pages.OfDay day) =
+    heading (codes "day " ++ decimal day) name code edition ++ day_lines p t sources day
+land_lines p name t sources code edition (pages.Month year month) =
     land_heading name code edition ++ month_lines p t year month
-land_lines p name t code edition pages.Periods =
-    land_heading name code edition ++ territory_lines p t
+land_lines p name t sources code edition pages.Periods =
+    land_heading name code edition ++ territory_lines p t sources
 
 -- ---- the whole
 
--- the lines, of the name and the territory of the code, and how many edits wait
-abbrev pub page_of_land : Profile → Option (List ℕ × TerritoryModel) → List ℕ → Published → Page
-    → List ℕ
-page_of_land p None code published page = []
-page_of_land p (Some named) code published page =
-    land_lines p named.0 named.1 code published.edition page ++ pending_line published.pending
+-- the lines, of the name, the territory and the sources of the code, and how many edits wait
+abbrev pub page_of_land : Profile → Option (List ℕ × TerritoryModel) → Option SourcesModel
+    → List ℕ → Published → Page → List ℕ
+page_of_land p None sources code published page = []
+page_of_land p (Some named) sources code published page =
+    land_lines p named.0 named.1 sources code published.edition page
+    ++ pending_line published.pending
 
 -- the text of a page. A code that no territory has is refused
 abbrev pub page_text : Profile → List LandModel → List ℕ → Published → Page → List ℕ
-page_text p lands code published page = page_of_land p (named_of code lands) code published page
+page_text p lands code published page =
+    page_of_land p (named_of code lands) (sources_of code lands) code published page
 
 -- as a law: the periods that the page of a territory lists are those that hold its days
 abbrev pub AnswersPeriods : Profile → List LandModel → List ℕ → Page → Type 0

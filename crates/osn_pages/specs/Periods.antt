@@ -1,12 +1,15 @@
--- The line of a period: the days from which and until which a regime is in force, and how the
--- regime reckons. This project's profile.
-use Rattle.std.specs.Prelude.{ℕ, Bool, true, false, ◌==◌, List, ◌++◌, codes}
+-- The lines of a period: the days from which and until which a regime is in force, how the regime
+-- reckons, and the source that says so. This project's profile.
+use Rattle.std.specs.Prelude.{ℕ, Bool, true, false, ◌==◌, List, ◌++◌, Option, codes}
 use Rattle.osn_computus.specs.RuleWords.{rule_word}
 use Rattle.osn_days.specs.CalendarWords.{calendar_word}
 use Rattle.osn_days.specs.Profile.{Profile}
 use Rattle.osn_lands.specs.declared.period.Period.{Period}
 use Rattle.osn_lands.specs.Dated.{dated_day}
 use Rattle.osn_lands.specs.StyleWords.{style_word, beginning_of_year}
+use Rattle.osn_register.specs.Answer.{period_source}
+use Rattle.osn_register.specs.Sources.{SourcesModel}
+use Rattle.osn_pages.specs.SourceLine.{source_text}
 use Rattle.osn_pages.specs.Words.{numbered_day}
 
 -- ---- the days
@@ -45,3 +48,8 @@ period_line p period =
     ++ (codes " style ("
     ++ (beginning_of_year period.regime.style
     ++ (codes "), " ++ (rule_word period.regime.rule ++ codes " rule\n"))))))))
+
+-- the line of a period, and that of its source
+unfoldable pub period_lines : Profile → Option SourcesModel → Period → List ℕ
+period_lines p sources period =
+    period_line p period ++ source_text (period_source sources period.first)

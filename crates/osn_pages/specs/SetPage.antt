@@ -7,7 +7,8 @@ use Rattle.osn_grammar.specs.Reading.{members}
 use Rattle.osn_lands.specs.declared.runs.Run.{Run}
 use Rattle.osn_lands.specs.Territory.{TerritoryModel}
 use Rattle.osn_register.specs.Named.{named_of}
-use Rattle.osn_register.specs.Plain.{LandModel}
+use Rattle.osn_register.specs.Plain.{LandModel, sources_of}
+use Rattle.osn_register.specs.Sources.{SourcesModel}
 use Rattle.osn_written.specs.declared.kind.Kind.TheVariants as kinds
 use Rattle.osn_written.specs.declared.set.AbsentMember.{AbsentMember}
 use Rattle.osn_written.specs.SetsMeant.{set_meant, is_set_approximate, is_set_uncertain}
@@ -18,31 +19,34 @@ use Rattle.osn_pages.specs.Remarks.{not_sought_line, sureness}
 use Rattle.osn_pages.specs.Runs.{runs_text}
 
 -- the days, or why the first date without a day means none
-abbrev pub found_set_lines : Profile → TerritoryModel → Result (List Run) AbsentMember → List ℕ
-found_set_lines p t (Ok runs) = runs_text p t kinds.Set runs
-found_set_lines p t (Err absent) = no_day_lines p t absent.extent absent.reason
+abbrev pub found_set_lines : Profile → TerritoryModel → Option SourcesModel
+    → Result (List Run) AbsentMember → List ℕ
+found_set_lines p t sources (Ok runs) = runs_text p t kinds.Set runs
+found_set_lines p t sources (Err absent) = no_day_lines p t sources absent.extent absent.reason
 
 -- how sure it is
 abbrev pub set_sureness : Bool → Bool → List ℕ
 set_sureness approximate uncertain = sureness approximate uncertain false
 
 -- both, and that a weekday is not looked for
-unfoldable pub set_lines : Profile → TerritoryModel → List WrittenDate → Option Weekday → List ℕ
-set_lines p t ws given =
-    found_set_lines p t (set_meant p t ws)
+unfoldable pub set_lines : Profile → TerritoryModel → Option SourcesModel → List WrittenDate
+    → Option Weekday → List ℕ
+set_lines p t sources ws given =
+    found_set_lines p t sources (set_meant p t ws)
     ++ (set_sureness (is_set_approximate ws) (is_set_uncertain ws) ++ not_sought_line given)
 
--- the page of a text, of the name and the territory of the code, and how many edits wait. The text
--- itself is the heading
-abbrev pub set_page_of : Profile → Option (List ℕ × TerritoryModel) → List ℕ → Published → List ℕ
-    → Option Weekday → List ℕ
-set_page_of p None code published text given = []
-set_page_of p (Some named) code published text given =
-    (heading text named.0 code published.edition ++ set_lines p named.1 (members text) given)
+-- the page of a text, of the name, the territory and the sources of the code, and how many edits
+-- wait. The text itself is the heading
+abbrev pub set_page_of : Profile → Option (List ℕ × TerritoryModel) → Option SourcesModel → List ℕ
+    → Published → List ℕ → Option Weekday → List ℕ
+set_page_of p None sources code published text given = []
+set_page_of p (Some named) sources code published text given =
+    (heading text named.0 code published.edition
+    ++ set_lines p named.1 sources (members text) given)
     ++ pending_line published.pending
 
 -- the text of the page. A code that no territory has is refused
 abbrev pub set_page_text : Profile → List LandModel → List ℕ → Published → List ℕ
     → Option Weekday → List ℕ
 set_page_text p lands code published text given =
-    set_page_of p (named_of code lands) code published text given
+    set_page_of p (named_of code lands) (sources_of code lands) code published text given

@@ -1,16 +1,18 @@
--- The lines of a territory's periods and listed Easters, and the page of all territories. This
--- project's profile.
-use Rattle.std.specs.Prelude.{ℕ, List, ◌++◌, map, codes}
+-- The lines of a territory's periods and listed Easters, with their sources, and the page of all
+-- territories. This project's profile.
+use Rattle.std.specs.Prelude.{ℕ, List, ◌++◌, map, Option, codes}
 use Rattle.std.specs.Fmt.{decimal}
 use Rattle.std.specs.List.{flat_map}
 use Rattle.osn_days.specs.Profile.{Profile}
 use Rattle.osn_lands.specs.Dated.{dated_on}
 use Rattle.osn_lands.specs.Territory.{TerritoryModel, periods_of}
 use Rattle.osn_register.specs.declared.answer.Land.{Land}
-use Rattle.osn_register.specs.Answer.{listed}
+use Rattle.osn_register.specs.Answer.{listed, easter_source}
 use Rattle.osn_register.specs.Plain.{LandModel}
+use Rattle.osn_register.specs.Sources.{SourcesModel}
 use Rattle.osn_pages.specs.Heading.{pending_line}
-use Rattle.osn_pages.specs.Periods.{period_line}
+use Rattle.osn_pages.specs.Periods.{period_lines}
+use Rattle.osn_pages.specs.SourceLine.{source_text}
 use Rattle.osn_pages.specs.Words.{numbered_day}
 
 -- a year with a listed Easter: listed Easter of 1753: Sunday 22 April 1753 (day 640017)
@@ -19,10 +21,16 @@ easter_line p t listed =
     codes "listed Easter of "
     ++ (decimal listed.0 ++ (codes ": " ++ (numbered_day (dated_on p t listed.1) ++ codes "\n")))
 
+-- that line, and that of the source
+unfoldable pub easter_lines : Profile → TerritoryModel → Option SourcesModel → ℕ × ℕ → List ℕ
+easter_lines p t sources listed =
+    easter_line p t listed ++ source_text (easter_source sources listed.0)
+
 -- the periods in order, and the listed Easters in the order of their years
-unfoldable pub territory_lines : Profile → TerritoryModel → List ℕ
-territory_lines p t =
-    flat_map (period_line p) (periods_of p t) ++ flat_map (easter_line p t) t.exceptions
+unfoldable pub territory_lines : Profile → TerritoryModel → Option SourcesModel → List ℕ
+territory_lines p t sources =
+    flat_map (period_lines p sources) (periods_of p t)
+    ++ flat_map (easter_lines p t sources) t.exceptions
 
 -- the edition of the list
 unfoldable pub list_heading : ℕ → List ℕ

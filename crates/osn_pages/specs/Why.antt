@@ -1,6 +1,6 @@
 -- The lines that say why a written date means no day. This project's profile.
 use Rattle.std.specs.Prelude.{ℕ, Bool, ◌-◌, if◌then◌else◌, List, [], ◌∷◌, ◌++◌, map, pos}
-use Rattle.std.specs.Prelude.{codes}
+use Rattle.std.specs.Prelude.{Option, codes}
 use Rattle.std.specs.Fmt.{decimal}
 use Rattle.std.specs.List.{flat_map}
 use Rattle.std.specs.Str.{bytes_eq}
@@ -12,12 +12,15 @@ use Rattle.osn_lands.specs.LabelOrder.{gaps}
 use Rattle.osn_lands.specs.Runs.{days_of_year}
 use Rattle.osn_lands.specs.StyleWords.{style_word, beginning_of_year}
 use Rattle.osn_lands.specs.Territory.{TerritoryModel, regime_at, reading}
+use Rattle.osn_register.specs.Answer.{period_source}
+use Rattle.osn_register.specs.Sources.{SourcesModel}
 use Rattle.osn_written.specs.declared.absence.Absence.{Absence}
 use Rattle.osn_written.specs.declared.absence.Absence.TheVariants as why
 use Rattle.osn_written.specs.declared.written_date.WrittenDate.{WrittenDate}
 use Rattle.osn_written.specs.Absence.{absence}
 use Rattle.osn_written.specs.Meaning.{label_of}
 use Rattle.osn_pages.specs.Nearest.{nearest}
+use Rattle.osn_pages.specs.SourceLine.{source_text}
 use Rattle.osn_pages.specs.Words.{named_day, numbered_day}
 
 -- ---- a line about a day
@@ -69,10 +72,12 @@ beginning_lines p t w old new =
     if is_style old new then [] else beginning_line old new ++ nearest_lines p t w
 
 -- the lines of a change in whose gap the date lies
-unfoldable pub skip_lines : Profile → TerritoryModel → WrittenDate → ℕ → List ℕ
-skip_lines p t w change =
+unfoldable pub skip_lines : Profile → TerritoryModel → Option SourcesModel → WrittenDate → ℕ
+    → List ℕ
+skip_lines p t sources w change =
     skip_line (dated_on p t (change - 1)) (dated_on p t change)
-    ++ beginning_lines p t w (regime_at t (change - 1)).style (regime_at t change).style
+    ++ (source_text (period_source sources change)
+    ++ beginning_lines p t w (regime_at t (change - 1)).style (regime_at t change).style)
 
 -- ---- a year that lacks the date
 
@@ -102,16 +107,17 @@ year_line p t year (d ∷ ds) = year_ends year (dated_on p t d) (dated_on p t (l
 
 -- ---- the whole
 
--- the lines of a reason
-abbrev pub why_text : Profile → TerritoryModel → WrittenDate → Absence → List ℕ
-why_text p t w why.NotWithBothYears =
+-- the lines of a reason, as a territory has it whose changes have these sources
+abbrev pub why_text : Profile → TerritoryModel → Option SourcesModel → WrittenDate → Absence
+    → List ℕ
+why_text p t sources w why.NotWithBothYears =
     flat_map with_one_year_line (map (dated_on p t) (reading p t (label_of w)))
-why_text p t w why.NotOfItsCalendar = codes "no date of its calendar\n"
-why_text p t w why.OffTheLine = line_ends (dated_on p t 1) (dated_on p t p.high)
-why_text p t w why.Skipped = flat_map (skip_lines p t w) (gaps p t (label_of w))
-why_text p t w why.NotInThatYear =
+why_text p t sources w why.NotOfItsCalendar = codes "no date of its calendar\n"
+why_text p t sources w why.OffTheLine = line_ends (dated_on p t 1) (dated_on p t p.high)
+why_text p t sources w why.Skipped = flat_map (skip_lines p t sources w) (gaps p t (label_of w))
+why_text p t sources w why.NotInThatYear =
     year_line p t w.year (days_of_year p t (pos w.year)) ++ nearest_lines p t w
 
 -- why the date means no day
-abbrev pub why_lines : Profile → TerritoryModel → WrittenDate → List ℕ
-why_lines p t w = why_text p t w (absence p t w)
+abbrev pub why_lines : Profile → TerritoryModel → Option SourcesModel → WrittenDate → List ℕ
+why_lines p t sources w = why_text p t sources w (absence p t w)

@@ -6,6 +6,7 @@ ghost use Rattle.osn_written.specs.Meaning.{meaning};
 ghost use Rattle.osn_written.specs.ReadDate.{one_day};
 ghost use Rattle.osn_pages.specs.DateLines as spec;
 
+use crate::land_sources::LandSources;
 use crate::reading::push_days;
 use crate::runs::push_runs;
 use crate::why::{push_reason, push_why};
@@ -23,16 +24,17 @@ fn push_reading(
     alloc: Global,
     out: &mut String,
     territory: &Territory,
+    sources: &LandSources<'_>,
     date: WrittenDate,
     given: Option<Weekday>,
 ) -> Result<(), AllocError>
     ensures { OnOk result (string_bytes out.new ≡ string_bytes out.old
-        ++ spec.reading_lines newest_rules territory.now date given
+        ++ spec.reading_lines newest_rules territory.now sources.now date given
         (meaning newest_rules territory.now date given)) }
 {
     let days = days_meant(alloc, territory, date, given)?;
     if days.is_empty() {
-        return push_why(alloc, out, territory, date);
+        return push_why(alloc, out, territory, sources, date);
     }
     push_days(out, date, given, days.as_slice())
 }
@@ -52,34 +54,37 @@ fn push_last_absent(
     alloc: Global,
     out: &mut String,
     territory: &Territory,
+    sources: &LandSources<'_>,
     last: WrittenDate,
     absence: Absence,
 ) -> Result<(), AllocError>
     ensures { OnOk result (string_bytes out.new ≡ string_bytes out.old
-        ++ spec.last_absent_lines newest_rules territory.now last absence) }
+        ++ spec.last_absent_lines newest_rules territory.now sources.now last absence) }
 {
     out.push_str("of the last date:\n")?;
-    push_reason(alloc, out, territory, last, absence)
+    push_reason(alloc, out, territory, sources, last, absence)
 }
 
-/// Appends why no day is meant.
+/// Appends why no day is meant, as the territory has it by whose reckoning the date is read. The
+/// sources are those of the place.
 pub(crate) fn push_no_day(
     alloc: Global,
     out: &mut String,
     territory: &Territory,
+    sources: &LandSources<'_>,
     extent: Extent,
     reason: NoDay,
 ) -> Result<(), AllocError>
     ensures { OnOk result (string_bytes out.new ≡ string_bytes out.old
-        ++ spec.no_day_lines newest_rules territory.now extent reason) }
+        ++ spec.no_day_lines newest_rules territory.now sources.now extent reason) }
 {
     let (first, last) = ends_of(extent);
     match reason {
         NoDay::Absent(absence) => {
-            push_reason(alloc, out, territory, first_day_of(first), absence)
+            push_reason(alloc, out, territory, sources, first_day_of(first), absence)
         }
         NoDay::LastAbsent(absence) => {
-            push_last_absent(alloc, out, territory, first_day_of(last), absence)
+            push_last_absent(alloc, out, territory, sources, first_day_of(last), absence)
         }
         NoDay::OutOfOrder => out.push_str("the first date is after the last one\n"),
         NoDay::OffTheLine => out.push_str(off_the_line(kind_of(extent))),
@@ -93,15 +98,16 @@ fn push_found(
     out: &mut String,
     own: &Territory,
     territory: &Territory,
+    sources: &LandSources<'_>,
     extent: Extent,
 ) -> Result<(), AllocError>
     ensures { OnOk result (string_bytes out.new ≡ string_bytes out.old
-        ++ spec.found_lines newest_rules own.now territory.now extent
+        ++ spec.found_lines newest_rules own.now territory.now sources.now extent
         (extent_meant newest_rules territory.now extent)) }
 {
     match find_runs(alloc, territory, extent)? {
         Ok(runs) => push_runs(out, own, kind_of(extent), runs.as_slice()),
-        Err(reason) => push_no_day(alloc, out, territory, extent, reason),
+        Err(reason) => push_no_day(alloc, out, territory, sources, extent, reason),
     }
 }
 
@@ -111,15 +117,17 @@ fn push_lines(
     out: &mut String,
     own: &Territory,
     territory: &Territory,
+    sources: &LandSources<'_>,
     date: AnyDate,
     given: Option<Weekday>,
 ) -> Result<(), AllocError>
     ensures { OnOk result (string_bytes out.new ≡ string_bytes out.old
-        ++ spec.lines_of newest_rules own.now territory.now date given (one_day date)) }
+        ++ spec.lines_of newest_rules own.now territory.now sources.now date given
+        (one_day date)) }
 {
     match WrittenDate::of_one_day(date) {
-        Some(day) => push_reading(alloc, out, territory, day, given),
-        None => push_found(alloc, out, own, territory, date.extent),
+        Some(day) => push_reading(alloc, out, territory, sources, day, given),
+        None => push_found(alloc, out, own, territory, sources, date.extent),
     }
 }
 
@@ -129,17 +137,18 @@ pub(crate) fn push_date(
     alloc: Global,
     out: &mut String,
     territory: &Territory,
+    sources: &LandSources<'_>,
     date: AnyDate,
     given: Option<Weekday>,
 ) -> Result<(), AllocError>
     ensures { OnOk result (string_bytes out.new ≡ string_bytes out.old
-        ++ spec.date_lines newest_rules territory.now date given) }
+        ++ spec.date_lines newest_rules territory.now sources.now date given) }
 {
     match date.reckoning {
-        None => push_lines(alloc, out, territory, territory, date, given),
+        None => push_lines(alloc, out, territory, territory, sources, date, given),
         Some(reckoning) => {
             let reckoned = by_reckoning(alloc, territory, reckoning)?;
-            push_lines(alloc, out, territory, &reckoned, date, given)
+            push_lines(alloc, out, territory, &reckoned, sources, date, given)
         }
     }
 }

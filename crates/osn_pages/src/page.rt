@@ -11,6 +11,7 @@ ghost use Rattle.osn_pages.specs.Remarks.{remark_lines, subject};
 
 use crate::date_lines::push_date;
 use crate::heading::{push_land_heading, push_pending};
+use crate::land_sources::LandSources;
 use crate::month::push_month;
 use crate::periods::push_period;
 use crate::reading::push_day;
@@ -60,6 +61,7 @@ pub(crate) struct Place<'a> {
     pub(crate) name: &'a str,
     pub(crate) code: &'a str,
     pub(crate) territory: &'a Territory,
+    pub(crate) sources: &'a LandSources<'a>,
     pub(crate) edition: usize,
 }
 
@@ -67,13 +69,18 @@ pub(crate) struct Place<'a> {
 pub(crate) const ROOM: usize = 512;
 
 /// Appends a day as the territory dated it, and the period that holds it.
-fn push_day_lines(out: &mut String, territory: &Territory, day: Day) -> Result<(), AllocError>
+fn push_day_lines(
+    out: &mut String,
+    territory: &Territory,
+    sources: &LandSources<'_>,
+    day: Day,
+) -> Result<(), AllocError>
     ensures { OnOk result (string_bytes out.new
-        ≡ string_bytes out.old ++ spec.day_lines newest_rules territory.now day) }
+        ≡ string_bytes out.old ++ spec.day_lines newest_rules territory.now sources.now day) }
 {
     push_day(out, territory.dated(day))?;
     let (place, _) = territory.period_at(day);
-    push_period(out, &territory.periods()[place])
+    push_period(out, sources, &territory.periods()[place])
 }
 
 /// Appends the page of a reading.
@@ -87,12 +94,12 @@ fn push_reading_page(
 ) -> Result<(), AllocError>
     ensures { OnOk result (string_bytes out.new ≡ string_bytes out.old
         ++ (heading (subject date) place.entry.name.now place.entry.code.now place.entry.edition
-        ++ (date_lines newest_rules place.entry.territory.now date given
+        ++ (date_lines newest_rules place.entry.territory.now place.entry.sources.now date given
         ++ remark_lines newest_rules place.entry.territory.now date given))) }
 {
     write!(out, "{} in ", Subject(date))?;
     push_land_heading(out, place.name, place.code, place.edition)?;
-    push_date(alloc, out, place.territory, date, given)?;
+    push_date(alloc, out, place.territory, place.sources, date, given)?;
     push_remarks(alloc, out, place.territory, date, given)
 }
 
@@ -101,11 +108,12 @@ fn push_reading_page(
 fn push_day_page(out: &mut String, place: Place<'_>, day: Day) -> Result<(), AllocError>
     ensures { OnOk result (string_bytes out.new ≡ string_bytes out.old
         ++ (heading (codes "day " ++ decimal day) place.entry.name.now place.entry.code.now
-        place.entry.edition ++ spec.day_lines newest_rules place.entry.territory.now day)) }
+        place.entry.edition ++ spec.day_lines newest_rules place.entry.territory.now
+        place.entry.sources.now day)) }
 {
     write!(out, "day {} in ", day.number())?;
     push_land_heading(out, place.name, place.code, place.edition)?;
-    push_day_lines(out, place.territory, day)
+    push_day_lines(out, place.territory, place.sources, day)
 }
 
 /// Appends the lines of a page, its heading first.
@@ -118,7 +126,7 @@ fn push_page(
 ) -> Result<(), AllocError>
     ensures { OnOk result (string_bytes out.new ≡ string_bytes out.old
         ++ spec.land_lines newest_rules place.entry.name.now place.entry.territory.now
-        place.entry.code.now place.entry.edition page) }
+        place.entry.sources.now place.entry.code.now place.entry.edition page) }
 {
     match page {
         Page::Reading { date, weekday } => push_reading_page(alloc, out, place, date, weekday),
@@ -129,7 +137,7 @@ fn push_page(
         }
         Page::Periods => {
             push_land_heading(out, place.name, place.code, place.edition)?;
-            push_territory(out, place.territory)
+            push_territory(out, place.territory, place.sources)
         }
     }
 }
@@ -143,7 +151,8 @@ fn text_of(
 ) -> Result<String, AllocError>
     ensures { IfOk result (λ s. string_bytes s
         ≡ spec.land_lines newest_rules place.entry.name.now place.entry.territory.now
-        place.entry.code.now place.entry.edition page ++ pending_line pending) }
+        place.entry.sources.now place.entry.code.now place.entry.edition page
+        ++ pending_line pending) }
 {
     let mut text = String::with_capacity(alloc, ROOM)?;
     push_page(alloc, &mut text, place, page)?;
@@ -171,17 +180,19 @@ pub fn page_text(
         (IsRefusalOrNoMemory (code_refusal register.now.lands code.now)) }
 
     // As a law: to each day of a period that the page of a territory lists the register answers
-    // that period.
+    // that period, with the source that the page cites.
     ensures answered { OnOk result
         (spec.AnswersPeriods newest_rules register.now.lands code.now page) }
 {
     // Its contract tells that the periods of each territory cover the line.
     let _limits = register.limits();
     let (name, territory) = register.land(code)?;
+    let sources = LandSources::new(register, code);
     let place = Place {
         name,
         code,
         territory,
+        sources: &sources,
         edition: published.edition,
     };
     Ok(text_of(alloc, place, published.pending, page)?)

@@ -1,8 +1,10 @@
-//! The periods of a territory, a line each.
+//! The periods of a territory, a line each, and the sources of those that have one.
 ghost use Rattle.std.specs.Prelude.{◌≡◌, ◌++◌, OnOk, string_bytes};
 ghost use Rattle.osn_days.specs.Profile.{newest_rules};
 ghost use Rattle.osn_pages.specs.Periods as spec;
 
+use crate::land_sources::LandSources;
+use crate::source_line::push_source;
 use crate::words::NumberedDay;
 use osn_days::{Day, Keyword};
 use osn_lands::{Period, dated_day};
@@ -35,7 +37,7 @@ fn push_span(out: &mut String, period: &Period) -> Result<(), AllocError>
 
 /// Appends the line of a period.
 #[tactic(auto, unfolding(crate::specs::Periods::period_line))]
-pub(crate) fn push_period(out: &mut String, period: &Period) -> Result<(), AllocError>
+fn push_period_line(out: &mut String, period: &Period) -> Result<(), AllocError>
     ensures { OnOk result (string_bytes out.new
         ≡ string_bytes out.old ++ spec.period_line newest_rules period.now) }
 {
@@ -49,4 +51,18 @@ pub(crate) fn push_period(out: &mut String, period: &Period) -> Result<(), Alloc
         regime.style.beginning_of_year(),
         regime.rule.word()
     )
+}
+
+/// Appends the line of a period, and that of its source.
+#[tactic(auto, unfolding(crate::specs::Periods::period_lines))]
+pub(crate) fn push_period(
+    out: &mut String,
+    sources: &LandSources<'_>,
+    period: &Period,
+) -> Result<(), AllocError>
+    ensures { OnOk result (string_bytes out.new
+        ≡ string_bytes out.old ++ spec.period_lines newest_rules sources.now period.now) }
+{
+    push_period_line(out, period)?;
+    push_source(out, sources.of_period(period.first))
 }

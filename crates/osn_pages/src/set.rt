@@ -10,6 +10,7 @@ ghost use Rattle.osn_written.specs.SetsMeant.{set_meant, set_list_of};
 
 use crate::date_lines::push_no_day;
 use crate::heading::{push_land_heading, push_pending};
+use crate::land_sources::LandSources;
 use crate::page::{Place, Published, ROOM};
 use crate::remarks::push_not_sought;
 use crate::runs::push_runs;
@@ -38,14 +39,15 @@ fn push_found_set(
     alloc: Global,
     out: &mut String,
     territory: &Territory,
+    sources: &LandSources<'_>,
     found: Result<Vec<Run>, AbsentMember>,
 ) -> Result<(), AllocError>
     ensures { OnOk result (string_bytes out.new ≡ string_bytes out.old
-        ++ spec.found_set_lines newest_rules territory.now (set_list_of found)) }
+        ++ spec.found_set_lines newest_rules territory.now sources.now (set_list_of found)) }
 {
     match found {
         Ok(runs) => push_runs(out, territory, Kind::Set, runs.as_slice()),
-        Err(absent) => push_no_day(alloc, out, territory, absent.extent, absent.reason),
+        Err(absent) => push_no_day(alloc, out, territory, sources, absent.extent, absent.reason),
     }
 }
 
@@ -55,14 +57,15 @@ fn push_set(
     alloc: Global,
     out: &mut String,
     territory: &Territory,
+    sources: &LandSources<'_>,
     members: &[WrittenDate],
     given: Option<Weekday>,
 ) -> Result<(), AllocError>
     ensures { OnOk result (string_bytes out.new ≡ string_bytes out.old
-        ++ spec.set_lines newest_rules territory.now members.now given) }
+        ++ spec.set_lines newest_rules territory.now sources.now members.now given) }
 {
     let found = find_set(alloc, territory, members)?;
-    push_found_set(alloc, out, territory, found)?;
+    push_found_set(alloc, out, territory, sources, found)?;
     out.push_str(set_sureness(is_set_approximate(members), is_set_uncertain(members)))?;
     push_not_sought(out, given)
 }
@@ -78,12 +81,20 @@ fn push_set_page(
 ) -> Result<(), AllocError>
     ensures { OnOk result (string_bytes out.new ≡ string_bytes out.old
         ++ (heading text.now place.entry.name.now place.entry.code.now place.entry.edition
-        ++ spec.set_lines newest_rules place.entry.territory.now (members text.now) given)) }
+        ++ spec.set_lines newest_rules place.entry.territory.now place.entry.sources.now
+        (members text.now) given)) }
 {
     let members = members_of(alloc, text)?;
     write!(out, "{text} in ")?;
     push_land_heading(out, place.name, place.code, place.edition)?;
-    push_set(alloc, out, place.territory, members.as_slice(), given)
+    push_set(
+        alloc,
+        out,
+        place.territory,
+        place.sources,
+        members.as_slice(),
+        given,
+    )
 }
 
 /// The whole text of the page.
@@ -96,8 +107,8 @@ fn text_of_set(
 ) -> Result<String, AllocError>
     ensures { IfOk result (λ s. string_bytes s
         ≡ (heading text.now place.entry.name.now place.entry.code.now place.entry.edition
-        ++ spec.set_lines newest_rules place.entry.territory.now (members text.now) given)
-        ++ pending_line pending) }
+        ++ spec.set_lines newest_rules place.entry.territory.now place.entry.sources.now
+        (members text.now) given) ++ pending_line pending) }
 {
     let mut page = String::with_capacity(alloc, ROOM)?;
     push_set_page(alloc, &mut page, place, text, given)?;
@@ -127,10 +138,12 @@ pub fn set_page_text(
         (IsRefusalOrNoMemory (code_refusal register.now.lands code.now)) }
 {
     let (name, territory) = register.land(code)?;
+    let sources = LandSources::new(register, code);
     let place = Place {
         name,
         code,
         territory,
+        sources: &sources,
         edition: published.edition,
     };
     Ok(text_of_set(alloc, place, published.pending, text, given)?)

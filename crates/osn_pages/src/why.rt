@@ -8,7 +8,9 @@ ghost use Rattle.osn_written.specs.Absence.{absence};
 ghost use Rattle.osn_pages.specs.Nearest.{nearest_days as days_nearest};
 ghost use Rattle.osn_pages.specs.Why as spec;
 
+use crate::land_sources::LandSources;
 use crate::nearest::nearest_days;
+use crate::source_line::push_source;
 use crate::words::{NamedDay, NumberedDay};
 use osn_days::{Day, Keyword};
 use osn_lands::{DatedDay, Run, Style, Territory};
@@ -151,15 +153,17 @@ fn push_skip(
     alloc: Global,
     out: &mut String,
     territory: &Territory,
+    sources: &LandSources<'_>,
     date: WrittenDate,
     change: Day,
 ) -> Result<(), AllocError>
     requires { 1 < change }
     ensures { OnOk result (string_bytes out.new ≡ string_bytes out.old
-        ++ spec.skip_lines newest_rules territory.now date change) }
+        ++ spec.skip_lines newest_rules territory.now sources.now date change) }
 {
     let before = Day::on_line(i64::from(change.number()) - 1);
     push_skip_line(out, territory.dated(before), territory.dated(change))?;
+    push_source(out, sources.of_period(change))?;
     let old = territory.regime_at(before).style;
     let new = territory.regime_at(change).style;
     push_beginning(alloc, out, territory, date, old, new)
@@ -170,15 +174,16 @@ fn push_skips(
     alloc: Global,
     out: &mut String,
     territory: &Territory,
+    sources: &LandSources<'_>,
     date: WrittenDate,
     changes: &[Day],
 ) -> Result<(), AllocError>
     requires { All (λ change. 1 < change) changes.now }
     ensures { OnOk result (string_bytes out.new ≡ string_bytes out.old
-        ++ flat_map (spec.skip_lines newest_rules territory.now date) changes.now) }
+        ++ flat_map (spec.skip_lines newest_rules territory.now sources.now date) changes.now) }
 {
     for change in changes {
-        push_skip(alloc, out, territory, date, *change)?;
+        push_skip(alloc, out, territory, sources, date, *change)?;
     }
     Ok(())
 }
@@ -256,16 +261,17 @@ fn push_not_in_year(
     push_nearest(alloc, out, territory, date)
 }
 
-/// Appends the lines of a reason.
+/// Appends the lines of a reason, as a territory has it whose changes have these sources.
 pub(crate) fn push_reason(
     alloc: Global,
     out: &mut String,
     territory: &Territory,
+    sources: &LandSources<'_>,
     date: WrittenDate,
     reason: Absence,
 ) -> Result<(), AllocError>
     ensures { OnOk result (string_bytes out.new ≡ string_bytes out.old
-        ++ spec.why_text newest_rules territory.now date reason) }
+        ++ spec.why_text newest_rules territory.now sources.now date reason) }
 {
     match reason {
         Absence::NotWithBothYears => {
@@ -278,7 +284,7 @@ pub(crate) fn push_reason(
         }
         Absence::Skipped => {
             let changes = territory.gaps(date.label())?;
-            push_skips(alloc, out, territory, date, changes.as_slice())
+            push_skips(alloc, out, territory, sources, date, changes.as_slice())
         }
         Absence::NotInThatYear => push_not_in_year(alloc, out, territory, date),
     }
@@ -289,11 +295,12 @@ pub(crate) fn push_why(
     alloc: Global,
     out: &mut String,
     territory: &Territory,
+    sources: &LandSources<'_>,
     date: WrittenDate,
 ) -> Result<(), AllocError>
     ensures { OnOk result (string_bytes out.new
-        ≡ string_bytes out.old ++ spec.why_lines newest_rules territory.now date) }
+        ≡ string_bytes out.old ++ spec.why_lines newest_rules territory.now sources.now date) }
 {
     let reason = absence_of(territory, date)?;
-    push_reason(alloc, out, territory, date, reason)
+    push_reason(alloc, out, territory, sources, date, reason)
 }

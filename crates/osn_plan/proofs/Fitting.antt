@@ -1,7 +1,7 @@
 -- The territories of registers ascend, so that edits reach the wanted ones.
 use Rattle.std.proofs.Common.{◌≡◌, ℕ, ◌+◌, ◌≤◌, ◌==◌, Bool, true, false, cond, List, [], ◌∷◌}
 use Rattle.std.proofs.Common.{Option}
-use Rattle.std.proofs.Common.{Some, None, option_map, refl, sym, ap, subst, ◌∙◌, arith}
+use Rattle.std.proofs.Common.{Some, None, option_map, is_some, refl, sym, ap, subst, ◌∙◌, arith}
 use Rattle.std.proofs.lemmas.Bool.{not-false}
 use Rattle.std.proofs.lemmas.Slice.Eq.{bytes_eq-Decides}
 use Rattle.std.specs.List.{list_any}
@@ -9,6 +9,9 @@ use Rattle.std.specs.Str.{bytes_eq}
 use Rattle.osn_days.specs.Profile.{Profile}
 use Rattle.osn_lands.specs.declared.regime.Regime.{Regime}
 use Rattle.osn_lands.specs.Territory.{TerritoryModel, Covers, last_before, periods_from}
+use Rattle.osn_lands.specs.Changes.{starts_on}
+use Rattle.osn_lands.specs.Exceptions.{exception_of}
+use Rattle.osn_register.specs.SameLand.{IsSameLand, AreSameLand}
 use Rattle.osn_register.specs.declared.limits.Limits.{Limits}
 use Rattle.osn_register.specs.Plain.{LandModel, land_of, IsSoundTerritory, AreSound, AreNamed}
 use Rattle.osn_register.proofs.YearFacts.{AscendFrom, ascend_from}
@@ -136,30 +139,30 @@ are_fit p room limits (l ∷ wanted) lands low named sound standing none =
       later none,
     )
 
--- what stands as it is wanted is the wanted territory
-pub stands_is : (p : Profile) (room limits : Limits) (wanted ls : List LandModel) (code : List ℕ)
+-- what stands as it is wanted says the same as the wanted territory
+pub stands_same : (p : Profile) (room limits : Limits) (wanted ls : List LandModel) (code : List ℕ)
     (l : LandModel) → AreSound p room wanted → AreSound p limits ls → land_of code wanted ≡ Some l →
-    Stands l (land_of code ls) → land_of code ls ≡ Some l
-stands_is p room limits wanted ls code l sound other found stands =
+    Stands l (land_of code ls) → AreSameLand (land_of code ls) (Some l)
+stands_same p room limits wanted ls code l sound other found stands =
     let up = ascends p room l.territory (sound_found p room wanted code l sound found) in
     let from = ascends p limits stands.land.territory
     (sound_found p limits ls code stands.land other stands.is) in
-    let starts = ext 0 stands.land.territory.starts l.territory.starts from.starts up.starts
-    stands.starts in
-    let years = ext 0 stands.land.territory.exceptions l.territory.exceptions from.years up.years
+    let starts : stands.land.territory.starts ≡ l.territory.starts =
+    ext 0 stands.land.territory.starts l.territory.starts from.starts up.starts stands.starts in
+    let years : stands.land.territory.exceptions ≡ l.territory.exceptions =
+    ext 0 stands.land.territory.exceptions l.territory.exceptions from.years up.years
     stands.years in
-    stands.is
-    ∙ ap (λ (c : List ℕ). let k : LandModel = record
-    { code = c; name = stands.land.name; territory = stands.land.territory } in Some k) stands.code
-    ∙ ap (λ (n : List ℕ). let k : LandModel = record
-    { code = l.code; name = n; territory = stands.land.territory } in Some k) stands.name
-    ∙ ap (λ (ss : List (ℕ × Regime)). let k : LandModel = record {
-      code = l.code;
-      name = l.name;
-      territory = record { starts = ss; exceptions = stands.land.territory.exceptions };
-    } in Some k) starts
-    ∙ ap (λ (ys : List (ℕ × ℕ)). let k : LandModel = record {
-      code = l.code;
-      name = l.name;
-      territory = record { starts = l.territory.starts; exceptions = ys };
-    } in Some k) years
+    let same : stands.land.territory ≡ l.territory =
+    ap (λ (ss : List (ℕ × Regime)). let t : TerritoryModel = record
+    { starts = ss; exceptions = stands.land.territory.exceptions } in t) starts
+    ∙ ap (λ (ys : List (ℕ × ℕ)). let t : TerritoryModel = record
+    { starts = l.territory.starts; exceptions = ys } in t) years in
+    let one : IsSameLand stands.land l = record {
+      name = stands.name;
+      territory = same;
+      periods = λ day on. stands.periods day
+          (sym (ap (λ (t : TerritoryModel). starts_on t day) same) ∙ on);
+      easters = λ year some. stands.easters year
+          (sym (ap (λ (t : TerritoryModel). is_some (exception_of t year)) same) ∙ some);
+    } in
+    subst (λ (o : Option LandModel). AreSameLand o (Some l)) (sym stands.is) one

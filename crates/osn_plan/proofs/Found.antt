@@ -10,12 +10,18 @@ use Rattle.osn_lands.specs.Territory.{TerritoryModel}
 use Rattle.osn_plan.specs.Change.{Change}
 use Rattle.osn_plan.specs.Change.Change.{Add, Alter, Drop}
 use Rattle.osn_plan.specs.Change.Change.{ListDay, DropDay}
-use Rattle.osn_plan.specs.Change.{territory_after}
+use Rattle.osn_plan.specs.Change.{territory_after, sources_after}
+use Rattle.osn_register.specs.Answer.{period_source, easter_source}
+use Rattle.osn_register.specs.Sources.{SourcesModel, source_of}
 use Rattle.osn_register.specs.Plain.{LandModel, land_of, with_territory, effect}
-use Rattle.osn_plan.specs.Needed.{regime_from, regime_in, easter_in, IsNeeded, AreNeeded}
+use Rattle.osn_plan.specs.Needed.{regime_from, regime_in, easter_in, period_cited, easter_cited}
+use Rattle.osn_plan.specs.Needed.{IsNeeded, AreNeeded}
+use Rattle.osn_plan.specs.Cited.{same_source}
 use Rattle.osn_plan.specs.Change.{edit_of}
 use Rattle.osn_plan.proofs.Rows.{look, not_none}
+use Rattle.osn_plan.proofs.SourceRows.{source_itself}
 use Rattle.osn_plan.proofs.Due.{after, IsDue, AreDue}
+use Rattle.osn_plan.proofs.Fresh.{sides_of, cited_after, IsFresh, AreFresh}
 
 pub code_itself : (code : List ℕ) → bytes_eq code code ≡ true
 code_itself code = (bytes_eq-Decides code code).1 refl
@@ -25,62 +31,69 @@ codes_apart a b apart e = false≢true (sym apart ∙ (bytes_eq-Decides a b).1 e
 
 -- a change of the territory that has a code
 
-abbrev changed : (TerritoryModel → TerritoryModel) → LandModel → LandModel
-changed f l = record l { territory = f l.territory }
+abbrev pub changed : (TerritoryModel → TerritoryModel) → (SourcesModel → SourcesModel) → LandModel
+    → LandModel
+changed f g l = record l { territory = f l.territory; sources = g l.sources }
 
-with_here : (code : List ℕ) (f : TerritoryModel → TerritoryModel) (ls : List LandModel) →
-    land_of code (with_territory code f ls) ≡ option_map (changed f) (land_of code ls)
-with_here code f [] = refl
-with_here code f (l ∷ ls) = by (bytes_eq code l.code) refl (with_here code f ls)
+with_here : (code : List ℕ) (f : TerritoryModel → TerritoryModel)
+    (g : SourcesModel → SourcesModel) (ls : List LandModel) →
+    land_of code (with_territory code f g ls) ≡ option_map (changed f g) (land_of code ls)
+with_here code f g [] = refl
+with_here code f g (l ∷ ls) = by (bytes_eq code l.code) refl (with_here code f g ls)
   where
     by : (b : Bool) → bytes_eq code l.code ≡ b →
-        land_of code (with_territory code f ls) ≡ option_map (changed f) (land_of code ls) →
-        land_of code (cond b (changed f l ∷ ls) (l ∷ with_territory code f ls))
-        ≡ option_map (changed f) (cond b (Some l) (land_of code ls))
-    by true e later = ap (λ b. cond b (Some (changed f l)) (land_of code ls)) e
-    by false e later = ap (λ b. cond b (Some l) (land_of code (with_territory code f ls))) e ∙ later
+        land_of code (with_territory code f g ls) ≡ option_map (changed f g) (land_of code ls) →
+        land_of code (cond b (changed f g l ∷ ls) (l ∷ with_territory code f g ls))
+        ≡ option_map (changed f g) (cond b (Some l) (land_of code ls))
+    by true e later = ap (λ b. cond b (Some (changed f g l)) (land_of code ls)) e
+    by false e later =
+        ap (λ b. cond b (Some l) (land_of code (with_territory code f g ls))) e ∙ later
 
-with_apart : (code other : List ℕ) (f : TerritoryModel → TerritoryModel) (ls : List LandModel) →
-    bytes_eq other code ≡ false → land_of other (with_territory code f ls) ≡ land_of other ls
-with_apart code other f [] apart = refl
-with_apart code other f (l ∷ ls) apart =
-    by (bytes_eq code l.code) refl (with_apart code other f ls apart)
+with_apart : (code other : List ℕ) (f : TerritoryModel → TerritoryModel)
+    (g : SourcesModel → SourcesModel) (ls : List LandModel) →
+    bytes_eq other code ≡ false → land_of other (with_territory code f g ls) ≡ land_of other ls
+with_apart code other f g [] apart = refl
+with_apart code other f g (l ∷ ls) apart =
+    by (bytes_eq code l.code) refl (with_apart code other f g ls apart)
   where
     by : (b : Bool) → bytes_eq code l.code ≡ b →
-        land_of other (with_territory code f ls) ≡ land_of other ls →
-        land_of other (cond b (changed f l ∷ ls) (l ∷ with_territory code f ls))
+        land_of other (with_territory code f g ls) ≡ land_of other ls →
+        land_of other (cond b (changed f g l ∷ ls) (l ∷ with_territory code f g ls))
         ≡ land_of other (l ∷ ls)
     by true e later =
         let elsewhere : bytes_eq other l.code ≡ false =
         ap (bytes_eq other) (sym ((bytes_eq-Decides code l.code).0 e)) ∙ apart in
-        ap (λ b. cond b (Some (changed f l)) (land_of other ls)) elsewhere
+        ap (λ b. cond b (Some (changed f g l)) (land_of other ls)) elsewhere
         ∙ sym (ap (λ b. cond b (Some l) (land_of other ls)) elsewhere)
     by false e later = ap (λ o. cond (bytes_eq other l.code) (Some l) o) later
 
 -- the edit of one change
 
 effect_is : (code : List ℕ) (e : Change) (ls : List LandModel) →
-    effect ls (edit_of code e) ≡ with_territory code (territory_after e) ls
-effect_is code (Add d r) ls = refl
-effect_is code (Alter d r) ls = refl
+    effect ls (edit_of code e) ≡ with_territory code (territory_after e) (sources_after e) ls
+effect_is code (Add d r c) ls = refl
+effect_is code (Alter d r c) ls = refl
 effect_is code (Drop d) ls = refl
-effect_is code (ListDay y d) ls = refl
+effect_is code (ListDay y d c) ls = refl
 effect_is code (DropDay y) ls = refl
 
 pub step_here : (code : List ℕ) (e : Change) (ls : List LandModel) (l : LandModel) →
     land_of code ls ≡ Some l →
-    land_of code (effect ls (edit_of code e)) ≡ Some (changed (territory_after e) l)
+    land_of code (effect ls (edit_of code e))
+    ≡ Some (changed (territory_after e) (sources_after e) l)
 step_here code e ls l known =
-    ap (land_of code) (effect_is code e ls) ∙ with_here code (territory_after e) ls
-    ∙ ap (option_map (changed (territory_after e))) known
+    ap (land_of code) (effect_is code e ls)
+    ∙ with_here code (territory_after e) (sources_after e) ls
+    ∙ ap (option_map (changed (territory_after e) (sources_after e))) known
 
 -- the edits of changes in turn
 pub edits_here : (code : List ℕ) (es : List Change) (ls : List LandModel) (l : LandModel) →
     land_of code ls ≡ Some l →
-    land_of code (fold effect ls (map (edit_of code) es)) ≡ Some (changed (after es) l)
+    land_of code (fold effect ls (map (edit_of code) es))
+    ≡ Some (changed (after es) (cited_after es) l)
 edits_here code [] ls l known = known
 edits_here code (e ∷ es) ls l known = edits_here code es (effect ls (edit_of code e))
-    (changed (territory_after e) l) (step_here code e ls l known)
+    (changed (territory_after e) (sources_after e) l) (step_here code e ls l known)
 
 pub edits_apart : (code other : List ℕ) (es : List Change) (ls : List LandModel) →
     bytes_eq other code ≡ false →
@@ -89,7 +102,7 @@ edits_apart code other [] ls apart = refl
 edits_apart code other (e ∷ es) ls apart =
     edits_apart code other es (effect ls (edit_of code e)) apart
     ∙ ap (land_of other) (effect_is code e ls)
-    ∙ with_apart code other (territory_after e) ls apart
+    ∙ with_apart code other (territory_after e) (sources_after e) ls apart
 
 -- what is found of the territory of a code
 
@@ -103,38 +116,69 @@ pub easter_found : (code : List ℕ) (ls : List LandModel) (l : LandModel) (y : 
 easter_found code ls l y known = ap (λ o. option_and_then (λ (t : TerritoryModel).
     look y t.exceptions) (option_map (λ (k : LandModel). k.territory) o)) known
 
--- a change that is due is an edit that is needed
-is_needed : (wanted ls : List LandModel) (code : List ℕ) (w l : LandModel) (e : Change) →
+pub period_found : (code : List ℕ) (ls : List LandModel) (l : LandModel) (d : ℕ) →
+    land_of code ls ≡ Some l → period_cited ls code d ≡ source_of d l.sources.periods
+period_found code ls l d known = ap (λ o. period_source
+    (option_map (λ (k : LandModel). k.sources) o) d) known
+
+pub easter_source_found : (code : List ℕ) (ls : List LandModel) (l : LandModel) (y : ℕ) →
+    land_of code ls ≡ Some l → easter_cited ls code y ≡ source_of y l.sources.easters
+easter_source_found code ls l y known = ap (λ o. easter_source
+    (option_map (λ (k : LandModel). k.sources) o) y) known
+
+-- two sources that are one are not told apart
+not_apart : (a b : Option (List ℕ)) → a ≡ b → same_source a b ≡ false → ⊥
+not_apart a b e apart = false≢true (sym apart ∙ ap (same_source a) (sym e) ∙ source_itself a)
+
+-- a change that is due, and finds the source that stood, is an edit that is needed
+is_needed : (wanted ls : List LandModel) (code : List ℕ) (w : LandModel) (old : SourcesModel)
+    (l : LandModel) (e : Change) →
     land_of code wanted ≡ Some w → land_of code ls ≡ Some l →
-    IsDue w.territory l.territory e → IsNeeded wanted ls (edit_of code e)
-is_needed wanted ls code w l (Add d r) is known due =
-    (regime_found code ls l d known ∙ due.0, regime_found code wanted w d is ∙ due.1)
-is_needed wanted ls code w l (Alter d r) is known due = (
-  ap is_some (regime_found code ls l d known) ∙ due.0,
-  (λ h. due.1 (sym (regime_found code ls l d known) ∙ h)),
-  regime_found code wanted w d is ∙ due.2,
+    IsDue (sides_of old w.sources) w.territory l.territory e → IsFresh old l.sources e →
+    IsNeeded wanted ls (edit_of code e)
+is_needed wanted ls code w old l (Add d r c) is known due fresh = (
+  regime_found code ls l d known ∙ due.0,
+  regime_found code wanted w d is ∙ due.1,
+  due.3 ∙ sym (period_found code wanted w d is),
 )
-is_needed wanted ls code w l (Drop d) is known due = (
+is_needed wanted ls code w old l (Alter d r c) is known due fresh = (
+  ap is_some (regime_found code ls l d known) ∙ due.0,
+  (λ same cited. not_apart (source_of d old.periods) (source_of d w.sources.periods)
+      (sym fresh ∙ sym (period_found code ls l d known) ∙ cited ∙ due.3)
+      (due.1 (sym (regime_found code ls l d known) ∙ same))),
+  regime_found code wanted w d is ∙ due.2,
+  due.3 ∙ sym (period_found code wanted w d is),
+)
+is_needed wanted ls code w old l (Drop d) is known due fresh = (
   ap is_some is,
   ap is_some (regime_found code ls l d known) ∙ due.0,
   regime_found code wanted w d is ∙ due.1,
 )
-is_needed wanted ls code w l (ListDay y d) is known due =
-    (easter_found code ls l y known ∙ due.0, easter_found code wanted w y is ∙ due.1)
-is_needed wanted ls code w l (DropDay y) is known due = (
+is_needed wanted ls code w old l (ListDay y d c) is known due fresh = (
+  easter_found code ls l y known ∙ due.0,
+  easter_found code wanted w y is ∙ due.1,
+  due.3 ∙ sym (easter_source_found code wanted w y is),
+)
+is_needed wanted ls code w old l (DropDay y) is known due fresh = (
   ap is_some is,
   ap is_some (easter_found code ls l y known) ∙ due.0,
-  (λ h. due.1 (sym (easter_found code wanted w y is) ∙ h ∙ easter_found code ls l y known)),
+  (λ same cited. not_apart (source_of y old.easters) (source_of y w.sources.easters)
+      (sym fresh ∙ sym (easter_source_found code ls l y known) ∙ sym cited
+      ∙ easter_source_found code wanted w y is)
+      (due.1 (sym (easter_found code wanted w y is) ∙ same ∙ easter_found code ls l y known))),
 )
 
-pub are_needed : (wanted ls : List LandModel) (code : List ℕ) (w l : LandModel)
-    (es : List Change) → land_of code wanted ≡ Some w → land_of code ls ≡ Some l →
-    AreDue w.territory l.territory es → AreNeeded wanted ls (map (edit_of code) es)
-are_needed wanted ls code w l [] is known due = tt
-are_needed wanted ls code w l (e ∷ es) is known due = (
-  is_needed wanted ls code w l e is known due.0,
-  are_needed wanted (effect ls (edit_of code e)) code w (changed (territory_after e) l) es is
-      (step_here code e ls l known) due.1,
+pub are_needed : (wanted ls : List LandModel) (code : List ℕ) (w : LandModel)
+    (old : SourcesModel) (l : LandModel) (es : List Change) →
+    land_of code wanted ≡ Some w → land_of code ls ≡ Some l →
+    AreDue (sides_of old w.sources) w.territory l.territory es → AreFresh old l.sources es →
+    AreNeeded wanted ls (map (edit_of code) es)
+are_needed wanted ls code w old l [] is known due fresh = tt
+are_needed wanted ls code w old l (e ∷ es) is known due fresh = (
+  is_needed wanted ls code w old l e is known due.0 fresh.0,
+  are_needed wanted (effect ls (edit_of code e)) code w old
+      (changed (territory_after e) (sources_after e) l) es is (step_here code e ls l known) due.1
+      fresh.1,
 )
 
 -- a territory more

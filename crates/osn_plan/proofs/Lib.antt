@@ -2,10 +2,15 @@ pub mod Lawful
 pub mod Rows
 pub mod Regimes
 pub mod Changed
+pub mod SourceRows
 pub mod Due
+pub mod Fresh
 pub mod Passes
 pub mod YearPasses
 pub mod Reached
+pub mod StartSources
+pub mod DaySources
+pub mod Sourced
 pub mod Found
 pub mod Valid
 pub mod Placed

@@ -1,6 +1,6 @@
 -- The edits of lists of changes, put together.
 use Rattle.std.proofs.Common.{◌≡◌, ℕ, List, [], ◌∷◌, ◌++◌, map, drop, refl, sym, ap, subst, ◌∙◌}
-use Rattle.std.proofs.Common.{append_assoc, ◌-◌, ◌<◌, length, take, get_or, arith, Ok, Err}
+use Rattle.std.proofs.Common.{Option, append_assoc, ◌-◌, length, take, Ok, Err}
 use Rattle.std.specs.declared.result.Result.{Result}
 use Rattle.std.specs.Result.{OnOk, IfErr, IsErrAnd}
 use Rattle.std.proofs.lemmas.Result.{err_from_is_err_and}
@@ -11,10 +11,13 @@ use Rattle.osn_lands.specs.declared.regime.Regime.{Regime}
 use Rattle.osn_lands.specs.declared.period.Period.{Period}
 use Rattle.osn_lands.specs.Territory.{TerritoryModel, periods_from, periods_of}
 use Rattle.osn_register.specs.declared.edit.Edit.{Edit}
+use Rattle.osn_register.specs.Plain.{LandModel}
+use Rattle.osn_register.specs.Sources.{SourcesModel}
+use Rattle.osn_plan.specs.Cited.{BothSources}
 use Rattle.osn_plan.specs.Change.{edit_of}
-use Rattle.osn_plan.specs.Differences.{dropped_change, added_change, wanted_change, opening, later}
+use Rattle.osn_plan.specs.Differences.{dropped_change, added_change, wanted_change, later}
 use Rattle.osn_plan.specs.Differences.{dropped_exception, added_exception, wanted_exception}
-use Rattle.osn_plan.specs.Differences.{differences}
+use Rattle.osn_plan.specs.Differences.{differences, land_edits}
 
 module _ {A B : Type 0} (f : A → B) where
   pub periods_mapped : (g : ℕ × Regime → List A) (high : ℕ) (ss : List (ℕ × Regime)) →
@@ -37,70 +40,76 @@ later_periods high [] = refl
 later_periods high (s ∷ ss) = refl
 
 -- the edits of the differences, as they are appended pass by pass
-pub differences_mapped : (code : List ℕ) (t w : TerritoryModel) (ps qs : List Period) →
+pub differences_mapped : (code : List ℕ) (both : BothSources) (t w : TerritoryModel)
+    (ps qs : List Period) →
     ps ≡ periods_of newest_rules t → qs ≡ periods_of newest_rules w →
     flat_map (λ (p : Period). map (edit_of code) (dropped_change w p.first)) ps
-    ++ (flat_map (λ (p : Period). map (edit_of code) (wanted_change t (p.first, p.regime))) qs
-    ++ (flat_map (λ e. map (edit_of code) (dropped_exception w e)) t.exceptions
-    ++ flat_map (λ e. map (edit_of code) (wanted_exception t e)) w.exceptions))
-    ≡ map (edit_of code) (differences t w)
-differences_mapped code t w ps qs is are =
+    ++ (flat_map (λ (p : Period). map (edit_of code) (wanted_change both t (p.first, p.regime))) qs
+    ++ (flat_map (λ e. map (edit_of code) (dropped_exception both w e)) t.exceptions
+    ++ flat_map (λ e. map (edit_of code) (wanted_exception both t e)) w.exceptions))
+    ≡ map (edit_of code) (differences both t w)
+differences_mapped code both t w ps qs is are =
     let f = edit_of code in
     let high = newest_rules.high in
     let a = flat_map (λ (s : ℕ × Regime). dropped_change w s.0) t.starts in
-    let b = flat_map (wanted_change t) w.starts in
-    let c = flat_map (dropped_exception w) t.exceptions in
-    let d = flat_map (wanted_exception t) w.exceptions in
+    let b = flat_map (wanted_change both t) w.starts in
+    let c = flat_map (dropped_exception both w) t.exceptions in
+    let d = flat_map (wanted_exception both t) w.exceptions in
     let first : flat_map (λ (p : Period). map f (dropped_change w p.first)) ps ≡ map f a =
     ap (flat_map (λ (p : Period). map f (dropped_change w p.first))) is
     ∙ periods_mapped f (λ s. dropped_change w s.0) high t.starts in
-    let second : flat_map (λ (p : Period). map f (wanted_change t (p.first, p.regime))) qs
+    let second : flat_map (λ (p : Period). map f (wanted_change both t (p.first, p.regime))) qs
     ≡ map f b =
-    ap (flat_map (λ (p : Period). map f (wanted_change t (p.first, p.regime)))) are
-    ∙ periods_mapped f (wanted_change t) high w.starts in
-    let third : flat_map (λ e. map f (dropped_exception w e)) t.exceptions ≡ map f c =
-    rows_mapped f (dropped_exception w) t.exceptions in
-    let fourth : flat_map (λ e. map f (wanted_exception t e)) w.exceptions ≡ map f d =
-    rows_mapped f (wanted_exception t) w.exceptions in
-    ap (λ es. es ++ (flat_map (λ (p : Period). map f (wanted_change t (p.first, p.regime))) qs
-    ++ (flat_map (λ e. map f (dropped_exception w e)) t.exceptions
-    ++ flat_map (λ e. map f (wanted_exception t e)) w.exceptions))) first
-    ∙ ap (λ es. map f a ++ (es ++ (flat_map (λ e. map f (dropped_exception w e)) t.exceptions
-    ++ flat_map (λ e. map f (wanted_exception t e)) w.exceptions))) second
+    ap (flat_map (λ (p : Period). map f (wanted_change both t (p.first, p.regime)))) are
+    ∙ periods_mapped f (wanted_change both t) high w.starts in
+    let third : flat_map (λ e. map f (dropped_exception both w e)) t.exceptions ≡ map f c =
+    rows_mapped f (dropped_exception both w) t.exceptions in
+    let fourth : flat_map (λ e. map f (wanted_exception both t e)) w.exceptions ≡ map f d =
+    rows_mapped f (wanted_exception both t) w.exceptions in
+    ap (λ es. es ++ (flat_map (λ (p : Period). map f (wanted_change both t (p.first, p.regime))) qs
+    ++ (flat_map (λ e. map f (dropped_exception both w e)) t.exceptions
+    ++ flat_map (λ e. map f (wanted_exception both t e)) w.exceptions))) first
+    ∙ ap (λ es. map f a ++ (es ++ (flat_map (λ e. map f (dropped_exception both w e)) t.exceptions
+    ++ flat_map (λ e. map f (wanted_exception both t e)) w.exceptions))) second
     ∙ ap (λ es. map f a ++ (map f b ++ (es
-    ++ flat_map (λ e. map f (wanted_exception t e)) w.exceptions))) third
+    ++ flat_map (λ e. map f (wanted_exception both t e)) w.exceptions))) third
     ∙ ap (λ es. map f a ++ (map f b ++ (map f c ++ es))) fourth
     ∙ ap (λ es. map f a ++ (map f b ++ es)) (sym (map-append f c d))
     ∙ ap (λ es. map f a ++ es) (sym (map-append f b (c ++ d)))
     ∙ sym (map-append f a (b ++ (c ++ d)))
 
 -- and those of the later starts and days of a territory
-pub later_mapped : (code : List ℕ) (w : TerritoryModel) (ps : List Period) →
+pub later_mapped : (code : List ℕ) (cited : Option SourcesModel) (w : TerritoryModel)
+    (ps : List Period) →
     ps ≡ periods_of newest_rules w →
-    flat_map (λ (p : Period). map (edit_of code) (added_change (p.first, p.regime)))
+    flat_map (λ (p : Period). map (edit_of code) (added_change cited (p.first, p.regime)))
     (take (length ps - 1) (drop 1 ps))
-    ++ flat_map (λ e. map (edit_of code) (added_exception e)) w.exceptions
-    ≡ map (edit_of code) (later w)
-later_mapped code w ps is =
+    ++ flat_map (λ e. map (edit_of code) (added_exception cited e)) w.exceptions
+    ≡ map (edit_of code) (later cited w)
+later_mapped code cited w ps is =
     let f = edit_of code in
-    let a = flat_map added_change (drop 1 w.starts) in
-    let b = flat_map added_exception w.exceptions in
+    let a = flat_map (added_change cited) (drop 1 w.starts) in
+    let b = flat_map (added_exception cited) w.exceptions in
     let adds : List Period → List Edit =
-    flat_map (λ (p : Period). map f (added_change (p.first, p.regime))) in
-    ap (λ qs. adds qs ++ flat_map (λ e. map f (added_exception e)) w.exceptions) (take_rest ps 1)
-    ∙ ap (λ qs. adds (drop 1 qs) ++ flat_map (λ e. map f (added_exception e)) w.exceptions) is
-    ∙ ap (λ qs. adds qs ++ flat_map (λ e. map f (added_exception e)) w.exceptions)
+    flat_map (λ (p : Period). map f (added_change cited (p.first, p.regime))) in
+    ap (λ qs. adds qs ++ flat_map (λ e. map f (added_exception cited e)) w.exceptions)
+    (take_rest ps 1)
+    ∙ ap (λ qs. adds (drop 1 qs) ++ flat_map (λ e. map f (added_exception cited e)) w.exceptions) is
+    ∙ ap (λ qs. adds qs ++ flat_map (λ e. map f (added_exception cited e)) w.exceptions)
     (later_periods newest_rules.high w.starts)
-    ∙ ap (λ es. es ++ flat_map (λ e. map f (added_exception e)) w.exceptions)
-    (periods_mapped f added_change newest_rules.high (drop 1 w.starts))
-    ∙ ap (λ es. map f a ++ es) (rows_mapped f added_exception w.exceptions)
+    ∙ ap (λ es. es ++ flat_map (λ e. map f (added_exception cited e)) w.exceptions)
+    (periods_mapped f (added_change cited) newest_rules.high (drop 1 w.starts))
+    ∙ ap (λ es. map f a ++ es) (rows_mapped f (added_exception cited) w.exceptions)
     ∙ sym (map-append f a b)
 
--- the opening regime is that of the first period
-pub opening_is : (high : ℕ) (ss : List (ℕ × Regime)) (ps : List Period) (d : Period) →
-    ps ≡ periods_from high ss → 0 < length ps → (get_or ps 0 d).regime ≡ opening ss
-opening_is high [] ps d is some = absurd (omega (arith, ap length is, some))
-opening_is high (s ∷ rest) ps d is some = ap (λ (qs : List Period). (get_or qs 0 d).regime) is
+-- the edits of a territory by what it is listed as
+pub same_land_edits : (wanted lands : List LandModel) (l : LandModel) (code name : List ℕ)
+    (t : TerritoryModel) → l.code ≡ code → l.name ≡ name → l.territory ≡ t →
+    land_edits wanted lands l.code l.name l.territory ≡ land_edits wanted lands code name t
+same_land_edits wanted lands l code name t code_is name_is territory_is =
+    ap (λ (c : List ℕ). land_edits wanted lands c l.name l.territory) code_is
+    ∙ ap (λ (n : List ℕ). land_edits wanted lands code n l.territory) name_is
+    ∙ ap (λ (u : TerritoryModel). land_edits wanted lands code name u) territory_is
 
 module _ {B : Type 0} where
   -- what four steps append

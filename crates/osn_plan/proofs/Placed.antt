@@ -9,21 +9,26 @@ use Rattle.std.specs.Str.{bytes_eq}
 use Rattle.osn_days.specs.Profile.{Profile}
 use Rattle.osn_lands.specs.declared.regime.Regime.{Regime}
 use Rattle.osn_lands.specs.Territory.{TerritoryModel, opened}
+use Rattle.osn_lands.specs.Changes.{starts_on}
 use Rattle.osn_register.specs.declared.edit.Edit.{Edit}
 use Rattle.osn_register.specs.declared.limits.Limits.{Limits}
 use Rattle.osn_register.specs.declared.refusal.Refusal.{Refusal}
 use Rattle.osn_register.specs.declared.refusal.Refusal.TheVariants as refusals
 use Rattle.osn_register.specs.Code.{is_code, is_name}
+use Rattle.osn_register.specs.Sources.{SourcesModel, source_of, opening_sources}
 use Rattle.osn_register.specs.Plain.{LandModel, land_of, effect, AreDistinct, is_style_refused}
 use Rattle.osn_register.specs.Plain.{AreStyled, add_land_refusal}
 use Rattle.osn_plan.specs.Fault.{IsOver}
 use Rattle.osn_plan.specs.Needed.{AreNeeded}
 use Rattle.osn_plan.specs.Differences.{opening, later, differences, edits_from}
-use Rattle.osn_plan.specs.Differences.{land_edits, all_edits}
+use Rattle.osn_plan.specs.Differences.{land_edits, edits_for}
 use Rattle.osn_plan.proofs.Rows.{look, IsFrom, some_is}
 use Rattle.osn_plan.proofs.Due.{after}
+use Rattle.osn_plan.proofs.Fresh.{sides_of, cited_after}
 use Rattle.osn_plan.proofs.Reached.{Ascends, Reaches, reaches, later_is}
-use Rattle.osn_plan.proofs.Found.{code_itself, edits_here, edits_apart, regime_found, are_needed}
+use Rattle.osn_plan.proofs.Sourced.{Cites, cites}
+use Rattle.osn_plan.proofs.Found.{code_itself, edits_here, edits_apart, regime_found, period_found}
+use Rattle.osn_plan.proofs.Found.{are_needed}
 use Rattle.osn_plan.proofs.Valid.{Allowed, AreValid, differences_valid, AreLimited, are_limited}
 use Rattle.osn_plan.proofs.Valid.{skip, last_one}
 use Rattle.osn_plan.proofs.Found.{added_here, added_apart, code_found}
@@ -34,8 +39,8 @@ pub record Opens (t : TerritoryModel) : Type 0 where
   pub is : t.starts ≡ (1, opening t.starts) ∷ rest
   pub from : IsFrom 2 rest
 
--- a territory is found that has the code and the name of the wanted one, and the same starts and
--- years
+-- a territory is found that has the code and the name of the wanted one, the same starts and years,
+-- and the source of each of these
 pub record Stands (l : LandModel) (found : Option LandModel) : Type 0 where
   pub land : LandModel
   pub is : found ≡ Some land
@@ -43,6 +48,10 @@ pub record Stands (l : LandModel) (found : Option LandModel) : Type 0 where
   pub name : land.name ≡ l.name
   pub starts : (k : ℕ) → look k land.territory.starts ≡ look k l.territory.starts
   pub years : (k : ℕ) → look k land.territory.exceptions ≡ look k l.territory.exceptions
+  pub periods : (k : ℕ) → starts_on l.territory k ≡ true →
+      source_of k land.sources.periods ≡ source_of k l.sources.periods
+  pub easters : (k : ℕ) → is_some (look k l.territory.exceptions) ≡ true →
+      source_of k land.sources.easters ≡ source_of k l.sources.easters
 
 -- one wanted territory
 
@@ -93,36 +102,55 @@ land_limited p limits ls l r code name none style f refused =
 
 placed : (p : Profile) (limits : Limits) (wanted lands ls : List LandModel) (l : LandModel) →
     1 ≤ p.high → land_of l.code wanted ≡ Some l → Fit p lands l → (o : Option LandModel) →
-    land_of l.code ls ≡ o → Fits p l o → Placed p limits wanted ls l (edits_from l o)
+    land_of l.code ls ≡ o → Fits p l o →
+    Placed p limits wanted ls l (edits_from (Some l.sources) l.code l.name l.territory o)
 placed p limits wanted lands ls l low is fit (Some s) known fits =
-    let up = fit.up in
-    let es = differences s.territory l.territory in
-    let made : Reaches l.territory s.territory es = reaches l.territory s.territory up fits.1 in
+    let both = sides_of s.sources l.sources in
+    let es = differences both s.territory l.territory in
+    let made : Reaches both l.territory s.territory es =
+    reaches both l.territory s.territory fit.up fits.1 in
+    let cited : Cites l.territory s.sources l.sources es =
+    cites l.territory s.territory s.sources l.sources fit.up fits.1 in
     record {
-      needed = are_needed wanted ls l.code l s es is known made.due;
-      limited = are_limited p limits wanted l.code l is es ls s fit.code known made.due
-          (differences_valid p s.territory l.territory fits.2 fit.allowed);
+      needed = are_needed wanted ls l.code l s.sources s es is known made.due cited.fresh;
+      limited = are_limited p limits wanted both l.code l is es ls s fit.code known made.due
+          (differences_valid p both s.territory l.territory fits.2 fit.allowed);
       others = λ other apart. edits_apart l.code other es ls apart;
       stands = record {
-        land = record s { territory = after es s.territory };
+        land = record s {
+          territory = after es s.territory;
+          sources = cited_after es s.sources;
+        };
         is = edits_here l.code es ls s known;
         code = code_found l.code ls s known;
         name = fits.0;
         starts = made.starts;
         years = made.years;
+        periods = cited.periods;
+        easters = cited.easters;
       };
     }
 placed p limits wanted lands ls l low is fit None known fits =
-    let up = fit.up in
     let opens = fit.opens in
     let r = opening l.territory.starts in
-    let es = later l.territory in
-    let new : LandModel = record { code = l.code; name = l.name; territory = opened r } in
+    let es = later (Some l.sources) l.territory in
+    let first_sources : SourcesModel = opening_sources (source_of 1 l.sources.periods) in
+    let both = sides_of first_sources l.sources in
+    let new : LandModel = record {
+      code = l.code;
+      name = l.name;
+      territory = opened r;
+      sources = first_sources;
+    } in
     let first : Ascends (opened r) = record { starts = (omega arith, tt); years = tt } in
-    let same : differences (opened r) l.territory ≡ es =
-    later_is l.territory r opens.rest opens.is opens.from in
-    let made : Reaches l.territory (opened r) es =
-    subst (Reaches l.territory (opened r)) same (reaches l.territory (opened r) up first) in
+    let same : differences both (opened r) l.territory ≡ es =
+    later_is (Some l.sources) l.territory r opens.rest opens.is opens.from in
+    let made : Reaches both l.territory (opened r) es =
+    subst (Reaches both l.territory (opened r)) same
+    (reaches both l.territory (opened r) fit.up first) in
+    let cited : Cites l.territory first_sources l.sources es =
+    subst (Cites l.territory first_sources l.sources) same
+    (cites l.territory (opened r) first_sources l.sources fit.up first) in
     let added : land_of l.code (ls ++ new ∷ []) ≡ Some new = added_here ls new known in
     let style : is_style_refused p r ≡ false =
     (subst (AreStyled p) opens.is fit.allowed.styles).0 in
@@ -132,27 +160,45 @@ placed p limits wanted lands ls l low is fit None known fits =
           known,
           ap (option_map (λ (k : LandModel). k.name)) is,
           regime_found l.code wanted l 1 is ∙ ap (look 1) opens.is,
+          sym (period_found l.code wanted l 1 is),
         ),
-        are_needed wanted (ls ++ new ∷ []) l.code l new es is added made.due,
+        are_needed wanted (ls ++ new ∷ []) l.code l first_sources new es is added made.due
+            cited.fresh,
       );
       limited = (
         (λ f refused. subst (λ o. IsOver limits o f) (sym is)
             (land_limited p limits ls l r fit.code fit.name known style f refused)),
-        are_limited p limits wanted l.code l is es (ls ++ new ∷ []) new fit.code added made.due
-            (subst (AreValid p) same (differences_valid p (opened r) l.territory
+        are_limited p limits wanted both l.code l is es (ls ++ new ∷ []) new fit.code added made.due
+            (subst (AreValid p) same (differences_valid p both (opened r) l.territory
             (opened_allowed p r low style) fit.allowed)),
       );
       others = λ other apart. edits_apart l.code other es (ls ++ new ∷ []) apart
           ∙ added_apart other ls new apart;
       stands = record {
-        land = record new { territory = after es (opened r) };
+        land = record new {
+          territory = after es (opened r);
+          sources = cited_after es first_sources;
+        };
         is = edits_here l.code es (ls ++ new ∷ []) new added;
         code = refl;
         name = refl;
         starts = made.starts;
         years = made.years;
+        periods = cited.periods;
+        easters = cited.easters;
       };
     }
+
+-- the wanted sources are those of the wanted territory
+placed_by_code : (p : Profile) (limits : Limits) (wanted lands ls : List LandModel)
+    (l : LandModel) → 1 ≤ p.high → land_of l.code wanted ≡ Some l → Fit p lands l →
+    land_of l.code ls ≡ land_of l.code lands →
+    Placed p limits wanted ls l (land_edits wanted lands l.code l.name l.territory)
+placed_by_code p limits wanted lands ls l low is fit same =
+    subst (λ (cited : Option SourcesModel). Placed p limits wanted ls l
+    (edits_from cited l.code l.name l.territory (land_of l.code lands)))
+    (sym (ap (option_map (λ (k : LandModel). k.sources)) is))
+    (placed p limits wanted lands ls l low is fit (land_of l.code lands) same fit.standing)
 
 -- all in turn
 
@@ -238,7 +284,7 @@ pub all_placed : (p : Profile) (limits : Limits) (wanted lands ls left : List La
     1 ≤ p.high → AreDistinct left → AreFit p lands left →
     ((code : List ℕ) → is_some (land_of code left) ≡ true → land_of code ls ≡ land_of code lands) →
     ((code : List ℕ) (l : LandModel) → land_of code left ≡ Some l →
-    land_of code wanted ≡ Some l) → AllPlaced p limits wanted ls left (all_edits left lands)
+    land_of code wanted ≡ Some l) → AllPlaced p limits wanted ls left (edits_for wanted lands left)
 all_placed p limits wanted lands ls [] low distinct fit same within = record {
   needed = tt;
   limited = tt;
@@ -248,11 +294,11 @@ all_placed p limits wanted lands ls [] low distinct fit same within = record {
 all_placed p limits wanted lands ls (l ∷ left) low distinct fit same within =
     let here : land_of l.code (l ∷ left) ≡ Some l =
     ap (λ b. cond b (Some l) (land_of l.code left)) (code_itself l.code) in
-    let es = land_edits lands l in
+    let es = land_edits wanted lands l.code l.name l.territory in
     let one : Placed p limits wanted ls l es =
-    placed p limits wanted lands ls l low (within l.code l here) fit.0 (land_of l.code lands)
-    (same l.code (ap is_some here)) fit.0.standing in
-    let rest : AllPlaced p limits wanted (fold effect ls es) left (all_edits left lands) =
+    placed_by_code p limits wanted lands ls l low (within l.code l here) fit.0
+    (same l.code (ap is_some here)) in
+    let rest : AllPlaced p limits wanted (fold effect ls es) left (edits_for wanted lands left) =
     all_placed p limits wanted lands (fold effect ls es) left low distinct.1 fit.1
     (λ code some.
     let apart : bytes_eq code l.code ≡ false = apart_later code l left distinct.0 some in
@@ -260,12 +306,13 @@ all_placed p limits wanted lands ls (l ∷ left) low distinct fit same within =
     (λ code k found. within code k (there code l left
     (apart_later code l left distinct.0 (ap is_some found)) ∙ found)) in
     record {
-      needed = AreNeeded-append wanted ls es (all_edits left lands) one.needed rest.needed;
-      limited = AreLimited-append p limits wanted ls es (all_edits left lands) one.limited
+      needed = AreNeeded-append wanted ls es (edits_for wanted lands left) one.needed rest.needed;
+      limited = AreLimited-append p limits wanted ls es (edits_for wanted lands left) one.limited
           rest.limited;
       others = λ other none.
           let first = others_first other l left none in
-          ap (land_of other) (effects-append es (all_edits left lands) ls)
+          ap (land_of other) (effects-append es (edits_for wanted lands left) ls)
           ∙ rest.others other first.1 ∙ one.others other first.0;
-      stands = stands_first p limits wanted ls l left es (all_edits left lands) distinct.0 one rest;
+      stands = stands_first p limits wanted ls l left es (edits_for wanted lands left) distinct.0
+          one rest;
     }

@@ -1,21 +1,25 @@
 -- The differences of two territories take one to the other.
 use Rattle.std.proofs.Common.{◌≡◌, ℕ, inl, inr, ◌+◌, ◌<◌, Bool, cond, true, false, List}
 use Rattle.std.proofs.Common.{[], ◌∷◌, ◌++◌, Option, Some, None, is_some, refl, sym, ap, subst}
-use Rattle.std.proofs.Common.{◌∙◌, ◌||◌, arith}
-use Rattle.std.proofs.lemmas.Bool.{eq-eqb, ne_eqb, cases_eq, false≢true}
+use Rattle.std.proofs.Common.{◌∙◌, ◌||◌, ◌&&◌, arith}
+use Rattle.std.proofs.lemmas.Bool.{eq-eqb, ne_eqb, cases_eq, false≢true, and_from}
 use Rattle.std.specs.List.{flat_map}
 use Rattle.std.specs.Option.{option_or}
 use Rattle.osn_lands.specs.declared.regime.Regime.{Regime}
 use Rattle.osn_lands.specs.Territory.{TerritoryModel, opened, regime_at}
 use Rattle.osn_lands.specs.Changes.{starts_on}
+use Rattle.osn_register.specs.Answer.{period_source}
+use Rattle.osn_register.specs.Sources.{SourcesModel, opening_sources}
 use Rattle.osn_plan.specs.Change.{Change}
 use Rattle.osn_plan.specs.Change.Change.{Alter}
 use Rattle.osn_plan.specs.Differences.{dropped_change, wanted_change, is_day, dropped_exception}
 use Rattle.osn_plan.specs.Differences.{wanted_exception, added_change, added_exception, differences}
-use Rattle.osn_plan.specs.Differences.{altered_change, later}
+use Rattle.osn_plan.specs.Differences.{is_same, altered_change, later}
+use Rattle.osn_plan.specs.Cited.{BothSources, same_source, same_period, same_easter}
 use Rattle.osn_plan.proofs.Rows.{look, IsFrom}
 use Rattle.osn_plan.proofs.Changed.{starts_found}
 use Rattle.osn_plan.proofs.Regimes.{regime_itself}
+use Rattle.osn_plan.proofs.SourceRows.{source_here, source_itself}
 use Rattle.osn_plan.proofs.Passes.{kept, Drops, drops, Starts, starts}
 use Rattle.osn_plan.proofs.YearPasses.{kept_day, YearDrops, year_drops, Years, years}
 use Rattle.osn_plan.proofs.Due.{after, AreDue, after-append, AreDue-append}
@@ -26,8 +30,8 @@ pub record Ascends (t : TerritoryModel) : Type 0 where
   pub years : IsFrom 0 t.exceptions
 
 -- the changes are each due, and the same is found after them as in the wanted territory
-pub record Reaches (w t : TerritoryModel) (es : List Change) : Type 0 where
-  pub due : AreDue w t es
+pub record Reaches (both : BothSources) (w t : TerritoryModel) (es : List Change) : Type 0 where
+  pub due : AreDue both w t es
   pub starts : (k : ℕ) → look k (after es t).starts ≡ look k w.starts
   pub years : (k : ℕ) → look k (after es t).exceptions ≡ look k w.exceptions
 
@@ -41,11 +45,11 @@ among_kept None b some = absurd (false≢true some)
 among_kept (Some r) true some = refl
 among_kept (Some r) false some = absurd (false≢true some)
 
-among_kept_day : (o wanted : Option ℕ) → is_some (kept_day o wanted o) ≡ true →
+among_kept_day : (same : Bool) (o wanted : Option ℕ) → is_some (kept_day same o wanted o) ≡ true →
     is_some wanted ≡ true
-among_kept_day None wanted some = absurd (false≢true some)
-among_kept_day (Some d) None some = absurd (false≢true some)
-among_kept_day (Some d) (Some e) some = refl
+among_kept_day same None wanted some = absurd (false≢true some)
+among_kept_day same (Some d) None some = absurd (false≢true some)
+among_kept_day same (Some d) (Some e) some = refl
 
 -- after the first two passes the wanted starts are found
 start_at : (wanted standing now : Option Regime) (b : Bool) → b ≡ is_some wanted →
@@ -55,36 +59,38 @@ start_at None None now b is e = e
 start_at None (Some s) now b is e = e ∙ ap (λ c. cond c (Some s) None) is
 
 -- after the last two the wanted days
-day_at : (wanted standing now : Option ℕ) → now ≡ kept_day standing wanted standing →
-    option_or wanted now ≡ wanted
-day_at (Some d) standing now e = refl
-day_at None None now e = e
-day_at None (Some s) now e = e
+day_at : (same : Bool) (wanted standing now : Option ℕ) →
+    now ≡ kept_day same standing wanted standing → option_or wanted now ≡ wanted
+day_at same (Some d) standing now e = refl
+day_at same None None now e = e
+day_at same None (Some s) now e = e
 
--- between them a wanted day is listed where it stood, and else none is listed for its year
-day_between : (d : ℕ) (standing : Option ℕ) →
-    kept_day standing (Some d) standing ≡ cond (is_day d standing) (Some d) None
-day_between d None = refl
-day_between d (Some s) = elim (cases_eq d s) [
-  | inl e ↦ ap (λ b. cond b (Some s) None) (eq-eqb d s e) ∙ ap (λ n. Some n) (sym e)
-      ∙ sym (ap (λ b. cond b (Some d) None) (eq-eqb s d (sym e)))
-  | inr apart ↦ ap (λ b. cond b (Some s) None) (ne_eqb d s apart)
-      ∙ sym (ap (λ b. cond b (Some d) None) (ne_eqb s d (λ h. apart (sym h))))
+-- between them a wanted day is listed where it stood with its source, and else none is for its year
+day_between : (same : Bool) (d : ℕ) (standing : Option ℕ) →
+    kept_day same standing (Some d) standing ≡ cond (is_day d standing && same) (Some d) None
+day_between same d None = refl
+day_between same d (Some s) = elim (cases_eq d s) [
+  | inl e ↦ ap (λ b. cond (b && same) (Some s) None) (eq-eqb d s e)
+      ∙ ap (λ (n : ℕ). cond same (Some n) None) (sym e)
+      ∙ sym (ap (λ b. cond (b && same) (Some d) None) (eq-eqb s d (sym e)))
+  | inr apart ↦ ap (λ b. cond (b && same) (Some s) None) (ne_eqb d s apart)
+      ∙ sym (ap (λ b. cond (b && same) (Some d) None) (ne_eqb s d (λ h. apart (sym h))))
 ]
 
-pub reaches : (w t : TerritoryModel) → Ascends w → Ascends t → Reaches w t (differences t w)
-reaches w t up from =
+pub reaches : (both : BothSources) (w t : TerritoryModel) → Ascends w → Ascends t →
+    Reaches both w t (differences both t w)
+reaches both w t up from =
     let es0 = flat_map (λ (s : ℕ × Regime). dropped_change w s.0) t.starts in
-    let es1 = flat_map (wanted_change t) w.starts in
-    let es2 = flat_map (dropped_exception w) t.exceptions in
-    let es3 = flat_map (wanted_exception t) w.exceptions in
+    let es1 = flat_map (wanted_change both t) w.starts in
+    let es2 = flat_map (dropped_exception both w) t.exceptions in
+    let es3 = flat_map (wanted_exception both t) w.exceptions in
     let t1 = after es0 t in
     let t2 = after es1 t1 in
     let t3 = after es2 t2 in
-    let first : Drops w t t.starts es0 = drops w t 0 t.starts from.starts from.starts
+    let first : Drops both w t t.starts es0 = drops both w t 0 t.starts from.starts from.starts
     (λ k high. refl) in
-    let second : Starts w t1 w.starts es1 =
-    starts w t t1 0 w.starts from.starts up.starts (λ k high. refl)
+    let second : Starts both w t1 w.starts es1 =
+    starts both w t t1 0 w.starts from.starts up.starts (λ k high. refl)
     (λ k high some. first.found k ∙ kept_wanted (look k t.starts) (look k t.starts) (starts_on w k)
     (starts_found k w.starts ∙ some))
     (record {
@@ -95,31 +101,33 @@ reaches w t up from =
           (ap is_some (sym (first.found k)) ∙ some);
     }) in
     let same_years : t2.exceptions ≡ t.exceptions = second.years ∙ first.years in
-    let third : YearDrops w t2 t.exceptions es2 =
-    year_drops w t2 0 t.exceptions (subst (IsFrom 0) (sym same_years) from.years) from.years
+    let third : YearDrops both w t2 t.exceptions es2 =
+    year_drops both w t2 0 t.exceptions (subst (IsFrom 0) (sym same_years) from.years) from.years
     (λ k high. ap (look k) same_years) in
     let listed : (k : ℕ) → look k t3.exceptions
-    ≡ kept_day (look k t.exceptions) (look k w.exceptions) (look k t.exceptions) =
+    ≡ kept_day (same_easter both k) (look k t.exceptions) (look k w.exceptions)
+    (look k t.exceptions) =
     λ k. third.found k
-    ∙ ap (λ ys. kept_day (look k t.exceptions) (look k w.exceptions) (look k ys)) same_years in
-    let fourth : Years w t3 w.exceptions es3 =
-    years w t t3 0 w.exceptions up.years (λ k high. refl)
+    ∙ ap (λ ys. kept_day (same_easter both k) (look k t.exceptions) (look k w.exceptions)
+    (look k ys)) same_years in
+    let fourth : Years both w t3 w.exceptions es3 =
+    years both w t t3 0 w.exceptions up.years (λ k high. refl)
     (λ k d high found. listed k
-    ∙ ap (λ o. kept_day (look k t.exceptions) o (look k t.exceptions)) found
-    ∙ day_between d (look k t.exceptions))
+    ∙ ap (λ o. kept_day (same_easter both k) (look k t.exceptions) o (look k t.exceptions)) found
+    ∙ day_between (same_easter both k) d (look k t.exceptions))
     (record {
       from = third.from;
       other = up.years;
-      among = λ k some. among_kept_day (look k t.exceptions) (look k w.exceptions)
-          (ap is_some (sym (listed k)) ∙ some);
+      among = λ k some. among_kept_day (same_easter both k) (look k t.exceptions)
+          (look k w.exceptions) (ap is_some (sym (listed k)) ∙ some);
     }) in
-    let joined : after (differences t w) t ≡ after es3 t3 =
+    let joined : after (differences both t w) t ≡ after es3 t3 =
     after-append es0 (es1 ++ (es2 ++ es3)) t ∙ after-append es1 (es2 ++ es3) t1
     ∙ after-append es2 es3 t2 in
     record {
-      due = AreDue-append w t es0 (es1 ++ (es2 ++ es3)) first.due
-          (AreDue-append w t1 es1 (es2 ++ es3) second.due
-          (AreDue-append w t2 es2 es3 third.due fourth.due));
+      due = AreDue-append both w t es0 (es1 ++ (es2 ++ es3)) first.due
+          (AreDue-append both w t1 es1 (es2 ++ es3) second.due
+          (AreDue-append both w t2 es2 es3 third.due fourth.due));
       starts = λ k. ap (λ u. look k u.starts) joined
           ∙ ap (look k) (fourth.starts ∙ third.starts)
           ∙ second.found k
@@ -127,40 +135,61 @@ reaches w t up from =
           (starts_found k w.starts) (first.found k);
       years = λ k. ap (λ u. look k u.exceptions) joined
           ∙ fourth.found k
-          ∙ day_at (look k w.exceptions) (look k t.exceptions) (look k t3.exceptions) (listed k);
+          ∙ day_at (same_easter both k) (look k w.exceptions) (look k t.exceptions)
+          (look k t3.exceptions) (listed k);
     }
 
--- of a territory that has the opening regime alone, the differences are the later starts and days
+-- of a territory that has the opening regime alone, with its source, the differences are the later
+-- starts and days
 
-later_starts : (r : Regime) (n : ℕ) (ss : List (ℕ × Regime)) → 1 < n → IsFrom n ss →
-    flat_map (wanted_change (opened r)) ss ≡ flat_map added_change ss
-later_starts r n [] low from = refl
-later_starts r n (s ∷ ss) low from =
-    ap (λ b. cond (b || false) (altered_change (regime_at (opened r) s.0) s) (added_change s)
-    ++ flat_map (wanted_change (opened r)) ss) (ne_eqb 1 s.0 (λ e. omega (arith, from.0)))
-    ∙ ap (λ es. added_change s ++ es) (later_starts r (s.0 + 1) ss (omega (arith, from.0)) from.1)
+abbrev pub opened_with : Option SourcesModel → BothSources
+opened_with cited =
+    record { standing = Some (opening_sources (period_source cited 1)); wanted = cited }
 
-later_years : (r : Regime) (ys : List (ℕ × ℕ)) →
-    flat_map (wanted_exception (opened r)) ys ≡ flat_map added_exception ys
-later_years r [] = refl
-later_years r (y ∷ ys) = ap (λ es. added_exception y ++ es) (later_years r ys)
+later_starts : (cited : Option SourcesModel) (r : Regime) (n : ℕ) (ss : List (ℕ × Regime)) → 1 < n →
+    IsFrom n ss →
+    flat_map (wanted_change (opened_with cited) (opened r)) ss ≡ flat_map (added_change cited) ss
+later_starts cited r n [] low from = refl
+later_starts cited r n (s ∷ ss) low from =
+    ap (λ b. cond (b || false) (altered_change (opened_with cited) (regime_at (opened r) s.0) s)
+    (added_change cited s)
+    ++ flat_map (wanted_change (opened_with cited) (opened r)) ss)
+    (ne_eqb 1 s.0 (λ e. omega (arith, from.0)))
+    ∙ ap (λ es. added_change cited s ++ es)
+    (later_starts cited r (s.0 + 1) ss (omega (arith, from.0)) from.1)
 
-later_of : (r : Regime) (rest : List (ℕ × Regime)) (ys : List (ℕ × ℕ)) → IsFrom 2 rest →
-    differences (opened r) (record { starts = (1, r) ∷ rest; exceptions = ys })
-    ≡ later (record { starts = (1, r) ∷ rest; exceptions = ys })
-later_of r rest ys from =
-    ap (λ b. (cond b [] (Alter 1 r ∷ []) ++ flat_map (wanted_change (opened r)) rest)
-    ++ flat_map (wanted_exception (opened r)) ys) (regime_itself r)
-    ∙ ap (λ es. es ++ flat_map (wanted_exception (opened r)) ys)
-    (later_starts r 2 rest (omega arith) from)
-    ∙ ap (λ es. flat_map added_change rest ++ es) (later_years r ys)
+later_years : (cited : Option SourcesModel) (r : Regime) (ys : List (ℕ × ℕ)) →
+    flat_map (wanted_exception (opened_with cited) (opened r)) ys
+    ≡ flat_map (added_exception cited) ys
+later_years cited r [] = refl
+later_years cited r (y ∷ ys) = ap (λ es. added_exception cited y ++ es) (later_years cited r ys)
 
-pub later_is : (w : TerritoryModel) (r : Regime) (rest : List (ℕ × Regime)) →
-    w.starts ≡ (1, r) ∷ rest → IsFrom 2 rest → differences (opened r) w ≡ later w
-later_is w r rest is from =
+opening_agrees : (cited : Option SourcesModel) → same_period (opened_with cited) 1 ≡ true
+opening_agrees cited =
+    let source = period_source cited 1 in
+    ap (λ o. same_source o source) (source_here 1 source []) ∙ source_itself source
+
+later_of : (cited : Option SourcesModel) (r : Regime) (rest : List (ℕ × Regime))
+    (ys : List (ℕ × ℕ)) → IsFrom 2 rest →
+    differences (opened_with cited) (opened r) (record { starts = (1, r) ∷ rest; exceptions = ys })
+    ≡ later cited (record { starts = (1, r) ∷ rest; exceptions = ys })
+later_of cited r rest ys from =
+    let both = opened_with cited in
+    ap (λ b. (cond b [] (Alter 1 r (period_source cited 1) ∷ [])
+    ++ flat_map (wanted_change both (opened r)) rest)
+    ++ flat_map (wanted_exception both (opened r)) ys)
+    (and_from (is_same r r) (same_period both 1) (regime_itself r) (opening_agrees cited))
+    ∙ ap (λ es. es ++ flat_map (wanted_exception both (opened r)) ys)
+    (later_starts cited r 2 rest (omega arith) from)
+    ∙ ap (λ es. flat_map (added_change cited) rest ++ es) (later_years cited r ys)
+
+pub later_is : (cited : Option SourcesModel) (w : TerritoryModel) (r : Regime)
+    (rest : List (ℕ × Regime)) → w.starts ≡ (1, r) ∷ rest → IsFrom 2 rest →
+    differences (opened_with cited) (opened r) w ≡ later cited w
+later_is cited w r rest is from =
     let same : (let v : TerritoryModel = record
     { starts = (1, r) ∷ rest; exceptions = w.exceptions } in v) ≡ w =
     ap (λ (ss : List (ℕ × Regime)). let v : TerritoryModel = record
     { starts = ss; exceptions = w.exceptions } in v) (sym is) in
-    subst (λ (v : TerritoryModel). differences (opened r) v ≡ later v) same
-    (later_of r rest w.exceptions from)
+    subst (λ (v : TerritoryModel). differences (opened_with cited) (opened r) v ≡ later cited v)
+    same (later_of cited r rest w.exceptions from)

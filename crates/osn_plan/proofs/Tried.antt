@@ -5,8 +5,8 @@ use Rattle.std.proofs.lemmas.List.{drop_more, take_more, take-append-drop}
 use Rattle.osn_days.specs.Profile.{newest_rules}
 use Rattle.osn_register.specs.declared.limits.Limits.{Limits}
 use Rattle.osn_register.specs.declared.edit.Edit.{Edit}
+use Rattle.osn_register.specs.Lawful.{AreLawful}
 use Rattle.osn_register.specs.Plain.{LandModel, land_of, refusal, effect, applied, applied_all}
-use Rattle.osn_plan.specs.Lawful.{AreLawful}
 use Rattle.osn_plan.proofs.Lawful.{applied_all-append, applied-lawful, AreLawful-push}
 use Rattle.osn_plan.specs.declared.fault.PlanFault.{PlanFault}
 use Rattle.osn_plan.specs.declared.fault.PlanFault.TheVariants.{Renamed, Refused, NoMemory}

@@ -24,23 +24,26 @@ use Rattle.osn_register.specs.Plain.{effect, is_off_line, is_off_years, is_style
 use Rattle.osn_register.specs.Plain.{AreStyled, AreListed}
 use Rattle.osn_register.specs.Code.{is_code}
 use Rattle.osn_register.specs.Refusal.{first_refusal, or_else}
-use Rattle.osn_plan.specs.Change.{change_refusal, territory_after}
-use Rattle.osn_plan.specs.Fault.{IsOver, code_of}
+use Rattle.osn_plan.specs.Change.{change_refusal, territory_after, sources_after}
+use Rattle.osn_register.specs.Lawful.{code_of}
+use Rattle.osn_plan.specs.Fault.{IsOver}
+use Rattle.osn_plan.specs.Cited.{BothSources}
+use Rattle.osn_register.specs.Answer.{period_source}
 use Rattle.osn_plan.specs.Change.{edit_of}
-use Rattle.osn_plan.specs.Differences.{is_same, dropped_change}
-use Rattle.osn_plan.specs.Differences.{added_change, wanted_change, lists, dropped_exception}
+use Rattle.osn_plan.specs.Differences.{start_agrees, day_agrees, dropped_change}
+use Rattle.osn_plan.specs.Differences.{added_change, wanted_change, dropped_exception}
 use Rattle.osn_plan.specs.Differences.{added_exception, wanted_exception, differences}
 use Rattle.osn_plan.proofs.Rows.{look, not_none, some_is}
 use Rattle.osn_plan.proofs.Changed.{starts_found}
 use Rattle.osn_plan.proofs.Due.{IsDue, AreDue}
-use Rattle.osn_plan.proofs.Found.{step_here}
+use Rattle.osn_plan.proofs.Found.{changed, step_here}
 
 -- what is said of days, years and regimes may be said
 abbrev pub IsValid : Profile → Change → Type 0
-IsValid p (Add d r) = IsDay p d × (d ≡ 1 → ⊥) × (is_style_refused p r ≡ false)
-IsValid p (Alter d r) = IsDay p d × (is_style_refused p r ≡ false)
+IsValid p (Add d r c) = IsDay p d × (d ≡ 1 → ⊥) × (is_style_refused p r ≡ false)
+IsValid p (Alter d r c) = IsDay p d × (is_style_refused p r ≡ false)
 IsValid p (Drop d) = IsDay p d × (d ≡ 1 → ⊥)
-IsValid p (ListDay y d) = IsYear p y × IsDay p d
+IsValid p (ListDay y d c) = IsYear p y × IsDay p d
 IsValid p (DropDay y) = IsYear p y
 
 abbrev pub AreValid : Profile → List Change → Type 0
@@ -84,10 +87,10 @@ starts_there : (t : TerritoryModel) (d : ℕ) → is_some (look d t.starts) ≡ 
     not (starts_on t d) ≡ false
 starts_there t d some = ap not (starts_found d t.starts ∙ some)
 
-only_limit : (p : Profile) (limits : Limits) (w : LandModel) (t : TerritoryModel) (e : Change) →
-    IsDue w.territory t e → IsValid p e → (f : Refusal) → change_refusal p limits e t ≡ Some f →
-    IsOver limits (Some w) f
-only_limit p limits w t (Add d r) due valid f refused =
+only_limit : (p : Profile) (limits : Limits) (both : BothSources) (w : LandModel)
+    (t : TerritoryModel) (e : Change) → IsDue both w.territory t e → IsValid p e →
+    (f : Refusal) → change_refusal p limits e t ≡ Some f → IsOver limits (Some w) f
+only_limit p limits both w t (Add d r c) due valid f refused =
     last_one (IsOver limits (Some w)) (nat_lt limits.changes (length t.starts))
     refusals.TooManyChanges f
     (λ over. omega (arith, ltb-true limits.changes (length t.starts) over, due.2))
@@ -95,22 +98,22 @@ only_limit p limits w t (Add d r) due valid f refused =
     (skip (starts_on t d) _ _ f (starts_not t d due.0)
     (skip (d == 1) _ _ f (ne_eqb d 1 valid.1)
     (skip (is_off_line p (pos d)) _ _ f (on_line p d valid.0) refused))))
-only_limit p limits w t (Alter d r) due valid f refused =
+only_limit p limits both w t (Alter d r c) due valid f refused =
     not_none (sym (skip (is_style_refused p r) _ _ f valid.1
     (skip (not (starts_on t d)) _ _ f (starts_there t d due.0)
     (skip (is_off_line p (pos d)) _ _ f (on_line p d valid.0) refused))))
-only_limit p limits w t (Drop d) due valid f refused =
+only_limit p limits both w t (Drop d) due valid f refused =
     not_none (sym (skip (not (starts_on t d)) _ _ f (starts_there t d due.0)
     (skip (d == 1) _ _ f (ne_eqb d 1 valid.1)
     (skip (is_off_line p (pos d)) _ _ f (on_line p d valid.0) refused))))
-only_limit p limits w t (ListDay y d) due valid f refused =
+only_limit p limits both w t (ListDay y d c) due valid f refused =
     last_one (IsOver limits (Some w)) (nat_le limits.exceptions (length t.exceptions))
     refusals.TooManyExceptions f
     (λ over. omega (arith, leb-true limits.exceptions (length t.exceptions) over, due.2))
     (skip (is_some (look y t.exceptions)) _ _ f (ap is_some due.0)
     (skip (is_off_years p (pos y)) _ _ f (in_years p y valid.0)
     (skip (is_off_line p (pos d)) _ _ f (on_line p d valid.1) refused)))
-only_limit p limits w t (DropDay y) due valid f refused =
+only_limit p limits both w t (DropDay y) due valid f refused =
     not_none (sym (skip (is_none (look y t.exceptions)) _ _ f (ap not due.0)
     (skip (is_off_years p (pos y)) _ _ f (in_years p y valid) refused)))
 
@@ -122,10 +125,10 @@ AreLimited p limits wanted ls (e ∷ es) =
     × AreLimited p limits wanted (effect ls e) es
 
 code_is : (code : List ℕ) (e : Change) → code_of (edit_of code e) ≡ code
-code_is code (Add d r) = refl
-code_is code (Alter d r) = refl
+code_is code (Add d r c) = refl
+code_is code (Alter d r c) = refl
 code_is code (Drop d) = refl
-code_is code (ListDay y d) = refl
+code_is code (ListDay y d c) = refl
 code_is code (DropDay y) = refl
 
 refusal_known : (ls : List LandModel) (code : List ℕ) (l : LandModel)
@@ -141,30 +144,30 @@ refusal_known ls code l refused is known =
 refusal_is : (p : Profile) (limits : Limits) (ls : List LandModel) (code : List ℕ) (l : LandModel)
     (e : Change) → is_code code ≡ true → land_of code ls ≡ Some l →
     refusal p limits ls (edit_of code e) ≡ change_refusal p limits e l.territory
-refusal_is p limits ls code l (Add d r) is known =
-    refusal_known ls code l (change_refusal p limits (Add d r)) is known
-refusal_is p limits ls code l (Alter d r) is known =
-    refusal_known ls code l (change_refusal p limits (Alter d r)) is known
+refusal_is p limits ls code l (Add d r c) is known =
+    refusal_known ls code l (change_refusal p limits (Add d r c)) is known
+refusal_is p limits ls code l (Alter d r c) is known =
+    refusal_known ls code l (change_refusal p limits (Alter d r c)) is known
 refusal_is p limits ls code l (Drop d) is known =
     refusal_known ls code l (change_refusal p limits (Drop d)) is known
-refusal_is p limits ls code l (ListDay y d) is known =
-    refusal_known ls code l (change_refusal p limits (ListDay y d)) is known
+refusal_is p limits ls code l (ListDay y d c) is known =
+    refusal_known ls code l (change_refusal p limits (ListDay y d c)) is known
 refusal_is p limits ls code l (DropDay y) is known =
     refusal_known ls code l (change_refusal p limits (DropDay y)) is known
 
-pub are_limited : (p : Profile) (limits : Limits) (wanted : List LandModel) (code : List ℕ)
-    (w : LandModel) → land_of code wanted ≡ Some w → (es : List Change) (ls : List LandModel)
-    (l : LandModel) → is_code code ≡ true → land_of code ls ≡ Some l →
-    AreDue w.territory l.territory es → AreValid p es →
+pub are_limited : (p : Profile) (limits : Limits) (wanted : List LandModel) (both : BothSources)
+    (code : List ℕ) (w : LandModel) → land_of code wanted ≡ Some w → (es : List Change)
+    (ls : List LandModel) (l : LandModel) → is_code code ≡ true → land_of code ls ≡ Some l →
+    AreDue both w.territory l.territory es → AreValid p es →
     AreLimited p limits wanted ls (map (edit_of code) es)
-are_limited p limits wanted code w at [] ls l is known due valid = tt
-are_limited p limits wanted code w at (e ∷ es) ls l is known due valid = (
+are_limited p limits wanted both code w at [] ls l is known due valid = tt
+are_limited p limits wanted both code w at (e ∷ es) ls l is known due valid = (
   (λ f refused. subst (λ o. IsOver limits o f)
       (sym (ap (λ c. land_of c wanted) (code_is code e) ∙ at))
-      (only_limit p limits w l.territory e due.0 valid.0 f
+      (only_limit p limits both w l.territory e due.0 valid.0 f
       (sym (refusal_is p limits ls code l e is known) ∙ refused))),
-  are_limited p limits wanted code w at es (effect ls (edit_of code e))
-      (record l { territory = territory_after e l.territory }) is (step_here code e ls l known)
+  are_limited p limits wanted both code w at es (effect ls (edit_of code e))
+      (changed (territory_after e) (sources_after e) l) is (step_here code e ls l known)
       due.1 valid.1,
 )
 
@@ -198,48 +201,51 @@ drops_valid p w (s ∷ ss) on days =
     by true e rest = rest
     by false e rest = ((days.0, not_first w s.0 on e), rest)
 
-starts_valid : (p : Profile) (t : TerritoryModel) (ss : List (ℕ × Regime)) →
+starts_valid : (p : Profile) (both : BothSources) (t : TerritoryModel) (ss : List (ℕ × Regime)) →
     starts_on t 1 ≡ true → AreDays p ss → AreStyled p ss →
-    AreValid p (flat_map (wanted_change t) ss)
-starts_valid p t [] on days styles = tt
-starts_valid p t (s ∷ ss) on days styles =
-    by (starts_on t s.0) (is_same (regime_at t s.0) s.1) refl
-    (starts_valid p t ss on days.1 styles.1)
+    AreValid p (flat_map (wanted_change both t) ss)
+starts_valid p both t [] on days styles = tt
+starts_valid p both t (s ∷ ss) on days styles =
+    by (starts_on t s.0) (start_agrees both (regime_at t s.0) s) refl
+    (starts_valid p both t ss on days.1 styles.1)
   where
-    by : (b c : Bool) → starts_on t s.0 ≡ b → AreValid p (flat_map (wanted_change t) ss) →
-        AreValid p (cond b (cond c [] (Alter s.0 s.1 ∷ [])) (added_change s)
-        ++ flat_map (wanted_change t) ss)
+    by : (b c : Bool) → starts_on t s.0 ≡ b → AreValid p (flat_map (wanted_change both t) ss) →
+        AreValid p (cond b (cond c [] (Alter s.0 s.1 (period_source both.wanted s.0) ∷ []))
+        (added_change both.wanted s) ++ flat_map (wanted_change both t) ss)
     by true true e rest = rest
     by true false e rest = ((days.0, styles.0), rest)
     by false c e rest = ((days.0, not_first t s.0 on e, styles.0), rest)
 
-year_drops_valid : (p : Profile) (w : TerritoryModel) (ys : List (ℕ × ℕ)) → AreListed p ys →
-    AreValid p (flat_map (dropped_exception w) ys)
-year_drops_valid p w [] listed = tt
-year_drops_valid p w (y ∷ ys) listed = by (lists w y) (year_drops_valid p w ys listed.2)
+year_drops_valid : (p : Profile) (both : BothSources) (w : TerritoryModel)
+    (ys : List (ℕ × ℕ)) → AreListed p ys → AreValid p (flat_map (dropped_exception both w) ys)
+year_drops_valid p both w [] listed = tt
+year_drops_valid p both w (y ∷ ys) listed =
+    by (day_agrees both w y) (year_drops_valid p both w ys listed.2)
   where
-    by : (b : Bool) → AreValid p (flat_map (dropped_exception w) ys) →
-        AreValid p (cond b [] (DropDay y.0 ∷ []) ++ flat_map (dropped_exception w) ys)
+    by : (b : Bool) → AreValid p (flat_map (dropped_exception both w) ys) →
+        AreValid p (cond b [] (DropDay y.0 ∷ []) ++ flat_map (dropped_exception both w) ys)
     by true rest = rest
     by false rest = (listed.0, rest)
 
-years_valid : (p : Profile) (t : TerritoryModel) (ys : List (ℕ × ℕ)) → AreListed p ys →
-    AreValid p (flat_map (wanted_exception t) ys)
-years_valid p t [] listed = tt
-years_valid p t (y ∷ ys) listed = by (lists t y) (years_valid p t ys listed.2)
+years_valid : (p : Profile) (both : BothSources) (t : TerritoryModel) (ys : List (ℕ × ℕ)) →
+    AreListed p ys → AreValid p (flat_map (wanted_exception both t) ys)
+years_valid p both t [] listed = tt
+years_valid p both t (y ∷ ys) listed =
+    by (day_agrees both t y) (years_valid p both t ys listed.2)
   where
-    by : (b : Bool) → AreValid p (flat_map (wanted_exception t) ys) →
-        AreValid p (cond b [] (added_exception y) ++ flat_map (wanted_exception t) ys)
+    by : (b : Bool) → AreValid p (flat_map (wanted_exception both t) ys) →
+        AreValid p
+        (cond b [] (added_exception both.wanted y) ++ flat_map (wanted_exception both t) ys)
     by true rest = rest
     by false rest = ((listed.0, listed.1), rest)
 
-pub differences_valid : (p : Profile) (t w : TerritoryModel) → Allowed p t → Allowed p w →
-    AreValid p (differences t w)
-differences_valid p t w standing wanted =
+pub differences_valid : (p : Profile) (both : BothSources) (t w : TerritoryModel) → Allowed p t →
+    Allowed p w → AreValid p (differences both t w)
+differences_valid p both t w standing wanted =
     AreValid-append p (flat_map (λ s. dropped_change w s.0) t.starts) _
     (drops_valid p w t.starts wanted.opening standing.days)
-    (AreValid-append p (flat_map (wanted_change t) w.starts) _
-    (starts_valid p t w.starts standing.opening wanted.days wanted.styles)
-    (AreValid-append p (flat_map (dropped_exception w) t.exceptions) _
-    (year_drops_valid p w t.exceptions standing.listed)
-    (years_valid p t w.exceptions wanted.listed)))
+    (AreValid-append p (flat_map (wanted_change both t) w.starts) _
+    (starts_valid p both t w.starts standing.opening wanted.days wanted.styles)
+    (AreValid-append p (flat_map (dropped_exception both w) t.exceptions) _
+    (year_drops_valid p both w t.exceptions standing.listed)
+    (years_valid p both t w.exceptions wanted.listed)))

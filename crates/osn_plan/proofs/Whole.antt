@@ -2,9 +2,9 @@
 use Rattle.std.proofs.Common.{◌≡◌, List, None, sym, subst, ◌∙◌}
 use Rattle.osn_days.specs.Profile.{newest_rules}
 use Rattle.osn_register.specs.declared.edit.Edit.{Edit}
+use Rattle.osn_register.specs.Lawful.{AreLawful}
 use Rattle.osn_register.specs.Plain.{RegisterModel, applied_all, IsWellFormed}
 use Rattle.osn_plan.specs.declared.fault.PlanFault.{PlanFault}
-use Rattle.osn_plan.specs.Lawful.{AreLawful}
 use Rattle.osn_plan.specs.Fault.{first_renamed, IsTrialFault, IsFault}
 use Rattle.osn_plan.specs.Plan.{IsPlan}
 use Rattle.osn_plan.specs.Differences.{all_edits}

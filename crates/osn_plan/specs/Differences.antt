@@ -12,9 +12,12 @@ use Rattle.osn_lands.specs.Changes.{starts_on}
 use Rattle.osn_lands.specs.Exceptions.{exception_of}
 use Rattle.osn_register.specs.declared.edit.Edit.{Edit}
 use Rattle.osn_register.specs.declared.edit.Edit.TheVariants.{AddLand}
-use Rattle.osn_register.specs.Plain.{LandModel, land_of}
+use Rattle.osn_register.specs.Answer.{period_source, easter_source}
+use Rattle.osn_register.specs.Plain.{LandModel, land_of, sources_of}
+use Rattle.osn_register.specs.Sources.{SourcesModel}
 use Rattle.osn_plan.specs.Change.{Change, edit_of}
 use Rattle.osn_plan.specs.Change.Change.{Add, Alter, Drop, ListDay, DropDay}
+use Rattle.osn_plan.specs.Cited.{BothSources, same_period, same_easter}
 
 abbrev pub is_same : Regime → Regime → Bool
 is_same a b =
@@ -25,17 +28,26 @@ is_same a b =
 abbrev pub dropped_change : TerritoryModel → ℕ → List Change
 dropped_change wanted d = if starts_on wanted d then [] else Drop d ∷ []
 
-abbrev pub added_change : ℕ × Regime → List Change
-added_change s = Add s.0 s.1 ∷ []
+-- a start is added with the wanted source
+abbrev pub added_change : Option SourcesModel → ℕ × Regime → List Change
+added_change cited s = Add s.0 s.1 (period_source cited s.0) ∷ []
 
--- a regime that stands is altered to another one
-abbrev pub altered_change : Regime → ℕ × Regime → List Change
-altered_change standing s = if is_same standing s.1 then [] else Alter s.0 s.1 ∷ []
+-- the regime and the source that stand are those of a wanted start
+abbrev pub start_agrees : BothSources → Regime → ℕ × Regime → Bool
+start_agrees both standing s = is_same standing s.1 && same_period both s.0
 
--- a wanted start is added on a day on which none stands, and altered on one with another regime
-abbrev pub wanted_change : TerritoryModel → ℕ × Regime → List Change
-wanted_change standing s =
-    if starts_on standing s.0 then altered_change (regime_at standing s.0) s else added_change s
+-- a regime that stands is altered to another one, or to the same one with another source
+abbrev pub altered_change : BothSources → Regime → ℕ × Regime → List Change
+altered_change both standing s =
+    if start_agrees both standing s then []
+    else Alter s.0 s.1 (period_source both.wanted s.0) ∷ []
+
+-- a wanted start is added on a day on which none stands, and altered on one with another regime or
+-- another source
+abbrev pub wanted_change : BothSources → TerritoryModel → ℕ × Regime → List Change
+wanted_change both standing s =
+    if starts_on standing s.0 then altered_change both (regime_at standing s.0) s
+    else added_change both.wanted s
 
 abbrev pub is_day : ℕ → Option ℕ → Bool
 is_day d None = false
@@ -45,24 +57,30 @@ is_day d (Some other) = other == d
 abbrev pub lists : TerritoryModel → ℕ × ℕ → Bool
 lists t e = is_day e.1 (exception_of t e.0)
 
--- a listed day is dropped that is not wanted
-abbrev pub dropped_exception : TerritoryModel → ℕ × ℕ → List Change
-dropped_exception wanted e = if lists wanted e then [] else DropDay e.0 ∷ []
+-- the day is listed for the year, and the sources of that are one
+abbrev pub day_agrees : BothSources → TerritoryModel → ℕ × ℕ → Bool
+day_agrees both t e = lists t e && same_easter both e.0
 
-abbrev pub added_exception : ℕ × ℕ → List Change
-added_exception e = ListDay e.0 e.1 ∷ []
+-- a listed day is dropped that is not wanted, or that has another source
+abbrev pub dropped_exception : BothSources → TerritoryModel → ℕ × ℕ → List Change
+dropped_exception both wanted e = if day_agrees both wanted e then [] else DropDay e.0 ∷ []
 
--- a wanted day is listed that is not listed yet
-abbrev pub wanted_exception : TerritoryModel → ℕ × ℕ → List Change
-wanted_exception standing e = if lists standing e then [] else added_exception e
+-- a day is listed with the wanted source
+abbrev pub added_exception : Option SourcesModel → ℕ × ℕ → List Change
+added_exception cited e = ListDay e.0 e.1 (easter_source cited e.0) ∷ []
+
+-- a wanted day is listed that is not listed yet, or that has another source
+abbrev pub wanted_exception : BothSources → TerritoryModel → ℕ × ℕ → List Change
+wanted_exception both standing e =
+    if day_agrees both standing e then [] else added_exception both.wanted e
 
 -- the changes that take a territory to the wanted one
-abbrev pub differences : TerritoryModel → TerritoryModel → List Change
-differences standing wanted =
+abbrev pub differences : BothSources → TerritoryModel → TerritoryModel → List Change
+differences both standing wanted =
     flat_map (λ s. dropped_change wanted s.0) standing.starts
-    ++ (flat_map (wanted_change standing) wanted.starts
-    ++ (flat_map (dropped_exception wanted) standing.exceptions
-    ++ flat_map (wanted_exception standing) wanted.exceptions))
+    ++ (flat_map (wanted_change both standing) wanted.starts
+    ++ (flat_map (dropped_exception both wanted) standing.exceptions
+    ++ flat_map (wanted_exception both standing) wanted.exceptions))
 
 -- the regime of the first start
 abbrev pub opening : List (ℕ × Regime) → Regime
@@ -70,20 +88,31 @@ opening [] = no_start
 opening (s ∷ rest) = s.1
 
 -- the changes that make the wanted territory of one that has its opening regime alone
-abbrev pub later : TerritoryModel → List Change
-later wanted =
-    flat_map added_change (drop 1 wanted.starts) ++ flat_map added_exception wanted.exceptions
+abbrev pub later : Option SourcesModel → TerritoryModel → List Change
+later cited wanted =
+    flat_map (added_change cited) (drop 1 wanted.starts)
+    ++ flat_map (added_exception cited) wanted.exceptions
 
-abbrev pub edits_from : LandModel → Option LandModel → List Edit
-edits_from l None =
-    AddLand l.code l.name (opening l.territory.starts) ∷ map (edit_of l.code) (later l.territory)
-edits_from l (Some standing) =
-    map (edit_of l.code) (differences standing.territory l.territory)
+abbrev pub edits_from : Option SourcesModel → List ℕ → List ℕ → TerritoryModel → Option LandModel
+    → List Edit
+edits_from cited code name wanted None =
+    AddLand code name (opening wanted.starts) (period_source cited 1)
+    ∷ map (edit_of code) (later cited wanted)
+edits_from cited code name wanted (Some standing) =
+    map (edit_of code) (differences (record { standing = Some standing.sources; wanted = cited })
+    standing.territory wanted)
 
--- the edits that take the territory of the same code to the wanted one, or add it
-abbrev pub land_edits : List LandModel → LandModel → List Edit
-land_edits lands l = edits_from l (land_of l.code lands)
+-- the edits that take the territory of a code to the wanted one, or add it
+abbrev pub land_edits : List LandModel → List LandModel → List ℕ → List ℕ → TerritoryModel
+    → List Edit
+land_edits wanted lands code name territory =
+    edits_from (sources_of code wanted) code name territory (land_of code lands)
 
--- those of all wanted territories in turn
+-- those of these wanted territories in turn
+abbrev pub edits_for : List LandModel → List LandModel → List LandModel → List Edit
+edits_for wanted lands left =
+    flat_map (λ l. land_edits wanted lands l.code l.name l.territory) left
+
+-- those of all wanted territories
 abbrev pub all_edits : List LandModel → List LandModel → List Edit
-all_edits wanted lands = flat_map (land_edits lands) wanted
+all_edits wanted lands = edits_for wanted lands wanted

@@ -5,26 +5,14 @@ use Rattle.std.specs.Str.{bytes_eq}
 use Rattle.osn_days.specs.Profile.{newest_rules}
 use Rattle.osn_register.specs.declared.limits.Limits.{Limits}
 use Rattle.osn_register.specs.declared.edit.Edit.{Edit}
-use Rattle.osn_register.specs.declared.edit.Edit.TheVariants.{AddLand, AddChange, AlterChange}
-use Rattle.osn_register.specs.declared.edit.Edit.TheVariants.{DropChange, AddException}
-use Rattle.osn_register.specs.declared.edit.Edit.TheVariants.{DropException}
 use Rattle.osn_register.specs.declared.refusal.Refusal.{Refusal as Reason}
 use Rattle.osn_register.specs.declared.refusal.Refusal.TheVariants.{TooManyLands, TooManyChanges}
 use Rattle.osn_register.specs.declared.refusal.Refusal.TheVariants.{TooManyExceptions}
+use Rattle.osn_register.specs.Lawful.{AreLawful, code_of}
 use Rattle.osn_register.specs.Plain.{LandModel, land_of, refusal, applied_all}
-use Rattle.osn_plan.specs.Lawful.{AreLawful}
 use Rattle.osn_plan.specs.declared.fault.PlanFault.{PlanFault}
 use Rattle.osn_plan.specs.declared.fault.PlanFault.TheVariants.{Renamed, Refused, NoMemory}
 use Rattle.osn_plan.specs.Needed.{name_in, AreNeeded}
-
--- the code of the territory that an edit is of
-abbrev pub code_of : Edit → List ℕ
-code_of (AddLand code name regime) = code
-code_of (AddChange code day regime) = code
-code_of (AlterChange code day regime) = code
-code_of (DropChange code day) = code
-code_of (AddException code year day) = code
-code_of (DropException code year) = code
 
 abbrev pub has_other_name : List ℕ → Option (List ℕ) → Bool
 has_other_name name None = false

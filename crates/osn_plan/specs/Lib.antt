@@ -1,6 +1,7 @@
+pub mod Cited
 pub mod Needed
-pub mod Lawful
 pub mod Fault
 pub mod Plan
 pub mod Change
 pub mod Differences
+pub mod Inside

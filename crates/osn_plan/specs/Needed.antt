@@ -10,7 +10,8 @@ use Rattle.osn_register.specs.declared.edit.Edit.{Edit}
 use Rattle.osn_register.specs.declared.edit.Edit.TheVariants.{AddLand, AddChange, AlterChange}
 use Rattle.osn_register.specs.declared.edit.Edit.TheVariants.{DropChange, AddException}
 use Rattle.osn_register.specs.declared.edit.Edit.TheVariants.{DropException}
-use Rattle.osn_register.specs.Plain.{LandModel, land_of, territory_of, effect}
+use Rattle.osn_register.specs.Answer.{period_source, easter_source}
+use Rattle.osn_register.specs.Plain.{LandModel, land_of, territory_of, sources_of, effect}
 
 -- the name of the territory that has the code
 abbrev pub name_in : List LandModel → List ℕ → Option (List ℕ)
@@ -28,32 +29,47 @@ regime_in lands code d = option_and_then (λ t. regime_from t d) (territory_of c
 abbrev pub easter_in : List LandModel → List ℕ → ℕ → Option ℕ
 easter_in lands code y = option_and_then (λ t. exception_of t y) (territory_of code lands)
 
+-- the source of the period that starts on a day, in the territory that has the code
+abbrev pub period_cited : List LandModel → List ℕ → ℕ → Option (List ℕ)
+period_cited lands code d = period_source (sources_of code lands) d
+
+-- the source of the listed Easter of a year, in the territory that has the code
+abbrev pub easter_cited : List LandModel → List ℕ → ℕ → Option (List ℕ)
+easter_cited lands code y = easter_source (sources_of code lands) y
+
 -- The edit changes what differs. It adds a territory or a change that only the wanted register has.
--- It alters a regime that starts in both, and to the wanted one. It drops a change that only the
--- first register has, of a territory that is wanted. It lists a wanted day where none is listed,
--- and drops one that is not the wanted day of its year.
+-- It alters a regime that starts in both, where the wanted one is another, or its source. It drops
+-- a change that only the first register has, of a territory that is wanted. It lists a wanted day
+-- where none is listed, and drops one that is not the wanted day of its year, or has another
+-- source. What it adds, alters or lists has the wanted source.
 abbrev pub IsNeeded : List LandModel → List LandModel → Edit → Type 0
-IsNeeded wanted lands (AddLand code name regime) =
+IsNeeded wanted lands (AddLand code name regime source) =
     (land_of code lands ≡ None) × (name_in wanted code ≡ Some name)
-    × (regime_in wanted code 1 ≡ Some regime)
-IsNeeded wanted lands (AddChange code day regime) =
+    × (regime_in wanted code 1 ≡ Some regime) × (source ≡ period_cited wanted code 1)
+IsNeeded wanted lands (AddChange code day regime source) =
     (regime_in lands code (unsigned_abs day) ≡ None)
     × (regime_in wanted code (unsigned_abs day) ≡ Some regime)
-IsNeeded wanted lands (AlterChange code day regime) =
+    × (source ≡ period_cited wanted code (unsigned_abs day))
+IsNeeded wanted lands (AlterChange code day regime source) =
     (is_some (regime_in lands code (unsigned_abs day)) ≡ true)
-    × (regime_in lands code (unsigned_abs day) ≡ Some regime → ⊥)
+    × (regime_in lands code (unsigned_abs day) ≡ Some regime
+    → period_cited lands code (unsigned_abs day) ≡ source → ⊥)
     × (regime_in wanted code (unsigned_abs day) ≡ Some regime)
+    × (source ≡ period_cited wanted code (unsigned_abs day))
 IsNeeded wanted lands (DropChange code day) =
     (is_some (land_of code wanted) ≡ true)
     × (is_some (regime_in lands code (unsigned_abs day)) ≡ true)
     × (regime_in wanted code (unsigned_abs day) ≡ None)
-IsNeeded wanted lands (AddException code year day) =
+IsNeeded wanted lands (AddException code year day source) =
     (easter_in lands code (unsigned_abs year) ≡ None)
     × (easter_in wanted code (unsigned_abs year) ≡ Some (unsigned_abs day))
+    × (source ≡ easter_cited wanted code (unsigned_abs year))
 IsNeeded wanted lands (DropException code year) =
     (is_some (land_of code wanted) ≡ true)
     × (is_some (easter_in lands code (unsigned_abs year)) ≡ true)
-    × (easter_in wanted code (unsigned_abs year) ≡ easter_in lands code (unsigned_abs year) → ⊥)
+    × (easter_in wanted code (unsigned_abs year) ≡ easter_in lands code (unsigned_abs year)
+    → easter_cited wanted code (unsigned_abs year) ≡ easter_cited lands code (unsigned_abs year)
+    → ⊥)
 
 -- each edit is needed where it stands, from these territories on
 abbrev pub AreNeeded : List LandModel → List LandModel → List Edit → Type 0

@@ -2,28 +2,29 @@
 ghost use Rattle.std.specs.Prelude.{◌≡◌, ◌++◌, map, flat_map, OnOk};
 ghost use Rattle.osn_plan.specs.Change.{edit_of};
 ghost use Rattle.osn_plan.specs.Differences as spec;
+ghost use Rattle.osn_plan.specs.Inside.{sources_at};
 
+use crate::sides::Sides;
 use osn_days::Day;
 use osn_lands::{Period, Regime, Territory};
-use osn_register::{Edit, Text};
-use std::alloc::{AllocError, Global};
+use osn_register::Edit;
+use std::alloc::AllocError;
 
 /// Appends the drop of the change on a day, unless one is wanted there.
 fn push_drop(
-    alloc: Global,
-    code: &str,
+    sides: Sides<'_>,
     wanted: &Territory,
     day: Day,
     edits: &mut Vec<Edit>,
 ) -> Result<(), AllocError>
-    ensures { OnOk result (edits.new.items
-        ≡ edits.old.items ++ map (edit_of code.now) (spec.dropped_change wanted.now day)) }
+    ensures { OnOk result (edits.new.items ≡ edits.old.items
+        ++ map (edit_of sides.entry.code.now) (spec.dropped_change wanted.now day)) }
 {
     if wanted.starts_on(day) {
         return Ok(());
     }
     edits.push(Edit::DropChange {
-        code: Text::from_str(alloc, code)?,
+        code: sides.code_text()?,
         day: i64::from(day.number()),
     })?;
     Ok(())
@@ -31,110 +32,115 @@ fn push_drop(
 
 /// Appends the drops of the changes on whose days none is wanted.
 pub(crate) fn push_drops(
-    alloc: Global,
-    code: &str,
+    sides: Sides<'_>,
     standing: &[Period],
     wanted: &Territory,
     edits: &mut Vec<Edit>,
 ) -> Result<(), AllocError>
     ensures { OnOk result (edits.new.items ≡ edits.old.items ++ flat_map
-        (λ p. map (edit_of code.now) (spec.dropped_change wanted.now p.first)) standing.now) }
+        (λ p. map (edit_of sides.entry.code.now) (spec.dropped_change wanted.now p.first))
+        standing.now) }
 {
     for period in standing {
-        push_drop(alloc, code, wanted, period.first, edits)?;
+        push_drop(sides, wanted, period.first, edits)?;
     }
     Ok(())
 }
 
-/// Appends the edit that adds the change on the first day of a period.
-fn push_addition(
-    alloc: Global,
-    code: &str,
-    period: &Period,
-    edits: &mut Vec<Edit>,
-) -> Result<(), AllocError>
+/// Appends the edit that adds the change on the first day of a wanted period.
+fn push_addition(sides: Sides<'_>, period: &Period, edits: &mut Vec<Edit>) -> Result<(), AllocError>
     ensures { OnOk result (edits.new.items ≡ edits.old.items
-        ++ map (edit_of code.now) (spec.added_change (period.now.first, period.now.regime))) }
+        ++ map (edit_of sides.entry.code.now) (spec.added_change (sources_at sides.entry).wanted
+        (period.now.first, period.now.regime))) }
 {
     edits.push(Edit::AddChange {
-        code: Text::from_str(alloc, code)?,
+        code: sides.code_text()?,
         day: i64::from(period.first.number()),
         regime: period.regime,
+        source: sides.period_source(period.first)?,
     })?;
     Ok(())
 }
 
-/// Appends the edits that add the changes on the first days of these periods.
+/// Appends the edits that add the changes on the first days of these wanted periods.
 pub(crate) fn push_additions(
-    alloc: Global,
-    code: &str,
+    sides: Sides<'_>,
     periods: &[Period],
     edits: &mut Vec<Edit>,
 ) -> Result<(), AllocError>
     ensures { OnOk result (edits.new.items ≡ edits.old.items ++ flat_map
-        (λ p. map (edit_of code.now) (spec.added_change (p.first, p.regime))) periods.now) }
+        (λ p. map (edit_of sides.entry.code.now) (spec.added_change
+        (sources_at sides.entry).wanted (p.first, p.regime))) periods.now) }
 {
     for period in periods {
-        push_addition(alloc, code, period, edits)?;
+        push_addition(sides, period, edits)?;
     }
     Ok(())
 }
 
-/// Appends the edit that alters the regime of the period that starts on the day of a wanted one,
-/// unless the two have one regime.
+/// Whether the regime that stands is that of a wanted period, and its source too.
+fn agrees(sides: Sides<'_>, standing: Regime, wanted: &Period) -> bool
+    ensures { result ≡ spec.start_agrees (sources_at sides.entry) standing
+        (wanted.now.first, wanted.now.regime) }
+{
+    standing == wanted.regime && sides.has_period_source(wanted.first)
+}
+
+/// Appends the edit that alters the period that starts on the day of a wanted one, unless the two
+/// have one regime and one source.
 fn push_alteration(
-    alloc: Global,
-    code: &str,
+    sides: Sides<'_>,
     standing: Regime,
     wanted: &Period,
     edits: &mut Vec<Edit>,
 ) -> Result<(), AllocError>
-    ensures { OnOk result (edits.new.items ≡ edits.old.items ++ map (edit_of code.now)
-        (spec.altered_change standing (wanted.now.first, wanted.now.regime))) }
+    ensures { OnOk result (edits.new.items ≡ edits.old.items
+        ++ map (edit_of sides.entry.code.now) (spec.altered_change (sources_at sides.entry)
+        standing (wanted.now.first, wanted.now.regime))) }
 {
-    if standing == wanted.regime {
+    if agrees(sides, standing, wanted) {
         return Ok(());
     }
     edits.push(Edit::AlterChange {
-        code: Text::from_str(alloc, code)?,
+        code: sides.code_text()?,
         day: i64::from(wanted.first.number()),
         regime: wanted.regime,
+        source: sides.period_source(wanted.first)?,
     })?;
     Ok(())
 }
 
 /// Appends the edit that the start of a wanted period needs, if any.
 fn push_wanted(
-    alloc: Global,
-    code: &str,
+    sides: Sides<'_>,
     standing: &Territory,
     wanted: &Period,
     edits: &mut Vec<Edit>,
 ) -> Result<(), AllocError>
-    ensures { OnOk result (edits.new.items ≡ edits.old.items ++ map (edit_of code.now)
-        (spec.wanted_change standing.now (wanted.now.first, wanted.now.regime))) }
+    ensures { OnOk result (edits.new.items ≡ edits.old.items
+        ++ map (edit_of sides.entry.code.now) (spec.wanted_change (sources_at sides.entry)
+        standing.now (wanted.now.first, wanted.now.regime))) }
 {
     if standing.starts_on(wanted.first) {
-        push_alteration(alloc, code, standing.regime_at(wanted.first), wanted, edits)
+        push_alteration(sides, standing.regime_at(wanted.first), wanted, edits)
     } else {
-        push_addition(alloc, code, wanted, edits)
+        push_addition(sides, wanted, edits)
     }
 }
 
 /// Appends the edits that the starts of the wanted periods need.
 pub(crate) fn push_all_wanted(
-    alloc: Global,
-    code: &str,
+    sides: Sides<'_>,
     standing: &Territory,
     wanted: &[Period],
     edits: &mut Vec<Edit>,
 ) -> Result<(), AllocError>
     ensures { OnOk result (edits.new.items ≡ edits.old.items ++ flat_map
-        (λ p. map (edit_of code.now) (spec.wanted_change standing.now (p.first, p.regime)))
-        wanted.now) }
+        (λ p. map (edit_of sides.entry.code.now) (spec.wanted_change (sources_at sides.entry)
+        standing.now (p.first, p.regime))) wanted.now) }
 {
     for period in wanted {
-        push_wanted(alloc, code, standing, period, edits)?;
+        push_wanted(sides, standing, period, edits)?;
     }
     Ok(())
 }

@@ -2,11 +2,13 @@
 ghost use Rattle.std.specs.Prelude.{◌≡◌, ◌++◌, map, flat_map, OnOk};
 ghost use Rattle.osn_plan.specs.Change.{edit_of};
 ghost use Rattle.osn_plan.specs.Differences as spec;
+ghost use Rattle.osn_plan.specs.Inside.{sources_at};
 
+use crate::sides::Sides;
 use osn_days::{Day, Year};
 use osn_lands::Territory;
-use osn_register::{Edit, Text};
-use std::alloc::{AllocError, Global};
+use osn_register::Edit;
+use std::alloc::AllocError;
 
 /// Whether the territory lists the day as the Easter of the year.
 fn lists(territory: &Territory, year: Year, day: Day) -> bool
@@ -15,113 +17,119 @@ fn lists(territory: &Territory, year: Year, day: Day) -> bool
     territory.exception(year) == Some(day)
 }
 
-/// Appends the drop of a listed day, unless it is wanted.
+/// Whether the territory lists the day as the Easter of the year, and the sources of that are one.
+fn agrees(sides: Sides<'_>, territory: &Territory, year: Year, day: Day) -> bool
+    ensures { result ≡ spec.day_agrees (sources_at sides.entry) territory.now (year, day) }
+{
+    lists(territory, year, day) && sides.has_easter_source(year)
+}
+
+/// Appends the drop of a listed day, unless it is wanted with its source.
 fn push_drop(
-    alloc: Global,
-    code: &str,
+    sides: Sides<'_>,
     wanted: &Territory,
     year: Year,
     day: Day,
     edits: &mut Vec<Edit>,
 ) -> Result<(), AllocError>
     ensures { OnOk result (edits.new.items ≡ edits.old.items
-        ++ map (edit_of code.now) (spec.dropped_exception wanted.now (year, day))) }
+        ++ map (edit_of sides.entry.code.now) (spec.dropped_exception (sources_at sides.entry)
+        wanted.now (year, day))) }
 {
-    if lists(wanted, year, day) {
+    if agrees(sides, wanted, year, day) {
         return Ok(());
     }
     edits.push(Edit::DropException {
-        code: Text::from_str(alloc, code)?,
+        code: sides.code_text()?,
         year: i64::from(year.number()),
     })?;
     Ok(())
 }
 
-/// Appends the drops of the listed days that are not wanted.
+/// Appends the drops of the listed days that are not wanted, or whose sources differ.
 pub(crate) fn push_drops(
-    alloc: Global,
-    code: &str,
+    sides: Sides<'_>,
     standing: &Territory,
     wanted: &Territory,
     edits: &mut Vec<Edit>,
 ) -> Result<(), AllocError>
     ensures { OnOk result (edits.new.items ≡ edits.old.items ++ flat_map
-        (λ e. map (edit_of code.now) (spec.dropped_exception wanted.now e))
-        standing.now.exceptions) }
+        (λ e. map (edit_of sides.entry.code.now) (spec.dropped_exception
+        (sources_at sides.entry) wanted.now e)) standing.now.exceptions) }
 {
     for (year, day) in standing.exceptions() {
-        push_drop(alloc, code, wanted, *year, *day, edits)?;
+        push_drop(sides, wanted, *year, *day, edits)?;
     }
     Ok(())
 }
 
-/// Appends the edit that lists a day as the Easter of a year.
+/// Appends the edit that lists a wanted day as the Easter of a year.
 fn push_addition(
-    alloc: Global,
-    code: &str,
+    sides: Sides<'_>,
     year: Year,
     day: Day,
     edits: &mut Vec<Edit>,
 ) -> Result<(), AllocError>
     ensures { OnOk result (edits.new.items ≡ edits.old.items
-        ++ map (edit_of code.now) (spec.added_exception (year, day))) }
+        ++ map (edit_of sides.entry.code.now) (spec.added_exception
+        (sources_at sides.entry).wanted (year, day))) }
 {
     edits.push(Edit::AddException {
-        code: Text::from_str(alloc, code)?,
+        code: sides.code_text()?,
         year: i64::from(year.number()),
         day: i64::from(day.number()),
+        source: sides.easter_source(year)?,
     })?;
     Ok(())
 }
 
-/// Appends the edits that list the days of a territory.
+/// Appends the edits that list the days of a wanted territory.
 pub(crate) fn push_additions(
-    alloc: Global,
-    code: &str,
+    sides: Sides<'_>,
     wanted: &Territory,
     edits: &mut Vec<Edit>,
 ) -> Result<(), AllocError>
     ensures { OnOk result (edits.new.items ≡ edits.old.items ++ flat_map
-        (λ e. map (edit_of code.now) (spec.added_exception e)) wanted.now.exceptions) }
+        (λ e. map (edit_of sides.entry.code.now) (spec.added_exception
+        (sources_at sides.entry).wanted e)) wanted.now.exceptions) }
 {
     for (year, day) in wanted.exceptions() {
-        push_addition(alloc, code, *year, *day, edits)?;
+        push_addition(sides, *year, *day, edits)?;
     }
     Ok(())
 }
 
-/// Appends the edit that lists a wanted day, unless it is listed already.
+/// Appends the edit that lists a wanted day, unless it is listed already with its source.
 fn push_wanted(
-    alloc: Global,
-    code: &str,
+    sides: Sides<'_>,
     standing: &Territory,
     year: Year,
     day: Day,
     edits: &mut Vec<Edit>,
 ) -> Result<(), AllocError>
     ensures { OnOk result (edits.new.items ≡ edits.old.items
-        ++ map (edit_of code.now) (spec.wanted_exception standing.now (year, day))) }
+        ++ map (edit_of sides.entry.code.now) (spec.wanted_exception (sources_at sides.entry)
+        standing.now (year, day))) }
 {
-    if lists(standing, year, day) {
+    if agrees(sides, standing, year, day) {
         return Ok(());
     }
-    push_addition(alloc, code, year, day, edits)
+    push_addition(sides, year, day, edits)
 }
 
-/// Appends the edits that list the wanted days that are not listed already.
+/// Appends the edits that list the wanted days that are not listed already with their sources.
 pub(crate) fn push_all_wanted(
-    alloc: Global,
-    code: &str,
+    sides: Sides<'_>,
     standing: &Territory,
     wanted: &Territory,
     edits: &mut Vec<Edit>,
 ) -> Result<(), AllocError>
     ensures { OnOk result (edits.new.items ≡ edits.old.items ++ flat_map
-        (λ e. map (edit_of code.now) (spec.wanted_exception standing.now e))
-        wanted.now.exceptions) }
+        (λ e. map (edit_of sides.entry.code.now) (spec.wanted_exception
+        (sources_at sides.entry) standing.now e)) wanted.now.exceptions) }
 {
     for (year, day) in wanted.exceptions() {
-        push_wanted(alloc, code, standing, *year, *day, edits)?;
+        push_wanted(sides, standing, *year, *day, edits)?;
     }
     Ok(())
 }

@@ -1,80 +1,79 @@
 //! The edits of one territory.
 ghost use Rattle.std.specs.Prelude.{◌≡◌, ◌∷◌, ◌++◌, [], map, OnOk};
 ghost use Rattle.osn_register.specs.declared.edit.Edit.TheVariants.{AddLand};
+ghost use Rattle.osn_register.specs.Answer.{period_source};
 ghost use Rattle.osn_plan.specs.Change.{edit_of};
 ghost use Rattle.osn_plan.specs.Differences as spec;
+ghost use Rattle.osn_plan.specs.Inside.{sources_at};
 
+use crate::sides::Sides;
 use crate::{changes, exceptions};
+use osn_days::Day;
 use osn_lands::{Regime, Territory};
-use osn_register::{Edit, Register, Text};
-use std::alloc::{AllocError, Global};
+use osn_register::{Edit, Text};
+use std::alloc::AllocError;
 
 /// Appends the edits that take a territory to the wanted one.
 fn push_differences(
-    alloc: Global,
-    code: &str,
+    sides: Sides<'_>,
     standing: &Territory,
     wanted: &Territory,
     edits: &mut Vec<Edit>,
 ) -> Result<(), AllocError>
     ensures { OnOk result (edits.new.items ≡ edits.old.items
-        ++ map (edit_of code.now) (spec.differences standing.now wanted.now)) }
+        ++ map (edit_of sides.entry.code.now)
+        (spec.differences (sources_at sides.entry) standing.now wanted.now)) }
 {
-    changes::push_drops(alloc, code, standing.periods(), wanted, edits)?;
-    changes::push_all_wanted(alloc, code, standing, wanted.periods(), edits)?;
-    exceptions::push_drops(alloc, code, standing, wanted, edits)?;
-    exceptions::push_all_wanted(alloc, code, standing, wanted, edits)
+    changes::push_drops(sides, standing.periods(), wanted, edits)?;
+    changes::push_all_wanted(sides, standing, wanted.periods(), edits)?;
+    exceptions::push_drops(sides, standing, wanted, edits)?;
+    exceptions::push_all_wanted(sides, standing, wanted, edits)
 }
 
-/// Appends the edit that adds a territory with its opening regime.
+/// Appends the edit that adds a territory with its opening regime, and the wanted source of that.
 fn push_land(
-    alloc: Global,
-    code: &str,
+    sides: Sides<'_>,
     name: &str,
     regime: Regime,
     edits: &mut Vec<Edit>,
 ) -> Result<(), AllocError>
-    ensures { OnOk result (edits.new.items
-        ≡ edits.old.items ++ AddLand code.now name.now regime ∷ []) }
+    ensures { OnOk result (edits.new.items ≡ edits.old.items
+        ++ AddLand sides.entry.code.now name.now regime
+        (period_source (sources_at sides.entry).wanted 1) ∷ []) }
 {
     edits.push(Edit::AddLand {
-        code: Text::from_str(alloc, code)?,
-        name: Text::from_str(alloc, name)?,
+        code: sides.code_text()?,
+        name: Text::from_str(sides.alloc, name)?,
         regime,
+        source: sides.period_source(Day::FIRST)?,
     })?;
     Ok(())
 }
 
 /// Appends the edits that make the wanted territory of one that has its opening regime alone.
-fn push_later(
-    alloc: Global,
-    code: &str,
-    wanted: &Territory,
-    edits: &mut Vec<Edit>,
-) -> Result<(), AllocError>
-    ensures { OnOk result (edits.new.items
-        ≡ edits.old.items ++ map (edit_of code.now) (spec.later wanted.now)) }
+fn push_later(sides: Sides<'_>, wanted: &Territory, edits: &mut Vec<Edit>) -> Result<(), AllocError>
+    ensures { OnOk result (edits.new.items ≡ edits.old.items
+        ++ map (edit_of sides.entry.code.now)
+        (spec.later (sources_at sides.entry).wanted wanted.now)) }
 {
-    changes::push_additions(alloc, code, &wanted.periods()[1..], edits)?;
-    exceptions::push_additions(alloc, code, wanted, edits)
+    changes::push_additions(sides, &wanted.periods()[1..], edits)?;
+    exceptions::push_additions(sides, wanted, edits)
 }
 
 /// Appends the edits that take the territory of a code to the wanted one, or add it.
 pub(crate) fn push_edits(
-    alloc: Global,
-    register: &Register,
-    code: &str,
+    sides: Sides<'_>,
     name: &str,
     wanted: &Territory,
     edits: &mut Vec<Edit>,
 ) -> Result<(), AllocError>
     ensures { OnOk result (edits.new.items ≡ edits.old.items
-        ++ spec.land_edits register.now.lands
-        (record { code = code.now; name = name.now; territory = wanted.now })) }
+        ++ spec.land_edits sides.entry.wanted.now.lands sides.entry.register.now.lands
+        sides.entry.code.now name.now wanted.now) }
 {
-    if let Some((_, standing)) = register.find_land(code) {
-        return push_differences(alloc, code, standing, wanted, edits);
+    if let Some((_, standing)) = sides.register.find_land(sides.code) {
+        return push_differences(sides, standing, wanted, edits);
     }
-    push_land(alloc, code, name, wanted.periods()[0].regime, edits)?;
-    push_later(alloc, code, wanted, edits)
+    push_land(sides, name, wanted.periods()[0].regime, edits)?;
+    push_later(sides, wanted, edits)
 }

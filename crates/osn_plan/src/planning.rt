@@ -7,6 +7,7 @@ ghost use Rattle.osn_plan.specs.Plan.{IsPlan};
 use crate::fault::PlanFault;
 use crate::lands::push_edits;
 use crate::names::check_names;
+use crate::sides::Sides;
 use crate::trial::try_edits;
 use osn_register::{Edit, Register};
 use std::alloc::{AllocError, Global};
@@ -20,14 +21,21 @@ fn all_edits(alloc: Global, register: &Register, wanted: &Register) -> Result<Ve
     let mut edits = Vec::new(alloc);
     let mut place = 0;
     while let Some((code, name, territory)) = wanted.land_at(place) {
-        push_edits(alloc, register, code, name, territory, &mut edits)?;
+        let sides = Sides {
+            alloc,
+            code,
+            register,
+            wanted,
+        };
+        push_edits(sides, name, territory, &mut edits)?;
         place += 1;
     }
     Ok(edits)
 }
 
-/// The edits that take a register to what another one wants, in their order. A territory that the
-/// wanted register lacks stays as it is. The limits are those of the first register.
+/// The edits that take a register to what another one wants, in their order: its territories, and
+/// the sources of their periods and listed Easters. A territory that the wanted register lacks
+/// stays as it is. The limits are those of the first register.
 ///
 /// # Errors
 ///

@@ -1,26 +1,12 @@
 //! Whether a register takes edits, tried on a copy of it.
 ghost use Rattle.std.specs.Prelude.{◌≡◌, None, OnOk, IfErr};
 ghost use Rattle.osn_days.specs.Profile.{newest_rules};
+ghost use Rattle.osn_register.specs.Lawful.{AreLawful};
 ghost use Rattle.osn_register.specs.Plain.{refusal, applied_all, IsWellFormed};
-ghost use Rattle.osn_plan.specs.Lawful.{AreLawful};
 ghost use Rattle.osn_plan.specs.Fault as spec;
 
 use crate::fault::PlanFault;
-use osn_register::{Edit, Register, Text};
-
-/// The code of the territory that an edit is of.
-fn code_of(edit: &Edit) -> &Text
-    ensures { result.now ≡ spec.code_of edit.now }
-{
-    match edit {
-        Edit::AddLand { code, .. }
-        | Edit::AddChange { code, .. }
-        | Edit::AlterChange { code, .. }
-        | Edit::DropChange { code, .. }
-        | Edit::AddException { code, .. }
-        | Edit::DropException { code, .. } => code,
-    }
-}
+use osn_register::{Edit, Register};
 
 /// Whether the register takes the edit now.
 fn check_edit(register: &Register, edit: &Edit) -> Result<(), PlanFault>
@@ -31,7 +17,7 @@ fn check_edit(register: &Register, edit: &Edit) -> Result<(), PlanFault>
     match register.check(edit) {
         Ok(()) => Ok(()),
         Err(refusal) => Err(PlanFault::Refused {
-            code: code_of(edit).copy()?,
+            code: edit.code().copy()?,
             refusal,
         }),
     }

@@ -1,7 +1,7 @@
 -- The line of an edit, between the territories that there are and those that are wanted. What is
 -- dropped stands as the former have it, and what comes as the latter have it. This project's
 -- profile.
-use Rattle.std.specs.Prelude.{ℕ, if◌then◌else◌, ℤ, pos, List, None}
+use Rattle.std.specs.Prelude.{ℕ, if◌then◌else◌, ℤ, pos, List, ◌++◌, None, codes}
 use Rattle.std.specs.Ordering.{int_eq}
 use Rattle.osn_days.specs.Profile.{Profile}
 use Rattle.osn_lands.specs.declared.regime.Regime.{Regime}
@@ -9,38 +9,46 @@ use Rattle.osn_register.specs.declared.edit.Edit.{Edit}
 use Rattle.osn_register.specs.declared.edit.Edit.TheVariants.{AddLand, AddChange, AlterChange}
 use Rattle.osn_register.specs.declared.edit.Edit.TheVariants.{DropChange, AddException}
 use Rattle.osn_register.specs.declared.edit.Edit.TheVariants.{DropException}
+use Rattle.osn_register.specs.Lawful.{source_given}
 use Rattle.osn_register.specs.Plain.{LandModel, territory_of}
-use Rattle.osn_plan_page.specs.Line.{change_line, drop_line, easter_line, land_line}
-use Rattle.osn_plan_page.specs.Line.{no_easter_line, opening_line}
+use Rattle.osn_plan_page.specs.Line.{change_words, drop_words, easter_words, land_words}
+use Rattle.osn_plan_page.specs.Line.{no_easter_words, opening_words}
 use Rattle.osn_plan_page.specs.EditDay.{day_words, dated_in, opening_regime, regime_before}
 use Rattle.osn_plan_page.specs.Part.{regime_words}
+use Rattle.osn_plan_page.specs.SourceWords.{source_before, source_words}
 
 -- the day of a number, as the territory of a code dates it
 abbrev pub day_in : Profile → List LandModel → List ℕ → ℤ → List ℕ
 day_in p lands code day = day_words (dated_in p (territory_of code lands) day) day
 
 -- a new territory, with its whole regime
-abbrev pub new_land_line : List ℕ → List ℕ → Regime → List ℕ
-new_land_line code name regime = land_line code name (regime_words None regime)
+abbrev pub new_land : List ℕ → List ℕ → Regime → List ℕ
+new_land code name regime = land_words code name (regime_words None regime)
 
 -- a regime from a day on, by what is other than on the day before
-abbrev pub new_change_line : Profile → List LandModel → List ℕ → ℤ → Regime → List ℕ
-new_change_line p wanted code day regime = change_line code (day_in p wanted code day)
+abbrev pub new_change : Profile → List LandModel → List ℕ → ℤ → Regime → List ℕ
+new_change p wanted code day regime = change_words code (day_in p wanted code day)
     (regime_words (regime_before p (territory_of code wanted) day) regime)
 
 -- another opening regime, by what is other than in the present one
-abbrev pub new_opening_line : List LandModel → List ℕ → Regime → List ℕ
-new_opening_line lands code regime =
-    opening_line code (regime_words (opening_regime (territory_of code lands)) regime)
+abbrev pub new_opening : List LandModel → List ℕ → Regime → List ℕ
+new_opening lands code regime =
+    opening_words code (regime_words (opening_regime (territory_of code lands)) regime)
 
--- the line of an edit
+-- what an edit changes
+unfoldable pub edit_words : Profile → List LandModel → List LandModel → Edit → List ℕ
+edit_words p lands wanted (AddLand code name regime source) = new_land code name regime
+edit_words p lands wanted (AddChange code day regime source) = new_change p wanted code day regime
+edit_words p lands wanted (AlterChange code day regime source) =
+    if int_eq day (pos 1) then new_opening lands code regime
+    else new_change p wanted code day regime
+edit_words p lands wanted (DropChange code day) = drop_words code (day_in p lands code day)
+edit_words p lands wanted (AddException code year day source) =
+    easter_words code year (day_in p wanted code day)
+edit_words p lands wanted (DropException code year) = no_easter_words code year
+
+-- the line of an edit: that, and what it says of the source
 unfoldable pub edit_line : Profile → List LandModel → List LandModel → Edit → List ℕ
-edit_line p lands wanted (AddLand code name regime) = new_land_line code name regime
-edit_line p lands wanted (AddChange code day regime) = new_change_line p wanted code day regime
-edit_line p lands wanted (AlterChange code day regime) =
-    if int_eq day (pos 1) then new_opening_line lands code regime
-    else new_change_line p wanted code day regime
-edit_line p lands wanted (DropChange code day) = drop_line code (day_in p lands code day)
-edit_line p lands wanted (AddException code year day) =
-    easter_line code year (day_in p wanted code day)
-edit_line p lands wanted (DropException code year) = no_easter_line code year
+edit_line p lands wanted edit =
+    edit_words p lands wanted edit
+    ++ (source_words (source_given edit) (source_before p lands edit) ++ codes "\n")

@@ -21,7 +21,7 @@ pub(crate) fn territory_of<'a>(register: &'a Register, code: &str) -> Option<&'a
 }
 
 /// The day of a number, where it is on the line.
-fn day_numbered(number: i64) -> Option<Day>
+pub(crate) fn day_numbered(number: i64) -> Option<Day>
     ensures { result ≡ spec.day_numbered newest_rules number }
 {
     Day::new(number)

@@ -7,6 +7,7 @@ ghost use Rattle.osn_plan_page.specs.EditDay.{day_words};
 use crate::edit_day::{EditDay, dated_in, opening_regime, regime_before, territory_of};
 use crate::line::{push_change, push_drop, push_easter, push_land, push_no_easter, push_opening};
 use crate::part::regime_words;
+use crate::source_words::{push_source_words, source_before};
 use osn_lands::Regime;
 use osn_register::{Edit, Register};
 use std::alloc::{AllocError, Global};
@@ -22,8 +23,8 @@ fn day_in(register: &Register, code: &str, number: i64) -> EditDay
     }
 }
 
-/// Appends the line of a territory that is added.
-fn push_land_line(
+/// Appends that a territory is added.
+fn push_new_land(
     alloc: Global,
     out: &mut String,
     code: &str,
@@ -31,14 +32,14 @@ fn push_land_line(
     regime: Regime,
 ) -> Result<(), AllocError>
     ensures { OnOk result (string_bytes out.new ≡ string_bytes out.old
-        ++ spec.new_land_line code.now name.now regime) }
+        ++ spec.new_land code.now name.now regime) }
 {
     let words = regime_words(alloc, None, regime)?;
     push_land(out, code, name, words.as_str())
 }
 
-/// Appends the line of a regime from a day on.
-fn push_change_line(
+/// Appends that a regime holds from a day on.
+fn push_new_change(
     alloc: Global,
     out: &mut String,
     wanted: &Register,
@@ -47,15 +48,15 @@ fn push_change_line(
     regime: Regime,
 ) -> Result<(), AllocError>
     ensures { OnOk result (string_bytes out.new ≡ string_bytes out.old
-        ++ spec.new_change_line newest_rules wanted.now.lands code.now day regime) }
+        ++ spec.new_change newest_rules wanted.now.lands code.now day regime) }
 {
     let before = regime_before(territory_of(wanted, code), day);
     let words = regime_words(alloc, before, regime)?;
     push_change(out, code, day_in(wanted, code, day), words.as_str())
 }
 
-/// Appends the line of another opening regime.
-fn push_opening_line(
+/// Appends that the opening regime is another.
+fn push_new_opening(
     alloc: Global,
     out: &mut String,
     register: &Register,
@@ -63,14 +64,71 @@ fn push_opening_line(
     regime: Regime,
 ) -> Result<(), AllocError>
     ensures { OnOk result (string_bytes out.new ≡ string_bytes out.old
-        ++ spec.new_opening_line register.now.lands code.now regime) }
+        ++ spec.new_opening register.now.lands code.now regime) }
 {
     let before = opening_regime(territory_of(register, code));
     let words = regime_words(alloc, before, regime)?;
     push_opening(out, code, words.as_str())
 }
 
-/// Appends the line of an edit.
+/// Appends what an edit changes.
+#[tactic(auto, unfolding(crate::specs::EditLine::edit_words))]
+fn push_edit_words(
+    alloc: Global,
+    out: &mut String,
+    register: &Register,
+    wanted: &Register,
+    edit: &Edit,
+) -> Result<(), AllocError>
+    ensures { OnOk result (string_bytes out.new ≡ string_bytes out.old
+        ++ spec.edit_words newest_rules register.now.lands wanted.now.lands edit.now) }
+{
+    match edit {
+        Edit::AddLand {
+            code,
+            name,
+            regime,
+            ..
+        } => push_new_land(alloc, out, code.as_str(), name.as_str(), *regime),
+        Edit::AlterChange {
+            code,
+            day,
+            regime,
+            ..
+        } if *day == 1 => push_new_opening(alloc, out, register, code.as_str(), *regime),
+        Edit::AddChange {
+            code,
+            day,
+            regime,
+            ..
+        }
+        | Edit::AlterChange {
+            code,
+            day,
+            regime,
+            ..
+        } => push_new_change(alloc, out, wanted, code.as_str(), *day, *regime),
+        Edit::DropChange { code, day } => {
+            push_drop(out, code.as_str(), day_in(register, code.as_str(), *day))
+        }
+        Edit::AddException {
+            code,
+            year,
+            day,
+            ..
+        } => {
+            push_easter(
+                out,
+                code.as_str(),
+                *year,
+                day_in(wanted, code.as_str(), *day),
+            )
+        }
+        Edit::DropException { code, year } => push_no_easter(out, code.as_str(), *year),
+    }
+}
+
+/// Appends the line of an edit: what it changes, and what it says of the source.
 #[tactic(auto, unfolding(crate::specs::EditLine::edit_line))]
 pub(crate) fn push_edit(
     alloc: Global,
@@ -82,27 +140,7 @@ pub(crate) fn push_edit(
     ensures { OnOk result (string_bytes out.new ≡ string_bytes out.old
         ++ spec.edit_line newest_rules register.now.lands wanted.now.lands edit.now) }
 {
-    match edit {
-        Edit::AddLand { code, name, regime } => {
-            push_land_line(alloc, out, code.as_str(), name.as_str(), *regime)
-        }
-        Edit::AlterChange { code, day, regime } if *day == 1 => {
-            push_opening_line(alloc, out, register, code.as_str(), *regime)
-        }
-        Edit::AddChange { code, day, regime } | Edit::AlterChange { code, day, regime } => {
-            push_change_line(alloc, out, wanted, code.as_str(), *day, *regime)
-        }
-        Edit::DropChange { code, day } => {
-            push_drop(out, code.as_str(), day_in(register, code.as_str(), *day))
-        }
-        Edit::AddException { code, year, day } => {
-            push_easter(
-                out,
-                code.as_str(),
-                *year,
-                day_in(wanted, code.as_str(), *day),
-            )
-        }
-        Edit::DropException { code, year } => push_no_easter(out, code.as_str(), *year),
-    }
+    push_edit_words(alloc, out, register, wanted, edit)?;
+    push_source_words(out, edit.source(), source_before(register, edit))?;
+    out.push_str("\n")
 }

@@ -8,5 +8,6 @@ mod edit_line;
 mod line;
 mod page;
 mod part;
+mod source_words;
 
 pub use page::plan_page;

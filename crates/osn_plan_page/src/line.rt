@@ -1,4 +1,4 @@
-//! The lines of edits, by the words of what each changes.
+//! What the line of an edit says it changes, by the words of each thing.
 ghost use Rattle.std.specs.Prelude.{◌≡◌, ◌++◌, OnOk, string_bytes};
 ghost use Rattle.osn_plan_page.specs.Line as spec;
 ghost use Rattle.osn_plan_page.specs.EditDay.{day_words};
@@ -7,8 +7,8 @@ use crate::edit_day::EditDay;
 use std::alloc::AllocError;
 use std::fmt::Write;
 
-/// Appends the line of a territory that is added, of which these words tell the opening regime.
-#[tactic(auto, unfolding(crate::specs::Line::land_line))]
+/// Appends that a territory is added, of which these words tell the opening regime.
+#[tactic(auto, unfolding(crate::specs::Line::land_words))]
 pub(crate) fn push_land(
     out: &mut String,
     code: &str,
@@ -16,13 +16,13 @@ pub(crate) fn push_land(
     regime: &str,
 ) -> Result<(), AllocError>
     ensures { OnOk result (string_bytes out.new
-        ≡ string_bytes out.old ++ spec.land_line code.now name.now regime.now) }
+        ≡ string_bytes out.old ++ spec.land_words code.now name.now regime.now) }
 {
-    writeln!(out, "{code}: new territory {name}: {regime}")
+    write!(out, "{code}: new territory {name}: {regime}")
 }
 
-/// Appends the line of a regime from a day on, of which these words tell what is other than before.
-#[tactic(auto, unfolding(crate::specs::Line::change_line))]
+/// Appends that a regime holds from a day on, of which these words tell what is other than before.
+#[tactic(auto, unfolding(crate::specs::Line::change_words))]
 pub(crate) fn push_change(
     out: &mut String,
     code: &str,
@@ -30,31 +30,31 @@ pub(crate) fn push_change(
     regime: &str,
 ) -> Result<(), AllocError>
     ensures { OnOk result (string_bytes out.new ≡ string_bytes out.old
-        ++ spec.change_line code.now (day_words day.dated day.number) regime.now) }
+        ++ spec.change_words code.now (day_words day.dated day.number) regime.now) }
 {
-    writeln!(out, "{code}: from {day}: {regime}")
+    write!(out, "{code}: from {day}: {regime}")
 }
 
-/// Appends the line of another opening regime.
-#[tactic(auto, unfolding(crate::specs::Line::opening_line))]
+/// Appends that the opening regime is another.
+#[tactic(auto, unfolding(crate::specs::Line::opening_words))]
 pub(crate) fn push_opening(out: &mut String, code: &str, regime: &str) -> Result<(), AllocError>
     ensures { OnOk result (string_bytes out.new
-        ≡ string_bytes out.old ++ spec.opening_line code.now regime.now) }
+        ≡ string_bytes out.old ++ spec.opening_words code.now regime.now) }
 {
-    writeln!(out, "{code}: opening: {regime}")
+    write!(out, "{code}: opening: {regime}")
 }
 
-/// Appends the line of a change that is dropped.
-#[tactic(auto, unfolding(crate::specs::Line::drop_line))]
+/// Appends that a change is dropped.
+#[tactic(auto, unfolding(crate::specs::Line::drop_words))]
 pub(crate) fn push_drop(out: &mut String, code: &str, day: EditDay) -> Result<(), AllocError>
     ensures { OnOk result (string_bytes out.new ≡ string_bytes out.old
-        ++ spec.drop_line code.now (day_words day.dated day.number)) }
+        ++ spec.drop_words code.now (day_words day.dated day.number)) }
 {
-    writeln!(out, "{code}: no change any more on {day}")
+    write!(out, "{code}: no change any more on {day}")
 }
 
-/// Appends the line of a listed Easter.
-#[tactic(auto, unfolding(crate::specs::Line::easter_line))]
+/// Appends that an Easter is listed.
+#[tactic(auto, unfolding(crate::specs::Line::easter_words))]
 pub(crate) fn push_easter(
     out: &mut String,
     code: &str,
@@ -62,16 +62,16 @@ pub(crate) fn push_easter(
     day: EditDay,
 ) -> Result<(), AllocError>
     ensures { OnOk result (string_bytes out.new ≡ string_bytes out.old
-        ++ spec.easter_line code.now year (day_words day.dated day.number)) }
+        ++ spec.easter_words code.now year (day_words day.dated day.number)) }
 {
-    writeln!(out, "{code}: Easter of {year} on {day}")
+    write!(out, "{code}: Easter of {year} on {day}")
 }
 
-/// Appends the line of an Easter that is listed no more.
-#[tactic(auto, unfolding(crate::specs::Line::no_easter_line))]
+/// Appends that an Easter is listed no more.
+#[tactic(auto, unfolding(crate::specs::Line::no_easter_words))]
 pub(crate) fn push_no_easter(out: &mut String, code: &str, year: i64) -> Result<(), AllocError>
     ensures { OnOk result (string_bytes out.new
-        ≡ string_bytes out.old ++ spec.no_easter_line code.now year) }
+        ≡ string_bytes out.old ++ spec.no_easter_words code.now year) }
 {
-    writeln!(out, "{code}: no listed Easter of {year} any more")
+    write!(out, "{code}: no listed Easter of {year} any more")
 }

@@ -24,7 +24,6 @@ use Rattle.osn_lands.specs.Easters.{is_easter, easters_by_rule, unless_listed}
 use Rattle.osn_lands.specs.EarlierRules.{days_of_line}
 use Rattle.osn_lands.proofs.EarlierRulesFacts.{same_local, same_text, same_reading, same_easters}
 use Rattle.osn_lands.proofs.EarlierRulesFacts.{plain_year}
-use Rattle.osn_lands.proofs.PeriodFacts.{starts_back}
 use Rattle.osn_register.specs.declared.query.Query.{Query}
 use Rattle.osn_register.specs.declared.query.Query.TheVariants as queries
 use Rattle.osn_register.specs.declared.answer.Answer.{Answer}
@@ -34,7 +33,10 @@ use Rattle.osn_register.specs.declared.refusal.Refusal.{Refusal}
 use Rattle.osn_register.specs.declared.refusal.Refusal.TheVariants.{DayOffLine, YearOffRange}
 use Rattle.osn_register.specs.declared.refusal.Refusal.TheVariants.{BadDate}
 use Rattle.osn_register.specs.Refusal.{first_refusal, or_else}
-use Rattle.osn_register.specs.Plain.{LandModel, territory_of, code_refusal, is_between}
+use Rattle.osn_register.specs.Plain.{LandModel, territory_of, sources_of, code_refusal}
+use Rattle.osn_register.specs.Plain.{is_between}
+use Rattle.osn_register.specs.Sources.{SourcesModel}
+use Rattle.osn_register.specs.Answer.{and_source, period_source, easter_source}
 use Rattle.osn_register.specs.Answer.{answer, unless, found_under, found_on, period_on}
 use Rattle.osn_register.specs.Answer.{on_day, day_answer, reading_answer, easters_answer}
 use Rattle.osn_register.specs.Answer.{figures_of, periods_answer, label_from}
@@ -140,17 +142,21 @@ reading_unless p (Some f) None now before same kept = absurd cc
 
 -- a day
 
+-- a period without its last day
+abbrev begin_of : Period → ℕ × Regime
+begin_of period = (period.first, period.regime)
+
 alike_step : (here : Bool) (one other : Period) (many others : Option Period)
-    → start_of one ≡ start_of other → option_map start_of many ≡ option_map start_of others
-    → option_map start_of (if here then Some one else many)
-    ≡ option_map start_of (if here then Some other else others)
+    → begin_of one ≡ begin_of other → option_map begin_of many ≡ option_map begin_of others
+    → option_map begin_of (if here then Some one else many)
+    ≡ option_map begin_of (if here then Some other else others)
 alike_step true one other many others same later = ap Some same
 alike_step false one other many others same later = later
 
 -- the period that holds a day of both lines starts on one day, with one regime
 same_period : (high more d : ℕ) (starts : List (ℕ × Regime)) → d ≤ high → d ≤ more
-    → option_map start_of (period_on (periods_from more starts) d)
-    ≡ option_map start_of (period_on (periods_from high starts) d)
+    → option_map begin_of (period_on (periods_from more starts) d)
+    ≡ option_map begin_of (period_on (periods_from high starts) d)
 same_period high more d [] until longer = refl
 same_period high more d (s ∷ []) until longer =
     rw (le-leb d high until, le-leb d more longer)
@@ -163,21 +169,30 @@ same_period high more d (s ∷ next ∷ rest) until longer =
     (period_on (periods_from high (next ∷ rest)) d) refl
     (same_period high more d (next ∷ rest) until longer)
 
-keeps_on_day : (one other : Option Period) (found before : Found)
-    → option_map start_of one ≡ option_map start_of other → found ≡ before
-    → KeepsDay (on_day other before) (on_day one found)
-keeps_on_day None None found before same named = (refl, refl, refl)
-keeps_on_day (Some p) (Some q) found before same named =
-    let start : start_of p ≡ start_of q = cc in
-    (refl, ap (λ f. f ∷ []) named, ap (λ s. s ∷ []) start)
-keeps_on_day None (Some q) found before same named = absurd cc
-keeps_on_day (Some p) None found before same named = absurd cc
+-- the same with the source of that day
+and_start : (sources : Option SourcesModel) (one other : Period) → begin_of one ≡ begin_of other
+    → start_of (and_source sources one) ≡ start_of (and_source sources other)
+and_start sources one other same =
+    ap (λ (b : ℕ × Regime). let s : ℕ × Regime × Option (List ℕ) =
+    (b.0, b.1, period_source sources b.0) in s) same
 
-keeps_day : (t : Option TerritoryModel) (d : ℕ) → d ≤ first_rules.high
-    → KeepsDay (day_answer first_rules t d) (day_answer newest_rules t d)
-keeps_day None d until = (refl, refl, refl)
-keeps_day (Some t) d until =
-    keeps_on_day (period_on (periods_of newest_rules t) d) (period_on (periods_of first_rules t) d)
+keeps_on_day : (sources : Option SourcesModel) (one other : Option Period) (found before : Found)
+    → option_map begin_of one ≡ option_map begin_of other → found ≡ before
+    → KeepsDay (on_day sources other before) (on_day sources one found)
+keeps_on_day sources None None found before same named = (refl, refl, refl)
+keeps_on_day sources (Some p) (Some q) found before same named =
+    let start : begin_of p ≡ begin_of q = cc in
+    (refl, ap (λ f. f ∷ []) named, ap (λ s. s ∷ []) (and_start sources p q start))
+keeps_on_day sources None (Some q) found before same named = absurd cc
+keeps_on_day sources (Some p) None found before same named = absurd cc
+
+keeps_day : (t : Option TerritoryModel) (sources : Option SourcesModel) (d : ℕ)
+    → d ≤ first_rules.high
+    → KeepsDay (day_answer first_rules t sources d) (day_answer newest_rules t sources d)
+keeps_day None sources d until = (refl, refl, refl)
+keeps_day (Some t) sources d until =
+    keeps_on_day sources (period_on (periods_of newest_rules t) d)
+    (period_on (periods_of first_rules t) d)
     (found_on newest_rules t d) (found_on first_rules t d)
     (same_period first_rules.high newest_rules.high d t.starts until (omega arith))
     (same_on_day (regime_at t d) d until)
@@ -189,13 +204,23 @@ day_unless (Some f) (Some g) now before same kept = (same, refl, refl)
 day_unless None (Some g) now before same kept = absurd cc
 day_unless (Some f) None now before same kept = absurd cc
 
-keeps_periods : (t : Option TerritoryModel)
-    → KeepsDay (periods_answer first_rules t) (periods_answer newest_rules t)
-keeps_periods None = (refl, refl, refl)
-keeps_periods (Some t) = (
+-- the starts of periods, each with its source
+starts_cited : (sources : Option SourcesModel) (high more : ℕ) (starts : List (ℕ × Regime))
+    → map start_of (map (and_source sources) (periods_from more starts))
+    ≡ map start_of (map (and_source sources) (periods_from high starts))
+starts_cited sources high more [] = refl
+starts_cited sources high more (s ∷ []) = refl
+starts_cited sources high more (s ∷ next ∷ rest) =
+    ap (λ ss. (s.0, s.1, period_source sources s.0) ∷ ss)
+    (starts_cited sources high more (next ∷ rest))
+
+keeps_periods : (t : Option TerritoryModel) (sources : Option SourcesModel)
+    → KeepsDay (periods_answer first_rules t sources) (periods_answer newest_rules t sources)
+keeps_periods None sources = (refl, refl, refl)
+keeps_periods (Some t) sources = (
   refl,
   refl,
-  starts_back newest_rules.high t.starts ∙ sym (starts_back first_rules.high t.starts),
+  starts_cited sources first_rules.high newest_rules.high t.starts,
 )
 
 -- Easters
@@ -243,14 +268,14 @@ easters_named : (t : TerritoryModel) (y : ℕ) (listed : Option ℕ)
 easters_named t y None until = rules_named t y
 easters_named t y (Some d) until = one_named t d until
 
-keeps_easters : (t : Option TerritoryModel) (y : ℕ) → IsYear first_rules y
-    → IsListedUntil first_rules y t
-    → easters_answer newest_rules t y ≡ easters_answer first_rules t y
-keeps_easters None y year listed = refl
-keeps_easters (Some t) y year listed =
-    ap (λ days. Easters (map (found_on newest_rules t) days) (is_some (exception_of t y)))
-    (same_easters t y year)
-    ∙ ap (λ found. Easters found (is_some (exception_of t y)))
+keeps_easters : (t : Option TerritoryModel) (sources : Option SourcesModel) (y : ℕ)
+    → IsYear first_rules y → IsListedUntil first_rules y t
+    → easters_answer newest_rules t sources y ≡ easters_answer first_rules t sources y
+keeps_easters None sources y year listed = refl
+keeps_easters (Some t) sources y year listed =
+    ap (λ days. Easters (map (found_on newest_rules t) days) (is_some (exception_of t y))
+    (easter_source sources y)) (same_easters t y year)
+    ∙ ap (λ found. Easters found (is_some (exception_of t y)) (easter_source sources y))
     (easters_named t y (exception_of t y) listed)
 
 -- figures
@@ -297,17 +322,21 @@ keeps_answer lands (queries.Read code year month day) =
 keeps_answer lands (queries.DayIn code day) =
     λ on. day_unless (day_refusal newest_rules lands code day)
     (day_refusal first_rules lands code day)
-    (day_answer newest_rules (territory_of code lands) (unsigned_abs day))
-    (day_answer first_rules (territory_of code lands) (unsigned_abs day))
+    (day_answer newest_rules (territory_of code lands) (sources_of code lands) (unsigned_abs day))
+    (day_answer first_rules (territory_of code lands) (sources_of code lands) (unsigned_abs day))
     (same_days lands code day on)
-    (keeps_day (territory_of code lands) (unsigned_abs day) (omega (arith, ints, on)))
+    (keeps_day (territory_of code lands) (sources_of code lands) (unsigned_abs day) (omega
+    (arith, ints, on)))
 keeps_answer lands (queries.Easter code year) =
     λ within listed. same_unless (easter_refusal newest_rules lands code year)
     (easter_refusal first_rules lands code year)
-    (easters_answer newest_rules (territory_of code lands) (unsigned_abs year))
-    (easters_answer first_rules (territory_of code lands) (unsigned_abs year))
+    (easters_answer newest_rules (territory_of code lands) (sources_of code lands)
+    (unsigned_abs year))
+    (easters_answer first_rules (territory_of code lands) (sources_of code lands)
+    (unsigned_abs year))
     (ap (or_else (code_refusal lands code)) (same_years year within))
-    (keeps_easters (territory_of code lands) (unsigned_abs year) (plain_year year within) listed)
+    (keeps_easters (territory_of code lands) (sources_of code lands) (unsigned_abs year)
+    (plain_year year within) listed)
 keeps_answer lands (queries.YearFigures year) =
     λ within. same_unless (year_refusal newest_rules year) (year_refusal first_rules year)
     (figures_of newest_rules (unsigned_abs year)) (figures_of first_rules (unsigned_abs year))
@@ -315,9 +344,9 @@ keeps_answer lands (queries.YearFigures year) =
 keeps_answer lands queries.Lands = refl
 keeps_answer lands (queries.Periods code) =
     day_unless (code_refusal lands code) (code_refusal lands code)
-    (periods_answer newest_rules (territory_of code lands))
-    (periods_answer first_rules (territory_of code lands)) refl
-    (keeps_periods (territory_of code lands))
+    (periods_answer newest_rules (territory_of code lands) (sources_of code lands))
+    (periods_answer first_rules (territory_of code lands) (sources_of code lands)) refl
+    (keeps_periods (territory_of code lands) (sources_of code lands))
 keeps_answer lands (queries.Written code date weekday) =
     refused_unless (code_refusal lands code)
     (written_answer newest_rules (territory_of code lands) date weekday)

@@ -12,41 +12,57 @@ use Rattle.std.specs.Result.{OnErr}
 use Rattle.osn_days.specs.Profile.{Profile}
 use Rattle.osn_lands.specs.Territory.{TerritoryModel}
 use Rattle.osn_register.specs.declared.limits.Limits.{Limits}
-use Rattle.osn_register.specs.Plain.{LandModel, RegisterModel, land_of, territory_of, AreDistinct}
+use Rattle.osn_register.specs.Sources.{SourcesModel, HasSources}
+use Rattle.osn_register.specs.Plain.{LandModel, RegisterModel, land_of, territory_of, sources_of}
+use Rattle.osn_register.specs.Plain.{AreDistinct, HaveSources}
 use Rattle.osn_register.specs.Plain.{IsSoundTerritory, AreSound, AreNamed, IsWellFormed}
 use Rattle.osn_register.specs.Code.{is_code, is_name}
 use Rattle.osn_register.specs.Inside.{land_in}
 
 module _ {K V : Type 0} (text : K → List ℕ) (name : V → List ℕ) (territory : V → TerritoryModel)
+    (sources : V → SourcesModel)
   where
     pub land_of-map : (code : List ℕ) (es : List (K × V)) →
-        is_some (land_of code (map (land_in text name territory) es)) ≡ is_some
+        is_some (land_of code (map (land_in text name territory sources) es)) ≡ is_some
         (lookup (λ k. bytes_eq code (text k)) es)
     land_of-map code [] = refl
     land_of-map code (e ∷ es) =
         elim (bytes_eq code (text e.0)) as (λ b. is_some (cond b
-        (Some (land_in text name territory e)) (land_of code
-        (map (land_in text name territory) es))) ≡ is_some
+        (Some (land_in text name territory sources e)) (land_of code
+        (map (land_in text name territory sources) es))) ≡ is_some
         (cond b (Some e.1) (lookup (λ k. bytes_eq code (text k)) es))) [
           | true ↦ refl
           | false ↦ land_of-map code es
         ]
 
     pub territory_of-map : (code : List ℕ) (es : List (K × V)) →
-        territory_of code (map (land_in text name territory) es) ≡ option_map territory
+        territory_of code (map (land_in text name territory sources) es) ≡ option_map territory
         (lookup (λ k. bytes_eq code (text k)) es)
     territory_of-map code [] = refl
     territory_of-map code (e ∷ es) =
         elim (bytes_eq code (text e.0)) as (λ b. option_map (λ (l : LandModel). l.territory)
-        (cond b (Some (land_in text name territory e))
-        (land_of code (map (land_in text name territory) es))) ≡ option_map territory
+        (cond b (Some (land_in text name territory sources e))
+        (land_of code (map (land_in text name territory sources) es))) ≡ option_map territory
         (cond b (Some e.1) (lookup (λ k. bytes_eq code (text k)) es))) [
           | true ↦ refl
           | false ↦ territory_of-map code es
         ]
 
+    pub sources_of-map : (code : List ℕ) (es : List (K × V)) →
+        sources_of code (map (land_in text name territory sources) es) ≡ option_map sources
+        (lookup (λ k. bytes_eq code (text k)) es)
+    sources_of-map code [] = refl
+    sources_of-map code (e ∷ es) =
+        elim (bytes_eq code (text e.0)) as (λ b. option_map (λ (l : LandModel). l.sources)
+        (cond b (Some (land_in text name territory sources e))
+        (land_of code (map (land_in text name territory sources) es))) ≡ option_map sources
+        (cond b (Some e.1) (lookup (λ k. bytes_eq code (text k)) es))) [
+          | true ↦ refl
+          | false ↦ sources_of-map code es
+        ]
+
     pub land_of-none : (code : List ℕ) (es : List (K × V)) →
-        land_of code (map (land_in text name territory) es) ≡ None →
+        land_of code (map (land_in text name territory sources) es) ≡ None →
         lookup (λ k. bytes_eq code (text k)) es ≡ None
     land_of-none code es none = by (lookup (λ k. bytes_eq code (text k)) es)
         (sym (land_of-map code es) ∙ ap is_some none)
@@ -56,10 +72,10 @@ module _ {K V : Type 0} (text : K → List ℕ) (name : V → List ℕ) (territo
         by (Some v) h = absurd (false≢true (sym h))
 
     pub map-push : (es : List (K × V)) (e : K × V) →
-        map (land_in text name territory) (es ++ e ∷ [])
-        ≡ map (land_in text name territory) es ++ land_in text name territory e ∷ []
+        map (land_in text name territory sources) (es ++ e ∷ [])
+        ≡ map (land_in text name territory sources) es ++ land_in text name territory sources e ∷ []
     map-push [] e = refl
-    map-push (d ∷ es) e = ap (λ ls. land_in text name territory d ∷ ls) (map-push es e)
+    map-push (d ∷ es) e = ap (λ ls. land_in text name territory sources d ∷ ls) (map-push es e)
 
 other_way : (x y : List ℕ) → bytes_eq x y ≡ false → bytes_eq y x ≡ false
 other_way x y h = by (bytes_eq y x) refl
@@ -107,33 +123,37 @@ AreNamed-push [] l named code name = (code, name, tt)
 AreNamed-push (k ∷ ls) l named code name =
     (named.0, named.1, AreNamed-push ls l named.2 code name)
 
+HaveSources-push : (ls : List LandModel) (l : LandModel) → HaveSources ls → HasSources l.sources →
+    HaveSources (ls ++ l ∷ [])
+HaveSources-push [] l given here = (here, tt)
+HaveSources-push (k ∷ ls) l given here = (given.0, HaveSources-push ls l given.1 here)
+
 -- a new territory under a new code keeps a register well formed
 pub IsWellFormed-push : (p : Profile) (r : RegisterModel) (l : LandModel) → IsWellFormed p r →
     land_of l.code r.lands ≡ None → is_code l.code ≡ true → is_name l.name ≡ true →
     length r.lands < r.limits.lands →
-    IsSoundTerritory p r.limits l.territory → IsWellFormed p
+    IsSoundTerritory p r.limits l.territory → HasSources l.sources → IsWellFormed p
     (record r { lands = r.lands ++ l ∷ [] })
-IsWellFormed-push p r l w none code name room few = record {
+IsWellFormed-push p r l w none code name room few given = record {
   distinct = AreDistinct-push r.lands l w.distinct none;
   named = AreNamed-push r.lands l w.named code name;
   within = omega (arith, length-append r.lands (l ∷ []));
   territories = AreSound-push p r.limits r.lands l w.territories few;
+  sources = HaveSources-push r.lands l w.sources given;
 }
 
 -- the entries after one new key, seen as the plain list
 module _ {K V : Type 0} (text : K → List ℕ) (name : V → List ℕ) (territory : V → TerritoryModel)
+    (sources : V → SourcesModel)
   where
     pub lands_with_new : (old new : List (K × V)) (k : K) (v : V) (l : LandModel) →
-        new ≡ old ++ (k, v) ∷ [] → text k ≡ l.code → name v ≡ l.name → territory v ≡ l.territory →
-        map (land_in text name territory) new ≡ map (land_in text name territory) old ++ l ∷ []
-    lands_with_new old new k v l e code called land =
-        ap (map (land_in text name territory)) e ∙ map-push text name territory old (k, v)
-        ∙ ap (λ (c : List ℕ). map (land_in text name territory) old ++ record
-        { code = c; name = name v; territory = territory v } ∷ []) code
-        ∙ ap (λ (n : List ℕ). map (land_in text name territory) old ++ record
-        { code = l.code; name = n; territory = territory v } ∷ []) called
-        ∙ ap (λ (t : TerritoryModel). map (land_in text name territory) old ++ record
-        { code = l.code; name = l.name; territory = t } ∷ []) land
+        new ≡ old ++ (k, v) ∷ [] → land_in text name territory sources (k, v) ≡ l →
+        map (land_in text name territory sources) new
+        ≡ map (land_in text name territory sources) old ++ l ∷ []
+    lands_with_new old new k v l e is =
+        ap (map (land_in text name territory sources)) e
+        ∙ map-push text name territory sources old (k, v)
+        ∙ ap (λ n. map (land_in text name territory sources) old ++ n ∷ []) is
 
 apart_within : (code : List ℕ) (front : List LandModel) (l : LandModel) (rest : List LandModel) →
     land_of code (front ++ l ∷ rest) ≡ None → bytes_eq code l.code ≡ false
@@ -192,13 +212,25 @@ pub copied_named : (copied : List LandModel) (l : LandModel) (rest lands : List 
 copied_named copied l rest lands e named =
     AreNamed-within copied l rest (subst AreNamed (sym e) named)
 
+HaveSources-within : (front : List LandModel) (l : LandModel) (rest : List LandModel) →
+    HaveSources (front ++ l ∷ rest) → HasSources l.sources
+HaveSources-within [] l rest given = given.0
+HaveSources-within (k ∷ front) l rest given = HaveSources-within front l rest given.1
+
+pub copied_sources : (copied : List LandModel) (l : LandModel) (rest lands : List LandModel) →
+    copied ++ l ∷ rest ≡ lands → HaveSources lands → HasSources l.sources
+copied_sources copied l rest lands e given =
+    HaveSources-within copied l rest (subst HaveSources (sym e) given)
+
+abbrev pub with_code : List ℕ → LandModel → LandModel
+with_code code l = record l { code = code }
+
 pub copied_more : (copied : List LandModel) (l : LandModel) (rest lands : List LandModel)
     (code : List ℕ) → copied ++ l ∷ rest ≡ lands → code ≡ l.code →
-    (copied ++ record { code = code; name = l.name; territory = l.territory } ∷ []) ++ rest ≡ lands
+    (copied ++ with_code code l ∷ []) ++ rest ≡ lands
 copied_more copied l rest lands code e same =
-    append_assoc copied (record { code = code; name = l.name; territory = l.territory } ∷ []) rest
-    ∙ ap (λ (c : List ℕ). copied ++ record { code = c; name = l.name; territory = l.territory } ∷
-    rest) same
+    append_assoc copied (with_code code l ∷ []) rest
+    ∙ ap (λ (c : List ℕ). copied ++ with_code c l ∷ rest) same
     ∙ e
 
 pub same_register : (a b : RegisterModel) → a.limits ≡ b.limits → a.lands ++ [] ≡ b.lands → a ≡ b

@@ -6,3 +6,4 @@ pub mod EarlierAnswers
 pub mod TerritoryFacts
 pub mod NamedFacts
 pub mod YearFacts
+pub mod SourceFacts

@@ -24,10 +24,12 @@ use Rattle.osn_register.specs.declared.change.TerritoryEdit.TheVariants.{AddExce
 use Rattle.osn_register.specs.declared.change.TerritoryEdit.TheVariants.{DropException}
 use Rattle.osn_register.specs.declared.refusal.Refusal.{Refusal}
 use Rattle.osn_register.specs.Code.{is_code}
+use Rattle.osn_register.specs.Sources.{SourcesModel, HasSources}
 use Rattle.osn_register.specs.Plain.{LandModel, RegisterModel, land_of, territory_of, code_refusal}
 use Rattle.osn_register.specs.Plain.{is_off_line, is_off_years, refusal_in, inside, with_territory}
 use Rattle.osn_register.specs.Plain.{AreDistinct, IsSoundTerritory, AreSound, IsWellFormed}
 use Rattle.osn_register.specs.Plain.{is_style_refused, AreStyled, AreListed, AreNamed}
+use Rattle.osn_register.specs.Plain.{HaveSources}
 use Rattle.osn_register.specs.Refusal.{or_else}
 use Rattle.osn_register.specs.InsideChange.{change_refusal, territory_after}
 use Rattle.osn_register.proofs.CoverFacts.{covers-with_change, covers-with_altered}
@@ -42,103 +44,146 @@ some_is h = cc
 not_none : {X Y : Type 0} {x : X} → Some x ≡ None → Y
 not_none h = absurd (false≢true (sym (ap is_some h)))
 
+abbrev land_with : List ℕ → List ℕ → TerritoryModel → SourcesModel → LandModel
+land_with code name t s = record { code = code; name = name; territory = t; sources = s }
+
+same_land : (code name called : List ℕ) (t u : TerritoryModel) (s q : SourcesModel) →
+    name ≡ called → t ≡ u → s ≡ q → land_with code name t s ≡ land_with code called u q
+same_land code name called t u s q named land cited =
+    ap (λ n. land_with code n t s) named
+    ∙ ap (λ v. land_with code called v s) land
+    ∙ ap (land_with code called u) cited
+
 -- the entry that is written under a key, seen as the plain list
 module _ {K V : Type 0} (text : K → List ℕ) (name : V → List ℕ) (territory : V → TerritoryModel)
+    (sources : V → SourcesModel)
   where
-    pub map-set_value : (code : List ℕ) (f : TerritoryModel → TerritoryModel) (es : List (K × V))
-        (v w : V) → lookup (λ k. bytes_eq code (text k)) es ≡ Some v → name w ≡ name v →
-        territory w ≡ f (territory v) → map (land_in text name territory)
-        (set_value (λ k. bytes_eq code (text k)) es w) ≡ with_territory code f
-        (map (land_in text name territory) es)
-    map-set_value code f [] v w found called land = not_none (sym found)
-    map-set_value code f (e ∷ es) v w found called land =
+    pub map-set_value : (code : List ℕ) (f : TerritoryModel → TerritoryModel)
+        (g : SourcesModel → SourcesModel) (es : List (K × V)) (v w : V) →
+        lookup (λ k. bytes_eq code (text k)) es ≡ Some v → name w ≡ name v →
+        territory w ≡ f (territory v) → sources w ≡ g (sources v) →
+        map (land_in text name territory sources)
+        (set_value (λ k. bytes_eq code (text k)) es w) ≡ with_territory code f g
+        (map (land_in text name territory sources) es)
+    map-set_value code f g [] v w found called land cited = not_none (sym found)
+    map-set_value code f g (e ∷ es) v w found called land cited =
         elim (bytes_eq code (text e.0)) as (λ b. cond b (Some e.1)
         (lookup (λ k. bytes_eq code (text k)) es) ≡ Some v →
-        map (land_in text name territory) (cond b ((e.0, w) ∷ es)
+        map (land_in text name territory sources) (cond b ((e.0, w) ∷ es)
         (e ∷ set_value (λ k. bytes_eq code (text k)) es w)) ≡ cond b
-        (record (land_in text name territory e) { territory = f (territory e.1) } ∷ map
-        (land_in text name territory) es) (land_in text name territory e ∷ with_territory code f
-        (map (land_in text name territory) es))) [
-          | true ↦ λ h. ap (λ (n : List ℕ). let l : LandModel = record
-              { code = text e.0; name = n; territory = territory w } in l ∷ map
-              (land_in text name territory) es) (called ∙ ap name (sym (some_is h)))
-              ∙ ap (λ (t : TerritoryModel). let l : LandModel = record
-              { code = text e.0; name = name e.1; territory = t } in l ∷ map
-              (land_in text name territory) es) (land ∙ ap (λ x. f (territory x))
-              (sym (some_is h)))
-          | false ↦ λ h. ap (λ ls. land_in text name territory e ∷ ls)
-              (map-set_value code f es v w h called land)
+        (record (land_in text name territory sources e)
+        { territory = f (territory e.1); sources = g (sources e.1) } ∷ map
+        (land_in text name territory sources) es)
+        (land_in text name territory sources e ∷ with_territory code f g
+        (map (land_in text name territory sources) es))) [
+          | true ↦ λ h. ap (λ (l : LandModel). l ∷ map (land_in text name territory sources) es)
+              (same_land (text e.0) (name w) (name e.1) (territory w) (f (territory e.1))
+              (sources w) (g (sources e.1)) (called ∙ ap name (sym (some_is h)))
+              (land ∙ ap (λ x. f (territory x)) (sym (some_is h)))
+              (cited ∙ ap (λ x. g (sources x)) (sym (some_is h))))
+          | false ↦ λ h. ap (λ ls. land_in text name territory sources e ∷ ls)
+              (map-set_value code f g es v w h called land cited)
         ] found
 
-land_of-with : (code other : List ℕ) (f : TerritoryModel → TerritoryModel) (ls : List LandModel) →
-    land_of other ls ≡ None → land_of other (with_territory code f ls) ≡ None
-land_of-with code other f [] none = refl
-land_of-with code other f (l ∷ ls) none =
+land_of-with : (code other : List ℕ) (f : TerritoryModel → TerritoryModel)
+    (g : SourcesModel → SourcesModel) (ls : List LandModel) →
+    land_of other ls ≡ None → land_of other (with_territory code f g ls) ≡ None
+land_of-with code other f g [] none = refl
+land_of-with code other f g (l ∷ ls) none =
     let first = apart_first other l ls none in
     elim (bytes_eq code l.code) as (λ b. land_of other (cond b
-    (record l { territory = f l.territory } ∷ ls) (l ∷ with_territory code f ls)) ≡ None) [
-      | true ↦ ap (λ b. cond b (Some (record l { territory = f l.territory })) (land_of other ls))
+    (record l { territory = f l.territory; sources = g l.sources } ∷ ls)
+    (l ∷ with_territory code f g ls)) ≡ None) [
+      | true ↦ ap (λ b. cond b (Some (record l {
+        territory = f l.territory;
+        sources = g l.sources;
+      })) (land_of other ls))
           first.0 ∙ first.1
-      | false ↦ ap (λ b. cond b (Some l) (land_of other (with_territory code f ls))) first.0 ∙
-          land_of-with code other f ls first.1
+      | false ↦ ap (λ b. cond b (Some l) (land_of other (with_territory code f g ls))) first.0 ∙
+          land_of-with code other f g ls first.1
     ]
 
-AreDistinct-with : (code : List ℕ) (f : TerritoryModel → TerritoryModel) (ls : List LandModel) →
-    AreDistinct ls → AreDistinct (with_territory code f ls)
-AreDistinct-with code f [] distinct = tt
-AreDistinct-with code f (l ∷ ls) distinct =
+AreDistinct-with : (code : List ℕ) (f : TerritoryModel → TerritoryModel)
+    (g : SourcesModel → SourcesModel) (ls : List LandModel) →
+    AreDistinct ls → AreDistinct (with_territory code f g ls)
+AreDistinct-with code f g [] distinct = tt
+AreDistinct-with code f g (l ∷ ls) distinct =
     elim (bytes_eq code l.code) as (λ b. AreDistinct (cond b
-    (record l { territory = f l.territory } ∷ ls) (l ∷ with_territory code f ls))) [
+    (record l { territory = f l.territory; sources = g l.sources } ∷ ls)
+    (l ∷ with_territory code f g ls))) [
       | true ↦ distinct
-      | false ↦ (land_of-with code l.code f ls distinct.0, AreDistinct-with code f ls distinct.1)
+      | false ↦ (
+        land_of-with code l.code f g ls distinct.0,
+        AreDistinct-with code f g ls
+            distinct.1,
+      )
     ]
 
-AreNamed-with : (code : List ℕ) (f : TerritoryModel → TerritoryModel) (ls : List LandModel) →
-    AreNamed ls → AreNamed (with_territory code f ls)
-AreNamed-with code f [] named = tt
-AreNamed-with code f (l ∷ ls) named =
+AreNamed-with : (code : List ℕ) (f : TerritoryModel → TerritoryModel)
+    (g : SourcesModel → SourcesModel) (ls : List LandModel) →
+    AreNamed ls → AreNamed (with_territory code f g ls)
+AreNamed-with code f g [] named = tt
+AreNamed-with code f g (l ∷ ls) named =
     elim (bytes_eq code l.code) as (λ b. AreNamed (cond b
-    (record l { territory = f l.territory } ∷ ls) (l ∷ with_territory code f ls))) [
+    (record l { territory = f l.territory; sources = g l.sources } ∷ ls)
+    (l ∷ with_territory code f g ls))) [
       | true ↦ named
-      | false ↦ (named.0, named.1, AreNamed-with code f ls named.2)
+      | false ↦ (named.0, named.1, AreNamed-with code f g ls named.2)
     ]
 
-length-with : (code : List ℕ) (f : TerritoryModel → TerritoryModel) (ls : List LandModel) →
-    length (with_territory code f ls) ≡ length ls
-length-with code f [] = refl
-length-with code f (l ∷ ls) =
-    elim (bytes_eq code l.code) as (λ b. length (cond b (record l { territory = f l.territory } ∷
-    ls) (l ∷ with_territory code f ls)) ≡ suc (length ls)) [
+length-with : (code : List ℕ) (f : TerritoryModel → TerritoryModel)
+    (g : SourcesModel → SourcesModel) (ls : List LandModel) →
+    length (with_territory code f g ls) ≡ length ls
+length-with code f g [] = refl
+length-with code f g (l ∷ ls) =
+    elim (bytes_eq code l.code) as (λ b. length (cond b
+    (record l { territory = f l.territory; sources = g l.sources } ∷
+    ls) (l ∷ with_territory code f g ls)) ≡ suc (length ls)) [
       | true ↦ refl
-      | false ↦ ap suc (length-with code f ls)
+      | false ↦ ap suc (length-with code f g ls)
     ]
 
 AreSound-with : (p : Profile) (limits : Limits) (code : List ℕ)
-    (f : TerritoryModel → TerritoryModel) (ls : List LandModel) → AreSound p limits ls →
+    (f : TerritoryModel → TerritoryModel) (g : SourcesModel → SourcesModel)
+    (ls : List LandModel) → AreSound p limits ls →
     ((t : TerritoryModel) → territory_of code ls ≡ Some t → IsSoundTerritory p limits t →
-    IsSoundTerritory p limits (f t)) → AreSound p limits (with_territory code f ls)
-AreSound-with p limits code f [] few still = tt
-AreSound-with p limits code f (l ∷ ls) few still =
+    IsSoundTerritory p limits (f t)) → AreSound p limits (with_territory code f g ls)
+AreSound-with p limits code f g [] few still = tt
+AreSound-with p limits code f g (l ∷ ls) few still =
     elim (bytes_eq code l.code) as (λ b. ((t : TerritoryModel) →
     option_map (λ (k : LandModel). k.territory) (cond b (Some l) (land_of code ls)) ≡ Some t →
     IsSoundTerritory p limits t → IsSoundTerritory p limits (f t)) →
-    AreSound p limits (cond b (record l { territory = f l.territory } ∷ ls)
-    (l ∷ with_territory code f ls))) [
+    AreSound p limits (cond b (record l { territory = f l.territory; sources = g l.sources } ∷ ls)
+    (l ∷ with_territory code f g ls))) [
       | true ↦ λ here. (here l.territory refl few.0, few.1)
-      | false ↦ λ later. (few.0, AreSound-with p limits code f ls few.1 later)
+      | false ↦ λ later. (few.0, AreSound-with p limits code f g ls few.1 later)
     ] still
+
+HaveSources-with : (code : List ℕ) (f : TerritoryModel → TerritoryModel)
+    (g : SourcesModel → SourcesModel) (ls : List LandModel) → HaveSources ls →
+    ((s : SourcesModel) → HasSources s → HasSources (g s)) →
+    HaveSources (with_territory code f g ls)
+HaveSources-with code f g [] given still = tt
+HaveSources-with code f g (l ∷ ls) given still =
+    elim (bytes_eq code l.code) as (λ b. HaveSources (cond b
+    (record l { territory = f l.territory; sources = g l.sources } ∷ ls)
+    (l ∷ with_territory code f g ls))) [
+      | true ↦ (still l.sources given.0, given.1)
+      | false ↦ (given.0, HaveSources-with code f g ls given.1 still)
+    ]
 
 -- a register stays well formed where one of its territories is changed within the limit
 pub IsWellFormed-with : (p : Profile) (r : RegisterModel) (code : List ℕ)
-    (f : TerritoryModel → TerritoryModel) → IsWellFormed p r →
+    (f : TerritoryModel → TerritoryModel) (g : SourcesModel → SourcesModel) → IsWellFormed p r →
     ((t : TerritoryModel) → territory_of code r.lands ≡ Some t → IsSoundTerritory p r.limits t →
-    IsSoundTerritory p r.limits (f t)) → IsWellFormed p (record r
-    { lands = with_territory code f r.lands })
-IsWellFormed-with p r code f w still = record {
-  distinct = AreDistinct-with code f r.lands w.distinct;
-  named = AreNamed-with code f r.lands w.named;
-  within = omega (arith, length-with code f r.lands, w.within);
-  territories = AreSound-with p r.limits code f r.lands w.territories still;
+    IsSoundTerritory p r.limits (f t)) → ((s : SourcesModel) → HasSources s → HasSources (g s)) →
+    IsWellFormed p (record r { lands = with_territory code f g r.lands })
+IsWellFormed-with p r code f g w still given = record {
+  distinct = AreDistinct-with code f g r.lands w.distinct;
+  named = AreNamed-with code f g r.lands w.named;
+  within = omega (arith, length-with code f g r.lands, w.within);
+  territories = AreSound-with p r.limits code f g r.lands w.territories still;
+  sources = HaveSources-with code f g r.lands w.sources given;
 }
 
 -- what is lawful in a territory of a known code
@@ -359,10 +404,12 @@ still_sound p limits (DropException y) t lawful sound =
       listed = listed_without p (λ other. y == other) t.exceptions sound.listed;
     }
 
-pub with_same : (code : List ℕ) (ls : List LandModel) → with_territory code (λ t. t) ls ≡ ls
+pub with_same : (code : List ℕ) (ls : List LandModel) → with_territory code (λ t. t)
+    (λ s. s) ls ≡ ls
 with_same code [] = refl
 with_same code (l ∷ ls) =
-    elim (bytes_eq code l.code) as (λ b. cond b (l ∷ ls) (l ∷ with_territory code (λ t. t) ls) ≡ l ∷
+    elim (bytes_eq code l.code) as (λ b. cond b (l ∷ ls) (l ∷ with_territory code (λ t. t)
+    (λ s. s) ls) ≡ l ∷
     ls) [
       | true ↦ refl
       | false ↦ ap (λ ks. l ∷ ks) (with_same code ls)
@@ -370,19 +417,20 @@ with_same code (l ∷ ls) =
 
 -- the register once a territory was written under its key
 pub register-with : {K V : Type 0} (text : K → List ℕ) (name : V → List ℕ)
-    (territory : V → TerritoryModel) (limits : Limits) (es new : List (K × V)) (now : RegisterModel)
-    (code : List ℕ) (f : TerritoryModel → TerritoryModel) (v w : V) →
-    record { limits = limits; lands = map (land_in text name territory) es } ≡ now →
+    (territory : V → TerritoryModel) (sources : V → SourcesModel) (limits : Limits)
+    (es new : List (K × V)) (now : RegisterModel) (code : List ℕ)
+    (f : TerritoryModel → TerritoryModel) (g : SourcesModel → SourcesModel) (v w : V) →
+    record { limits = limits; lands = map (land_in text name territory sources) es } ≡ now →
     new ≡ set_value (λ k. bytes_eq code (text k)) es w →
     lookup (λ k. bytes_eq code (text k)) es ≡ Some v → name w ≡ name v →
-    territory w ≡ f (territory v) → record {
+    territory w ≡ f (territory v) → sources w ≡ g (sources v) → record {
       limits = limits;
-      lands = map
-          (land_in text name territory) new;
-    } ≡ record now { lands = with_territory code f now.lands }
-register-with text name territory limits es new now code f v w is written found called land =
+      lands = map (land_in text name territory sources) new;
+    } ≡ record now { lands = with_territory code f g now.lands }
+register-with text name territory sources limits es new now code f g v w is written found called
+    land cited =
     ap (λ (ls : List LandModel). let r : RegisterModel = record { limits = limits; lands = ls } in
     r)
-    (ap (map (land_in text name territory)) written ∙ map-set_value text name territory code f es v
-    w found called land)
-    ∙ ap (λ (r : RegisterModel). record r { lands = with_territory code f r.lands }) is
+    (ap (map (land_in text name territory sources)) written
+    ∙ map-set_value text name territory sources code f g es v w found called land cited)
+    ∙ ap (λ (r : RegisterModel). record r { lands = with_territory code f g r.lands }) is

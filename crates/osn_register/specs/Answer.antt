@@ -1,7 +1,7 @@
 -- What the register answers to a query: this project's profile.
 use Rattle.std.specs.Prelude.{ℕ, Bool, true, false, not, ◌&&◌, ◌||◌, if◌then◌else◌, nat_le, ℤ, pos}
 use Rattle.std.specs.Prelude.{unsigned_abs, List, [], ◌∷◌, map, find, Option, Some, None, is_some}
-use Rattle.std.specs.Prelude.{option_map, Result, Ok, Err}
+use Rattle.std.specs.Prelude.{option_map, option_and_then, Result, Ok, Err}
 use Rattle.std.specs.List.{list_any}
 use Rattle.osn_days.specs.Profile.{Profile}
 use Rattle.osn_days.specs.declared.calendar.Calendar.TheVariants as calendar
@@ -44,6 +44,7 @@ use Rattle.osn_register.specs.declared.answer.Answer.TheVariants.{Lands, Periods
 use Rattle.osn_register.specs.declared.answer.Found.{Found}
 use Rattle.osn_register.specs.declared.answer.FoundRun.{FoundRun}
 use Rattle.osn_register.specs.declared.answer.Land.{Land}
+use Rattle.osn_register.specs.declared.answer.PeriodAndSource.{PeriodAndSource}
 use Rattle.osn_register.specs.declared.answer.Reason.{Reason}
 use Rattle.osn_register.specs.declared.answer.Reason.TheVariants as reasons
 use Rattle.osn_register.specs.declared.answer.WrittenAnswer.{WrittenAnswer}
@@ -51,8 +52,9 @@ use Rattle.osn_register.specs.declared.refusal.Refusal.{Refusal}
 use Rattle.osn_register.specs.declared.refusal.Refusal.TheVariants.{UnknownLand, DayOffLine}
 use Rattle.osn_register.specs.declared.refusal.Refusal.TheVariants.{YearOffRange, BadDate}
 use Rattle.osn_register.specs.Refusal.{first_refusal, or_else}
-use Rattle.osn_register.specs.Plain.{LandModel, territory_of, code_refusal, is_between, is_off_line}
-use Rattle.osn_register.specs.Plain.{is_off_years}
+use Rattle.osn_register.specs.Plain.{LandModel, territory_of, sources_of, code_refusal}
+use Rattle.osn_register.specs.Plain.{is_between, is_off_line, is_off_years}
+use Rattle.osn_register.specs.Sources.{SourcesModel, source_of}
 
 -- why a reading is refused for its date
 abbrev pub date_refusal : Profile → ℤ → ℤ → ℤ → Option Refusal
@@ -113,19 +115,33 @@ holds d period = nat_le period.first d && nat_le d period.last
 abbrev pub period_on : List Period → ℕ → Option Period
 period_on periods d = find (holds d) periods
 
-abbrev pub on_day : Option Period → Found → Answer
-on_day None found = Refused DayOffLine
-on_day (Some period) found = OnDay found period
+-- the source of the period that starts on a day
+abbrev pub period_source : Option SourcesModel → ℕ → Option (List ℕ)
+period_source sources d = option_and_then (λ s. source_of d s.periods) sources
 
-abbrev pub day_answer : Profile → Option TerritoryModel → ℕ → Answer
-day_answer p None d = Refused UnknownLand
-day_answer p (Some t) d = on_day (period_on (periods_of p t) d) (found_on p t d)
+-- the source of the listed Easter of a year
+abbrev pub easter_source : Option SourcesModel → ℕ → Option (List ℕ)
+easter_source sources y = option_and_then (λ s. source_of y s.easters) sources
 
--- the Easters of a year, and whether they are listed
-abbrev pub easters_answer : Profile → Option TerritoryModel → ℕ → Answer
-easters_answer p None y = Refused UnknownLand
-easters_answer p (Some t) y =
+abbrev pub and_source : Option SourcesModel → Period → PeriodAndSource
+and_source sources period =
+    record { period = period; source = period_source sources period.first }
+
+abbrev pub on_day : Option SourcesModel → Option Period → Found → Answer
+on_day sources None found = Refused DayOffLine
+on_day sources (Some period) found = OnDay found (and_source sources period)
+
+abbrev pub day_answer : Profile → Option TerritoryModel → Option SourcesModel → ℕ → Answer
+day_answer p None sources d = Refused UnknownLand
+day_answer p (Some t) sources d =
+    on_day sources (period_on (periods_of p t) d) (found_on p t d)
+
+-- the Easters of a year, whether they are listed, and the source of that
+abbrev pub easters_answer : Profile → Option TerritoryModel → Option SourcesModel → ℕ → Answer
+easters_answer p None sources y = Refused UnknownLand
+easters_answer p (Some t) sources y =
     Easters (map (found_on p t) (easters p t y)) (is_some (exception_of t y))
+    (easter_source sources y)
 
 -- the figures of a year with its letters and Easters, of which each year in the range has both
 abbrev pub figures_with : ℕ → Option Letters → Option Letters → Option ℕ → Option ℕ → Answer
@@ -143,9 +159,9 @@ figures_of p y = figures_with y
     (letters_of p calendar.Julian y) (letters_of p calendar.Gregorian y)
     (easter_of p rule.Julian y) (easter_of p rule.Gregorian y)
 
-abbrev pub periods_answer : Profile → Option TerritoryModel → Answer
-periods_answer p None = Refused UnknownLand
-periods_answer p (Some t) = Periods (periods_of p t)
+abbrev pub periods_answer : Profile → Option TerritoryModel → Option SourcesModel → Answer
+periods_answer p None sources = Refused UnknownLand
+periods_answer p (Some t) sources = Periods (map (and_source sources) (periods_of p t))
 
 -- ---- a date as it is written
 
@@ -250,19 +266,20 @@ read_answer p lands code year month day =
 abbrev pub day_in_answer : Profile → List LandModel → List ℕ → ℤ → Answer
 day_in_answer p lands code day =
     unless (day_refusal p lands code day)
-    (day_answer p (territory_of code lands) (unsigned_abs day))
+    (day_answer p (territory_of code lands) (sources_of code lands) (unsigned_abs day))
 
 abbrev pub easter_answer : Profile → List LandModel → List ℕ → ℤ → Answer
 easter_answer p lands code year =
     unless (easter_refusal p lands code year)
-    (easters_answer p (territory_of code lands) (unsigned_abs year))
+    (easters_answer p (territory_of code lands) (sources_of code lands) (unsigned_abs year))
 
 abbrev pub figures_answer : Profile → ℤ → Answer
 figures_answer p year = unless (year_refusal p year) (figures_of p (unsigned_abs year))
 
 abbrev pub periods_in_answer : Profile → List LandModel → List ℕ → Answer
 periods_in_answer p lands code =
-    unless (code_refusal lands code) (periods_answer p (territory_of code lands))
+    unless (code_refusal lands code)
+    (periods_answer p (territory_of code lands) (sources_of code lands))
 
 abbrev pub written_in_answer : Profile → List LandModel → List ℕ → List ℕ → Option Weekday → Answer
 written_in_answer p lands code text given =

@@ -4,7 +4,6 @@ use Rattle.std.specs.Prelude.{map, filter, Option, IfSome}
 use Rattle.osn_days.specs.Profile.{Profile}
 use Rattle.osn_days.specs.Line.{IsOnLine, IsYearNumber}
 use Rattle.osn_lands.specs.declared.regime.Regime.{Regime}
-use Rattle.osn_lands.specs.declared.period.Period.{Period}
 use Rattle.osn_lands.specs.Territory.{TerritoryModel}
 use Rattle.osn_lands.specs.Exceptions.{exception_of}
 use Rattle.osn_register.specs.declared.query.Query.{Query}
@@ -12,6 +11,7 @@ use Rattle.osn_register.specs.declared.query.Query.TheVariants as queries
 use Rattle.osn_register.specs.declared.answer.Answer.{Answer}
 use Rattle.osn_register.specs.declared.answer.Answer.TheVariants.{Reading, OnDay, Easters, Periods}
 use Rattle.osn_register.specs.declared.answer.Found.{Found}
+use Rattle.osn_register.specs.declared.answer.PeriodAndSource.{PeriodAndSource}
 use Rattle.osn_register.specs.Plain.{LandModel, territory_of}
 use Rattle.osn_register.specs.Answer.{answer, refusal_in}
 
@@ -19,15 +19,15 @@ use Rattle.osn_register.specs.Answer.{answer, refusal_in}
 abbrev pub found_in : Answer → List Found
 found_in (Reading found skipped) = found
 found_in (OnDay found period) = found ∷ []
-found_in (Easters found listed) = found
+found_in (Easters found listed source) = found
 found_in answer = []
 
--- a period without its last day
-abbrev pub start_of : Period → ℕ × Regime
-start_of period = (period.first, period.regime)
+-- a period without its last day: its first day, its regime and its source
+abbrev pub start_of : PeriodAndSource → ℕ × Regime × Option (List ℕ)
+start_of p = (p.period.first, p.period.regime, p.source)
 
--- the first days of an answer's periods, each with its regime
-abbrev pub starts_in : Answer → List (ℕ × Regime)
+-- the first days of an answer's periods, each with its regime and its source
+abbrev pub starts_in : Answer → List (ℕ × Regime × Option (List ℕ))
 starts_in (OnDay found period) = start_of period ∷ []
 starts_in (Periods periods) = map start_of periods
 starts_in answer = []
@@ -50,8 +50,8 @@ abbrev pub KeepsReading : Profile → Answer → Answer → Type 0
 KeepsReading p before now =
     (refusal_in now ≡ refusal_in before) × (found_until p (found_in now) ≡ found_in before)
 
--- refused alike, and the day is named alike, in a period of the same regime from the same day on.
--- Nothing is said of the period's last day
+-- refused alike, and the day is named alike, in a period of the same regime and the same source
+-- from the same day on. Nothing is said of the period's last day
 abbrev pub KeepsDay : Answer → Answer → Type 0
 KeepsDay before now =
     (refusal_in now ≡ refusal_in before) × (found_in now ≡ found_in before)

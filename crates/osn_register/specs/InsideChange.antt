@@ -1,5 +1,5 @@
 -- How the register makes a lawful edit of a territory, and how it fails to answer a query.
-use Rattle.std.specs.Prelude.{pos, Bool, true, false, Option}
+use Rattle.std.specs.Prelude.{ℕ, pos, Bool, true, false, List, Option}
 use Rattle.osn_days.specs.Profile.{Profile}
 use Rattle.osn_lands.specs.Territory.{TerritoryModel}
 use Rattle.osn_lands.specs.Changes.{with_change, with_altered, without_change}
@@ -10,6 +10,7 @@ use Rattle.osn_register.specs.declared.change.TerritoryEdit.TheVariants.{AddExce
 use Rattle.osn_register.specs.declared.change.TerritoryEdit.TheVariants.{DropException}
 use Rattle.osn_register.specs.declared.limits.Limits.{Limits}
 use Rattle.osn_register.specs.declared.refusal.Refusal.{Refusal}
+use Rattle.osn_register.specs.Sources.{SourcesModel, with_period_source, with_easter_source}
 use Rattle.osn_register.specs.Plain.{add_change_refusal, alter_change_refusal, drop_change_refusal}
 use Rattle.osn_register.specs.Plain.{add_exception_refusal, drop_exception_refusal}
 
@@ -35,3 +36,19 @@ change_takes_memory (Alter day regime) = false
 change_takes_memory (Drop day) = false
 change_takes_memory (AddException year day) = true
 change_takes_memory (DropException year) = false
+
+-- the number by which the source of what is changed is found
+abbrev pub number_of : TerritoryEdit → ℕ
+number_of (Add day regime) = day
+number_of (Alter day regime) = day
+number_of (Drop day) = day
+number_of (AddException year day) = year
+number_of (DropException year) = year
+
+-- what is said is the source of what the change is of
+abbrev pub sources_after : TerritoryEdit → Option (List ℕ) → SourcesModel → SourcesModel
+sources_after (Add day regime) source s = with_period_source day source s
+sources_after (Alter day regime) source s = with_period_source day source s
+sources_after (Drop day) source s = with_period_source day source s
+sources_after (AddException year day) source s = with_easter_source year source s
+sources_after (DropException year) source s = with_easter_source year source s

@@ -3,7 +3,10 @@ pub mod Refusal
 pub mod Code
 pub mod Query
 pub mod BorrowedQuery
+pub mod Sources
 pub mod Plain
+pub mod Lawful
+pub mod SameLand
 pub mod Named
 pub mod ByName
 pub mod Answer

@@ -7,3 +7,7 @@ use Rattle.osn_register.specs.Plain.{LandModel, land_of}
 abbrev pub named_of : List ℕ → List LandModel → Option (List ℕ × TerritoryModel)
 named_of code lands =
     option_map {U = List ℕ × TerritoryModel} (λ l. (l.name, l.territory)) (land_of code lands)
+
+-- the code, the name and the territory of a place
+abbrev pub listing_of : LandModel → List ℕ × List ℕ × TerritoryModel
+listing_of l = (l.code, l.name, l.territory)

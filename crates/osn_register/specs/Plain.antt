@@ -30,12 +30,15 @@ use Rattle.osn_register.specs.declared.refusal.Refusal.TheVariants.{TooManyExcep
 use Rattle.osn_register.specs.declared.refusal.Refusal.TheVariants.{StyleNeedsJulian}
 use Rattle.osn_register.specs.Refusal.{first_refusal, or_else}
 use Rattle.osn_register.specs.Code.{is_code, is_name}
+use Rattle.osn_register.specs.Sources.{SourcesModel, HasSources, opening_sources}
+use Rattle.osn_register.specs.Sources.{with_period_source, with_easter_source}
 
--- a territory with its code and name
+-- a territory with its code, its name and its sources
 pub record LandModel : Type 0 where
   pub code : List ℕ
   pub name : List ℕ
   pub territory : TerritoryModel
+  pub sources : SourcesModel
 
 -- the territories under limits
 pub record RegisterModel : Type 0 where
@@ -48,6 +51,10 @@ land_of code lands = find (λ l. bytes_eq code l.code) lands
 
 abbrev pub territory_of : List ℕ → List LandModel → Option TerritoryModel
 territory_of code lands = option_map (λ l. l.territory) (land_of code lands)
+
+-- the sources of the territory of a code
+abbrev pub sources_of : List ℕ → List LandModel → Option SourcesModel
+sources_of code lands = option_map (λ l. l.sources) (land_of code lands)
 
 abbrev pub is_between : ℤ → ℤ → ℤ → Bool
 is_between low high n = int_le low n && int_le n high
@@ -126,53 +133,66 @@ refusal_in lands code refused =
 
 -- why an edit is refused, if it is
 abbrev pub refusal : Profile → Limits → List LandModel → Edit → Option Refusal
-refusal p limits lands (AddLand code name regime) =
+refusal p limits lands (AddLand code name regime source) =
     add_land_refusal p limits lands code name regime
-refusal p limits lands (AddChange code day regime) =
+refusal p limits lands (AddChange code day regime source) =
     refusal_in lands code (add_change_refusal p limits day regime)
-refusal p limits lands (AlterChange code day regime) =
+refusal p limits lands (AlterChange code day regime source) =
     refusal_in lands code (alter_change_refusal p day regime)
 refusal p limits lands (DropChange code day) = refusal_in lands code (drop_change_refusal p day)
-refusal p limits lands (AddException code year day) =
+refusal p limits lands (AddException code year day source) =
     refusal_in lands code (add_exception_refusal p limits year day)
 refusal p limits lands (DropException code year) =
     refusal_in lands code (drop_exception_refusal p year)
 
--- only what adds a territory, a change or an exception takes memory
+-- only what adds a territory, a change, an exception or a source takes memory
 abbrev pub takes_memory : Edit → Bool
-takes_memory (AddLand code name regime) = true
-takes_memory (AddChange code day regime) = true
-takes_memory (AlterChange code day regime) = false
+takes_memory (AddLand code name regime source) = true
+takes_memory (AddChange code day regime source) = true
+takes_memory (AlterChange code day regime source) = is_some source
 takes_memory (DropChange code day) = false
-takes_memory (AddException code year day) = true
+takes_memory (AddException code year day source) = true
 takes_memory (DropException code year) = false
 
--- the territories, with a change of the one that has the code
-abbrev pub with_territory : List ℕ
-    → (TerritoryModel → TerritoryModel) → List LandModel → List LandModel
-with_territory code change [] = []
-with_territory code change (l ∷ ls) =
-    if bytes_eq code l.code then record l { territory = change l.territory } ∷ ls
-    else l ∷ with_territory code change ls
+-- the territories, with a change of the one that has the code, and of its sources
+abbrev pub with_territory : List ℕ → (TerritoryModel → TerritoryModel)
+    → (SourcesModel → SourcesModel) → List LandModel → List LandModel
+with_territory code change cite [] = []
+with_territory code change cite (l ∷ ls) =
+    if bytes_eq code l.code
+    then record l { territory = change l.territory; sources = cite l.sources } ∷ ls
+    else l ∷ with_territory code change cite ls
 
 -- the territories, with one more
-abbrev pub with_land : List LandModel → List ℕ → List ℕ → TerritoryModel → List LandModel
-with_land lands code name territory =
-    lands ++ record { code = code; name = name; territory = territory } ∷ []
+abbrev pub with_land : List LandModel → List ℕ → List ℕ → TerritoryModel → SourcesModel
+    → List LandModel
+with_land lands code name territory sources = lands ++ record {
+  code = code;
+  name = name;
+  territory = territory;
+  sources = sources;
+} ∷ []
 
--- the territories after a lawful edit
+-- The territories after a lawful edit. What is added or altered has the source that the edit gives,
+-- or none, and what is dropped has none
 abbrev pub effect : List LandModel → Edit → List LandModel
-effect lands (AddLand code name regime) = with_land lands code name (opened regime)
-effect lands (AddChange code day regime) =
-    with_territory code (λ t. with_change t (unsigned_abs day) regime) lands
-effect lands (AlterChange code day regime) =
-    with_territory code (λ t. with_altered t (unsigned_abs day) regime) lands
+effect lands (AddLand code name regime source) =
+    with_land lands code name (opened regime) (opening_sources source)
+effect lands (AddChange code day regime source) =
+    with_territory code (λ t. with_change t (unsigned_abs day) regime)
+    (with_period_source (unsigned_abs day) source) lands
+effect lands (AlterChange code day regime source) =
+    with_territory code (λ t. with_altered t (unsigned_abs day) regime)
+    (with_period_source (unsigned_abs day) source) lands
 effect lands (DropChange code day) =
-    with_territory code (λ t. without_change t (unsigned_abs day)) lands
-effect lands (AddException code year day) =
-    with_territory code (λ t. with_exception t (unsigned_abs year) (unsigned_abs day)) lands
+    with_territory code (λ t. without_change t (unsigned_abs day))
+    (with_period_source (unsigned_abs day) None) lands
+effect lands (AddException code year day source) =
+    with_territory code (λ t. with_exception t (unsigned_abs year) (unsigned_abs day))
+    (with_easter_source (unsigned_abs year) source) lands
 effect lands (DropException code year) =
-    with_territory code (λ t. without_exception t (unsigned_abs year)) lands
+    with_territory code (λ t. without_exception t (unsigned_abs year))
+    (with_easter_source (unsigned_abs year) None) lands
 
 abbrev pub unless_refused : Option Refusal → List LandModel → List LandModel → List LandModel
 unless_refused None new old = new
@@ -234,11 +254,17 @@ abbrev pub AreNamed : List LandModel → Type 0
 AreNamed [] = Unit {0}
 AreNamed (l ∷ ls) = (is_code l.code ≡ true) × (is_name l.name ≡ true) × AreNamed ls
 
--- codes are distinct, and codes and names of their forms. The territories, their changes and their
--- exceptions are within their limits. The periods of each territory cover the line, and its years
--- with an exception ascend
+-- every source is one that may be given
+abbrev pub HaveSources : List LandModel → Type 0
+HaveSources [] = Unit {0}
+HaveSources (l ∷ ls) = HasSources l.sources × HaveSources ls
+
+-- codes are distinct, and codes, names and sources of their forms. The territories, their changes
+-- and their exceptions are within their limits. The periods of each territory cover the line, and
+-- its years with an exception ascend
 pub record IsWellFormed (p : Profile) (r : RegisterModel) : Type 0 where
   pub distinct : AreDistinct r.lands
   pub named : AreNamed r.lands
   pub within : length r.lands ≤ r.limits.lands
   pub territories : AreSound p r.limits r.lands
+  pub sources : HaveSources r.lands

@@ -1,6 +1,7 @@
 //! What the register answers.
 use crate::listing::{DayList, Listing};
 use crate::refusal::Refusal;
+use crate::source::Source;
 use crate::text::Text;
 use osn_computus::{Epact, Letters};
 use osn_days::{Day, Year};
@@ -28,8 +29,15 @@ pub type FoundList = Listing<Found>;
 /// Territories in the order in which they were added.
 pub type LandList = Listing<Land>;
 
+/// A period of a territory, and the source that states it, where one is given.
+#[derive(Debug, Drop)]
+pub struct PeriodAndSource {
+    pub period: Period,
+    pub source: Option<Source>,
+}
+
 /// The periods of a territory, in ascending order.
-pub type PeriodList = Listing<Period>;
+pub type PeriodList = Listing<PeriodAndSource>;
 
 /// Days that follow one another, by the first and the last of them.
 #[derive(Debug, Drop)]
@@ -83,12 +91,14 @@ pub enum Answer {
     /// A day as the territory names it, and the period that holds it.
     OnDay {
         found: Found,
-        period: Period,
+        period: PeriodAndSource,
     },
-    /// The days that were Easter of a year in a territory, and whether a listed exception says so.
+    /// The days that were Easter of a year in a territory, whether a listed exception says so, and
+    /// the source of that, where one is given.
     Easters {
         found: FoundList,
         listed: bool,
+        source: Option<Source>,
     },
     /// The figures of a year, its Sunday letters in both calendars and its Easters by both rules.
     /// The golden number is from 1 to 19, the indiction from 1 to 15, an epact from 0 to 29.

@@ -1,10 +1,14 @@
-//! Lawful changes of a territory.
-ghost use Rattle.std.specs.Prelude.{◌≡◌, true, None, OnOk, OnErr};
+//! Lawful changes of a territory and of its sources.
+ghost use Rattle.std.specs.Prelude.{◌≡◌, ◌||◌, true, None, OnOk, OnErr, is_some};
 ghost use Rattle.osn_days.specs.Profile.{newest_rules};
 ghost use Rattle.osn_register.specs.declared.limits.Limits.{Limits};
 ghost use Rattle.osn_register.specs.InsideChange.{change_refusal, territory_after};
-ghost use Rattle.osn_register.specs.InsideChange.{change_takes_memory};
+ghost use Rattle.osn_register.specs.Inside.{sources_in};
+ghost use Rattle.osn_register.specs.InsideChange.{change_takes_memory, number_of, sources_after};
+ghost use Rattle.osn_register.specs.Sources.{IsGiven, with_source};
 
+use crate::source::Source;
+use crate::sources::{Sources, put, remove};
 use osn_days::{Day, Year};
 use osn_lands::{Regime, Territory};
 use std::alloc::AllocError;
@@ -21,14 +25,14 @@ pub(crate) enum TerritoryEdit {
 
 impl TerritoryEdit {
     /// Makes the change. Without memory nothing has changed.
-    pub(crate) fn make(self, territory: &mut Territory) -> Result<(), AllocError>
-        requires { (limits : Limits) × (change_refusal newest_rules limits self territory.old
+    fn change(&self, territory: &mut Territory) -> Result<(), AllocError>
+        requires { (limits : Limits) × (change_refusal newest_rules limits self.now territory.old
             ≡ None) }
-        ensures ok { OnOk result (territory.new ≡ territory_after self territory.old) }
+        ensures ok { OnOk result (territory.new ≡ territory_after self.now territory.old) }
         ensures err { OnErr result (territory.new ≡ territory.old) }
-        ensures memory { OnErr result (change_takes_memory self ≡ true) }
+        ensures memory { OnErr result (change_takes_memory self.now ≡ true) }
     {
-        match self {
+        match *self {
             TerritoryEdit::Add(day, regime) => territory.insert_change(day, regime),
             TerritoryEdit::Alter(day, regime) => {
                 territory.set_regime(day, regime);
@@ -42,6 +46,79 @@ impl TerritoryEdit {
             TerritoryEdit::DropException(year) => {
                 territory.remove_exception(year);
                 Ok(())
+            }
+        }
+    }
+
+    /// The number by which the source of what is changed is found: that of the day on which a
+    /// period starts, or that of the year of a listed Easter.
+    fn number(self) -> u32
+        ensures { result ≡ number_of self }
+    {
+        match self {
+            TerritoryEdit::Add(day, _) | TerritoryEdit::Alter(day, _) | TerritoryEdit::Drop(day) =>
+                day.number(),
+            TerritoryEdit::AddException(year, _) | TerritoryEdit::DropException(year) => {
+                year.number()
+            }
+        }
+    }
+
+    /// Makes the change, and gives what it is of this source, or none. Without memory nothing has
+    /// changed.
+    fn change_with(
+        self,
+        territory: &mut Territory,
+        sources: &mut Vec<(u32, Source)>,
+        source: Option<Source>,
+    ) -> Result<(), AllocError>
+        requires { (limits : Limits) × (change_refusal newest_rules limits self territory.old
+            ≡ None) }
+        ensures ok { OnOk result ((territory.new ≡ territory_after self territory.old)
+            × (sources.new.items ≡ with_source (number_of self) source sources.old.items)) }
+        ensures err { OnErr result ((territory.new ≡ territory.old)
+            × (sources.new.items ≡ sources.old.items)) }
+        ensures memory { OnErr result (change_takes_memory self || is_some source ≡ true) }
+    {
+        let number = self.number();
+        match source {
+            Some(source) => {
+                sources.reserve(1)?;
+                self.change(territory)?;
+                put(sources, number, source);
+            }
+            None => {
+                self.change(territory)?;
+                remove(sources, number);
+            }
+        }
+        Ok(())
+    }
+
+    /// Makes the change, and gives what it is of a copy of this source, or none. Without memory
+    /// nothing has changed.
+    pub(crate) fn make(
+        self,
+        territory: &mut Territory,
+        sources: &mut Sources,
+        source: &Option<Source>,
+    ) -> Result<(), AllocError>
+        requires { (limits : Limits) × (change_refusal newest_rules limits self territory.old
+            ≡ None) }
+        ensures ok { OnOk result ((territory.new ≡ territory_after self territory.old)
+            × (sources_in sources.new ≡ sources_after self source.now (sources_in sources.old))) }
+        ensures allowed { OnOk result (IsGiven source.now) }
+        ensures err { OnErr result ((territory.new ≡ territory.old)
+            × (sources_in sources.new ≡ sources_in sources.old)) }
+        ensures memory { OnErr result (change_takes_memory self || is_some source.now ≡ true) }
+    {
+        let source = Source::copy_if_given(source)?;
+        match self {
+            TerritoryEdit::Add(..) | TerritoryEdit::Alter(..) | TerritoryEdit::Drop(_) => {
+                self.change_with(territory, &mut sources.periods, source)
+            }
+            TerritoryEdit::AddException(..) | TerritoryEdit::DropException(_) => {
+                self.change_with(territory, &mut sources.easters, source)
             }
         }
     }

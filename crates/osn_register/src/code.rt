@@ -27,7 +27,7 @@ fn are_code_bytes(bytes: &[u8]) -> bool
     bytes.iter().all(|byte| is_code_byte(*byte))
 }
 
-fn are_name_bytes(bytes: &[u8]) -> bool
+pub(crate) fn are_name_bytes(bytes: &[u8]) -> bool
     ensures { result ≡ list_all form.is_name_byte bytes.now }
 {
     bytes.iter().all(|byte| is_name_byte(*byte))

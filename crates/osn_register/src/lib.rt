@@ -17,13 +17,16 @@ mod numbers;
 mod query;
 mod refusal;
 mod register;
+mod source;
+mod sources;
 mod territory_answer;
 mod text;
 mod unanswered;
 mod written_answer;
 
 pub use answer::{
-    Answer, Found, FoundList, FoundRun, Land, LandList, PeriodList, Reason, RunList, WrittenAnswer,
+    Answer, Found, FoundList, FoundRun, Land, LandList, PeriodAndSource, PeriodList, Reason,
+    RunList, WrittenAnswer,
 };
 pub use borrowed_query::BorrowedQuery;
 pub use edit::Edit;
@@ -32,4 +35,5 @@ pub use listing::{DayList, Listing};
 pub use query::Query;
 pub use refusal::Refusal;
 pub use register::Register;
+pub use source::Source;
 pub use text::Text;

@@ -1,6 +1,7 @@
 //! The register: its edits, and why one is refused.
 ghost use Rattle.std.specs.Prelude.{◌≡◌, ◌++◌, [], ◌∷◌, true, Some, None, IfOk, IfErr, OnOk, OnErr};
-ghost use Rattle.std.specs.Prelude.{◌<◌, length, is_some, option_copied, string_bytes};
+ghost use Rattle.std.specs.Prelude.{◌<◌, ◌||◌, length, is_some, option_copied, option_map};
+ghost use Rattle.std.specs.Prelude.{string_bytes};
 ghost use Rattle.osn_days.specs.Profile.{newest_rules};
 ghost use Rattle.osn_lands.specs.Territory.{opened};
 ghost use Rattle.osn_lands.specs.Changes.{regime_fault};
@@ -8,15 +9,19 @@ ghost use Rattle.osn_register.specs.Code as form;
 ghost use Rattle.osn_register.specs.Plain.{refusal, add_land_refusal, code_refusal, refusal_in};
 ghost use Rattle.osn_register.specs.Plain.{with_land, with_territory, effect, applied, folded};
 ghost use Rattle.osn_register.specs.Plain.{takes_memory};
-ghost use Rattle.osn_register.specs.Plain.{apply_takes_memory, land_of, territory_of};
+ghost use Rattle.osn_register.specs.Plain.{apply_takes_memory, land_of, territory_of, sources_of};
 ghost use Rattle.osn_register.specs.Plain.{IsSoundTerritory, IsWellFormed};
 ghost use Rattle.osn_register.specs.Refusal.{IsTestOf, IsRefusalOrNoMemory};
 ghost use Rattle.osn_register.specs.InsideChange.{change_refusal, territory_after};
-ghost use Rattle.osn_register.specs.InsideChange.{change_takes_memory};
+ghost use Rattle.osn_register.specs.InsideChange.{change_takes_memory, sources_after};
+ghost use Rattle.osn_register.specs.Inside.{sources_in};
+ghost use Rattle.osn_register.specs.Lawful.{source_given};
+ghost use Rattle.osn_register.specs.Sources.{HasSources, IsGiven, opening_sources};
 
 mod copy;
 mod lands;
 mod queries;
+mod sources;
 
 use crate::change::TerritoryEdit;
 use crate::code::{is_code, is_name};
@@ -27,6 +32,8 @@ use crate::edit_checks::{
 };
 use crate::limits::Limits;
 use crate::refusal::Refusal;
+use crate::source::Source;
+use crate::sources::Sources;
 use crate::text::Text;
 use indexmap::IndexMap;
 use osn_days::{Day, Year};
@@ -34,31 +41,43 @@ use osn_lands::{Regime, Territory};
 use std::alloc::{AllocError, Global};
 use std::marker::Model;
 
-/// A territory with its name, kept by its code.
+/// A territory with its name and its sources, kept by its code.
 #[derive(Drop)]
 struct NamedTerritory {
     name: Text,
     territory: Territory,
+    sources: Sources,
 }
 
 impl NamedTerritory {
     /// A territory that opens with a regime.
-    fn new(alloc: Global, name: &Text, regime: Regime) -> Result<NamedTerritory, AllocError>
+    fn new(
+        alloc: Global,
+        name: &Text,
+        regime: Regime,
+        source: &Option<Source>,
+    ) -> Result<NamedTerritory, AllocError>
         requires { regime_fault regime ≡ None }
-        ensures { IfOk result (λ e. (e.name ≡ name.now) × (e.territory ≡ opened regime)) }
+        ensures { IfOk result (λ e. (e.name ≡ name.now) × (e.territory ≡ opened regime)
+            × (sources_in e.sources ≡ opening_sources source.now)
+            × IsGiven source.now) }
     {
         Ok(NamedTerritory {
             name: name.copy()?,
             territory: Territory::open(alloc, regime)?,
+            sources: Sources::of_opening(alloc, source)?,
         })
     }
 
-    fn copy(&self) -> Result<NamedTerritory, AllocError>
-        ensures { IfOk result (λ e. e ≡ self.now) }
+    fn copy(&self, alloc: Global) -> Result<NamedTerritory, AllocError>
+        ensures { IfOk result (λ e. (e.name ≡ self.now.name)
+            × (e.territory ≡ self.now.territory)
+            × (sources_in e.sources ≡ sources_in self.now.sources)) }
     {
         Ok(NamedTerritory {
             name: self.name.copy()?,
             territory: self.territory.copy()?,
+            sources: self.sources.copy(alloc)?,
         })
     }
 }
@@ -117,6 +136,32 @@ impl Register {
         let (_, territory) = self.land(code)?;
         Ok(territory)
     }
+
+    /// The territory of a code, with its sources.
+    fn known_land(&self, code: &str) -> Result<(&Territory, &Sources), Refusal>
+        ensures test { IsTestOf (code_refusal self.now.lands code.now) result }
+        ensures territory { IfOk result (λ l.
+            territory_of code.now self.now.lands ≡ Some l.0.now) }
+        ensures sources { IfOk result (λ l.
+            sources_of code.now self.now.lands ≡ Some (sources_in l.1.now)) }
+    {
+        let territory = self.known_territory(code)?;
+        match self.sources(code) {
+            Some(sources) => Ok((territory, sources)),
+            None => Err(Refusal::UnknownLand),
+        }
+    }
+
+    /// The sources of the territory of a code, where some territory has it.
+    fn sources(&self, code: &str) -> Option<&Sources>
+        ensures { option_map (λ s. sources_in s.now) result
+            ≡ sources_of code.now self.now.lands }
+    {
+        match self.lands.get(code) {
+            Some(entry) => Some(&entry.sources),
+            None => None,
+        }
+    }
 }
 
 impl Register {
@@ -129,26 +174,38 @@ impl Register {
         ensures { IsTestOf (refusal newest_rules self.now.limits self.now.lands edit.now) result }
     {
         match edit {
-            Edit::AddLand { code, name, regime } => {
-                self.check_add_land(code.as_str(), name.as_str(), *regime)
-            }
-            Edit::AddChange { code, day, regime } => {
+            Edit::AddLand {
+                code,
+                name,
+                regime,
+                ..
+            } => self.check_add_land(code.as_str(), name.as_str(), *regime),
+            Edit::AddChange {
+                code,
+                day,
+                regime,
+                ..
+            } => {
                 let territory = self.known_territory(code.as_str())?;
                 check_add_change(self.limits, territory, *day, *regime)
             }
-            Edit::AlterChange { code, day, regime } => {
-                check_alter_change(self.known_territory(code.as_str())?, *day, *regime)
-            }
+            Edit::AlterChange {
+                code,
+                day,
+                regime,
+                ..
+            } => check_alter_change(self.known_territory(code.as_str())?, *day, *regime),
             Edit::DropChange { code, day } => {
                 check_drop_change(self.known_territory(code.as_str())?, *day)
             }
-            Edit::AddException { code, year, day } => {
-                check_add_exception(
-                    self.limits,
-                    self.known_territory(code.as_str())?,
-                    *year,
-                    *day,
-                )
+            Edit::AddException {
+                code,
+                year,
+                day,
+                ..
+            } => {
+                let territory = self.known_territory(code.as_str())?;
+                check_add_exception(self.limits, territory, *year, *day)
             }
             Edit::DropException { code, year } => {
                 check_drop_exception(self.known_territory(code.as_str())?, *year)
@@ -182,7 +239,7 @@ impl Register {
     /// # Errors
     ///
     /// The first refusal that applies, and else `NoMemory` where none is found, of which an edit
-    /// that alters or drops takes none. Nothing has changed then.
+    /// that drops takes none, nor one that alters and gives no source. Nothing has changed then.
     pub fn apply(&mut self, edit: &Edit) -> Result<(), Refusal>
         ensures lawful { OnOk result
             (refusal newest_rules self.old.limits self.old.lands edit.now ≡ None) }
@@ -220,72 +277,107 @@ impl Register {
     ///
     /// # Errors
     ///
-    /// Only where no memory is found, of which an edit that alters or drops takes none. Nothing has
-    /// changed then.
+    /// Only where no memory is found, of which an edit that drops takes none, nor one that alters
+    /// and gives no source. Nothing has changed then.
     pub fn admit(&mut self, edit: &Edit) -> Result<(), AllocError>
         requires { refusal newest_rules self.old.limits self.old.lands edit.now ≡ None }
         ensures ok { OnOk result
             (self.new ≡ record self.old { lands = effect self.old.lands edit.now }) }
+        ensures source { OnOk result (IsGiven (source_given edit.now)) }
         ensures err { OnErr result (self.new ≡ self.old) }
         ensures memory { OnErr result (takes_memory edit.now ≡ true) }
     {
         match edit {
-            Edit::AddLand { code, name, regime } => self.add_land(code, name, *regime),
-            Edit::AddChange { code, day, regime } => {
-                self.change(
-                    code.as_str(),
-                    TerritoryEdit::Add(Day::on_line(*day), *regime),
-                )
+            Edit::AddLand {
+                code,
+                name,
+                regime,
+                source,
+            } => self.add_land(code, name, *regime, source),
+            Edit::AddChange {
+                code,
+                day,
+                regime,
+                source,
+            } => {
+                let change = TerritoryEdit::Add(Day::on_line(*day), *regime);
+                self.change(code.as_str(), change, source)
             }
-            Edit::AlterChange { code, day, regime } => {
-                self.change(
-                    code.as_str(),
-                    TerritoryEdit::Alter(Day::on_line(*day), *regime),
-                )
+            Edit::AlterChange {
+                code,
+                day,
+                regime,
+                source,
+            } => {
+                let change = TerritoryEdit::Alter(Day::on_line(*day), *regime);
+                self.change(code.as_str(), change, source)
             }
             Edit::DropChange { code, day } => {
-                self.change(code.as_str(), TerritoryEdit::Drop(Day::on_line(*day)))
-            }
-            Edit::AddException { code, year, day } => {
-                let change = TerritoryEdit::AddException(Year::in_range(*year), Day::on_line(*day));
-                self.change(code.as_str(), change)
-            }
-            Edit::DropException { code, year } => {
                 self.change(
                     code.as_str(),
-                    TerritoryEdit::DropException(Year::in_range(*year)),
+                    TerritoryEdit::Drop(Day::on_line(*day)),
+                    &None,
                 )
+            }
+            Edit::AddException {
+                code,
+                year,
+                day,
+                source,
+            } => {
+                let change = TerritoryEdit::AddException(Year::in_range(*year), Day::on_line(*day));
+                self.change(code.as_str(), change, source)
+            }
+            Edit::DropException { code, year } => {
+                let change = TerritoryEdit::DropException(Year::in_range(*year));
+                self.change(code.as_str(), change, &None)
             }
         }
     }
 
-    /// Makes a lawful change in the territory of a code.
-    fn change(&mut self, code: &str, change: TerritoryEdit) -> Result<(), AllocError>
+    /// Makes a lawful change in the territory of a code, and gives what it is of this source, or
+    /// none.
+    fn change(
+        &mut self,
+        code: &str,
+        change: TerritoryEdit,
+        source: &Option<Source>,
+    ) -> Result<(), AllocError>
         requires { refusal_in self.old.lands code.now
             (change_refusal newest_rules self.old.limits change) ≡ None }
         ensures ok { OnOk result (self.new ≡ record self.old {
-          lands = with_territory code.now (territory_after change) self.old.lands;
+          lands = with_territory code.now (territory_after change)
+              (sources_after change source.now) self.old.lands;
         }) }
+        ensures source { OnOk result (IsGiven source.now) }
         ensures err { OnErr result (self.new ≡ self.old) }
-        ensures memory { OnErr result (change_takes_memory change ≡ true) }
+        ensures memory { OnErr result (change_takes_memory change || is_some source.now ≡ true) }
     {
         let entry = self.lands.get_mut(code).unwrap();
-        change.make(&mut entry.territory)
+        change.make(&mut entry.territory, &mut entry.sources, source)
     }
 
-    fn add_land(&mut self, code: &Text, name: &Text, regime: Regime) -> Result<(), AllocError>
+    fn add_land(
+        &mut self,
+        code: &Text,
+        name: &Text,
+        regime: Regime,
+        source: &Option<Source>,
+    ) -> Result<(), AllocError>
         requires absent { land_of code.now self.old.lands ≡ None }
         requires code { form.is_code code.now ≡ true }
         requires name { form.is_name name.now ≡ true }
         requires regime { regime_fault regime ≡ None }
         requires room { length self.old.lands < self.old.limits.lands }
         ensures ok { OnOk result (self.new ≡ record self.old {
-          lands = with_land self.old.lands code.now name.now (opened regime);
+          lands = with_land self.old.lands code.now name.now (opened regime)
+              (opening_sources source.now);
         }) }
+        ensures source { OnOk result (IsGiven source.now) }
         ensures err { OnErr result (self.new ≡ self.old) }
     {
         let key = String::from_str(self.alloc, code.as_str())?;
-        self.insert(key, NamedTerritory::new(self.alloc, name, regime)?)
+        self.insert(key, NamedTerritory::new(self.alloc, name, regime, source)?)
     }
 
     fn insert(&mut self, code: String, entry: NamedTerritory) -> Result<(), AllocError>
@@ -294,8 +386,10 @@ impl Register {
         requires name { form.is_name entry.name ≡ true }
         requires room { length self.old.lands < self.old.limits.lands }
         requires territory { IsSoundTerritory newest_rules self.old.limits entry.territory }
+        requires sources { HasSources (sources_in entry.sources) }
         ensures ok { OnOk result (self.new ≡ record self.old {
-          lands = with_land self.old.lands (string_bytes code) entry.name entry.territory;
+          lands = with_land self.old.lands (string_bytes code) entry.name entry.territory
+              (sources_in entry.sources);
         }) }
         ensures err { OnErr result (self.new ≡ self.old) }
     {

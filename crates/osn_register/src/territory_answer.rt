@@ -1,12 +1,15 @@
 //! Answers about one territory.
-ghost use Rattle.std.specs.Prelude.{◌≡◌, true, Some, None, IfOk, OnErr, All, map};
+ghost use Rattle.std.specs.Prelude.{◌≡◌, true, Some, None, IfOk, OnErr, All, map, option_map};
 ghost use Rattle.osn_days.specs.Profile.{newest_rules};
 ghost use Rattle.osn_lands.specs.Territory.{regime_at, periods_of};
 ghost use Rattle.osn_lands.specs.Label.{local_label};
 ghost use Rattle.osn_register.specs.Answer as spec;
+ghost use Rattle.osn_register.specs.Inside.{sources_in};
 
-use crate::answer::{Answer, Found};
+use crate::answer::{Answer, Found, PeriodAndSource};
 use crate::listing::Listing;
+use crate::source::Source;
+use crate::sources::{Sources, source_of};
 use crate::text::Text;
 use osn_days::{Day, Year};
 use osn_lands::{Label, Period, Regime, Territory, dual_text, label_of};
@@ -69,41 +72,92 @@ fn read_days(
     Ok(found)
 }
 
+/// A source that is lent, as one that an answer owns.
+fn owned(source: Option<&Source>) -> Result<Option<Source>, AllocError>
+    ensures { IfOk result (λ s. s ≡ option_map (λ b. b.now) source.entry) }
+{
+    match source {
+        Some(source) => Ok(Some(source.copy()?)),
+        None => Ok(None),
+    }
+}
+
+/// A period with its source.
+fn and_source(sources: &Sources, period: Period) -> Result<PeriodAndSource, AllocError>
+    ensures { IfOk result (λ p. p ≡ spec.and_source (Some (sources_in sources.now)) period) }
+{
+    Ok(PeriodAndSource {
+        period,
+        source: owned(source_of(&sources.periods, period.first.number()))?,
+    })
+}
+
+/// Periods, each with its source.
+fn and_sources(
+    alloc: Global,
+    sources: &Sources,
+    periods: &[Period],
+) -> Result<Vec<PeriodAndSource>, AllocError>
+    ensures { IfOk result (λ v.
+        v.items ≡ map (spec.and_source (Some (sources_in sources.now))) periods.now) }
+{
+    let mut list = Vec::with_capacity(alloc, periods.len())?;
+    for period in periods {
+        list.push(and_source(sources, *period)?)?;
+    }
+    Ok(list)
+}
+
 /// A day as a territory names it, with the period that holds it.
-pub(crate) fn on_day(alloc: Global, territory: &Territory, day: Day) -> Result<Answer, AllocError>
-    ensures value { IfOk result (λ a. a ≡ spec.day_answer newest_rules (Some territory.now) day) }
+pub(crate) fn on_day(
+    alloc: Global,
+    territory: &Territory,
+    sources: &Sources,
+    day: Day,
+) -> Result<Answer, AllocError>
+    ensures value { IfOk result (λ a. a ≡ spec.day_answer newest_rules (Some territory.now)
+        (Some (sources_in sources.now)) day) }
     ensures answered { IfOk result (λ a. spec.refusal_in a ≡ None) }
-    ensures memory { OnErr result
-        (spec.takes_memory (spec.day_answer newest_rules (Some territory.now) day) ≡ true) }
+    ensures memory { OnErr result (spec.takes_memory (spec.day_answer newest_rules
+        (Some territory.now) (Some (sources_in sources.now)) day) ≡ true) }
 {
     let period = period_on(territory, day);
     let label = label_of(period.regime, day);
     Ok(Answer::OnDay {
         found: found_under(alloc, period.regime, day, label)?,
-        period,
+        period: and_source(sources, period)?,
     })
 }
 
-/// The periods of a territory.
-pub(crate) fn periods(alloc: Global, territory: &Territory) -> Result<Answer, AllocError>
-    ensures { IfOk result (λ a. a ≡ spec.periods_answer newest_rules (Some territory.now)) }
+/// The periods of a territory, each with its source.
+pub(crate) fn periods(
+    alloc: Global,
+    territory: &Territory,
+    sources: &Sources,
+) -> Result<Answer, AllocError>
+    ensures { IfOk result (λ a. a ≡ spec.periods_answer newest_rules (Some territory.now)
+        (Some (sources_in sources.now))) }
 {
-    Ok(Answer::Periods(Listing::new(territory.periods().to_vec(alloc)?)))
+    let periods = and_sources(alloc, sources, territory.periods())?;
+    Ok(Answer::Periods(Listing::new(periods)))
 }
 
 /// The Easters of a year in a territory.
 pub(crate) fn easters(
     alloc: Global,
     territory: &Territory,
+    sources: &Sources,
     year: Year,
 ) -> Result<Answer, AllocError>
-    ensures { IfOk result (λ a. a ≡ spec.easters_answer newest_rules (Some territory.now) year) }
+    ensures { IfOk result (λ a. a ≡ spec.easters_answer newest_rules (Some territory.now)
+        (Some (sources_in sources.now)) year) }
 {
     let days = territory.easters(year)?;
     let found = found_days(alloc, territory, days.as_slice())?;
     Ok(Answer::Easters {
         found: Listing::new(found),
         listed: territory.exception(year).is_some(),
+        source: owned(source_of(&sources.easters, year.number()))?,
     })
 }
 

@@ -2,10 +2,10 @@
 use Rattle.std.proofs.Common.{◌≡◌, ℕ, ℤ, pos, negsuc, zero, suc, ◌-◌, ◌^◌, ◌<◌, ◌≤◌, replicate}
 use Rattle.std.proofs.Common.{List, [], ◌∷◌, ◌++◌, length, drop, Bool, true, false, ◌==◌}
 use Rattle.std.proofs.Common.{if◌then◌else◌, IsUtf8, codes, decimal, refl, ap, sym, subst, ◌∙◌}
-use Rattle.std.proofs.Common.{arith, append_assoc, append-nil}
+use Rattle.std.proofs.Common.{arith, append_assoc, append-nil, Option, Some, None}
 use Rattle.std.specs.List.{list_all}
 use Rattle.std.specs.Fmt.{signed_decimal}
-use Rattle.osn_format.specs.Json.{signed}
+use Rattle.osn_format.specs.Json.{signed, source_member}
 use Rattle.std.proofs.lemmas.Bool.{and_parts, or_parts, not-true, eqb-false, ltb-false}
 use Rattle.std.proofs.lemmas.List.{drop-append-le, length-append}
 use Rattle.std.proofs.lemmas.Str.{IsUtf8-append}
@@ -13,14 +13,15 @@ use Rattle.std.proofs.lemmas.Grind.{flat_map-append}
 use Rattle.std.proofs.lemmas.Fmt.{decimal_is_IsNumeral}
 use Rattle.std.proofs.lemmas.Str.Parse.{digit_from_value}
 use Rattle.std.specs.Str.Parse.{AllDigits}
-use Rattle.serde_json.specs.Data.{Data}
-use Rattle.serde_json.specs.Written.{compact_text}
+use Rattle.serde_json.specs.Data.{Data, Members}
+use Rattle.serde_json.specs.Written.{compact_text, members_text}
 use Rattle.json.specs.Run.{is_plain, is_stop}
 use Rattle.json.specs.Print.{escape, escape_byte, quoted, print, print_from}
 use Rattle.json.specs.Token.{string}
 use Rattle.osn_days.specs.DateText.{at_least, date_digits}
 use Rattle.json.proofs.Printed.Strings.{escape_byte_plain}
 use Rattle.osn_reply.specs.ReplyText.{answered_data}
+use Rattle.osn_reply.specs.SourceInside.{source_text}
 
 -- bytes that are a text go on after the start
 pub goes_on : (start : ℕ) (old new bytes : List ℕ) (ok : Bool) →
@@ -120,6 +121,14 @@ chain old (p ∷ ps) end =
     chain (old ++ (p.0 ++ p.1)) ps end
     ∙ (append_assoc old (p.0 ++ p.1) (joined ps end)
     ∙ ap (λ l. old ++ l) (append_assoc p.0 p.1 (joined ps end)))
+
+-- a source that was written before further members
+pub source_before : (source : Option (List ℕ)) (rest : Members) →
+    source_text source ++ members_text true rest ≡ members_text true (source_member source rest)
+unfolding escape_byte
+source_before None rest = refl
+source_before (Some source) rest =
+    append_assoc (codes ",\"source\":") (quoted source) (members_text true rest)
 
 -- an answer that was begun and then ended is the whole reply
 pub whole_reply : (old mid new : List ℕ) (reader edition : ℕ) (given answer : Data) →

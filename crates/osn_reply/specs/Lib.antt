@@ -3,3 +3,4 @@ pub mod ReplyText
 pub mod OutText
 pub mod Transcript
 pub mod LineWriterInside
+pub mod SourceInside

@@ -13,7 +13,6 @@ use Rattle.osn_days.specs.Weekday.{weekday_name, weekday_numbered}
 use Rattle.osn_days.specs.DateText.{date_text, text_of_date}
 use Rattle.osn_days.specs.CalendarWords.{calendar_word}
 use Rattle.osn_lands.specs.declared.regime.Regime.{Regime}
-use Rattle.osn_lands.specs.declared.period.Period.{Period}
 use Rattle.osn_lands.specs.StyleWords.{style_word}
 use Rattle.osn_written.specs.declared.kind.Kind.{Kind}
 use Rattle.osn_written.specs.Kind.{kind_word}
@@ -23,6 +22,7 @@ use Rattle.osn_register.specs.declared.answer.Answer.TheVariants as answers
 use Rattle.osn_register.specs.declared.answer.Found.{Found}
 use Rattle.osn_register.specs.declared.answer.FoundRun.{FoundRun}
 use Rattle.osn_register.specs.declared.answer.Land.{Land}
+use Rattle.osn_register.specs.declared.answer.PeriodAndSource.{PeriodAndSource}
 use Rattle.osn_register.specs.declared.answer.Reason.{Reason}
 use Rattle.osn_register.specs.declared.answer.Reason.TheVariants.{NotRead, NoDay}
 use Rattle.osn_register.specs.declared.answer.WrittenAnswer.{WrittenAnswer}
@@ -34,7 +34,7 @@ use Rattle.osn_reply.specs.declared.outcome.Outcome.TheVariants.{Staged, Publish
 use Rattle.osn_reply.specs.declared.outcome.Outcome.TheVariants.{Replied}
 use Rattle.osn_format.specs.Member.{member_name}
 use Rattle.osn_format.specs.WireFault.{wire_fault_number, wire_fault_name}
-use Rattle.osn_format.specs.Json.{whole, list_data}
+use Rattle.osn_format.specs.Json.{whole, list_data, source_member}
 
 -- a day as a territory names it
 abbrev pub found_data : Found → Data
@@ -56,15 +56,16 @@ regime_data r = object (
     (member (codes "style") (string (style_word r.style))
     no_members)))
 
--- a period by its first and last day and its regime
-abbrev pub period_data : Period → Data
+-- a period by its first and last day and its regime, and its source
+abbrev pub period_data : PeriodAndSource → Data
 period_data p = object (
-    member (codes "calendar") (string (calendar_word p.regime.calendar))
-    (member (codes "first") (whole p.first)
-    (member (codes "last") (whole p.last)
-    (member (codes "rule") (string (rule_word p.regime.rule))
-    (member (codes "style") (string (style_word p.regime.style))
-    no_members)))))
+    member (codes "calendar") (string (calendar_word p.period.regime.calendar))
+    (member (codes "first") (whole p.period.first)
+    (member (codes "last") (whole p.period.last)
+    (member (codes "rule") (string (rule_word p.period.regime.rule))
+    (source_member p.source
+    (member (codes "style") (string (style_word p.period.regime.style))
+    no_members))))))
 
 -- a territory
 abbrev pub land_data : Land → Data
@@ -79,21 +80,23 @@ reading_data found skipped = object (
     (member (codes "skipped") (list_data (map whole skipped))
     no_members))
 
--- a day as the territory names it, and the period that holds it
-abbrev pub on_day_data : Found → Period → Data
-on_day_data found period = object (
-    member (codes "first") (whole period.first)
+-- a day as the territory names it, and the period that holds it, with its source
+abbrev pub on_day_data : Found → PeriodAndSource → Data
+on_day_data found p = object (
+    member (codes "first") (whole p.period.first)
     (member (codes "found") (found_data found)
-    (member (codes "last") (whole period.last)
-    (member (codes "regime") (regime_data period.regime)
-    no_members))))
+    (member (codes "last") (whole p.period.last)
+    (member (codes "regime") (regime_data p.period.regime)
+    (source_member p.source
+    no_members)))))
 
--- the Easters of a year, and whether an exception is listed for it
-abbrev pub easters_data : List Found → Bool → Data
-easters_data found listed = object (
+-- the Easters of a year, whether an exception is listed for it, and the source of that
+abbrev pub easters_data : List Found → Bool → Option (List ℕ) → Data
+easters_data found listed source = object (
     member (codes "days") (list_data (map found_data found))
     (member (codes "listed") (boolean listed)
-    no_members))
+    (source_member source
+    no_members)))
 
 -- the figures of a year by one rule
 abbrev pub reckoning_data : ℕ → Data → Letters → Data
@@ -116,7 +119,7 @@ figures_data year golden indiction gregorian julian = object (
 abbrev pub lands_data : List Land → Data
 lands_data lands = object (member (codes "lands") (list_data (map land_data lands)) no_members)
 
-abbrev pub periods_data : List Period → Data
+abbrev pub periods_data : List PeriodAndSource → Data
 periods_data periods =
     object (member (codes "periods") (list_data (map period_data periods)) no_members)
 
@@ -171,8 +174,8 @@ replied_data reader edition (answers.Reading found skipped) =
     answered_data reader edition (reading_data found skipped)
 replied_data reader edition (answers.OnDay found period) =
     answered_data reader edition (on_day_data found period)
-replied_data reader edition (answers.Easters found listed) =
-    answered_data reader edition (easters_data found listed)
+replied_data reader edition (answers.Easters found listed source) =
+    answered_data reader edition (easters_data found listed source)
 replied_data reader edition
     (answers.Figures year golden indiction julian_epact gregorian_epact
     julian_letters gregorian_letters julian_easter gregorian_easter) =

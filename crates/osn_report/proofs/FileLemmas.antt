@@ -1,6 +1,5 @@
 -- What a command makes of a file is what the file's reader says.
-use Rattle.std.proofs.Common.{◌≡◌, ℕ, Bool, List, Option, Result, Err}
-use Rattle.osn_lines.specs.Streams.{Input}
+use Rattle.std.proofs.Common.{ℕ, Bool, List, Option, Result, Err}
 use Rattle.osn_files.specs.Files.{ReadsFile}
 use Rattle.osn_files.specs.declared.fault.FileFault.{FileFault}
 use Rattle.osn_files.specs.declared.fault.FileFault.TheVariants as file_faults

@@ -1,10 +1,9 @@
 -- The message about a fault is what its contract says.
-use Rattle.std.proofs.Common.{◌≡◌, ℕ, List, ◌++◌, codes, refl, sym, subst, ◌∙◌, inl, inr}
+use Rattle.std.proofs.Common.{◌≡◌, ℕ, List, refl, sym, subst, ◌∙◌, inl, inr}
 use Rattle.osn_lines.specs.Streams.{Output}
-use Rattle.osn_register.specs.Refusal.{refusal_number, refusal_name}
 use Rattle.osn_register.specs.declared.refusal.Refusal.{Refusal}
 use Rattle.osn_register.specs.declared.refusal.Refusal.TheVariants as refusals
-use Rattle.osn_report.specs.Fault.{fault_status, fault_line, refusal_end}
+use Rattle.osn_report.specs.Fault.{fault_status, fault_line, hinted_line}
 use Rattle.osn_report.specs.Messages.{EndsBy, Tells, TellsIfMade, WritesLine}
 use Rattle.osn_report.specs.declared.fault.CommandFault.{CommandFault}
 use Rattle.osn_report.specs.declared.fault.CommandFault.TheVariants.{NoMemory, Refused}
@@ -28,19 +27,13 @@ pub tells_by : (e : Output) (fault other : CommandFault) (status : Status)
     → fault ≡ other → EndsBy e other status → Tells e fault status
 tells_by e fault other status is h = inl (subst (λ f. EndsBy e f status) (sym is) h)
 
--- a refusal other than want of memory is told by its number and name
+-- a refusal other than want of memory is told by its number and name, and by how more is allowed
 pub other_status : (refusal : Refusal) → (refusal ≡ refusals.NoMemory → ⊥)
     → fault_status (Refused refusal) ≡ statuses.Refused
 other_status refusals.NoMemory other = absurd (other refl)
 other_status refusal other = refl
 
 pub other_line : (refusal : Refusal) → (refusal ≡ refusals.NoMemory → ⊥)
-    → codes "oldstyle: " ++ refusal_end (refusal_number refusal) (refusal_name refusal)
-    ≡ fault_line (Refused refusal)
+    → hinted_line refusal ≡ fault_line (Refused refusal)
 other_line refusals.NoMemory other = absurd (other refl)
 other_line refusal other = refl
-
--- the end of a line of a refusal, by its number and name
-pub same_end : (n number : ℕ) (s name : List ℕ) → n ≡ number → s ≡ name
-    → codes "oldstyle: " ++ refusal_end n s ≡ codes "oldstyle: " ++ refusal_end number name
-same_end n number s name e k = rw (e, k) refl

@@ -24,7 +24,7 @@ use Rattle.osn_lines.specs.declared.whole.ReadAllFault.{ReadAllFault}
 use Rattle.osn_lines.specs.declared.whole.ReadAllFault.TheVariants as read_faults
 use Rattle.osn_service.specs.declared.fault.ServeFault.{ServeFault}
 use Rattle.osn_service.specs.declared.fault.ServeFault.TheVariants as serve_faults
-use Rattle.osn_report.specs.LimitHint.{limit_hint}
+use Rattle.osn_report.specs.Hint.{limit_hint, line_hint}
 use Rattle.osn_report.specs.declared.fault.CommandFault.{CommandFault}
 use Rattle.osn_report.specs.declared.fault.CommandFault.TheVariants as faults
 use Rattle.osn_report.specs.declared.status.Status.{Status}
@@ -64,6 +64,7 @@ fault_status (faults.File why) = file_status why
 fault_status (faults.Service why) = service_status why
 fault_status (faults.Refused refusal) = refusal_status refusal
 fault_status faults.KeptWithOther = Misused
+fault_status faults.UpgradeWithoutKeep = Misused
 fault_status (faults.Keep why) = ReadFault
 fault_status (faults.KeptFile why) = WriteFault
 fault_status faults.FollowedWithOther = Misused
@@ -91,13 +92,13 @@ refusal_end number name = decimal number ++ (codes " " ++ (name ++ codes "\n"))
 abbrev pub bad_line : Role → ℕ → LineFault → List ℕ
 bad_line role line why =
     codes "oldstyle: " ++ (role_name role ++ (codes " line " ++ (decimal line ++ (codes ": "
-    ++ refusal_end (line_fault_number why) (line_fault_name why ++ limit_hint why)))))
+    ++ refusal_end (line_fault_number why) (line_fault_name why ++ line_hint why)))))
 
 -- the line on a journal of a version that is not kept
 abbrev pub older_line : Version → List ℕ
 older_line version = codes "oldstyle: a journal of version "
     ++ (decimal (version_number version)
-    ++ codes " is not kept: save it anew by --journal and --save\n")
+    ++ (codes " is not kept: serve --keep with --upgrade saves it " ++ codes "anew as version 4\n"))
 
 -- the line on a refused line that the service ended at
 abbrev pub refused_line : ℕ → List ℕ
@@ -128,9 +129,14 @@ abbrev pub numbered_line : Refusal → List ℕ
 numbered_line refusal =
     codes "oldstyle: " ++ refusal_end (refusal_number refusal) (refusal_name refusal)
 
+-- the same, and how more is allowed where that is at a limit
+abbrev pub hinted_line : Refusal → List ℕ
+hinted_line refusal = codes "oldstyle: "
+    ++ refusal_end (refusal_number refusal) (refusal_name refusal ++ limit_hint refusal)
+
 abbrev pub refusal_line : Refusal → List ℕ
 refusal_line refusals.NoMemory = memory_line
-refusal_line refusal = numbered_line refusal
+refusal_line refusal = hinted_line refusal
 
 abbrev pub keep_line : KeepFault → List ℕ
 keep_line Held = codes "oldstyle: another run of the program keeps that journal\n"
@@ -156,6 +162,7 @@ fault_line (faults.File why) = file_line why
 fault_line (faults.Service why) = service_line why
 fault_line (faults.Refused refusal) = refusal_line refusal
 fault_line faults.KeptWithOther = codes "oldstyle: --keep goes with neither --journal nor --save\n"
+fault_line faults.UpgradeWithoutKeep = codes "oldstyle: --upgrade goes with --keep alone\n"
 fault_line (faults.Keep why) = keep_line why
 fault_line (faults.KeptFile why) = kept_file_line why
 fault_line faults.FollowedWithOther =

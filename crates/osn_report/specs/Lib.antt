@@ -1,5 +1,5 @@
 pub mod Status
-pub mod LimitHint
+pub mod Hint
 pub mod Misuse
 pub mod Fault
 pub mod Messages

@@ -22,6 +22,8 @@ pub enum CommandFault {
     Refused(Refusal),
     /// A journal is to be kept, and another one to begin with or to be saved.
     KeptWithOther,
+    /// A journal is to be saved anew as one that is kept, and none is to be kept.
+    UpgradeWithoutKeep,
     /// A file could not be locked, to be kept or to save a journal to it.
     Keep(KeepFault),
     /// The journal that is kept could not be changed, or is another file now.
@@ -30,7 +32,7 @@ pub enum CommandFault {
     FollowedWithOther,
     /// The journal that is followed could not be read, or is another file now.
     FollowedFile(FollowFault),
-    /// A journal of this version, which is not the newest, is not kept.
+    /// A journal of this version, which lacks words of an edit, is not kept.
     OlderVersion(Version),
     /// The line of this number was refused, and was to be the last to be answered. Lines are
     /// counted from 1.

@@ -1,13 +1,14 @@
 //! How standard error is told why a command ended early.
 ghost use Rattle.std.specs.Prelude.{◌≡◌, ◌++◌, codes, ℕ, List, IfOk, string_bytes};
 ghost use Rattle.osn_lines.specs.Streams.{output_of};
-ghost use Rattle.osn_report.specs.Fault.{bad_line, older_line, refused_line, refusal_end};
+ghost use Rattle.osn_report.specs.Fault.{bad_line, hinted_line, older_line, refused_line};
+ghost use Rattle.osn_report.specs.Fault.{refusal_end};
 ghost use Rattle.osn_report.specs.Fault.{role_name};
 ghost use Rattle.osn_report.specs.Messages.{WritesLine, EndsBy, Tells, TellsIfMade};
 ghost use Rattle.osn_report.specs.declared.fault.CommandFault.{CommandFault};
 
 use crate::fault::CommandFault;
-use crate::limit_hint::limit_hint;
+use crate::hint::{limit_hint, line_hint};
 use crate::status::Status;
 use osn_files::{FileFault, LineFault, Role};
 use osn_folder::{FollowFault, KeepFault, KeptFileFault};
@@ -24,6 +25,8 @@ const WRITE_FAULT: &str = "oldstyle: write fault\n";
 const NO_MEMORY: &str = "oldstyle: no memory\n";
 
 const KEPT_WITH_OTHER: &str = "oldstyle: --keep goes with neither --journal nor --save\n";
+
+const UPGRADE_WITHOUT_KEEP: &str = "oldstyle: --upgrade goes with --keep alone\n";
 
 const KEPT_ELSEWHERE: &str = "oldstyle: another run of the program keeps that journal\n";
 
@@ -109,7 +112,7 @@ fn bad_line(alloc: Global, role: Role, line: u64, fault: LineFault) -> Result<St
     let file = name_of(role);
     let number = fault.number();
     let name = fault.name();
-    let hint = limit_hint(fault);
+    let hint = line_hint(fault);
     format!(in alloc; "oldstyle: {file} line {line}: {number} {name}{hint}\n")
 }
 
@@ -119,8 +122,8 @@ fn older_version(alloc: Global, version: Version) -> Result<String, AllocError>
 {
     let number = version.number();
     format!(in alloc;
-        "oldstyle: a journal of version {number} is not kept: save it anew by --journal and \
---save\n"
+        "oldstyle: a journal of version {number} is not kept: serve --keep with --upgrade saves it \
+anew as version 4\n"
     )
 }
 
@@ -141,6 +144,16 @@ pub fn refused(alloc: Global, number: u8, name: &'static str) -> Result<String, 
         ≡ codes "oldstyle: " ++ refusal_end number name.now) }
 {
     format!(in alloc; "oldstyle: {number} {name}\n")
+}
+
+/// The line on a refusal, and how more is allowed where that is at a limit.
+fn hinted_line(alloc: Global, refusal: Refusal) -> Result<String, AllocError>
+    ensures { IfOk result (λ text. string_bytes text ≡ hinted_line refusal) }
+{
+    let number = refusal.number();
+    let name = refusal.name();
+    let hint = limit_hint(refusal);
+    format!(in alloc; "oldstyle: {number} {name}{hint}\n")
 }
 
 fn report_file<E: Sink>(alloc: Global, errors: &mut E, fault: FileFault) -> Status
@@ -174,7 +187,7 @@ fn report_refusal<E: Sink>(alloc: Global, errors: &mut E, refusal: Refusal) -> S
     match refusal {
         Refusal::NoMemory => tell_no_memory(errors),
         _ => {
-            let line = refused(alloc, refusal.number(), refusal.name());
+            let line = hinted_line(alloc, refusal);
             tell_line(errors, Status::Refused, line)
         }
     }
@@ -222,6 +235,7 @@ pub fn report<E: Sink>(alloc: Global, errors: &mut E, fault: CommandFault) -> St
         CommandFault::Service(fault) => report_service(errors, fault),
         CommandFault::Refused(refusal) => report_refusal(alloc, errors, refusal),
         CommandFault::KeptWithOther => tell(errors, Status::Misused, KEPT_WITH_OTHER),
+        CommandFault::UpgradeWithoutKeep => tell(errors, Status::Misused, UPGRADE_WITHOUT_KEEP),
         CommandFault::Keep(fault) => report_keep(errors, fault),
         CommandFault::KeptFile(fault) => report_kept_file(errors, fault),
         CommandFault::FollowedWithOther => tell(errors, Status::Misused, FOLLOWED_WITH_OTHER),

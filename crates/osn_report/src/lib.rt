@@ -5,7 +5,7 @@
 
 mod fault;
 mod fault_report;
-mod limit_hint;
+mod hint;
 mod misuse;
 mod printing;
 mod progress;
@@ -14,6 +14,7 @@ mod unopened;
 
 pub use fault::CommandFault;
 pub use fault_report::{refused, report, tell_line, tell_no_memory, write_line};
+pub use hint::limit_hint;
 pub use misuse::{Misuse, tell_misuse};
 pub use printing::{print, print_text};
 pub use progress::{ProgressSource, ReadProgress};

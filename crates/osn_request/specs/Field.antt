@@ -1,7 +1,7 @@
 -- The members of a line's object by their types, or the first that is missing, of another type or
 -- not one of its words. They are read of the value that `serde_json` reads. This project's profile.
 use Rattle.std.specs.Prelude.{ℕ, ℤ, Bool, true, false, List, Option, Some, None, is_some}
-use Rattle.std.specs.Prelude.{option_and_then, Result, Ok, Err}
+use Rattle.std.specs.Prelude.{option_and_then, Result, Ok, Err, ◌&&◌, if◌then◌else◌}
 use Rattle.serde_json.specs.Data.{Data}
 use Rattle.serde_json.specs.Find.{get, as_str, as_number, as_i64}
 use Rattle.osn_days.specs.Profile.{Profile}
@@ -11,12 +11,15 @@ use Rattle.osn_computus.specs.RuleWords.{rule_named}
 use Rattle.osn_lands.specs.declared.regime.Regime.{Regime}
 use Rattle.osn_lands.specs.declared.style.Style.{Style}
 use Rattle.osn_lands.specs.StyleWords.{style_named}
+use Rattle.osn_register.specs.Sources.{is_source}
 use Rattle.osn_written.specs.WrittenDate.{weekday_named}
 use Rattle.osn_format.specs.declared.member.Member.{Member}
 use Rattle.osn_format.specs.declared.member.Member.TheVariants as members
 use Rattle.osn_format.specs.declared.wire_fault.WireFault.{WireFault}
 use Rattle.osn_format.specs.declared.wire_fault.WireFault.TheVariants.{BadField}
+use Rattle.osn_format.specs.declared.version.Version.{Version}
 use Rattle.osn_format.specs.Member.{member_name}
+use Rattle.osn_format.specs.Version.{has_sources}
 
 -- one reading after another, where the first one meets no fault
 infixl 10 ◌>>=◌
@@ -63,3 +66,16 @@ regime_of p d = do
   style ← style_at p d
   rule ← word_at members.Rule rule_named d
   Ok (record { calendar = calendar; style = style; rule = rule })
+
+-- the source that a member gives, where the member is there
+abbrev pub given_source_at : Data → Result (List ℕ) WireFault
+given_source_at d = text_at members.Source d >>= λ text.
+    if is_source text then Ok text else Err (BadField members.Source)
+
+abbrev pub source_if : Bool → Data → Result (Option (List ℕ)) WireFault
+source_if false d = Ok None
+source_if true d = given_source_at d >>= λ source. Ok (Some source)
+
+-- the source of a member that may be left out, and that an earlier version does not look at
+abbrev pub source_at : Version → Data → Result (Option (List ℕ)) WireFault
+source_at v d = source_if (has_sources v && is_some (get (member_name members.Source) d)) d

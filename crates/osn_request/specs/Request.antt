@@ -6,8 +6,8 @@ use Rattle.std.specs.Str.{is_utf8, IsUtf8}
 use Rattle.serde_json.specs.Data.{Data}
 use Rattle.serde_json.specs.Read.{read}
 use Rattle.serde_json.specs.Find.{as_object}
-use Rattle.osn_days.specs.Profile.{Profile}
 use Rattle.osn_lines.specs.Lines.{longest_line}
+use Rattle.osn_format.specs.declared.version.Version.{Version}
 use Rattle.osn_format.specs.declared.wire_fault.WireFault.{WireFault}
 use Rattle.osn_format.specs.declared.wire_fault.WireFault.TheVariants.{LineTooLong, NotJson}
 use Rattle.osn_format.specs.declared.wire_fault.WireFault.TheVariants.{NotObject}
@@ -40,19 +40,19 @@ abbrev pub object_of : List ℕ → Result Data WireFault
 object_of line =
     if nat_lt longest_line (length line) then Err LineTooLong else object_in (value_of line)
 
--- the request of an object that asks for this
-abbrev pub request_by : Profile → ℕ → Data → Op → Result Request WireFault
-request_by p readers d (ops.Edit op) = edit_of p op d >>= λ e. Ok (Stage e)
-request_by p readers d ops.Publish = Ok Publish
-request_by p readers d (ops.Query op) = query_of readers op d >>= λ asked. Ok (Ask asked.0 asked.1)
+-- the request of an object that asks for this, by the rules of a version
+abbrev pub request_by : Version → ℕ → Data → Op → Result Request WireFault
+request_by v readers d (ops.Edit op) = edit_of v op d >>= λ e. Ok (Stage e)
+request_by v readers d ops.Publish = Ok Publish
+request_by v readers d (ops.Query op) = query_of readers op d >>= λ asked. Ok (Ask asked.0 asked.1)
 
 -- the request of an object
-abbrev pub request_of : Profile → ℕ → Data → Result Request WireFault
-request_of p readers d = op_of d >>= request_by p readers d
+abbrev pub request_of : Version → ℕ → Data → Result Request WireFault
+request_of v readers d = op_of d >>= request_by v readers d
 
 -- the request of a line, where there are this many readers
-abbrev pub request : Profile → ℕ → List ℕ → Result Request WireFault
-request p readers line = object_of line >>= request_of p readers
+abbrev pub request : Version → ℕ → List ℕ → Result Request WireFault
+request v readers line = object_of line >>= request_of v readers
 
 -- a line that is a text, not an empty one and not too long
 abbrev pub IsReadable : List ℕ → Type 0

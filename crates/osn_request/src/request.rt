@@ -5,7 +5,7 @@ ghost use Rattle.json.specs.Scratch.{room};
 ghost use Rattle.std.specs.Str.{IsUtf8};
 ghost use Rattle.serde_json.specs.Read.{read};
 ghost use Rattle.serde_json.specs.View.{view};
-ghost use Rattle.osn_days.specs.Profile.{newest_rules};
+ghost use Rattle.osn_format.specs.Version.{newest_version};
 ghost use Rattle.osn_lines.specs.Lines.{IsLine};
 ghost use Rattle.osn_request.specs.Flat.{is_flat};
 ghost use Rattle.osn_request.specs.LineObject.{line_data};
@@ -208,12 +208,12 @@ pub fn request_of_line(
     line: Line<'_>,
 ) -> Result<Request, RequestError>
     ensures request { (whole : List ℕ) → IsLine line.entry whole →
-        spec.Gives result (spec.request newest_rules readers whole) }
+        spec.Gives result (spec.request newest_version readers whole) }
     ensures memory { (whole : List ℕ) → IsLine line.entry whole →
         IfErr result (λ e. e ≡ NoMemory → spec.IsReadable whole) }
     ensures last { (whole : List ℕ) → IsLine line.entry whole → IfErr result (λ e.
         e ≡ NoMemory → is_flat whole ≡ true → length whole ≤ room scratch.old →
-        is_ok (spec.request newest_rules readers whole) ≡ true) }
+        is_ok (spec.request newest_version readers whole) ≡ true) }
 {
     let object = object_of(alloc, scratch, line)?;
     Ok(line_request_of(alloc, readers, &object)?.to_request(alloc)?)
@@ -225,7 +225,7 @@ pub fn request_of_line(
 /// The first fault of the line, or want of memory. Only a line that is a text, not empty and not
 /// too long takes memory.
 pub fn read_request(alloc: Global, readers: u32, line: &[u8]) -> Result<Request, RequestError>
-    ensures request { spec.Gives result (spec.request newest_rules readers line.now) }
+    ensures request { spec.Gives result (spec.request newest_version readers line.now) }
     ensures memory { IfErr result (λ e. e ≡ NoMemory → spec.IsReadable line.now) }
 {
     let mut scratch = Scratch::new(alloc);

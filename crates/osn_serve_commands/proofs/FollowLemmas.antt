@@ -1,35 +1,25 @@
 -- The service of a journal that is followed, by its options.
-use Rattle.std.proofs.Common.{◌≡◌, ◌||◌, ◌⊎◌, ℕ, Bool, true, false, List, Option, Some, None}
+use Rattle.std.proofs.Common.{◌≡◌, ◌||◌, ℕ, Bool, true, false, List, Option, Some, None}
 use Rattle.std.proofs.Common.{Result}
-use Rattle.std.proofs.Common.{Ok, Err, OnErr, inl, inr, is_some, option_map, refl, sym, subst, ap}
+use Rattle.std.proofs.Common.{OnErr, is_some, option_map, refl, sym, subst}
 use Rattle.osn_register.specs.declared.limits.Limits.{Limits}
-use Rattle.osn_folder.specs.Folder.{Known, CannotOpen, Changes, Stays}
-use Rattle.osn_follower.specs.Arrivals.{Arrival}
-use Rattle.osn_follower.specs.Follows.{Follows}
-use Rattle.osn_follower.specs.Outcomes.{following}
-use Rattle.osn_follower.specs.declared.fault.FollowerFault.{FollowerFault}
+use Rattle.osn_folder.specs.Folder.{Known, CannotOpen}
 use Rattle.osn_invocation.specs.Invocation.{ServiceModel}
 use Rattle.osn_lines.specs.Streams.{Input, Output}
-use Rattle.osn_lines.specs.declared.fault.Interrupted.{Interrupted}
 use Rattle.osn_report.specs.Folders.{Folders}
 use Rattle.osn_report.specs.Printing.{PrintsNone}
-use Rattle.osn_report.specs.Messages.{Ends, Tells}
-use Rattle.osn_report.specs.declared.fault.CommandFault.{CommandFault}
-use Rattle.osn_report.specs.declared.fault.CommandFault.TheVariants.{FollowedWithOther, RefusedLine}
+use Rattle.osn_report.specs.declared.fault.CommandFault.TheVariants.{FollowedWithOther}
 use Rattle.osn_report.specs.declared.status.Status.{Status}
-use Rattle.osn_report.specs.declared.status.Status.TheVariants.{Done}
-use Rattle.osn_service.specs.declared.service.Served.{Served}
-use Rattle.osn_serve_commands.specs.Follow.{EndsFollowed, TellsFollowed, fault_of}
-use Rattle.osn_serve_commands.specs.InFolder.{EndsFollowing, RunsServing, opened_by}
+use Rattle.osn_serve_commands.specs.InFolder.{EndsFollowing, RunsByFiles, opened_by}
 
 -- the service was run by this option
 pub followed_by : (limits : Limits) (journal save keep given found : Option (List ℕ))
     (service : ServiceModel) (CanFail : Bool → Type 0) (d : Folders) (i : Input) (o e : Output)
     (status : Status)
-    → given ≡ found → RunsServing limits journal save keep found service CanFail d i o e status
-    → RunsServing limits journal save keep given service CanFail d i o e status
+    → given ≡ found → RunsByFiles limits journal save keep found service CanFail d i o e status
+    → RunsByFiles limits journal save keep given service CanFail d i o e status
 followed_by limits journal save keep given found service CanFail d i o e status is h =
-    subst (λ k. RunsServing limits journal save keep k service CanFail d i o e status) (sym is) h
+    subst (λ k. RunsByFiles limits journal save keep k service CanFail d i o e status) (sym is) h
 
 -- where none is followed, the files that are opened are those of the other options
 pub unfollowed_by : {T E : Type 0} (result : Result T E) (journal keep given : Option (List ℕ))
@@ -46,7 +36,7 @@ module _ {P : Type 0} (now : P → List ℕ) (limits : Limits) where
       (CanFail : Bool → Type 0) (d : Folders) (i : Input) (o e : Output) (status : Status)
       → ((is_some journal || is_some save) || is_some keep) ≡ true
       → (d.after ≡ d.before) × PrintsNone FollowedWithOther o e status
-      → RunsServing limits (option_map now journal) (option_map now save) (option_map now keep)
+      → RunsByFiles limits (option_map now journal) (option_map now save) (option_map now keep)
       (Some path) service CanFail d i o e status
   misfollowed None None None path service CanFail d i o e status given h = absurd (cc)
   misfollowed None None (Some keep) path service CanFail d i o e status given h = h
@@ -57,7 +47,7 @@ module _ {P : Type 0} (now : P → List ℕ) (limits : Limits) where
       (CanFail : Bool → Type 0) (d : Folders) (i : Input) (o e : Output) (status : Status)
       → ((is_some journal || is_some save) || is_some keep) ≡ false
       → EndsFollowing limits service d o e status
-      → RunsServing limits (option_map now journal) (option_map now save) (option_map now keep)
+      → RunsByFiles limits (option_map now journal) (option_map now save) (option_map now keep)
       (Some path) service CanFail d i o e status
   followed_alone None None None path service CanFail d i o e status given h = h
   followed_alone None None (Some keep) path service CanFail d i o e status given h = absurd (cc)

@@ -1,7 +1,7 @@
 -- The parts of a service that keeps a file did what their contracts say.
-use Rattle.std.proofs.Common.{◌≡◌, ◌≢◌, ◌==◌, ◌≤◌, ◌∙◌, ℕ, zero, suc, Bool, true, false}
+use Rattle.std.proofs.Common.{◌≡◌, ◌==◌, ◌≤◌, ℕ, zero, suc, Bool, true, false}
 use Rattle.std.proofs.Common.{List, [], ◌∷◌, length, cond, take, Option, Some, Result, Ok, Err}
-use Rattle.std.proofs.Common.{IfSome, IfErr, refl, sym, ap, subst, inl, inr, arith, length-take}
+use Rattle.std.proofs.Common.{IfErr, refl, sym, ap, subst, inl, inr, arith, length-take}
 use Rattle.osn_days.specs.Profile.{newest_rules}
 use Rattle.osn_register.specs.declared.limits.Limits.{Limits}
 use Rattle.osn_core.specs.Sequential.{ObjectState}
@@ -16,7 +16,6 @@ use Rattle.osn_lines.specs.declared.whole.ReadAllFault.TheVariants as read_fault
 use Rattle.osn_files.specs.Faults.{MatchFileFault}
 use Rattle.osn_files.specs.Files.{ReadsFile}
 use Rattle.osn_folder.specs.declared.fault.KeptFileFault.{KeptFileFault}
-use Rattle.osn_format.specs.Version.{newest_version}
 use Rattle.osn_format.specs.declared.version.Version.{Version}
 use Rattle.osn_files.specs.Journal.{load}
 use Rattle.osn_files.specs.Loaded.{IsOfVersion}
@@ -35,9 +34,10 @@ use Rattle.osn_report.proofs.FileLemmas.{file_fault}
 use Rattle.osn_report.specs.Fault.{by_read}
 use Rattle.osn_report.specs.Journal.{MakesNoObject}
 use Rattle.osn_report.specs.declared.fault.CommandFault.{CommandFault}
-use Rattle.osn_report.specs.declared.fault.CommandFault.TheVariants.{File, NoMemory, OlderVersion}
-use Rattle.osn_serve_commands.specs.Keep.{object_of, kept_object}
-use Rattle.osn_serve_commands.specs.Keep.{SaysVersion, HoldsNoObject, HoldsOlder, IsUnread}
+use Rattle.osn_report.specs.declared.fault.CommandFault.TheVariants.{File}
+use Rattle.osn_serve_commands.specs.Keep.{object_of, SaysVersion, HoldsNoObject, IsUnread}
+use Rattle.osn_serve_commands.specs.KeepInside.{AreReadOf, IsHeldIn}
+use Rattle.osn_serve_commands.proofs.ResultLemmas.{known_bytes}
 
 -- ---- the object
 
@@ -107,7 +107,7 @@ unread_told limits held failed why fault is h = inl (why, is, h)
 pub not_read : (limits : Limits) (held : List ℕ) (before failed : Bool)
     (why : ReadAllFault) (fault : CommandFault) → fault ≡ by_read why
     → WhyNotRead why before failed (Some held) → HoldsNoObject limits held failed fault
-not_read limits held before failed read_faults.NoMemory fault is h = inr (inr is)
+not_read limits held before failed read_faults.NoMemory fault is h = inr is
 not_read limits held before failed read_faults.ReadFault fault is h =
     inl (file_faults.ReadFault, is, h)
 
@@ -153,14 +153,14 @@ whole_within part read whole =
     subst (λ (n : ℕ). n ≤ length read) (sym whole.bytes)
     (by_last_within (last_line_of read) (ended_length read) (length read) (ended_within read))
 
--- the file holds an object in a journal of an older version
-pub older_kept : (limits : Limits) (held : List ℕ) (failed : Bool) (s : ObjectState)
-    (version : Version) (fault : CommandFault) → fault ≡ OlderVersion version
-    → version ≢ newest_version
-    → (kept_object limits held ≡ Ok s) × SaysVersion version (whole_bytes held)
-    → HoldsNoObject limits held failed fault
-older_kept limits held failed s version fault is older read =
-    inr (inl (version, is, (read.1, older, s, read.0)))
+-- what the bytes hold that were read of a file, the file holds
+pub held_as_read : (limits : Limits) (given : Option (List ℕ)) (held bytes : List ℕ)
+    (part : WholePart) (version : Version) (s : ObjectState) → given ≡ Some held
+    → AreReadOf given bytes → IsHeldIn limits bytes part version s
+    → IsHeldIn limits held part version s
+held_as_read limits given held bytes part version s known read h =
+    subst (λ l. IsHeldIn limits l part version s)
+    (known_bytes given held (λ l. bytes ≡ l) known read) h
 
 -- a file that was made ready is so
 abbrev file_state : Option (List ℕ) → Option (List ℕ) → Option KeptFileFault → FileState

@@ -5,7 +5,6 @@ use Rattle.std.proofs.Common.{option_map, refl, sym, ap, subst, ◌∙◌, inl, 
 use Rattle.std.proofs.Common.{take_all, if◌then◌else◌, []}
 use Rattle.std.proofs.lemmas.List.{take-append-drop}
 use Rattle.std.specs.Io.KnownBytes.{Appends}
-use Rattle.osn_lines.specs.Lines.{lines}
 use Rattle.osn_files.specs.LastLine.{last_line, is_unfinished}
 use Rattle.osn_files.specs.WholePart.{IsWholePart, by_last, last_line_of, ended_count}
 use Rattle.osn_lines.specs.Ended.{ended_length, unended_bytes}

@@ -1,6 +1,7 @@
 pub mod ResultLemmas
 pub mod KeptFileLemmas
 pub mod KeepLemmas
+pub mod UpgradeLemmas
 pub mod ServeLemmas
 pub mod SaveLemmas
 pub mod OptionLemmas

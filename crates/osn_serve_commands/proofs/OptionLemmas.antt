@@ -8,8 +8,11 @@ use Rattle.osn_lines.specs.Streams.{Input, Output}
 use Rattle.osn_report.specs.Folders.{Folders}
 use Rattle.osn_report.specs.Printing.{PrintsNone}
 use Rattle.osn_report.specs.declared.fault.CommandFault.TheVariants.{KeptWithOther}
+use Rattle.osn_report.specs.declared.fault.CommandFault.TheVariants.{UpgradeWithoutKeep}
 use Rattle.osn_report.specs.declared.status.Status.{Status}
-use Rattle.osn_serve_commands.specs.InFolder.{EndsKeeping, RunsEditing, opened_by, rules_of}
+use Rattle.osn_service.specs.declared.rules.ServeRules.{ServeRules}
+use Rattle.osn_serve_commands.specs.InFolder.{EndsKeeping, KeepsAsAsked, RunsByFiles, RunsEditing}
+use Rattle.osn_serve_commands.specs.InFolder.{RunsUnless, opened_by, rules_of}
 
 -- the service was run by these options
 pub served_by : (limits : Limits) (journal save given found : Option (List ℕ))
@@ -44,9 +47,35 @@ module _ {P : Type 0} (now : P → List ℕ) (limits : Limits) where
   pub runs_alone : (journal save : Option P) (path : List ℕ) (service : ServiceModel)
       (CanFail : Bool → Type 0) (d : Folders) (i : Input) (o e : Output) (status : Status)
       → (is_some journal || is_some save) ≡ false
-      → EndsKeeping limits path (rules_of service) CanFail d i o e status
+      → KeepsAsAsked service.upgrade limits path (rules_of service) CanFail d i o e status
       → RunsEditing limits (option_map now journal) (option_map now save) (Some path) service
       CanFail d i o e status
   runs_alone None None path service CanFail d i o e status given h = h
   runs_alone None (Some save) path service CanFail d i o e status given h = absurd (cc)
   runs_alone (Some journal) save path service CanFail d i o e status given h = absurd (cc)
+
+-- a journal that is to be saved anew is one that is kept
+module _ (limits : Limits) (journal save kept followed : Option (List ℕ)) (service : ServiceModel)
+    (CanFail : Bool → Type 0) (d : Folders) (i : Input) (o e : Output) (status : Status) where
+  pub lacking_keep : (lacks : Bool) → lacks ≡ true
+      → (d.after ≡ d.before) × PrintsNone UpgradeWithoutKeep o e status
+      → RunsUnless lacks limits journal save kept followed service CanFail d i o e status
+  lacking_keep lacks is h = rw is h
+
+  pub lacking_none : (lacks : Bool) → lacks ≡ false
+      → RunsByFiles limits journal save kept followed service CanFail d i o e status
+      → RunsUnless lacks limits journal save kept followed service CanFail d i o e status
+  lacking_none lacks is h = rw is h
+
+-- the file of a path was kept as was asked for
+module _ (limits : Limits) (path : List ℕ) (rules : ServeRules) (CanFail : Bool → Type 0)
+    (d : Folders) (i : Input) (o e : Output) (status : Status) where
+  pub kept_anew : (upgrade : Bool) → upgrade ≡ true
+      → KeepsAsAsked true limits path rules CanFail d i o e status
+      → KeepsAsAsked upgrade limits path rules CanFail d i o e status
+  kept_anew upgrade is h = rw is h
+
+  pub kept_so : (upgrade : Bool) → upgrade ≡ false
+      → EndsKeeping limits path rules CanFail d i o e status
+      → KeepsAsAsked upgrade limits path rules CanFail d i o e status
+  kept_so upgrade is h = rw is h

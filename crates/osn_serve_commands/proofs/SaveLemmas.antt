@@ -5,7 +5,6 @@ use Rattle.std.proofs.Common.{Result, Ok, Err, IfSome, is_some, option_map, ap, 
 use Rattle.std.proofs.Common.{inl, inr, ◌∙◌, if◌then◌else◌, bytes_eq}
 use Rattle.std.specs.Option.{option_map_or}
 use Rattle.std.proofs.lemmas.Option.{same_Some}
-use Rattle.std.specs.declared.convert.Infallible.{Infallible}
 use Rattle.osn_core.specs.Sequential.{ObjectState}
 use Rattle.osn_register.specs.declared.limits.Limits.{Limits}
 use Rattle.osn_files.specs.JournalText.{journal_text}

@@ -1,8 +1,6 @@
 -- The service of a command line did what its contract says, by what the service of a store did.
-use Rattle.std.proofs.Common.{◌≡◌, ◌≢◌, ◌⊎◌, ℕ, Bool, true, false, List, Option, Some, None}
-use Rattle.std.proofs.Common.{Result, Ok, Err, IfSome, is_some, option_map, ap, refl, sym, subst}
-use Rattle.std.proofs.Common.{inl, inr, ◌∙◌}
-use Rattle.std.specs.Prelude.{MatchResult}
+use Rattle.std.proofs.Common.{◌≡◌, true, false}
+use Rattle.std.proofs.Common.{Result, Ok, Err, refl, subst}
 use Rattle.osn_lines.specs.Streams.{Output}
 use Rattle.osn_lines.specs.declared.fault.Interrupted.{Interrupted}
 use Rattle.osn_service.specs.Faults.{MatchServiceFault}

@@ -1,5 +1,5 @@
 -- What the service has done that follows a journal.
-use Rattle.std.specs.Prelude.{◌≡◌, List, ℕ, None, Option, Result, Ok, Err}
+use Rattle.std.specs.Prelude.{List, None, Option, Result, Ok, Err}
 use Rattle.osn_register.specs.declared.limits.Limits.{Limits}
 use Rattle.osn_lines.specs.Streams.{Output}
 use Rattle.osn_lines.specs.declared.fault.Interrupted.{Interrupted}

@@ -1,7 +1,7 @@
 -- What the service has done over the files of a folder. They are the one that a journal is loaded
 -- from, the one that it is saved to, and the one that it is kept in.
 use Rattle.std.specs.Prelude.{◌≡◌, ◌⊎◌, Bool, List, [], ℕ, Option, Some, None, IfSome, option_map}
-use Rattle.std.specs.Prelude.{Result, if◌then◌else◌}
+use Rattle.std.specs.Prelude.{Result, true, false, if◌then◌else◌}
 use Rattle.std.specs.Str.{bytes_eq}
 use Rattle.std.specs.declared.convert.Infallible.{Infallible}
 use Rattle.osn_core.specs.Sequential.{ObjectState}
@@ -30,17 +30,20 @@ use Rattle.osn_report.specs.Messages.{Ends, EndsBy}
 use Rattle.osn_report.specs.declared.fault.CommandFault.{CommandFault}
 use Rattle.osn_report.specs.declared.fault.CommandFault.TheVariants.{File, Keep, KeptWithOther}
 use Rattle.osn_report.specs.declared.fault.CommandFault.TheVariants.{FollowedWithOther, NoMemory}
+use Rattle.osn_report.specs.declared.fault.CommandFault.TheVariants.{UpgradeWithoutKeep}
 use Rattle.osn_report.specs.declared.status.Status.{Status}
 use Rattle.osn_serve_commands.specs.Follow.{EndsFollowed}
-use Rattle.osn_serve_commands.specs.Keep.{EndsKept}
+use Rattle.osn_serve_commands.specs.Keep.{EndsKept, first_output, later_output}
 use Rattle.osn_serve_commands.specs.Saving.{LocksIf, CannotLockIf, TellsUnsaved}
 use Rattle.osn_serve_commands.specs.Serve.{EndsServed}
+use Rattle.osn_serve_commands.specs.Upgrade.{CannotUpgrade, Upgrades}
 
--- what the lines of the service may do, and when it ends, by the options
+-- what the lines of the service may do, and when it ends, by the options: a source is taken
 abbrev pub rules_of : ServiceModel → ServeRules
 rules_of asked = record {
   readers = asked.readers;
   read_only = asked.read_only;
+  takes_sources = true;
   stop_at_refusal = asked.stop_at_refusal;
 }
 
@@ -149,6 +152,30 @@ EndsKeeping limits path rules CanFail d i o e status =
     × (file : FileState) × EndsKept limits rules begun file given i o e status
     × Changes (Leaves path file.contents) held d.after)
 
+-- The file of this path was saved anew first, where its version has no sources, and then it was
+-- kept.
+pub record UpgradesAndKeeps (limits : Limits) (path : List ℕ) (rules : ServeRules)
+    (CanFail : Bool → Type 0) (d : Folders) (i : Input) (o e : Output) (status : Status) : Type 0
+  where
+    pub upgraded : Option Known
+    pub between : Option (List ℕ)
+    pub failed : Bool
+    pub held_back : Bool
+    pub upgrades : Upgrades limits path CanFail
+        (record { before = d.before; after = upgraded }) (first_output e between failed held_back)
+    pub keeps : EndsKeeping limits path rules CanFail
+        (record { before = upgraded; after = d.after }) i o (later_output e between failed) status
+
+-- the file of this path was kept, as it is, or after it was saved anew where that was asked for. It
+-- could not be, and no line was answered; or that was done
+abbrev pub KeepsAsAsked : Bool → Limits → List ℕ → ServeRules → (Bool → Type 0) → Folders → Input
+    → Output → Output → Status → Type 0
+KeepsAsAsked false limits path rules CanFail d i o e status =
+    EndsKeeping limits path rules CanFail d i o e status
+KeepsAsAsked true limits path rules CanFail d i o e status =
+    ((o.new ≡ o.old) × CannotUpgrade limits path CanFail d e status)
+    ⊎ UpgradesAndKeeps limits path rules CanFail d i o e status
+
 -- the service was run, with a journal that is kept or without: a journal that is kept goes with no
 -- other
 abbrev pub RunsEditing : Limits → Option (List ℕ) → Option (List ℕ) → Option (List ℕ)
@@ -156,7 +183,7 @@ abbrev pub RunsEditing : Limits → Option (List ℕ) → Option (List ℕ) → 
 RunsEditing limits journal save None service CanFail d i o e status =
     EndsService limits journal save (rules_of service) CanFail d i o e status
 RunsEditing limits None None (Some path) service CanFail d i o e status =
-    EndsKeeping limits path (rules_of service) CanFail d i o e status
+    KeepsAsAsked service.upgrade limits path (rules_of service) CanFail d i o e status
 RunsEditing limits (Some journal) save (Some path) service CanFail d i o e status =
     (d.after ≡ d.before) × PrintsNone KeptWithOther o e status
 RunsEditing limits None (Some save) (Some path) service CanFail d i o e status =
@@ -181,16 +208,37 @@ opened_by journal kept (Some followed) = []
 
 -- the service was run, with a journal that is followed or without: a journal that is followed goes
 -- with no other
+abbrev pub RunsByFiles : Limits → Option (List ℕ) → Option (List ℕ) → Option (List ℕ)
+    → Option (List ℕ) → ServiceModel → (Bool → Type 0) → Folders → Input → Output → Output
+    → Status → Type 0
+RunsByFiles limits journal save kept None service CanFail d i o e status =
+    RunsEditing limits journal save kept service CanFail d i o e status
+RunsByFiles limits None None None (Some path) service CanFail d i o e status =
+    EndsFollowing limits service d o e status
+RunsByFiles limits (Some journal) save kept (Some path) service CanFail d i o e status =
+    (d.after ≡ d.before) × PrintsNone FollowedWithOther o e status
+RunsByFiles limits None (Some save) kept (Some path) service CanFail d i o e status =
+    (d.after ≡ d.before) × PrintsNone FollowedWithOther o e status
+RunsByFiles limits None None (Some kept) (Some path) service CanFail d i o e status =
+    (d.after ≡ d.before) × PrintsNone FollowedWithOther o e status
+
+-- a journal is to be saved anew as one that is kept, and none is to be kept
+abbrev pub lacks_keep : Bool → Option (List ℕ) → Bool
+lacks_keep upgrade None = upgrade
+lacks_keep upgrade (Some path) = false
+
+-- the service was run by these options, unless they lack a journal to be kept
+abbrev pub RunsUnless : Bool → Limits → Option (List ℕ) → Option (List ℕ) → Option (List ℕ)
+    → Option (List ℕ) → ServiceModel → (Bool → Type 0) → Folders → Input → Output → Output
+    → Status → Type 0
+RunsUnless true limits journal save kept followed service CanFail d i o e status =
+    (d.after ≡ d.before) × PrintsNone UpgradeWithoutKeep o e status
+RunsUnless false limits journal save kept followed service CanFail d i o e status =
+    RunsByFiles limits journal save kept followed service CanFail d i o e status
+
+-- the service was run by its options
 abbrev pub RunsServing : Limits → Option (List ℕ) → Option (List ℕ) → Option (List ℕ)
     → Option (List ℕ) → ServiceModel → (Bool → Type 0) → Folders → Input → Output → Output
     → Status → Type 0
-RunsServing limits journal save kept None service CanFail d i o e status =
-    RunsEditing limits journal save kept service CanFail d i o e status
-RunsServing limits None None None (Some path) service CanFail d i o e status =
-    EndsFollowing limits service d o e status
-RunsServing limits (Some journal) save kept (Some path) service CanFail d i o e status =
-    (d.after ≡ d.before) × PrintsNone FollowedWithOther o e status
-RunsServing limits None (Some save) kept (Some path) service CanFail d i o e status =
-    (d.after ≡ d.before) × PrintsNone FollowedWithOther o e status
-RunsServing limits None None (Some kept) (Some path) service CanFail d i o e status =
-    (d.after ≡ d.before) × PrintsNone FollowedWithOther o e status
+RunsServing limits journal save kept followed service =
+    RunsUnless (lacks_keep service.upgrade kept) limits journal save kept followed service

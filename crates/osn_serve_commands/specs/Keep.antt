@@ -1,6 +1,6 @@
 -- What the service has done that keeps its journal in a file: which object it began with, what it
 -- wrote and told, and what the file holds then.
-use Rattle.std.specs.Prelude.{◌≡◌, ◌≢◌, ◌+◌, ◌⊎◌, ⊤, ℕ, Bool, List, [], ◌∷◌, ◌++◌}
+use Rattle.std.specs.Prelude.{◌≡◌, ◌+◌, ◌⊎◌, ⊤, ℕ, Bool, true, false, List, [], ◌∷◌, ◌++◌}
 use Rattle.std.specs.Prelude.{take, Option, Some, None, Result, Ok, Err, codes}
 use Rattle.std.specs.Fmt.{decimal}
 use Rattle.osn_days.specs.Profile.{newest_rules}
@@ -10,8 +10,9 @@ use Rattle.osn_lines.specs.Faults.{IsReadFault}
 use Rattle.osn_lines.specs.Lines.{lines}
 use Rattle.osn_lines.specs.Streams.{Input, Output}
 use Rattle.osn_lines.specs.declared.fault.Interrupted.{Interrupted}
-use Rattle.osn_format.specs.Version.{newest_version}
+use Rattle.osn_format.specs.Version.{has_sources, plain_version}
 use Rattle.osn_format.specs.declared.version.Version.{Version}
+use Rattle.osn_format.specs.declared.version.Version.TheVariants.{First, Second, Fourth}
 use Rattle.osn_files.specs.Faults.{MatchFileFault}
 use Rattle.osn_files.specs.Journal.{load}
 use Rattle.osn_files.specs.JournalText.{line_text}
@@ -48,20 +49,26 @@ object_of limits (b ∷ bs) = load newest_rules limits (lines (b ∷ bs))
 abbrev pub kept_object : Limits → List ℕ → Result ObjectState (ℕ × LineFault)
 kept_object limits held = object_of limits (whole_bytes held)
 
--- lines say a version: the first of them does, and where there are no lines it is the newest
+-- lines say a version: the first of them does, and where there are no lines it is the plain one
 abbrev pub SaysVersion : Version → List ℕ → Type 0
-SaysVersion version [] = version ≡ newest_version
+SaysVersion version [] = version ≡ plain_version
 SaysVersion version (b ∷ bs) = IsOfVersion version (lines (b ∷ bs))
 
--- a file holds this object for the service, in a journal of the newest version
-pub record HoldsObject (limits : Limits) (held : List ℕ) (s : ObjectState) : Type 0
-  where
-    pub object : kept_object limits held ≡ Ok s
-    pub version : SaysVersion newest_version (whole_bytes held)
+-- a file holds this object, in a journal of this version
+pub record HoldsObject (limits : Limits) (held : List ℕ) (version : Version) (s : ObjectState)
+    : Type 0 where
+  pub object : kept_object limits held ≡ Ok s
+  pub says : SaysVersion version (whole_bytes held)
+
+-- a journal of this version is kept: one of the first version lacks styles that an edit may have
+abbrev pub is_kept : Version → Bool
+is_kept First = false
+is_kept Second = true
+is_kept Fourth = true
 
 -- the head that is missing: that of a journal where there is no line
 abbrev pub missing_head : List ℕ → List ℕ
-missing_head [] = line_text (head_data newest_version)
+missing_head [] = line_text (head_data plain_version)
 missing_head (b ∷ bs) = []
 
 -- the text that is missing after these lines, the last of which stands so: its line feed, or the
@@ -102,6 +109,16 @@ abbrev pub TellsCut : Output → Option ℕ → Type 0
 TellsCut e None = e.new ≡ e.old
 TellsCut e (Some line) = WritesLine e (cut_line line)
 
+-- the text of that, if one was
+abbrev pub cut_text : Option ℕ → Option (List ℕ)
+cut_text None = None
+cut_text (Some line) = Some (cut_line line)
+
+-- a text was told, if there is one
+abbrev pub TellsText : Output → Option (List ℕ) → Type 0
+TellsText e None = e.new ≡ e.old
+TellsText e (Some text) = WritesLine e text
+
 -- ---- why the service did not begin
 
 -- the file holds no object for it, by its first fault, or was not read
@@ -110,18 +127,17 @@ IsUnread limits held failed why =
     MatchFileFault why ⊤ (IsReadFault failed (Some held))
     (λ role line said. (role ≡ Journal) × (kept_object limits held ≡ Err (line, said)))
 
--- it holds an object in a journal of this older version
-abbrev pub HoldsOlder : Limits → List ℕ → Version → Type 0
-HoldsOlder limits held version =
-    SaysVersion version (whole_bytes held) × (version ≢ newest_version)
-    × (s : ObjectState) × (kept_object limits held ≡ Ok s)
-
--- why a file makes no object for the service, given whether a read of it has failed
+-- why a file makes no object, given whether a read of it has failed
 abbrev pub HoldsNoObject : Limits → List ℕ → Bool → CommandFault → Type 0
 HoldsNoObject limits held failed fault =
     ((why : FileFault) × (fault ≡ File why) × IsUnread limits held failed why)
-    ⊎ (((version : Version) × (fault ≡ OlderVersion version) × HoldsOlder limits held version)
-    ⊎ (fault ≡ NoMemory))
+    ⊎ (fault ≡ NoMemory)
+
+-- it holds an object, in a journal of a version that is not kept
+abbrev pub HoldsOlder : Limits → List ℕ → CommandFault → Type 0
+HoldsOlder limits held fault =
+    (version : Version) × (fault ≡ OlderVersion version) × (is_kept version ≡ false)
+    × (s : ObjectState) × HoldsObject limits held version s
 
 -- the file could not be changed, or is another one now, as it tells; or there was no memory
 abbrev pub IsChangeFault : CommandFault → Option KeptFileFault → Type 0
@@ -136,13 +152,14 @@ IsLeft held cut contents =
     ⊎ ((cut ≡ unfinished_line held)
     × (n : ℕ) × (contents ≡ Some (whole_bytes held ++ take n (missing_text held))))
 
--- the service did not begin by this fault. There was no object, and the file is as it was; or there
--- was one, and the file could not be made ready
+-- the service did not begin by this fault. There was no object, or one of a version that is not
+-- kept, and the file is as it was; or there was one, and the file could not be made ready
 abbrev pub DoesNotBegin : Limits → List ℕ → Bool → Option ℕ → FileState → CommandFault → Type 0
 DoesNotBegin limits held failed cut file fault =
-    (HoldsNoObject limits held failed fault × (cut ≡ None) × (file.contents ≡ Some held))
+    ((HoldsNoObject limits held failed fault ⊎ HoldsOlder limits held fault)
+    × (cut ≡ None) × (file.contents ≡ Some held))
     ⊎ (IsChangeFault fault file.fault × IsLeft held cut file.contents
-    × (s : ObjectState) × HoldsObject limits held s)
+    × (version : Version) × (s : ObjectState) × HoldsObject limits held version s)
 
 -- ---- the command
 
@@ -155,13 +172,17 @@ IfHeld old given P = (held : List ℕ) → old.contents ≡ Some held → given 
 abbrev pub ready_file : List ℕ → Option KeptFileFault → FileState
 ready_file text before = record { contents = Some text; synced = Some text; fault = before }
 
--- the service began with this object, and the file was ready then: its last line was cut off, if
--- that was not finished
-abbrev pub Begins : Limits → List ℕ → Option KeptFileFault → Option ℕ → ObjectState → FileState
-    → Type 0
-Begins limits held before cut s ready =
-    HoldsObject limits held s × (cut ≡ unfinished_line held)
+-- the service began with this object, by this version, and the file was ready then: its last line
+-- was cut off, if that was not finished
+abbrev pub Begins : Limits → List ℕ → Option KeptFileFault → Option ℕ → Version → ObjectState
+    → FileState → Type 0
+Begins limits held before cut version s ready =
+    HoldsObject limits held version s × (is_kept version ≡ true) × (cut ≡ unfinished_line held)
     × (ready ≡ ready_file (kept_text held) before)
+
+-- what the lines may do over a file of this version: an edit may give a source where it has them
+abbrev pub for_version : Version → ServeRules → ServeRules
+for_version version rules = record rules { takes_sources = has_sources version }
 
 -- what standard error was told while the service began, and what after that
 abbrev pub first_output : Output → Option (List ℕ) → Bool → Bool → Output
@@ -207,6 +228,7 @@ pub record EndsKept (limits : Limits) (rules : ServeRules) (old file : FileState
       × Tells (later_output e between failed) fault status
       × IfHeld old given.bytes
       (λ held. DoesNotBegin limits held given.unread cut file fault))
-      ⊎ ((s : ObjectState) × (ready : FileState)
-      × IfHeld old given.bytes (λ held. Begins limits held old.fault cut s ready)
-      × KeepsLines rules s ready file i o (later_output e between failed) status)
+      ⊎ ((version : Version) × (s : ObjectState) × (ready : FileState)
+      × IfHeld old given.bytes (λ held. Begins limits held old.fault cut version s ready)
+      × KeepsLines (for_version version rules) s ready file i o (later_output e between failed)
+      status)

@@ -2,16 +2,21 @@
 use Rattle.std.specs.Prelude.{◌≡◌, ℕ, Bool, List, ◌++◌, take, Option, Some, IfSome}
 use Rattle.osn_register.specs.declared.limits.Limits.{Limits}
 use Rattle.osn_core.specs.Sequential.{ObjectState}
+use Rattle.osn_format.specs.declared.version.Version.{Version}
 use Rattle.osn_files.specs.WholePart.{IsWholePart, whole_bytes}
 use Rattle.osn_files.specs.declared.whole_lines.WholePart.{WholePart}
 use Rattle.osn_report.specs.declared.fault.CommandFault.{CommandFault}
 use Rattle.osn_serve_commands.specs.Keep.{kept_text, missing_text, unfinished_line}
 use Rattle.osn_serve_commands.specs.Keep.{HoldsObject, HoldsNoObject, IsLeft}
 
--- this part of the file counts, and makes this object
-abbrev pub IsReadKept : Limits → Option (List ℕ) → WholePart → ObjectState → Type 0
-IsReadKept limits given part s =
-    IfSome given (λ held. IsWholePart part held × HoldsObject limits held s)
+-- these bytes were read of a file, if it is known what it gave
+abbrev pub AreReadOf : Option (List ℕ) → List ℕ → Type 0
+AreReadOf given bytes = IfSome given (λ held. bytes ≡ held)
+
+-- this part of the bytes counts, and makes this object, in a journal of this version
+abbrev pub IsHeldIn : Limits → List ℕ → WholePart → Version → ObjectState → Type 0
+IsHeldIn limits bytes part version s =
+    IsWholePart part bytes × HoldsObject limits bytes version s
 
 -- the file makes no object, and a read of it failed or not
 abbrev pub IsUnreadKept : Limits → Option (List ℕ) → Bool → CommandFault → Type 0

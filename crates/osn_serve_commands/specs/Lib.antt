@@ -5,3 +5,5 @@ pub mod Saving
 pub mod Follow
 pub mod InFolder
 pub mod SavingInside
+pub mod Upgrade
+pub mod UpgradeInside

@@ -1,16 +1,18 @@
 //! The command `serve` over the files of a folder, by its options: with a journal that is kept, or
 //! without.
-ghost use Rattle.std.specs.Prelude.{◌≡◌, ◌||◌, IfOk, OnErr, Some, None, is_some, option_map};
+ghost use Rattle.std.specs.Prelude.{◌≡◌, ◌||◌, IfOk, OnErr, Some, None, is_some, option_map, true};
 ghost use Rattle.osn_folder.specs.Folder.{CannotOpen, MayFail};
 ghost use Rattle.osn_invocation.specs.Invocation.{service_model};
 ghost use Rattle.osn_lines.specs.Streams.{input_of, output_of};
 ghost use Rattle.osn_report.specs.Folders.{folders_of};
-ghost use Rattle.osn_serve_commands.specs.InFolder.{EndsFollowing, EndsKeeping, RunsEditing};
-ghost use Rattle.osn_serve_commands.specs.InFolder.{RunsServing, opened_by};
+ghost use Rattle.osn_serve_commands.specs.InFolder.{EndsFollowing, EndsKeeping, KeepsAsAsked};
+ghost use Rattle.osn_serve_commands.specs.InFolder.{RunsByFiles, RunsEditing, RunsServing};
+ghost use Rattle.osn_serve_commands.specs.InFolder.{lacks_keep, opened_by};
 
 use crate::follow::follow_command;
 use crate::keep::keep_command;
 use crate::saving::{rules_of, serve};
+use crate::upgrade::upgrade_file;
 use osn_folder::{Folder, OpenFailed};
 use osn_follower::Feed;
 use osn_invocation::ServeOptions;
@@ -61,6 +63,53 @@ pub fn serve_in_folder<D: Folder, R: Source, W: Sink, E: Sink, T: Sink + Drop>(
         (D.known folder.old) (D.known folder.new)
         × (output.new ≡ output.old) × (errors.new ≡ errors.old)) }
 {
+    if lacks_keep(options) {
+        return Ok(report(alloc, errors, CommandFault::UpgradeWithoutKeep));
+    }
+    serve_by_files(
+        alloc, limits, folder, options, input, output, errors, terminal,
+    )
+}
+
+/// Whether a journal is to be saved anew as one that is kept, and none is to be kept.
+fn lacks_keep(options: ServeOptions) -> bool
+    ensures { result ≡ lacks_keep options.entry.upgrade
+        (option_map (λ path. path.now) options.entry.keep) }
+{
+    match options.keep {
+        None => options.upgrade,
+        Some(_) => false,
+    }
+}
+
+/// The same, by the files that the options name.
+fn serve_by_files<D: Folder, R: Source, W: Sink, E: Sink, T: Sink + Drop>(
+    alloc: Global,
+    limits: Limits,
+    folder: &mut D,
+    options: ServeOptions,
+    input: &mut R,
+    output: &mut W,
+    errors: &mut E,
+    terminal: Option<T>,
+) -> Result<Status, OpenFailed>
+    ensures ok { IfOk result (RunsByFiles limits
+        (option_map (λ path. path.now) options.entry.journal)
+        (option_map (λ path. path.now) options.entry.save)
+        (option_map (λ path. path.now) options.entry.keep)
+        (option_map (λ path. path.now) options.entry.follow) (service_model options.entry)
+        (MayFail D.File.has_failed)
+        (folders_of D.known folder.old folder.new)
+        (input_of R.remaining R.has_failed input.old input.new)
+        (output_of W.contents W.has_failed W.holds_back output.old output.new)
+        (output_of E.contents E.has_failed E.holds_back errors.old errors.new)) }
+    ensures err { OnErr result (CannotOpen (opened_by
+        (option_map (λ path. path.now) options.entry.journal)
+        (option_map (λ path. path.now) options.entry.keep)
+        (option_map (λ path. path.now) options.entry.follow))
+        (D.known folder.old) (D.known folder.new)
+        × (output.new ≡ output.old) × (errors.new ≡ errors.old)) }
+{
     match options.follow {
         None => serve_edits(
             alloc, limits, folder, options, input, output, errors, terminal,
@@ -88,7 +137,7 @@ fn follow_alone<D: Folder, R: Source, W: Sink, E: Sink>(
     output: &mut W,
     errors: &mut E,
 ) -> Status
-    ensures { RunsServing limits
+    ensures { RunsByFiles limits
         (option_map (λ path. path.now) options.entry.journal)
         (option_map (λ path. path.now) options.entry.save)
         (option_map (λ path. path.now) options.entry.keep) (Some path.now)
@@ -186,8 +235,65 @@ fn keep_alone<D: Folder, R: Source, W: Sink, E: Sink>(
     if is_given(options.journal, options.save) {
         return report(alloc, errors, CommandFault::KeptWithOther);
     }
-    let rules = rules_of(options);
-    keep(alloc, limits, folder, path, rules, input, output, errors)
+    keep_as_asked(
+        alloc,
+        limits,
+        folder,
+        path,
+        options.upgrade,
+        rules_of(options),
+        input,
+        output,
+        errors,
+    )
+}
+
+/// Keeps the file of a path, as it is, or after it was saved anew where that is asked for.
+fn keep_as_asked<D: Folder, R: Source, W: Sink, E: Sink>(
+    alloc: Global,
+    limits: Limits,
+    folder: &mut D,
+    path: &str,
+    upgrade: bool,
+    rules: ServeRules,
+    input: &mut R,
+    output: &mut W,
+    errors: &mut E,
+) -> Status
+    ensures { KeepsAsAsked upgrade limits path.now rules (MayFail D.File.has_failed)
+        (folders_of D.known folder.old folder.new)
+        (input_of R.remaining R.has_failed input.old input.new)
+        (output_of W.contents W.has_failed W.holds_back output.old output.new)
+        (output_of E.contents E.has_failed E.holds_back errors.old errors.new) result }
+{
+    if upgrade {
+        upgrade_and_keep(alloc, limits, folder, path, rules, input, output, errors)
+    } else {
+        keep(alloc, limits, folder, path, rules, input, output, errors)
+    }
+}
+
+/// Saves the file of a path anew, where its version has no sources, and keeps it then.
+fn upgrade_and_keep<D: Folder, R: Source, W: Sink, E: Sink>(
+    alloc: Global,
+    limits: Limits,
+    folder: &mut D,
+    path: &str,
+    rules: ServeRules,
+    input: &mut R,
+    output: &mut W,
+    errors: &mut E,
+) -> Status
+    ensures { KeepsAsAsked true limits path.now rules (MayFail D.File.has_failed)
+        (folders_of D.known folder.old folder.new)
+        (input_of R.remaining R.has_failed input.old input.new)
+        (output_of W.contents W.has_failed W.holds_back output.old output.new)
+        (output_of E.contents E.has_failed E.holds_back errors.old errors.new) result }
+{
+    match upgrade_file(alloc, limits, folder, path, errors) {
+        Ok(()) => keep(alloc, limits, folder, path, rules, input, output, errors),
+        Err(status) => status,
+    }
 }
 
 /// Keeps the file of a path, answers the request lines from what it holds, and appends each change.

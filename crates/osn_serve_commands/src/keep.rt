@@ -1,27 +1,26 @@
 //! The command `serve` with a journal that is kept: the service begins with what the file holds,
 //! and each change is in it before its reply is written.
-ghost use Rattle.std.specs.Prelude.{◌≡◌, ◌≢◌, ◌^◌, ◌<◌, ℕ, List, Option, Ok, IfOk, IfErr, OnOk};
-ghost use Rattle.std.specs.Prelude.{None, false, string_bytes, ◌+◌, option_map, take};
-ghost use Rattle.osn_format.specs.Version.{newest_version};
+ghost use Rattle.std.specs.Prelude.{◌≡◌, ◌^◌, ◌<◌, ◌+◌, ℕ, List, Option, IfOk, IfErr, OnOk};
+ghost use Rattle.std.specs.Prelude.{string_bytes, option_map, take};
 ghost use Rattle.osn_files.specs.WholePart.{IsWholePart, whole_bytes};
 ghost use Rattle.osn_journal.specs.KeptJournal.{file_of};
 ghost use Rattle.osn_lines.specs.Streams.{input_of, output_of};
 ghost use Rattle.osn_report.specs.Messages.{WritesLine};
 ghost use Rattle.osn_report.specs.declared.fault.CommandFault.{CommandFault};
-ghost use Rattle.osn_serve_commands.specs.Keep.{IsUnread, SaysVersion, cut_line, missing_head};
-ghost use Rattle.osn_serve_commands.specs.Keep.{missing_text, object_of, TellsCut, IsChangeFault};
+ghost use Rattle.osn_serve_commands.specs.Keep.{cut_line, for_version, missing_head};
+ghost use Rattle.osn_serve_commands.specs.Keep.{missing_text, TellsCut, IsChangeFault};
 ghost use Rattle.osn_serve_commands.specs.Keep.{Begins, DoesNotBegin, EndsKept, IfHeld, KeepsLines};
-ghost use Rattle.osn_serve_commands.specs.KeepInside.{IsReadKept, IsUnreadKept, IsCut};
-ghost use Rattle.osn_serve_commands.specs.KeepInside.{IsCompleted, IsCompletedInPart};
+ghost use Rattle.osn_serve_commands.specs.KeepInside.{IsCut, IsCompleted, IsCompletedInPart};
 ghost use Rattle.osn_serve_commands.specs.KeepInside.{IsReady, IsUnready};
 ghost use Rattle.osn_service.specs.Faults.{MatchServiceFault};
 
+use crate::held::{check_kept, read_kept};
 use osn_core::Object;
-use osn_files::{FileFault, LastLine, WholePart, head_line, load_with_version, whole_part};
+use osn_files::{LastLine, WholePart, head_line};
 use osn_folder::{KeptFile, KeptFileFault};
 use osn_format::Version;
 use osn_journal::serve_kept;
-use osn_lines::{Bytes, Sink, Source, read_all};
+use osn_lines::{Sink, Source};
 use osn_register::Limits;
 use osn_report::{CommandFault, Status, report, write_line};
 use osn_service::{ServeRules, ServiceFault};
@@ -30,56 +29,8 @@ use std::alloc::{AllocError, Global};
 /// The room that a head gets at first.
 const HEAD_ROOM: usize = 32;
 
-/// The object of the lines of a journal that count, and the version that they say. Where there are
-/// no lines, it is an empty object and the newest version.
-fn kept_object(alloc: Global, limits: Limits, lines: &[u8]) -> Result<(Object, Version), FileFault>
-    ensures object { IfOk result (λ read. object_of limits lines.now ≡ Ok read.0) }
-    ensures version { IfOk result (λ read. SaysVersion read.1 lines.now) }
-    // Whatever stands after the lines that count.
-    ensures err { IfErr result (λ fault. (held : List ℕ) → lines.now ≡ whole_bytes held →
-        IsUnread limits held false fault) }
-{
-    if lines.is_empty() {
-        return Ok((Object::new(alloc, limits), Version::newest()));
-    }
-    load_with_version(alloc, limits, &mut Bytes::new(lines))
-}
-
-/// Refuses a version that is not the newest: a journal of it has no line for what it lacks.
-fn newest_alone(version: Version) -> Result<(), CommandFault>
-    ensures ok { OnOk result (version ≡ newest_version) }
-    ensures err { IfErr result (λ fault. (fault ≡ CommandFault.OlderVersion version)
-        × (version ≢ newest_version)) }
-{
-    if version == Version::newest() {
-        Ok(())
-    } else {
-        Err(CommandFault::OlderVersion(version))
-    }
-}
-
-/// The object that a kept file holds, and how much of it counts. It is read once, then measured and
-/// loaded.
-pub fn read_kept<J: Source>(
-    alloc: Global,
-    limits: Limits,
-    journal: &mut J,
-) -> Result<(Object, WholePart), CommandFault>
-    ensures few { IfOk result (λ read. read.1.lines < 2 ^ 63) }
-    ensures ok { IfOk result (λ read.
-        IsReadKept limits (J.remaining journal.old) read.1 read.0) }
-    ensures err { IfErr result (λ fault. IsUnreadKept limits
-        (J.remaining journal.old) (J.has_failed journal.new) fault) }
-{
-    let held = read_all(alloc, journal)?;
-    let part = whole_part(alloc, &mut Bytes::new(&held))?;
-    let (object, version) = kept_object(alloc, limits, &held[..part.bytes as usize])?;
-    newest_alone(version)?;
-    Ok((object, part))
-}
-
 /// The line on a line that is cut off.
-fn cut_text(alloc: Global, line: u64) -> Result<String, AllocError>
+pub(crate) fn cut_text(alloc: Global, line: u64) -> Result<String, AllocError>
     ensures { IfOk result (λ text. string_bytes text ≡ cut_line line) }
 {
     format!(in alloc; "oldstyle: journal line {line} was not finished, and is cut off\n")
@@ -193,18 +144,19 @@ fn make_ready<K: KeptFile, E: Sink>(
     append_missing(alloc, part, keeper)
 }
 
-/// The object that a kept file holds, once the file is ready for the service.
+/// The object that a kept file holds, and the version of its journal, once the file is ready for
+/// the service.
 fn begin<K: KeptFile, J: Source, E: Sink>(
     alloc: Global,
     limits: Limits,
     keeper: &mut K,
     journal: &mut J,
     errors: &mut E,
-) -> Result<Object, CommandFault>
-    ensures ok { IfOk result (λ object. (cut : Option ℕ)
+) -> Result<(Object, Version), CommandFault>
+    ensures ok { IfOk result (λ begun. (cut : Option ℕ)
         × TellsCut (output_of E.contents E.has_failed E.holds_back errors.old errors.new) cut
         × IfHeld (file_of K.contents K.synced K.fault keeper.old) (J.remaining journal.old)
-        (λ held. Begins limits held (K.fault keeper.old) cut object
+        (λ held. Begins limits held (K.fault keeper.old) cut begun.1 begun.0
         (file_of K.contents K.synced K.fault keeper.new))) }
     ensures err { IfErr result (λ fault. (cut : Option ℕ)
         × TellsCut (output_of E.contents E.has_failed E.holds_back errors.old errors.new) cut
@@ -212,9 +164,10 @@ fn begin<K: KeptFile, J: Source, E: Sink>(
         (λ held. DoesNotBegin limits held (J.has_failed journal.new) cut
         (file_of K.contents K.synced K.fault keeper.new) fault)) }
 {
-    let (object, part) = read_kept(alloc, limits, journal)?;
-    make_ready(alloc, part, keeper, errors)?;
-    Ok(object)
+    let held = read_kept(alloc, limits, journal)?;
+    check_kept(held.version)?;
+    make_ready(alloc, held.part, keeper, errors)?;
+    Ok((held.object, held.version))
 }
 
 /// The fault of a service that keeps a file.
@@ -256,6 +209,16 @@ fn keep_lines<K: KeptFile, R: Source, W: Sink, E: Sink>(
     }
 }
 
+/// What the lines may do over a file of this version: an edit may give a source where it has them.
+fn for_version(rules: ServeRules, version: Version) -> ServeRules
+    ensures { result ≡ for_version version rules }
+{
+    ServeRules {
+        takes_sources: version.has_sources(),
+        ..rules
+    }
+}
+
 /// The command `serve` with a journal that is kept: answers the request lines of the input, by
 /// these rules. The object is the one that the kept file holds, or an empty one under these limits
 /// where no line of it counts. Each change is in the file before its reply is written. All lines
@@ -265,7 +228,8 @@ fn keep_lines<K: KeptFile, R: Source, W: Sink, E: Sink>(
 /// The source gives what the file holds, which is loaded as far as lines count. A last line that
 /// was not finished is cut off, and standard error is told so. One that counts and lacks its line
 /// feed gets it. A file with no line gets a head. All of it is on the disk before the first line is
-/// answered. A file with a bad line, or with a head of an older version, is left as it is.
+/// answered. A file with a bad line, or with a head of the first version, is left as it is. An edit
+/// may give a source where the head says a version that has them.
 ///
 /// Where the service ends early, standard error is told in a line why, and the status says it.
 pub fn keep_command<K: KeptFile, J: Source, R: Source, W: Sink, E: Sink>(
@@ -286,7 +250,10 @@ pub fn keep_command<K: KeptFile, J: Source, R: Source, W: Sink, E: Sink>(
         (output_of E.contents E.has_failed E.holds_back errors.old errors.new) result }
 {
     match begin(alloc, limits, keeper, journal, errors) {
-        Ok(mut object) => keep_lines(alloc, &mut object, rules, keeper, input, output, errors),
+        Ok((mut object, version)) => {
+            let rules = for_version(rules, version);
+            keep_lines(alloc, &mut object, rules, keeper, input, output, errors)
+        }
         Err(fault) => report(alloc, errors, fault),
     }
 }

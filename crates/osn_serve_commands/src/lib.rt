@@ -1,16 +1,21 @@
 //! The command `serve`: answers request lines, and saves, keeps or follows the journal. What the
 //! crate promises to those above: the lines are answered as the service does, from the object that
 //! the journal holds. The journal that is left is saved whole or not at all. One that is kept has
-//! each change before its reply is written, and one that another run keeps is followed.
+//! each change before its reply is written, and one that another run keeps is followed. One of an
+//! older version is saved anew, whole or not at all.
 #![tactic(auto)]
 
 mod follow;
+mod held;
 mod in_folder;
 mod keep;
 mod saving;
 mod serve;
+mod upgrade;
 
 pub use follow::follow_command;
+pub use held::{HeldJournal, check_kept, read_kept};
 pub use in_folder::serve_in_folder;
-pub use keep::{cut_unfinished, keep_command, missing_text, read_kept};
+pub use keep::{cut_unfinished, keep_command, missing_text};
 pub use serve::{ServeResult, initial_object, serve_command};
+pub use upgrade::{cut_text_of, save_anew, tell_cut, upgrade_file};

@@ -28,13 +28,14 @@ struct LockedFile<'a, L> {
     lock: L,
 }
 
-/// What the lines of the service may do, and when it ends, by the options.
+/// What the lines of the service may do, and when it ends, by the options. A source is taken.
 pub(crate) fn rules_of(options: ServeOptions) -> ServeRules
     ensures { result ≡ spec.rules_of (service_model options.entry) }
 {
     ServeRules {
         readers: options.readers,
         read_only: options.read_only,
+        takes_sources: true,
         stop_at_refusal: options.stop_at_refusal,
     }
 }
@@ -72,7 +73,7 @@ fn changed(alloc: Global, unfinished: &str) -> Result<String, AllocError>
 }
 
 /// Tells standard error why the journal is not saved for sure. Answers the status.
-fn report_unsaved<E: Sink>(alloc: Global, errors: &mut E, fault: SaveFault) -> Status
+pub(crate) fn report_unsaved<E: Sink>(alloc: Global, errors: &mut E, fault: SaveFault) -> Status
     ensures { TellsUnsaved
         (output_of E.contents E.has_failed E.holds_back errors.old errors.new) fault result }
 {

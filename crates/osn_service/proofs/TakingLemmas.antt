@@ -30,11 +30,13 @@ use Rattle.osn_service.specs.Served.{StandsAt}
 use Rattle.osn_service.specs.ServiceInside.{InPart}
 use Rattle.osn_service.specs.Session.{line_after}
 use Rattle.osn_service.specs.SessionInside.{Moment, moment_of, Failing, IsSame, HasLost, HasRefused}
+use Rattle.osn_service.specs.Sources.{KeepsSourceless}
 use Rattle.osn_service.specs.Store.{KeepsSince}
 use Rattle.osn_service.specs.TakingInside.{HasTaken, HasKept, IsWithin, AnswersFirst, AnswersInPart}
 use Rattle.osn_service.specs.TakingInside.{SparedFirst, EndsTaking, early_end}
 use Rattle.osn_service.proofs.ServeLemmas.{Serving-few}
 use Rattle.osn_service.proofs.SessionLemmas.{Served, Stopped, Served-nothing}
+use Rattle.osn_service.proofs.SourceLemmas.{Sourceless-after, Sourceless-near}
 
 -- what follows where a value is known
 pub IfSome-weaker : {A : Type 0} (o : Option A) (P Q : A → Type 0) → ((x : A) → P x → Q x) →
@@ -113,6 +115,7 @@ module _ {W S F : Type 0} (contents : W → Option (List ℕ)) (has_failed holds
   pub record Ends (result : Result LinesTaken (Interrupted (ServiceFault F))) : Type 0 where
     pub same : IsSame s t
     pub lent : KeepsSince lends s.store.now t.store.now
+    pub sources : KeepsSourceless s.rules (state s.store.now) (state t.store.now)
     pub takes : HasTaken s.rules (Now s) (Now t) (holds_back t.sink.now) i result
     pub keeps : HasKept has_kept has_lost s.rules (state s.store.now) s.store.now t.store.now i
         result
@@ -164,6 +167,9 @@ module _ {W S F : Type 0} (contents : W → Option (List ℕ)) (has_failed holds
       record {
         same = h.same;
         lent = h.lent;
+        sources =
+            Sourceless-after s.rules object (state t.store.now) (taken ++ h.line ∷ [])
+            h.unkept.reached;
         takes = record {
           written =
               IfSome-weaker i.bytes (λ bytes. IsNext (lines bytes) taken h.line n)
@@ -211,6 +217,9 @@ module _ {W S F : Type 0} (contents : W → Option (List ℕ)) (has_failed holds
       record {
         same = h.same;
         lent = h.lent;
+        sources =
+            Sourceless-after s.rules (state s.store.now) (state t.store.now) all
+            h.serving.waits.reached;
         takes = (
           record {
             lines_taken = all;
@@ -247,6 +256,9 @@ module _ {W S F : Type 0} (contents : W → Option (List ℕ)) (has_failed holds
   ends_served n taken end h count first ends = record {
     same = h.same;
     lent = h.lent;
+    sources =
+        Sourceless-after s.rules (state s.store.now) (state t.store.now) taken
+        h.serving.waits.reached;
     takes = (answers_first taken n h count first, ends (spared_first taken n h.spared first));
     keeps = h.keeps;
   }
@@ -297,6 +309,10 @@ module _ {W S F : Type 0} (contents : W → Option (List ℕ)) (has_failed holds
         record {
           same = k.same;
           lent = k.lent;
+          sources =
+              Sourceless-near s.rules (state s.store.now) (state t.store.now)
+              (take k.failing.whole h.lines_taken) (take (k.failing.whole + 1) h.lines_taken)
+              k.failing.part.reached;
           takes = AnswersInPart-from n failed.unwritten h.lines_taken k.failing h.count h.first;
           keeps = k.keeps;
         }

@@ -9,6 +9,7 @@ pub mod Serves
 pub mod ServiceInside
 pub mod Session
 pub mod SessionInside
+pub mod Sources
 pub mod Stop
 pub mod Store
 pub mod TakingInside

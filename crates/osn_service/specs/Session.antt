@@ -1,11 +1,12 @@
 -- What a line is told: the sequential object's reply to its request, or its fault, which leaves the
 -- object. The newest rules are those of every line.
-use Rattle.std.specs.Prelude.{ℕ, Bool, true, false, List, length, Option, Some, None, Result, Ok}
-use Rattle.std.specs.Prelude.{Err, ◌+◌}
+use Rattle.std.specs.Prelude.{ℕ, Bool, true, false, if◌then◌else◌, List, length, Option, Some}
+use Rattle.std.specs.Prelude.{None, is_some, Result, Ok, Err, ◌+◌}
 use Rattle.osn_days.specs.Profile.{newest_rules}
 use Rattle.osn_register.specs.declared.edit.Edit.{Edit}
 use Rattle.osn_register.specs.declared.query.Query.{Query}
 use Rattle.osn_register.specs.declared.refusal.Refusal.{Refusal}
+use Rattle.osn_register.specs.Lawful.{source_given}
 use Rattle.osn_core.specs.Sequential as object
 use Rattle.osn_core.specs.Sequential.{ObjectState, stage_refusal, publish_refusal, reply_at}
 use Rattle.osn_reply.specs.declared.outcome.Outcome.{Outcome}
@@ -14,14 +15,21 @@ use Rattle.osn_reply.specs.declared.outcome.Outcome.TheVariants.{Replied}
 use Rattle.osn_request.specs.declared.request.Request.{Request}
 use Rattle.osn_request.specs.declared.request.Request.TheVariants.{Stage, Publish, Ask}
 use Rattle.osn_format.specs.declared.wire_fault.WireFault.{WireFault}
-use Rattle.osn_format.specs.declared.wire_fault.WireFault.TheVariants.{ReadOnly}
+use Rattle.osn_format.specs.declared.wire_fault.WireFault.TheVariants.{ReadOnly, NeedsUpgrade}
+use Rattle.osn_format.specs.Version.{newest_version}
 use Rattle.osn_request.specs.Field.{◌>>=◌}
 use Rattle.osn_request.specs.Request.{request}
 use Rattle.osn_service.specs.declared.rules.ServeRules.{ServeRules}
 
--- edits are taken from the lines of this many readers, and all lines are answered
+-- edits are taken from the lines of this many readers, those that give a source too, and all lines
+-- are answered
 abbrev pub editing : ℕ → ServeRules
-editing readers = record { readers = readers; read_only = false; stop_at_refusal = false }
+editing readers = record {
+  readers = readers;
+  read_only = false;
+  takes_sources = true;
+  stop_at_refusal = false;
+}
 
 abbrev pub unless_refused : Option Refusal → Outcome → Outcome
 unless_refused None outcome = outcome
@@ -61,14 +69,22 @@ reading (Stage e) = Err ReadOnly
 reading Publish = Err ReadOnly
 reading (Ask reader q) = Ok (Ask reader q)
 
--- a line's request where that may be so
-abbrev pub allowed : Bool → Result Request WireFault → Result Request WireFault
-allowed false r = r
-allowed true r = r >>= reading
+-- a request where edits that give a source are refused
+abbrev pub without_source : Request → Result Request WireFault
+without_source (Stage e) = if is_some (source_given e) then Err NeedsUpgrade else Ok (Stage e)
+without_source Publish = Ok Publish
+without_source (Ask reader q) = Ok (Ask reader q)
+
+-- a line's request, by whether it may only read, and whether an edit may give a source
+abbrev pub allowed : Bool → Bool → Result Request WireFault → Result Request WireFault
+allowed true takes_sources r = r >>= reading
+allowed false true r = r
+allowed false false r = r >>= without_source
 
 -- what a line requests
 abbrev pub line_request : ServeRules → List ℕ → Result Request WireFault
-line_request rules line = allowed rules.read_only (request newest_rules rules.readers line)
+line_request rules line =
+    allowed rules.read_only rules.takes_sources (request newest_version rules.readers line)
 
 -- what a line is told, and what it leaves
 abbrev pub line_outcome : ServeRules → ObjectState → List ℕ → Outcome

@@ -9,18 +9,21 @@ pub struct ServeRules {
     pub readers: u32,
     /// Whether each edit and each publish is told the fault `ReadOnly`.
     pub read_only: bool,
+    /// Whether an edit may give a source. Where not, one that does is told `NeedsUpgrade`.
+    pub takes_sources: bool,
     /// Whether the first line whose reply tells a refusal or a fault is the last to be answered.
     pub stop_at_refusal: bool,
 }
 
 impl ServeRules {
-    /// Edits are taken, and all lines are answered.
+    /// Edits are taken, those that give a source too, and all lines are answered.
     pub fn editing(readers: u32) -> ServeRules
         ensures { result ≡ spec.editing readers }
     {
         ServeRules {
             readers,
             read_only: false,
+            takes_sources: true,
             stop_at_refusal: false,
         }
     }

@@ -6,6 +6,7 @@ ghost use Rattle.osn_service.specs.Law.{MayEachInputBeCut};
 ghost use Rattle.osn_service.specs.Serves.{KeepsStore, Serves, ServesStore};
 ghost use Rattle.osn_service.specs.Session.{editing};
 ghost use Rattle.osn_service.specs.SessionInside.{IsSame, Moment, moment_of};
+ghost use Rattle.osn_service.specs.Sources.{KeepsSourceless};
 ghost use Rattle.osn_service.specs.Store.{KeepsSince};
 ghost use Rattle.osn_service.specs.TakingInside as spec;
 ghost use Rattle.osn_service.specs.TakingInside.{HasKept, HasTaken, IsWithin, output_since};
@@ -92,6 +93,8 @@ fn take_all<R: Source, W: Sink, S: Store>(
     requires ends { session.old.waiting.now.ends.items ≡ [] }
     ensures same { IsSame session.old session.new }
     ensures lent { KeepsSince S.lends session.old.store.now session.new.store.now }
+    ensures sources { KeepsSourceless session.old.rules (S.state session.old.store.now)
+        (S.state session.new.store.now) }
     ensures takes { HasTaken session.old.rules
         (moment_of W.contents W.has_failed S.state session.old)
         (moment_of W.contents W.has_failed S.state session.new)
@@ -164,6 +167,8 @@ fn run<R: Source, W: Sink, S: Store>(
     requires ends { session.old.waiting.now.ends.items ≡ [] }
     ensures same { IsSame session.old session.new }
     ensures lent { KeepsSince S.lends session.old.store.now session.new.store.now }
+    ensures sources { KeepsSourceless session.old.rules (S.state session.old.store.now)
+        (S.state session.new.store.now) }
     ensures serves { ServesStore session.old.rules (S.state session.old.store.now)
         (S.state session.new.store.now)
         (input_of R.remaining R.has_failed source.old source.new)
@@ -182,9 +187,10 @@ fn run<R: Source, W: Sink, S: Store>(
 ///
 /// What is written is the text of each outcome of the sequential object run on the requests of the
 /// lines read, in order, and nothing else. The pieces in which the bytes come make no difference. A
-/// line that is no request is told its fault and leaves the object. Replies wait until more is to
-/// be read, a line is to change the object, or 65,536 bytes of them wait. The reply to a change is
-/// written only after the store has kept it.
+/// line that is no request is told its fault and leaves the object. So does an edit that gives a
+/// source, where the rules take none: no edit of the object gives one then that gave none before.
+/// Replies wait until more is to be read, a line is to change the object, or 65,536 bytes of them
+/// wait. The reply to a change is written only after the store has kept it.
 ///
 /// # Errors
 ///
@@ -199,6 +205,7 @@ pub fn serve_store<R: Source, W: Sink, S: Store>(
 ) -> Result<Served, Interrupted<ServiceFault<S::Fault>>>
     requires { S.lends store.old store.old }
     ensures lent { S.lends store.old store.new }
+    ensures sources { KeepsSourceless rules (S.state store.old) (S.state store.new) }
     ensures serves { ServesStore rules (S.state store.old) (S.state store.new)
         (input_of R.remaining R.has_failed source.old source.new)
         (output_of W.contents W.has_failed W.holds_back sink.old sink.new) result }

@@ -90,15 +90,20 @@ fn ask<S: Store>(
     tell(alloc, waiting, Outcome::Replied { reader, reply })
 }
 
-/// What a line asks for that may change something, where that is not refused to all lines.
-fn allowed(read_only: bool, request: LineRequest<'_>) -> Result<LineRequest<'_>, RequestError>
+/// What a line asks for, where the rules let it in.
+fn allowed(rules: ServeRules, request: LineRequest<'_>) -> Result<LineRequest<'_>, RequestError>
     ensures { MatchResult result
-        (λ r. spec.allowed read_only (Ok (as_request request.entry)) ≡ Ok (as_request r))
-        (λ e. Fails e (spec.allowed read_only (Ok (as_request request.entry)))) }
+        (λ r. spec.allowed rules.read_only rules.takes_sources (Ok (as_request request.entry))
+        ≡ Ok (as_request r))
+        (λ e. Fails e
+        (spec.allowed rules.read_only rules.takes_sources (Ok (as_request request.entry)))) }
 {
     match request {
-        LineRequest::Stage(_) | LineRequest::Publish if read_only => {
+        LineRequest::Stage(_) | LineRequest::Publish if rules.read_only => {
             Err(RequestError::Fault(WireFault::ReadOnly))
+        }
+        LineRequest::Stage(edit) if !rules.takes_sources && edit.source().is_some() => {
+            Err(RequestError::Fault(WireFault::NeedsUpgrade))
         }
         request => Ok(request),
     }
@@ -115,10 +120,7 @@ fn request_in<'a>(
         (λ e. Fails e (spec.line_request rules whole)) }
 {
     match read {
-        Ok(object) => allowed(
-            rules.read_only,
-            line_request_of(alloc, rules.readers, object)?,
-        ),
+        Ok(object) => allowed(rules, line_request_of(alloc, rules.readers, object)?),
         Err(error) => Err(*error),
     }
 }

@@ -189,7 +189,8 @@ fn reloaded<R: Read + Drop>(alloc: Global, reader: R) -> Result<String, AllocErr
     }
 }
 
-fn are_kept(rt: &impl Abort, alloc: Global, texts: &[&str]) -> Result<(), Fail> {
+/// Checks that each text is written as it was loaded.
+pub fn are_kept(rt: &impl Abort, alloc: Global, texts: &[&str]) -> Result<(), Fail> {
     for text in texts {
         let text = joined(alloc, text)?;
         let again = reloaded(alloc, text.as_bytes())?;
@@ -198,7 +199,8 @@ fn are_kept(rt: &impl Abort, alloc: Global, texts: &[&str]) -> Result<(), Fail> 
     Ok(())
 }
 
-fn give(rt: &impl Abort, alloc: Global, rows: &[(&str, &str)]) -> Result<(), Fail> {
+/// Checks what is written of each text, or why it is no journal.
+pub fn give(rt: &impl Abort, alloc: Global, rows: &[(&str, &str)]) -> Result<(), Fail> {
     for (text, want) in rows {
         let want = joined(alloc, want)?;
         let got = reloaded(alloc, joined(alloc, text)?.as_bytes())?;

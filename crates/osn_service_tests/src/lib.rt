@@ -1,20 +1,13 @@
-//! Tests of the register and of the service over their public calls. What a contract says is not
-//! tested again. Here stand worked sessions of the service, each public call once with ample
-//! memory, values from outside, and streams that fail.
+//! Tests of the service over its public calls. What a contract says is not tested again. Here stand
+//! worked sessions, values from outside, journals, followers, and streams that fail.
 #![tactic(auto)]
 
-#[cfg(test)]
-mod almanac;
-#[cfg(test)]
-mod audits;
 #[cfg(test)]
 mod beginnings;
 #[cfg(test)]
 mod bytes;
 #[cfg(test)]
 mod changes;
-#[cfg(test)]
-mod desks;
 #[cfg(test)]
 mod easter_years;
 #[cfg(test)]
@@ -34,35 +27,23 @@ mod followers;
 #[cfg(test)]
 mod forty;
 #[cfg(test)]
-mod gates;
-#[cfg(test)]
 mod hostile;
 #[cfg(test)]
 mod journals;
 #[cfg(test)]
 mod limits;
 #[cfg(test)]
-mod live;
-#[cfg(test)]
-mod names;
-#[cfg(test)]
-mod objects;
-#[cfg(test)]
 mod reforms;
 #[cfg(test)]
 mod refusals;
 #[cfg(test)]
-mod register;
-#[cfg(test)]
-mod schedules;
+mod sources;
 #[cfg(test)]
 mod standing;
 #[cfg(test)]
 mod streams;
 #[cfg(test)]
 mod support;
-#[cfg(test)]
-mod takers;
 #[cfg(test)]
 mod whole_writes;
 #[cfg(test)]

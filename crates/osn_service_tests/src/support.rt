@@ -2,6 +2,5 @@
 pub mod compare;
 pub mod failing;
 pub mod growing;
-pub mod register_lines;
 pub mod session;
 pub mod streams;

@@ -1,18 +1,20 @@
 -- What a kept file holds once it is ready is loaded as the object that it held.
-use Rattle.std.proofs.Common.{◌≡◌, ◌⊎◌, ◌<◌, ◌==◌, ◌∙◌, ℕ, zero, suc, Bool, true, false, cond}
+use Rattle.std.proofs.Common.{◌≡◌, ◌⊎◌, ◌==◌, ◌∙◌, ℕ, zero, suc, Bool, true, false, cond}
 use Rattle.std.proofs.Common.{List, [], ◌∷◌, ◌++◌, length, take, drop, Ok, refl, sym, ap, subst}
-use Rattle.std.proofs.Common.{inl, inr, arith, append-nil, eqb-true, take_all, if◌then◌else◌}
+use Rattle.std.proofs.Common.{inl, inr, arith, append-nil, eqb-true, take_all}
 use Rattle.osn_days.specs.Profile.{newest_rules}
 use Rattle.osn_register.specs.declared.limits.Limits.{Limits}
-use Rattle.osn_core.specs.Sequential.{IsSound, ObjectState, opened}
-use Rattle.osn_format.specs.Version.{newest_version}
+use Rattle.std.proofs.lemmas.List.Elements.{All-nil}
+use Rattle.osn_core.specs.Sequential.{HasLawfulSource, IsSound, ObjectState, opened}
+use Rattle.osn_format.specs.Version.{plain_version}
+use Rattle.osn_format.specs.declared.version.Version.{Version}
 use Rattle.osn_files.proofs.LoadFacts.{IsJournalOf-written}
 use Rattle.osn_files.specs.Journal.{load}
 use Rattle.osn_files.specs.JournalText.{line_text}
-use Rattle.osn_files.specs.LastLine.{is_unfinished, last_line}
-use Rattle.osn_files.specs.Loaded.{IsJournalOf, IsOfVersion}
+use Rattle.osn_files.specs.LastLine.{last_line}
+use Rattle.osn_files.specs.Loaded.{HasEdit, IsJournalOf, IsOfVersion}
 use Rattle.osn_files.specs.Version.{head_data}
-use Rattle.osn_files.specs.WholePart.{by_last, ended_count, last_line_of, whole_bytes, whole_length}
+use Rattle.osn_files.specs.WholePart.{by_last, ended_count, last_line_of, whole_bytes}
 use Rattle.osn_files.specs.declared.last_line.LastLine.{LastLine}
 use Rattle.osn_files.specs.declared.last_line.LastLine.TheVariants.{Ended, LacksFeed, Unfinished}
 use Rattle.osn_lines.specs.Ended.{ended_length, unended_bytes, with_byte}
@@ -131,30 +133,37 @@ counted held = by_last_line (last_line_of held) refl
 
 -- an empty object is loaded from a head
 head_loaded : (limits : Limits)
-    → IsJournalOf newest_version limits (opened limits) (line_text (head_data newest_version))
+    → IsJournalOf plain_version limits (opened limits) (line_text (head_data plain_version))
 head_loaded limits =
-    let empty : IsSound newest_rules (opened limits) =
-    record { lawful = tt; none_empty = tt; edits = omega arith; editions = omega arith } in
-    subst (IsJournalOf newest_version limits (opened limits))
-    (append-nil (line_text (head_data newest_version))) (IsJournalOf-written (opened limits) empty)
+    let empty : IsSound newest_rules (opened limits) = record {
+      lawful = tt;
+      none_empty = tt;
+      edits = omega arith;
+      editions = omega arith;
+      sources = All-nil HasLawfulSource;
+    } in
+    subst (IsJournalOf plain_version limits (opened limits))
+    (append-nil (line_text (head_data plain_version)))
+    (IsJournalOf-written plain_version (opened limits) empty (All-nil (HasEdit plain_version)))
 
-module _ (limits : Limits) (s : ObjectState) where
+module _ (limits : Limits) (version : Version) (s : ObjectState) where
   -- lines that end with their line feeds get a head where there are none, and else nothing
   whole_loaded : (bytes : List ℕ) → EndsOrNone bytes → object_of limits bytes ≡ Ok s
-      → SaysVersion newest_version bytes
-      → IsJournalOf newest_version limits s (bytes ++ missing_head bytes)
+      → SaysVersion version bytes
+      → IsJournalOf version limits s (bytes ++ missing_head bytes)
   whole_loaded [] ends loads says =
       let empty : opened limits ≡ s = cc in
-      subst (λ t. IsJournalOf newest_version limits t (line_text (head_data newest_version))) empty
-      (head_loaded limits)
+      let head = line_text (head_data plain_version) in
+      subst (λ v. IsJournalOf v limits s head) (sym says)
+      (subst (λ t. IsJournalOf plain_version limits t head) empty (head_loaded limits))
   whole_loaded (b ∷ bs) (inl none) loads says = absurd (cc)
   whole_loaded (b ∷ bs) (inr ends) loads says =
-      subst (IsJournalOf newest_version limits s) (sym (append-nil (b ∷ bs)))
+      subst (IsJournalOf version limits s) (sym (append-nil (b ∷ bs)))
       (record { head = says; ends = ends; loads = loads })
 
   text_loaded : (last : LastLine) (bytes : List ℕ) → Counts last bytes
-      → object_of limits bytes ≡ Ok s → SaysVersion newest_version bytes
-      → IsJournalOf newest_version limits s (bytes ++ missing_end last bytes)
+      → object_of limits bytes ≡ Ok s → SaysVersion version bytes
+      → IsJournalOf version limits s (bytes ++ missing_end last bytes)
   text_loaded Ended bytes counts loads says =
       whole_loaded bytes (counts.ended (λ h. absurd (cc))) loads says
   text_loaded Unfinished bytes counts loads says =
@@ -163,13 +172,13 @@ module _ (limits : Limits) (s : ObjectState) where
   text_loaded LacksFeed (b ∷ bs) counts loads says =
       let same = (counts.fed refl).0 in
       record {
-        head = subst (IsOfVersion newest_version) (sym same) says;
+        head = subst (IsOfVersion version) (sym same) says;
         ends = (b ∷ bs, refl);
         loads = ap (load newest_rules limits) same ∙ loads;
       }
 
   -- what a file holds once it is ready is loaded as the object that it held
-  pub kept_loaded : (held : List ℕ) → HoldsObject limits held s
-      → IsJournalOf newest_version limits s (kept_text held)
+  pub kept_loaded : (held : List ℕ) → HoldsObject limits held version s
+      → IsJournalOf version limits s (kept_text held)
   kept_loaded held h =
-      text_loaded (last_line_of held) (whole_bytes held) (counted held) h.object h.version
+      text_loaded (last_line_of held) (whole_bytes held) (counted held) h.object h.says

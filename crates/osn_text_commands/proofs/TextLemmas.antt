@@ -1,5 +1,6 @@
 -- The text of a territory was printed, or told of, as its contract says.
 use Rattle.std.proofs.Common.{◌≡◌, ℕ, List, Some, None}
+use Rattle.osn_days.specs.Profile.{newest_rules}
 use Rattle.osn_lines.specs.Streams.{Output}
 use Rattle.osn_page_commands.specs.Page.{land_refusal_line}
 use Rattle.osn_register.specs.Plain.{LandModel, code_refusal}
@@ -8,12 +9,13 @@ use Rattle.osn_report.specs.Messages.{TellsIfMade}
 use Rattle.osn_report.specs.Printing.{PrintsIfMade}
 use Rattle.osn_report.specs.declared.status.Status.{Status}
 use Rattle.osn_report.specs.declared.status.Status.TheVariants as statuses
-use Rattle.osn_text_commands.specs.Text.{PrintsLand, land_text}
+use Rattle.osn_text_commands.specs.Text.{PrintsLand}
+use Rattle.osn_text_writer.specs.TerritoryText.{text_of_code}
 
 module _ (lands : List LandModel) (path code : List ℕ) (o e : Output) (status : Status) where
   -- a territory has the code
   pub land_printed : code_refusal lands code ≡ None
-      → PrintsIfMade (land_text lands code) o e status → PrintsLand lands path code o e status
+      → PrintsIfMade (text_of_code newest_rules code lands) o e status → PrintsLand lands path code o e status
   land_printed none h = rw none h
 
   -- none has it

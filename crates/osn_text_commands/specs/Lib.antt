@@ -1,9 +1,11 @@
 pub mod TextFile
 pub mod Text
 pub mod PlanWords
+pub mod Note
 pub mod PlanFault
 pub mod Plan
 pub mod Edition
 pub mod Publish
 pub mod PublishInside
 pub mod InFolder
+pub mod PublishFolder

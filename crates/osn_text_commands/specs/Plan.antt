@@ -1,16 +1,19 @@
 -- What the command `plan` prints, and what standard error is told.
-use Rattle.std.specs.Prelude.{◌≡◌, ◌⊎◌, ◌+◌, ◌++◌, ℕ, Bool, true, false, List, [], ◌∷◌, length}
-use Rattle.std.specs.Prelude.{Option, Some, None, is_some}
+use Rattle.std.specs.Prelude.{◌≡◌, ◌⊎◌, ◌+◌, ◌++◌, ⊤, ℕ, Bool, List, length}
+use Rattle.std.specs.Prelude.{Option, Some, None, IfSome, is_some}
 use Rattle.osn_days.specs.Profile.{newest_rules}
 use Rattle.osn_core.specs.Sequential.{ObjectState}
+use Rattle.osn_files.specs.Loaded.{IsOfVersion}
 use Rattle.osn_files.specs.declared.fault.FileFault.{FileFault}
+use Rattle.osn_format.specs.declared.version.Version.{Version}
+use Rattle.osn_lines.specs.Lines.{lines}
 use Rattle.osn_lines.specs.Streams.{Input, Output}
 use Rattle.osn_register.specs.Plain.{RegisterModel}
 use Rattle.osn_register.specs.declared.edit.Edit.{Edit}
 use Rattle.osn_register.specs.declared.limits.Limits.{Limits}
 use Rattle.osn_report.specs.Journal.{Begins, BeginsNot}
 use Rattle.osn_report.specs.Printing.{PrintsIfMade, PrintsNone}
-use Rattle.osn_report.specs.Messages.{Ends, TellsIfMade, TellsNothing}
+use Rattle.osn_report.specs.Messages.{TellsNothing}
 use Rattle.osn_report.specs.declared.fault.CommandFault.TheVariants.{File}
 use Rattle.osn_report.specs.declared.status.Status.{Status}
 use Rattle.osn_report.specs.declared.status.Status.TheVariants as statuses
@@ -19,8 +22,9 @@ use Rattle.osn_plan.specs.Fault.{IsFault}
 use Rattle.osn_plan.specs.Plan.{IsPlan}
 use Rattle.osn_plan.specs.declared.fault.PlanFault.{PlanFault}
 use Rattle.osn_plan_page.specs.PlanPage.{plan_page}
+use Rattle.osn_text_commands.specs.Note.{TellsNote, note_line, note_of}
 use Rattle.osn_text_commands.specs.PlanFault.{TellsPlanFault}
-use Rattle.osn_text_commands.specs.PlanWords.{plan_end, pending_line, missing_line}
+use Rattle.osn_text_commands.specs.PlanWords.{plan_end}
 use Rattle.osn_text_commands.specs.Text.{published}
 use Rattle.osn_text_commands.specs.TextFile.{SaysRegister, IsTextFileFault, TellsTextFile}
 use Rattle.osn_text_commands.specs.declared.text_file.TextFileFault.{TextFileFault}
@@ -32,21 +36,6 @@ plan_text s wanted edits =
     ++ plan_end (length edits) (length s.batches + 1)
 
 -- ---- what is told beside a plan
-
--- the line on a journal with these pending edits, where there are any
-abbrev pub pending_note : List Edit → Option (List ℕ)
-pending_note [] = None
-pending_note (e ∷ es) = Some (pending_line (length (e ∷ es)))
-
--- the line on a journal of this path, which is there or not, and on the object that it makes
-abbrev pub note_of : List ℕ → Bool → ObjectState → Option (List ℕ)
-note_of path false s = Some (missing_line path)
-note_of path true s = pending_note s.pending
-
--- the line was told, if there is one, or that there was no memory for it
-abbrev pub TellsNote : Option (List ℕ) → Output → Status → Type 0
-TellsNote None e status = Ends e None status
-TellsNote (Some line) e status = TellsIfMade e statuses.Done line status
 
 -- it was told where all was printed, and else nothing more
 abbrev pub TellsNoteAfter : Status → Option (List ℕ) → Output → Status → Type 0
@@ -73,13 +62,13 @@ RefusesPlan s path wanted o e status =
     × TellsPlanFault path e fault status
 
 -- the plan from what an object has published to the register that is wanted was printed, and then a
--- line told, if there is one; or there is none
-abbrev pub PrintsPlanTo : ObjectState → List ℕ → RegisterModel → Option (List ℕ) → Output → Output
-    → Status → Type 0
+-- line on its edits told, if there is one; or there is none
+abbrev pub PrintsPlanTo : ObjectState → List ℕ → RegisterModel → (List Edit → Option (List ℕ))
+    → Output → Output → Status → Type 0
 PrintsPlanTo s path wanted note o e status =
     RefusesPlan s path wanted o e status
     ⊎ ((edits : List Edit) × IsPlan s.limits wanted.lands (published s) edits
-    × PrintsNoted (plan_text s wanted edits) note o e status)
+    × PrintsNoted (plan_text s wanted edits) (note edits) o e status)
 
 -- the file of this path says no register, which standard error was told
 abbrev pub RefusesText : Limits → List ℕ → Input → Output → Output → Status → Type 0
@@ -88,12 +77,18 @@ RefusesText limits path text o e status =
     × TellsTextFile path e fault status
 
 -- the same of what the text of this path says, which may be nothing
-abbrev pub PrintsPlanOf : Limits → ObjectState → List ℕ → Input → Option (List ℕ) → Output
-    → Output → Status → Type 0
+abbrev pub PrintsPlanOf : Limits → ObjectState → List ℕ → Input → (List Edit → Option (List ℕ))
+    → Output → Output → Status → Type 0
 PrintsPlanOf limits s path text note o e status =
     RefusesText limits path text o e status
     ⊎ ((wanted : RegisterModel) × SaysRegister limits text.bytes wanted
     × PrintsPlanTo s path wanted note o e status)
+
+-- a journal is of this version, by its head, if it is there
+abbrev pub IsOfVersionIf : Option Input → Version → Type 0
+IsOfVersionIf None version = ⊤
+IsOfVersionIf (Some journal) version =
+    IfSome journal.bytes (λ bytes. IsOfVersion version (lines bytes))
 
 -- of a journal, and of a text, each of its path: the journal is refused; or it makes an object, or
 -- there is none, and that was done with an empty one
@@ -102,4 +97,6 @@ abbrev pub PrintsPlan : Limits → List ℕ → Option Input → List ℕ → In
 PrintsPlan limits path journal text_path text o e status =
     ((fault : FileFault) × BeginsNot limits journal fault × PrintsNone (File fault) o e status)
     ⊎ ((s : ObjectState) × Begins limits journal s
-    × PrintsPlanOf limits s text_path text (note_of path (is_some journal) s) o e status)
+    × (version : Version) × IsOfVersionIf journal version
+    × PrintsPlanOf limits s text_path text
+    (λ edits. note_line path (note_of (is_some journal) version s edits)) o e status)

@@ -6,6 +6,7 @@ use Rattle.osn_plan.specs.declared.fault.PlanFault.TheVariants as faults
 use Rattle.osn_register.specs.Refusal.{refusal_name, refusal_number}
 use Rattle.osn_register.specs.declared.refusal.Refusal.{Refusal}
 use Rattle.osn_report.specs.Fault.{refusal_end}
+use Rattle.osn_report.specs.Hint.{limit_hint}
 use Rattle.osn_report.specs.Messages.{EndsBy, TellsIfMade}
 use Rattle.osn_report.specs.declared.fault.CommandFault.TheVariants as command_faults
 use Rattle.osn_report.specs.declared.status.Status.{Status}
@@ -21,13 +22,15 @@ renamed_line path code name wanted = codes "oldstyle: "
     ++ (codes ": a name can't be changed: it is "
     ++ (name ++ (codes ", and the text has " ++ (wanted ++ codes "\n")))))))
 
--- the line on an edit that is refused, of the territory of this code that the text of this path has
+-- the line on an edit that is refused, of the territory of this code that the text of this path
+-- has, and how more is allowed where that is at a limit
 abbrev pub refused_line : List ℕ → List ℕ → Refusal → List ℕ
 refused_line path code refusal = codes "oldstyle: "
     ++ (path
     ++ (codes ": "
     ++ (code
-    ++ (codes ": " ++ refusal_end (refusal_number refusal) (refusal_name refusal)))))
+    ++ (codes ": "
+    ++ refusal_end (refusal_number refusal) (refusal_name refusal ++ limit_hint refusal)))))
 
 -- standard error was told why there is no plan to what the text of this path says
 abbrev pub TellsPlanFault : List ℕ → Output → PlanFault → Status → Type 0

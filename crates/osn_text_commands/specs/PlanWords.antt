@@ -1,6 +1,12 @@
 -- The words on a plan and on its publish, beside the plan's own lines. This project's profile.
 use Rattle.std.specs.Prelude.{◌==◌, if◌then◌else◌, ℕ, List, ◌++◌, codes}
 use Rattle.std.specs.Fmt.{decimal}
+use Rattle.osn_format.specs.Version.{version_number}
+use Rattle.osn_format.specs.declared.version.Version.{Version}
+use Rattle.osn_register.specs.Refusal.{refusal_name, refusal_number}
+use Rattle.osn_register.specs.declared.refusal.Refusal.{Refusal}
+use Rattle.osn_report.specs.Fault.{refusal_end}
+use Rattle.osn_report.specs.Hint.{limit_hint}
 
 -- the last line of a plan of this many edits, the next edition having this number
 abbrev pub plan_end : ℕ → ℕ → List ℕ
@@ -39,7 +45,28 @@ pending_text pending edits advice = codes "oldstyle: publish refuses a journal w
 abbrev pub pending_line : ℕ → List ℕ
 pending_line pending = pending_text pending (edits_word pending) advice
 
--- the line on a journal of this path that is not there
+-- the line on a journal of this path that is not there, where a publish makes it, and where it
+-- would have nothing to change
 abbrev pub missing_line : List ℕ → List ℕ
 missing_line path =
     codes "oldstyle: " ++ (path ++ codes ": there is no such journal yet: publish makes it\n")
+
+abbrev pub absent_line : List ℕ → List ℕ
+absent_line path = codes "oldstyle: " ++ (path ++ codes ": there is no such journal yet\n")
+
+-- the line on edits that a publish refuses
+abbrev pub refused_edits_line : Refusal → List ℕ
+refused_edits_line refusal = codes "oldstyle: publish refuses the edits: "
+    ++ refusal_end (refusal_number refusal) (refusal_name refusal ++ limit_hint refusal)
+
+-- the line on a journal of this version that a publish saves anew
+abbrev pub anew_line : Version → List ℕ
+anew_line version = codes "oldstyle: the journal is of version "
+    ++ (decimal (version_number version)
+    ++ codes ", which has no sources: publish saves it anew as version 4\n")
+
+-- the line on a journal of this version that a publish refuses
+abbrev pub not_kept_line : Version → List ℕ
+not_kept_line version = codes "oldstyle: publish refuses a journal of version "
+    ++ (decimal (version_number version)
+    ++ codes ": serve --keep with --upgrade saves it anew as version 4\n")

@@ -1,29 +1,34 @@
 -- How a publish ends: what it printed and told, and what the file of the journal holds then.
-use Rattle.std.specs.Prelude.{◌≡◌, ◌⊎◌, ◌+◌, ◌++◌, ℕ, Bool, List, [], ◌∷◌, length, take}
-use Rattle.std.specs.Prelude.{Option, Some, None}
+use Rattle.std.specs.Prelude.{◌≡◌, ◌⊎◌, ◌+◌, ◌++◌, ℕ, Bool, true, false, List, [], ◌∷◌, length}
+use Rattle.std.specs.Prelude.{take, Option, Some, None, IfSome}
+use Rattle.std.specs.List.{All}
 use Rattle.std.specs.Option.{MatchOption}
 use Rattle.osn_days.specs.Profile.{newest_rules}
-use Rattle.osn_core.specs.Sequential.{ObjectState}
+use Rattle.osn_core.specs.Sequential.{HasLawfulSource, ObjectState}
 use Rattle.osn_folder.specs.declared.fault.KeptFileFault.{KeptFileFault}
 use Rattle.osn_journal.specs.KeptJournal.{FileState}
 use Rattle.osn_lines.specs.Streams.{Input, Output}
+use Rattle.osn_files.specs.JournalText.{journal_text}
 use Rattle.osn_files.specs.WholePart.{whole_bytes}
+use Rattle.osn_format.specs.declared.version.Version.{Version}
 use Rattle.osn_plan.specs.Plan.{IsPlan}
 use Rattle.osn_plan_page.specs.PlanPage.{plan_page}
 use Rattle.osn_register.specs.Plain.{RegisterModel}
 use Rattle.osn_register.specs.declared.edit.Edit.{Edit}
 use Rattle.osn_register.specs.declared.limits.Limits.{Limits}
+use Rattle.osn_register.specs.declared.refusal.Refusal.{Refusal}
 use Rattle.osn_register.specs.declared.refusal.Refusal.TheVariants as refusals
 use Rattle.osn_report.specs.Printing.{Prints, PrintsIfMade, PrintsNone}
 use Rattle.osn_report.specs.Messages.{TellsIfMade}
 use Rattle.osn_report.specs.declared.fault.CommandFault.{CommandFault}
-use Rattle.osn_report.specs.declared.fault.CommandFault.TheVariants.{Refused}
+use Rattle.osn_report.specs.declared.fault.CommandFault.TheVariants.{OlderVersion, Refused}
 use Rattle.osn_report.specs.declared.status.Status.{Status}
 use Rattle.osn_report.specs.declared.status.Status.TheVariants as statuses
 use Rattle.osn_serve_commands.specs.Keep.{HoldsObject, HoldsNoObject, IfHeld, IsChangeFault}
 use Rattle.osn_serve_commands.specs.Keep.{TellsCut, ready_file, first_output, later_output}
-use Rattle.osn_serve_commands.specs.Keep.{unfinished_line}
-use Rattle.osn_text_commands.specs.Edition.{appended_text, edition_refusal, edition_text}
+use Rattle.osn_serve_commands.specs.Keep.{cut_text, is_kept, unfinished_line}
+use Rattle.osn_text_commands.specs.Edition.{IsNoMemoryOr, appended_text, edition_refusal}
+use Rattle.osn_text_commands.specs.Edition.{edition_text, needs_sources, with_batch}
 use Rattle.osn_text_commands.specs.Plan.{RefusesPlan}
 use Rattle.osn_text_commands.specs.PlanWords.{pending_line, published_line, standing_line}
 use Rattle.osn_text_commands.specs.Text.{published}
@@ -84,42 +89,87 @@ pub record WritesEdition (CanStay : Type 0) (old file : FileState) (given : Opti
 abbrev pub Refuses : CommandFault → FileState → FileState → Output → Output → Status → Type 0
 Refuses fault old file o e status = (file ≡ old) × PrintsNone fault o e status
 
--- the edits of a plan were published, unless there are none, or one is refused, or memory ran out
-abbrev pub PublishesEdits : Type 0 → ObjectState → RegisterModel → FileState → FileState
+-- edits were appended as an edition, unless there are none, or one is refused, or memory ran out.
+-- Each source that one gives may be given
+abbrev pub AppendsEdits : Type 0 → ObjectState → RegisterModel → FileState → FileState
     → Option (List ℕ) → List Edit → Output → Output → Status → Type 0
-PublishesEdits CanStay s wanted old file given [] o e status =
+AppendsEdits CanStay s wanted old file given [] o e status =
     (file ≡ old) × PrintsIfMade (standing_text s wanted) o e status
-PublishesEdits CanStay s wanted old file given (edit ∷ edits) o e status =
+AppendsEdits CanStay s wanted old file given (edit ∷ edits) o e status =
     Refuses (Refused refusals.NoMemory) old file o e status
     ⊎ MatchOption (edition_refusal s (edit ∷ edits))
-    (WritesEdition CanStay old file given (edit ∷ edits)
+    (All HasLawfulSource (edit ∷ edits)
+    × WritesEdition CanStay old file given (edit ∷ edits)
     (published_text s wanted (edit ∷ edits)) o e status)
     (λ refusal. Refuses (Refused refusal) old file o e status)
 
+-- that, where a journal of this version is kept; or it is not, which standard error was told
+abbrev pub AppendsIfKept : Bool → Type 0 → Version → ObjectState → RegisterModel → FileState
+    → FileState → Option (List ℕ) → List Edit → Output → Output → Status → Type 0
+AppendsIfKept true CanStay version s wanted old file given edits o e status =
+    AppendsEdits CanStay s wanted old file given edits o e status
+AppendsIfKept false CanStay version s wanted old file given edits o e status =
+    Refuses (OlderVersion version) old file o e status
+
+-- where edits need sources that the version lacks, one of them is refused, or memory ran out; else
+-- that was done
+abbrev pub PublishesEdits : Bool → Type 0 → Version → ObjectState → RegisterModel → FileState
+    → FileState → Option (List ℕ) → List Edit → Output → Output → Status → Type 0
+PublishesEdits true CanStay version s wanted old file given edits o e status =
+    (refusal : Refusal) × IsNoMemoryOr (edition_refusal s edits) refusal
+    × Refuses (Refused refusal) old file o e status
+PublishesEdits false CanStay version s wanted old file given edits o e status =
+    AppendsIfKept (is_kept version) CanStay version s wanted old file given edits o e status
+
 -- from what an object has published to the register that is wanted: there is no plan; or the edits
 -- of one were published
-abbrev pub PublishesPlan : Type 0 → ObjectState → List ℕ → RegisterModel → FileState → FileState
-    → Option (List ℕ) → Output → Output → Status → Type 0
-PublishesPlan CanStay s path wanted old file given o e status =
+abbrev pub PublishesPlan : Type 0 → Version → ObjectState → List ℕ → RegisterModel → FileState
+    → FileState → Option (List ℕ) → Output → Output → Status → Type 0
+PublishesPlan CanStay version s path wanted old file given o e status =
     ((file ≡ old) × RefusesPlan s path wanted o e status)
     ⊎ ((edits : List Edit) × IsPlan s.limits wanted.lands (published s) edits
-    × PublishesEdits CanStay s wanted old file given edits o e status)
+    × PublishesEdits (needs_sources version edits) CanStay version s wanted old file given edits o
+    e status)
 
 -- that, unless edits are pending, which standard error was told
-abbrev pub PublishesUnlessPending : Type 0 → ObjectState → List Edit → List ℕ → RegisterModel
-    → FileState → FileState → Option (List ℕ) → Output → Output → Status → Type 0
-PublishesUnlessPending CanStay s [] path wanted old file given o e status =
-    PublishesPlan CanStay s path wanted old file given o e status
-PublishesUnlessPending CanStay s (edit ∷ edits) path wanted old file given o e status =
+abbrev pub PublishesUnlessPending : Type 0 → Version → ObjectState → List Edit → List ℕ
+    → RegisterModel → FileState → FileState → Option (List ℕ) → Output → Output → Status → Type 0
+PublishesUnlessPending CanStay version s [] path wanted old file given o e status =
+    PublishesPlan CanStay version s path wanted old file given o e status
+PublishesUnlessPending CanStay version s (edit ∷ edits) path wanted old file given o e status =
     (file ≡ old) × (o.new ≡ o.old)
     × TellsIfMade e statuses.Refused (pending_line (length (edit ∷ edits))) status
 
 -- How a publish ends over a file that was `old` and is `file` then, and which a source gave. It
--- holds no object, and is as it was; or it holds one, and that was done.
+-- holds no object, and is as it was; or it holds one, in a journal of some version, and that was
+-- done.
 abbrev pub EndsPublish : Type 0 → Limits → List ℕ → RegisterModel → FileState → FileState → Input
     → Output → Output → Status → Type 0
 EndsPublish CanStay limits path wanted old file given o e status =
     ((fault : CommandFault) × Refuses fault old file o e status
     × IfHeld old given.bytes (λ held. HoldsNoObject limits held given.unread fault))
-    ⊎ ((s : ObjectState) × IfHeld old given.bytes (λ held. HoldsObject limits held s)
-    × PublishesUnlessPending CanStay s s.pending path wanted old file given.bytes o e status)
+    ⊎ ((version : Version) × (s : ObjectState)
+    × IfHeld old given.bytes (λ held. HoldsObject limits held version s)
+    × PublishesUnlessPending CanStay version s s.pending path wanted old file given.bytes o e
+    status)
+
+-- ---- an edition that the file can't take
+
+-- A source gave these bytes, of a journal with nothing pending whose version has no sources, and
+-- edits of a plan need them. The journal that is to be saved anew has them as its next edition. And
+-- there are the text that is to be printed then, and the one on a last line that was not finished.
+pub record IsOlderEdition (limits : Limits) (wanted : RegisterModel) (given : Option (List ℕ))
+    (bytes journal text : List ℕ) (cut : Option (List ℕ)) : Type 0 where
+  pub read : IfSome given (λ held. bytes ≡ held)
+  pub version : Version
+  pub object : ObjectState
+  pub holds : HoldsObject limits bytes version object
+  pub pending : object.pending ≡ []
+  pub edits : List Edit
+  pub plans : IsPlan object.limits wanted.lands (published object) edits
+  pub needs : needs_sources version edits ≡ true
+  pub lawful : edition_refusal object edits ≡ None
+  pub sources : All HasLawfulSource edits
+  pub anew : journal ≡ journal_text (with_batch object edits)
+  pub printed : text ≡ published_text object wanted edits
+  pub told : cut ≡ cut_text (unfinished_line bytes)

@@ -1,23 +1,26 @@
 -- What the parts of a publish have done.
-use Rattle.std.specs.Prelude.{◌≡◌, ◌⊎◌, ◌++◌, ℕ, Bool, true, List, length, take}
-use Rattle.std.specs.Prelude.{Option, Some, IfSome}
+use Rattle.std.specs.Prelude.{◌≡◌, ◌⊎◌, ◌++◌, ℕ, Bool, true, List, [], length, take}
+use Rattle.std.specs.Prelude.{Option, Some, None, IfSome}
+use Rattle.std.specs.List.{All}
+use Rattle.osn_core.specs.Sequential.{HasLawfulSource, ObjectState}
+use Rattle.osn_files.specs.JournalText.{journal_text}
 use Rattle.osn_files.specs.WholePart.{IsWholePart}
 use Rattle.osn_files.specs.declared.whole_lines.WholePart.{WholePart}
+use Rattle.osn_format.specs.declared.version.Version.{Version}
 use Rattle.osn_journal.specs.KeptJournal.{FileState}
+use Rattle.osn_plan.specs.Plan.{IsPlan}
+use Rattle.osn_register.specs.Plain.{RegisterModel}
 use Rattle.osn_register.specs.declared.edit.Edit.{Edit}
-use Rattle.osn_register.specs.declared.refusal.Refusal.{Refusal}
-use Rattle.osn_register.specs.declared.refusal.Refusal.TheVariants.{NoMemory}
 use Rattle.osn_report.specs.declared.fault.CommandFault.{CommandFault}
-use Rattle.osn_text_commands.specs.Edition.{appended_text}
-use Rattle.osn_text_commands.specs.Publish.{HoldsEdition, LosesEdition}
+use Rattle.osn_serve_commands.specs.Keep.{cut_text, unfinished_line}
+use Rattle.osn_text_commands.specs.Edition.{appended_text, edition_refusal, needs_sources}
+use Rattle.osn_text_commands.specs.Edition.{with_batch}
+use Rattle.osn_text_commands.specs.Publish.{HoldsEdition, LosesEdition, published_text}
+use Rattle.osn_text_commands.specs.Text.{published}
 
 -- of files of a kind one may not be cut back
 abbrev pub CanStay : {K : Type 0} → (K → Bool) → Type 0
 CanStay {K} may_fail = (file : K) × (may_fail file ≡ true)
-
--- want of memory, or what refuses
-abbrev pub IsNoMemoryOr : Option Refusal → Refusal → Type 0
-IsNoMemoryOr refused f = (f ≡ NoMemory) ⊎ (refused ≡ Some f)
 
 -- this part counts of what a source gave, if that is known
 abbrev pub IsPartOf : WholePart → Option (List ℕ) → Type 0
@@ -46,3 +49,27 @@ abbrev pub IsUnwritten : Type 0 → WholePart → List Edit → CommandFault →
 IsUnwritten Stays part edits fault cut old new =
     (held : List ℕ) → old.contents ≡ Some held → IsWholePart part held
     → LosesEdition Stays held edits fault cut new
+
+-- the text on the last line of what this part counts of, if that was not finished
+abbrev pub IsCutOf : WholePart → Option (List ℕ) → Type 0
+IsCutOf part cut =
+    (held : List ℕ) → IsWholePart part held → cut ≡ cut_text (unfinished_line held)
+
+-- The journal that held these bytes is to be saved anew with these edits as its next edition.
+pub record IsOlderOf (held : List ℕ) (part : WholePart) (version : Version) (s : ObjectState)
+    (wanted : RegisterModel) (edits : List Edit) (bytes journal text : List ℕ)
+    (cut : Option (List ℕ)) : Type 0 where
+  pub same : bytes ≡ held
+  pub needs : needs_sources version edits ≡ true
+  pub lawful : edition_refusal s edits ≡ None
+  pub sources : All HasLawfulSource edits
+  pub anew : journal ≡ journal_text (with_batch s edits)
+  pub printed : text ≡ published_text s wanted edits
+  pub told : IsCutOf part cut
+
+-- the same with the edits of a plan
+abbrev pub IsOlderPlan : List ℕ → WholePart → Version → ObjectState → RegisterModel → List ℕ
+    → List ℕ → List ℕ → Option (List ℕ) → Type 0
+IsOlderPlan held part version s wanted bytes journal text cut =
+    (s.pending ≡ []) × (edits : List Edit) × IsPlan s.limits wanted.lands (published s) edits
+    × IsOlderOf held part version s wanted edits bytes journal text cut

@@ -1,13 +1,11 @@
 -- The text that the command `text` prints of what a journal published, or why it prints none.
-use Rattle.std.specs.Prelude.{◌≡◌, ◌⊎◌, ℕ, List, [], Option, Some, None}
-use Rattle.std.specs.Option.{MatchOption, option_map_or}
+use Rattle.std.specs.Prelude.{◌≡◌, ◌⊎◌, ℕ, List, Option, Some, None}
+use Rattle.std.specs.Option.{MatchOption}
 use Rattle.osn_days.specs.Profile.{newest_rules}
 use Rattle.osn_core.specs.Sequential.{ObjectState, lands_of}
 use Rattle.osn_files.specs.declared.fault.FileFault.{FileFault}
-use Rattle.osn_lands.specs.Territory.{TerritoryModel}
 use Rattle.osn_lines.specs.Streams.{Input, Output}
 use Rattle.osn_page_commands.specs.Page.{land_refusal_line}
-use Rattle.osn_register.specs.Named.{named_of}
 use Rattle.osn_register.specs.Plain.{LandModel, code_refusal}
 use Rattle.osn_register.specs.declared.limits.Limits.{Limits}
 use Rattle.osn_report.specs.Journal.{MakesObject, MakesNoObject}
@@ -16,25 +14,17 @@ use Rattle.osn_report.specs.Messages.{TellsIfMade}
 use Rattle.osn_report.specs.declared.fault.CommandFault.TheVariants.{File}
 use Rattle.osn_report.specs.declared.status.Status.{Status}
 use Rattle.osn_report.specs.declared.status.Status.TheVariants as statuses
-use Rattle.osn_text_writer.specs.TerritoryText.{register_text, territory_text}
+use Rattle.osn_text_writer.specs.TerritoryText.{register_text, text_of_code}
 
 -- the territories that an object has published
 abbrev pub published : ObjectState → List LandModel
 published s = lands_of newest_rules s.limits s.batches
 
--- the text of the territory of a code, of which this is the name and what it holds
-abbrev pub named_text : List ℕ → List ℕ × TerritoryModel → List ℕ
-named_text code named = territory_text newest_rules code named.0 named.1
-
--- the text of one of these territories
-abbrev pub land_text : List LandModel → List ℕ → List ℕ
-land_text lands code = option_map_or (named_text code) (named_of code lands) []
-
 -- the text of the territory of a code was printed; or none of these has the code, which standard
 -- error was told, with the path of the journal
 abbrev pub PrintsLand : List LandModel → List ℕ → List ℕ → Output → Output → Status → Type 0
 PrintsLand lands path code o e status = MatchOption (code_refusal lands code)
-    (PrintsIfMade (land_text lands code) o e status)
+    (PrintsIfMade (text_of_code newest_rules code lands) o e status)
     (λ refusal. (o.new ≡ o.old)
     × TellsIfMade e statuses.Refused (land_refusal_line path code refusal) status)
 

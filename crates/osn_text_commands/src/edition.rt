@@ -1,18 +1,21 @@
 //! The edits of a plan, made one edition: in the object of a journal, and in its file.
-ghost use Rattle.std.specs.Prelude.{◌≡◌, ◌+◌, ◌^◌, ◌<◌, ℕ, List, Option, None, Some, length};
-ghost use Rattle.std.specs.Prelude.{IfErr, IfOk, OnOk, string_bytes};
+ghost use Rattle.std.specs.Prelude.{◌≡◌, ◌+◌, ◌++◌, ◌∷◌, ◌^◌, ◌<◌, ℕ, List, [], Option, None, Some};
+ghost use Rattle.std.specs.Prelude.{IfErr, IfOk, OnOk, length, string_bytes};
 ghost use Rattle.std.specs.Io.KnownBytes.{Appends};
+ghost use Rattle.std.specs.List.{All};
+ghost use Rattle.osn_core.specs.Sequential.{HasLawfulSource};
+ghost use Rattle.osn_files.specs.JournalText.{journal_text};
 ghost use Rattle.osn_journal.specs.KeptJournal.{file_of};
 ghost use Rattle.osn_lines.specs.Streams.{output_of};
 ghost use Rattle.osn_register.specs.declared.edit.Edit.{Edit};
 ghost use Rattle.osn_serve_commands.specs.Keep.{TellsCut};
-ghost use Rattle.osn_text_commands.specs.Edition.{edition_refusal};
+ghost use Rattle.osn_text_commands.specs.Edition.{IsNoMemoryOr, edition_refusal, with_batch};
 ghost use Rattle.osn_text_commands.specs.Publish.{published_text};
 ghost use Rattle.osn_text_commands.specs.PublishInside as inside;
 
 use crate::plan_words::push_published;
 use osn_core::Object;
-use osn_files::{WholePart, with_edits, with_publish};
+use osn_files::{WholePart, journal_text, with_edits, with_publish};
 use osn_folder::{KeptFile, KeptFileFault};
 use osn_journal::append_synced;
 use osn_lines::Sink;
@@ -27,11 +30,16 @@ use std::alloc::{AllocError, Global};
 /// # Errors
 ///
 /// The first refusal that applies, or `NoMemory`.
-fn make_edition(object: &mut Object, edits: Vec<Edit>) -> Result<u32, Refusal>
+pub(crate) fn make_edition(object: &mut Object, edits: Vec<Edit>) -> Result<u32, Refusal>
     ensures lawful { OnOk result (edition_refusal object.old edits.items ≡ None) }
+    ensures sources { OnOk result (All HasLawfulSource edits.items) }
     ensures number { IfOk result (λ n. n ≡ length object.old.batches + 1) }
+    ensures limits { OnOk result (object.new.limits ≡ object.old.limits) }
+    ensures batches { OnOk result (object.new.batches
+        ≡ object.old.batches ++ (object.old.pending ++ edits.items) ∷ []) }
+    ensures pending { OnOk result (object.new.pending ≡ []) }
     ensures refused { IfErr result
-        (inside.IsNoMemoryOr (edition_refusal object.old edits.items)) }
+        (IsNoMemoryOr (edition_refusal object.old edits.items)) }
 {
     for edit in edits {
         object.check(&edit)?;
@@ -73,18 +81,57 @@ pub(crate) fn edition_of(
     edits: Vec<Edit>,
 ) -> Result<Edition, Refusal>
     ensures lawful { OnOk result (edition_refusal object.old edits.items ≡ None) }
+    ensures sources { OnOk result (All HasLawfulSource edits.items) }
     ensures lines { IfOk result
         (λ edition. inside.AreLinesOf part edits.items edition.lines.items) }
     ensures text { IfOk result (λ edition.
         string_bytes edition.text ≡ published_text object.old wanted.now edits.items) }
     ensures refused { IfErr result
-        (inside.IsNoMemoryOr (edition_refusal object.old edits.items)) }
+        (IsNoMemoryOr (edition_refusal object.old edits.items)) }
 {
     let lines = edition_lines(alloc, part, &edits)?;
     let mut text = plan_page(alloc, object.register(), wanted, &edits)?;
     let number = make_edition(object, edits)?;
     push_published(&mut text, number)?;
     Ok(Edition { lines, text })
+}
+
+/// An edition, and the whole journal that has it, which is not saved yet.
+#[derive(Drop)]
+pub struct WholeEdition {
+    /// The text of the journal.
+    pub journal: String,
+    /// What is printed once the journal is saved.
+    pub text: String,
+}
+
+/// The edits as the next edition of an object with nothing pending, which then has it, and the
+/// whole journal.
+///
+/// # Errors
+///
+/// The first refusal that applies, or `NoMemory`.
+pub(crate) fn whole_edition_of(
+    alloc: Global,
+    object: &mut Object,
+    wanted: &Register,
+    edits: Vec<Edit>,
+) -> Result<WholeEdition, Refusal>
+    requires { object.old.pending ≡ [] }
+    ensures lawful { OnOk result (edition_refusal object.old edits.items ≡ None) }
+    ensures sources { OnOk result (All HasLawfulSource edits.items) }
+    ensures journal { IfOk result (λ edition.
+        string_bytes edition.journal ≡ journal_text (with_batch object.old edits.items)) }
+    ensures text { IfOk result (λ edition.
+        string_bytes edition.text ≡ published_text object.old wanted.now edits.items) }
+    ensures refused { IfErr result
+        (IsNoMemoryOr (edition_refusal object.old edits.items)) }
+{
+    let mut text = plan_page(alloc, object.register(), wanted, &edits)?;
+    let next = make_edition(object, edits)?;
+    push_published(&mut text, next)?;
+    let journal = journal_text(alloc, object)?;
+    Ok(WholeEdition { journal, text })
 }
 
 /// Appends lines to a file of this many bytes, and answers once they are on the disk. Where that

@@ -1,22 +1,52 @@
 //! The command `publish` over the files of a folder: the text is read first, and then the file of
 //! the journal is kept.
-ghost use Rattle.std.specs.Prelude.{◌≡◌, ◌∷◌, [], IfOk, OnErr};
+ghost use Rattle.std.specs.Prelude.{◌≡◌, ◌∷◌, [], IfOk, OnErr, option_map, string_bytes};
 ghost use Rattle.osn_folder.specs.Folder.{CannotOpen, MayFail};
 ghost use Rattle.osn_lines.specs.Streams.{output_of};
 ghost use Rattle.osn_report.specs.Folders.{folders_of};
-ghost use Rattle.osn_text_commands.specs.InFolder as spec;
+ghost use Rattle.osn_text_commands.specs.PublishFolder as spec;
 ghost use Rattle.osn_text_commands.specs.PublishInside.{CanStay};
 
+use crate::edition::WholeEdition;
 use crate::publish::publish_command;
 use crate::text_file::{read_register, tell_text_file};
 use osn_folder::{Folder, OpenFailed, open_file};
 use osn_lines::Sink;
 use osn_register::{Limits, Register};
-use osn_report::{CommandFault, Status, report};
+use osn_report::{CommandFault, Status, print_text, report};
+use osn_serve_commands::{save_anew, tell_cut};
 use std::alloc::Global;
 
+/// Saves the whole journal of an edition in the file of a path, which has to hold still these
+/// bytes, and prints its text.
+fn save_edition<D: Folder, W: Sink, E: Sink>(
+    alloc: Global,
+    folder: &mut D,
+    path: &str,
+    loaded: &[u8],
+    edition: &WholeEdition,
+    cut: &Option<String>,
+    output: &mut W,
+    errors: &mut E,
+) -> Status
+    ensures { spec.SavesEdition path.now loaded.now (string_bytes edition.now.journal)
+        (string_bytes edition.now.text) (option_map string_bytes cut.now)
+        (folders_of D.known folder.old folder.new)
+        (output_of W.contents W.has_failed W.holds_back output.old output.new)
+        (output_of E.contents E.has_failed E.holds_back errors.old errors.new) result }
+{
+    let journal = edition.journal.as_str();
+    match save_anew(alloc, folder, path, loaded, journal, errors) {
+        Ok(()) => {
+            tell_cut(errors, cut);
+            print_text(edition.text.as_str(), output, errors)
+        }
+        Err(status) => status,
+    }
+}
+
 /// Keeps the file of the journal's path, and does what `publish_command` does with what the text of
-/// the other path says.
+/// the other path says. A journal that is to be saved anew is saved then.
 fn keep_and_publish<D: Folder, W: Sink, E: Sink>(
     alloc: Global,
     limits: Limits,
@@ -33,28 +63,45 @@ fn keep_and_publish<D: Folder, W: Sink, E: Sink>(
         (output_of W.contents W.has_failed W.holds_back output.old output.new)
         (output_of E.contents E.has_failed E.holds_back errors.old errors.new) result }
 {
-    match folder.keep(path) {
-        Ok((mut kept, mut journal)) => {
-            let status = publish_command(
-                alloc,
-                limits,
-                &mut kept,
-                &mut journal,
-                text_path,
-                wanted,
-                output,
-                errors,
-            );
-            folder.release(path, kept);
-            status
-        }
-        Err(fault) => report(alloc, errors, CommandFault::Keep(fault)),
+    let (mut kept, mut journal) = match folder.keep(path) {
+        Ok(found) => found,
+        Err(fault) => return report(alloc, errors, CommandFault::Keep(fault)),
+    };
+    let published = publish_command(
+        alloc,
+        limits,
+        &mut kept,
+        &mut journal,
+        text_path,
+        wanted,
+        output,
+        errors,
+    );
+    // What reads the file has its lock too.
+    drop(journal);
+    folder.release(path, kept);
+    match published {
+        Ok(status) => status,
+        Err(older) => save_edition(
+            alloc,
+            folder,
+            path,
+            &older.bytes,
+            &older.edition,
+            &older.cut,
+            output,
+            errors,
+        ),
     }
 }
 
 /// Reads the text of a path, keeps the file of the journal's path, and does what `publish_command`
 /// does. Where the text says no register, the journal is not touched, and standard error is told
 /// why. Where another run keeps the journal, that is told at once.
+///
+/// Where no file is at the journal's path, an empty one is made first, which stays where there is
+/// no edition. Where an edit gives a source, and the journal is empty or of a version that has
+/// none, it is saved anew with the edition, whole or not at all.
 ///
 /// # Errors
 ///

@@ -1,12 +1,14 @@
 //! The commands of the register as a text: `text` prints it, `plan` prints the edits that change a
 //! journal into what a text says, and `publish` makes them one edition. What the crate promises to
-//! those above: a publish leaves the file of the journal with the whole edition, or as it was. A
-//! command that ends early tells standard error why in one line.
+//! those above: a publish leaves the file of the journal with the whole edition, or as it was, also
+//! where the journal is new or is saved anew. A command that ends early tells standard error why in
+//! one line.
 #![tactic(auto)]
 
 mod edition;
 mod in_folder;
 mod kept_journal;
+mod note;
 mod plan;
 mod plan_fault;
 mod plan_words;
@@ -14,8 +16,9 @@ mod publish;
 mod text;
 mod text_file;
 
+pub use edition::WholeEdition;
 pub use in_folder::{plan_in_folder, text_in_folder};
 pub use kept_journal::publish_in_folder;
 pub use plan::plan_command;
-pub use publish::publish_command;
+pub use publish::{OlderEdition, publish_command};
 pub use text::text_command;

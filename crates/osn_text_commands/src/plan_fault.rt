@@ -6,7 +6,7 @@ ghost use Rattle.osn_text_commands.specs.PlanFault as spec;
 use osn_lines::Sink;
 use osn_plan::PlanFault;
 use osn_register::Refusal;
-use osn_report::{Status, tell_line, tell_no_memory};
+use osn_report::{Status, limit_hint, tell_line, tell_no_memory};
 use std::alloc::{AllocError, Global};
 
 /// The line on a name that the text of this path changes.
@@ -26,7 +26,8 @@ fn renamed_line(
     )
 }
 
-/// The line on an edit that is refused, of the territory of a code that the text of this path has.
+/// The line on an edit that is refused, of the territory of a code that the text of this path has,
+/// and how more is allowed where that is at a limit.
 fn refused_line(
     alloc: Global,
     path: &str,
@@ -38,7 +39,8 @@ fn refused_line(
 {
     let number = refusal.number();
     let name = refusal.name();
-    format!(in alloc; "oldstyle: {path}: {code}: {number} {name}\n")
+    let hint = limit_hint(refusal);
+    format!(in alloc; "oldstyle: {path}: {code}: {number} {name}{hint}\n")
 }
 
 /// Tells standard error why there is no plan to what the text of this path says. Answers the

@@ -2,6 +2,9 @@
 ghost use Rattle.std.specs.Prelude.{◌≡◌, ◌++◌, IfOk, OnOk, string_bytes};
 ghost use Rattle.osn_text_commands.specs.PlanWords as spec;
 
+use osn_format::Version;
+use osn_register::Refusal;
+use osn_report::limit_hint;
 use std::alloc::{AllocError, Global};
 use std::fmt::Write;
 
@@ -64,9 +67,48 @@ pub(crate) fn pending_line(alloc: Global, pending: usize) -> Result<String, Allo
     pending_text(alloc, pending, edits_word(pending), ADVICE)
 }
 
-/// The line on a journal of this path that is not there.
+/// The line on a journal of this path that is not there, which a publish makes.
 pub(crate) fn missing_line(alloc: Global, path: &str) -> Result<String, AllocError>
     ensures { IfOk result (λ line. string_bytes line ≡ spec.missing_line path.now) }
 {
     format!(in alloc; "oldstyle: {path}: there is no such journal yet: publish makes it\n")
+}
+
+/// The line on a journal of this path that is not there, where nothing is to change.
+pub(crate) fn absent_line(alloc: Global, path: &str) -> Result<String, AllocError>
+    ensures { IfOk result (λ line. string_bytes line ≡ spec.absent_line path.now) }
+{
+    format!(in alloc; "oldstyle: {path}: there is no such journal yet\n")
+}
+
+/// The line on edits that a publish refuses.
+pub(crate) fn refused_edits_line(alloc: Global, refusal: Refusal) -> Result<String, AllocError>
+    ensures { IfOk result (λ line. string_bytes line ≡ spec.refused_edits_line refusal) }
+{
+    let number = refusal.number();
+    let name = refusal.name();
+    let hint = limit_hint(refusal);
+    format!(in alloc; "oldstyle: publish refuses the edits: {number} {name}{hint}\n")
+}
+
+/// The line on a journal of this version that a publish saves anew.
+pub(crate) fn anew_line(alloc: Global, version: Version) -> Result<String, AllocError>
+    ensures { IfOk result (λ line. string_bytes line ≡ spec.anew_line version) }
+{
+    let number = version.number();
+    format!(in alloc;
+        "oldstyle: the journal is of version {number}, which has no sources: publish saves it anew \
+as version 4\n"
+    )
+}
+
+/// The line on a journal of this version that a publish refuses.
+pub(crate) fn not_kept_line(alloc: Global, version: Version) -> Result<String, AllocError>
+    ensures { IfOk result (λ line. string_bytes line ≡ spec.not_kept_line version) }
+{
+    let number = version.number();
+    format!(in alloc;
+        "oldstyle: publish refuses a journal of version {number}: serve --keep with --upgrade \
+saves it anew as version 4\n"
+    )
 }

@@ -1,28 +1,39 @@
 //! The command `publish`: the edits of a plan, as one edition of a journal that is kept.
-ghost use Rattle.std.specs.Prelude.{◌≡◌, ◌^◌, ◌<◌, ℕ, List, Option, IfOk, string_bytes};
+ghost use Rattle.std.specs.Prelude.{◌≡◌, ◌^◌, ◌<◌, ℕ, List, [], Option, IfErr, IfOk, OnErr, OnOk};
+ghost use Rattle.std.specs.Prelude.{None, option_map, string_bytes};
+ghost use Rattle.std.specs.List.{All};
+ghost use Rattle.osn_core.specs.Sequential.{HasLawfulSource};
+ghost use Rattle.osn_files.specs.JournalText.{journal_text};
 ghost use Rattle.osn_journal.specs.KeptJournal.{file_of};
 ghost use Rattle.osn_lines.specs.Streams.{input_of, output_of};
 ghost use Rattle.osn_register.specs.declared.edit.Edit.{Edit};
-ghost use Rattle.osn_text_commands.specs.Edition.{IsEachEditionLoaded};
+ghost use Rattle.osn_serve_commands.specs.Keep.{is_kept};
+ghost use Rattle.osn_text_commands.specs.Edition.{IsEachEditionLoaded, IsNoMemoryOr};
+ghost use Rattle.osn_text_commands.specs.Edition.{edition_refusal, needs_sources, with_batch};
 ghost use Rattle.osn_text_commands.specs.Publish as spec;
 ghost use Rattle.osn_text_commands.specs.PublishInside as inside;
 
-use crate::edition::{Edition, edition_of, write_edition};
+use crate::edition::{Edition, WholeEdition, edition_of, whole_edition_of, write_edition};
 use crate::plan_fault::tell_plan;
 use crate::plan_words::{pending_line, push_standing};
 use osn_core::Object;
-use osn_files::WholePart;
+use osn_files::{WholePart, give_source};
 use osn_folder::KeptFile;
+use osn_format::Version;
 use osn_lines::{Sink, Source};
 use osn_plan::plan;
 use osn_plan_page::plan_page;
-use osn_register::{Edit, Limits, Register};
+use osn_register::{Edit, Limits, Refusal, Register};
 use osn_report::{CommandFault, Status, print, print_text, report, tell_line};
-use osn_serve_commands::read_kept;
+use osn_serve_commands::{HeldJournal, check_kept, cut_text_of, read_kept};
 use std::alloc::{AllocError, Global};
 
 /// The lines of a plan without edits, and that the last edition of the object stands.
-fn standing_text(alloc: Global, object: &Object, wanted: &Register) -> Result<String, AllocError>
+pub(crate) fn standing_text(
+    alloc: Global,
+    object: &Object,
+    wanted: &Register,
+) -> Result<String, AllocError>
     ensures { IfOk result (λ text.
         string_bytes text ≡ spec.standing_text object.now wanted.now) }
 {
@@ -57,8 +68,8 @@ fn publish_edition<K: KeptFile, W: Sink, E: Sink>(
     }
 }
 
-/// Publishes the edits of a plan, if there are any.
-fn publish_edits<K: KeptFile, W: Sink, E: Sink>(
+/// Appends the edits of a plan as an edition, if there are any.
+fn append_edits<K: KeptFile, W: Sink, E: Sink>(
     alloc: Global,
     part: WholePart,
     keeper: &mut K,
@@ -71,7 +82,7 @@ fn publish_edits<K: KeptFile, W: Sink, E: Sink>(
     requires { part.lines < 2 ^ 63 }
     // Whatever a source gave of which the part counts.
     ensures { (given : Option (List ℕ)) → inside.IsPartOf part given
-        → spec.PublishesEdits (inside.CanStay K.cut_back_may_fail) object.old wanted.now
+        → spec.AppendsEdits (inside.CanStay K.cut_back_may_fail) object.old wanted.now
         (file_of K.contents K.synced K.fault keeper.old)
         (file_of K.contents K.synced K.fault keeper.new) given edits.items
         (output_of W.contents W.has_failed W.holds_back output.old output.new)
@@ -86,34 +97,184 @@ fn publish_edits<K: KeptFile, W: Sink, E: Sink>(
     }
 }
 
-/// Publishes what changes the published register of an object into the register that is wanted.
-fn publish_plan<K: KeptFile, W: Sink, E: Sink>(
+/// The same, where a journal of this version is kept.
+fn append_if_kept<K: KeptFile, W: Sink, E: Sink>(
     alloc: Global,
+    version: Version,
     part: WholePart,
     keeper: &mut K,
     object: &mut Object,
-    path: &str,
     wanted: &Register,
+    edits: Vec<Edit>,
     output: &mut W,
     errors: &mut E,
 ) -> Status
     requires { part.lines < 2 ^ 63 }
     // Whatever a source gave of which the part counts.
     ensures { (given : Option (List ℕ)) → inside.IsPartOf part given
-        → spec.PublishesUnlessPending (inside.CanStay K.cut_back_may_fail) object.old
-        object.old.pending path.now wanted.now
+        → spec.AppendsIfKept (is_kept version) (inside.CanStay K.cut_back_may_fail) version
+        object.old wanted.now
         (file_of K.contents K.synced K.fault keeper.old)
-        (file_of K.contents K.synced K.fault keeper.new) given
+        (file_of K.contents K.synced K.fault keeper.new) given edits.items
         (output_of W.contents W.has_failed W.holds_back output.old output.new)
         (output_of E.contents E.has_failed E.holds_back errors.old errors.new) result }
 {
-    if !object.pending().is_empty() {
-        let line = pending_line(alloc, object.pending().len());
-        return tell_line(errors, Status::Refused, line);
+    match check_kept(version) {
+        Ok(()) => append_edits(alloc, part, keeper, object, wanted, edits, output, errors),
+        Err(fault) => report(alloc, errors, fault),
     }
-    match plan(alloc, object.register(), wanted) {
-        Ok(edits) => publish_edits(alloc, part, keeper, object, wanted, edits, output, errors),
-        Err(fault) => tell_plan(alloc, errors, path, &fault),
+}
+
+/// A journal of a version that has no sources, and an edition that needs them.
+#[derive(Drop)]
+pub struct OlderEdition {
+    /// What the file of the journal holds.
+    pub bytes: Vec<u8>,
+    /// The edition, and the journal that is to be saved anew.
+    pub edition: WholeEdition,
+    /// The text on a last line that was not finished, if that is so.
+    pub cut: Option<String>,
+}
+
+/// Whether an edit gives a source, and a journal of this version has none.
+pub(crate) fn needs_sources(version: Version, edits: &[Edit]) -> bool
+    ensures { result ≡ needs_sources version edits.now }
+{
+    !version.has_sources() && give_source(edits)
+}
+
+/// The edits of a plan as the next edition of a journal that is to be saved anew.
+///
+/// # Errors
+///
+/// The first refusal that applies, or `NoMemory`.
+fn older_edition(
+    alloc: Global,
+    held: HeldJournal,
+    wanted: &Register,
+    edits: Vec<Edit>,
+) -> Result<OlderEdition, Refusal>
+    requires few { held.part.lines < 2 ^ 63 }
+    requires pending { held.object.pending ≡ [] }
+    ensures bytes { IfOk result (λ older. older.bytes.items ≡ held.bytes.items) }
+    ensures cut { IfOk result (λ older. inside.IsCutOf held.part
+        (option_map string_bytes older.cut)) }
+    ensures lawful { OnOk result (edition_refusal held.object edits.items ≡ None) }
+    ensures sources { OnOk result (All HasLawfulSource edits.items) }
+    ensures journal { IfOk result (λ older. string_bytes older.edition.journal
+        ≡ journal_text (with_batch held.object edits.items)) }
+    ensures text { IfOk result (λ older. string_bytes older.edition.text
+        ≡ spec.published_text held.object wanted.now edits.items) }
+    ensures refused { IfErr result (IsNoMemoryOr (edition_refusal held.object edits.items)) }
+{
+    let HeldJournal {
+        bytes,
+        part,
+        mut object,
+        ..
+    } = held;
+    let cut = cut_text_of(alloc, part)?;
+    let edition = whole_edition_of(alloc, &mut object, wanted, edits)?;
+    Ok(OlderEdition {
+        bytes,
+        edition,
+        cut,
+    })
+}
+
+/// Publishes the edits of a plan in a journal with nothing pending.
+///
+/// # Errors
+///
+/// The journal to be saved anew, where an edit gives a source that its version lacks.
+fn publish_edits<K: KeptFile, W: Sink, E: Sink>(
+    alloc: Global,
+    keeper: &mut K,
+    held: HeldJournal,
+    wanted: &Register,
+    edits: Vec<Edit>,
+    output: &mut W,
+    errors: &mut E,
+) -> Result<Status, OlderEdition>
+    requires few { held.part.lines < 2 ^ 63 }
+    requires pending { held.object.pending ≡ [] }
+    // Whatever a source gave of which the part counts.
+    ensures ok { IfOk result (λ status. (given : Option (List ℕ))
+        → inside.IsPartOf held.part given
+        → spec.PublishesEdits (needs_sources held.version edits.items)
+        (inside.CanStay K.cut_back_may_fail) held.version held.object wanted.now
+        (file_of K.contents K.synced K.fault keeper.old)
+        (file_of K.contents K.synced K.fault keeper.new) given edits.items
+        (output_of W.contents W.has_failed W.holds_back output.old output.new)
+        (output_of E.contents E.has_failed E.holds_back errors.old errors.new) status) }
+    ensures older { IfErr result (λ older. inside.IsOlderOf held.bytes.items held.part held.version
+        held.object wanted.now edits.items older.bytes.items (string_bytes older.edition.journal)
+        (string_bytes older.edition.text) (option_map string_bytes older.cut)) }
+    ensures quiet { OnErr result ((keeper.new ≡ keeper.old) × (output.new ≡ output.old)
+        × (errors.new ≡ errors.old)) }
+{
+    if needs_sources(held.version, &edits) {
+        return match older_edition(alloc, held, wanted, edits) {
+            Ok(older) => Err(older),
+            Err(refusal) => Ok(report(alloc, errors, CommandFault::Refused(refusal))),
+        };
+    }
+    let HeldJournal {
+        part,
+        version,
+        mut object,
+        ..
+    } = held;
+    Ok(append_if_kept(
+        alloc,
+        version,
+        part,
+        keeper,
+        &mut object,
+        wanted,
+        edits,
+        output,
+        errors,
+    ))
+}
+
+/// Publishes what changes the published register of a journal into the register that is wanted.
+///
+/// # Errors
+///
+/// The journal to be saved anew, where an edit gives a source that its version lacks.
+fn publish_plan<K: KeptFile, W: Sink, E: Sink>(
+    alloc: Global,
+    keeper: &mut K,
+    held: HeldJournal,
+    path: &str,
+    wanted: &Register,
+    output: &mut W,
+    errors: &mut E,
+) -> Result<Status, OlderEdition>
+    requires { held.part.lines < 2 ^ 63 }
+    // Whatever a source gave of which the part counts.
+    ensures ok { IfOk result (λ status. (given : Option (List ℕ))
+        → inside.IsPartOf held.part given
+        → spec.PublishesUnlessPending (inside.CanStay K.cut_back_may_fail) held.version held.object
+        held.object.pending path.now wanted.now
+        (file_of K.contents K.synced K.fault keeper.old)
+        (file_of K.contents K.synced K.fault keeper.new) given
+        (output_of W.contents W.has_failed W.holds_back output.old output.new)
+        (output_of E.contents E.has_failed E.holds_back errors.old errors.new) status) }
+    ensures older { IfErr result (λ older. inside.IsOlderPlan held.bytes.items held.part
+        held.version held.object wanted.now older.bytes.items (string_bytes older.edition.journal)
+        (string_bytes older.edition.text) (option_map string_bytes older.cut)) }
+    ensures quiet { OnErr result ((keeper.new ≡ keeper.old) × (output.new ≡ output.old)
+        × (errors.new ≡ errors.old)) }
+{
+    if !held.object.pending().is_empty() {
+        let line = pending_line(alloc, held.object.pending().len());
+        return Ok(tell_line(errors, Status::Refused, line));
+    }
+    match plan(alloc, held.object.register(), wanted) {
+        Ok(edits) => publish_edits(alloc, keeper, held, wanted, edits, output, errors),
+        Err(fault) => Ok(tell_plan(alloc, errors, path, &fault)),
     }
 }
 
@@ -126,8 +287,13 @@ fn publish_plan<K: KeptFile, W: Sink, E: Sink>(
 /// is.
 ///
 /// Where the file holds no object, or one with pending edits, or an edit is refused, the file is
-/// left as it is. Where it can't be changed, it is cut back to what it held. Standard error is told
-/// in a line why, and the status says it.
+/// left as it is. So is a journal of the first version. Where the file can't be changed, it is cut
+/// back to what it held. Standard error is told in a line why, and the status says it.
+///
+/// # Errors
+///
+/// The journal that is to be saved anew, where an edit gives a source and the file is of a version
+/// that has none. Nothing was changed or told then.
 #[tactic(auto, using(crate::proofs::EditionLaw::each_edition_loaded))]
 pub fn publish_command<K: KeptFile, J: Source, W: Sink, E: Sink>(
     alloc: Global,
@@ -138,27 +304,24 @@ pub fn publish_command<K: KeptFile, J: Source, W: Sink, E: Sink>(
     wanted: &Register,
     output: &mut W,
     errors: &mut E,
-) -> Status
-    ensures ended { spec.EndsPublish (inside.CanStay K.cut_back_may_fail) limits path.now wanted.now
+) -> Result<Status, OlderEdition>
+    ensures ended { IfOk result (spec.EndsPublish (inside.CanStay K.cut_back_may_fail) limits
+        path.now wanted.now
         (file_of K.contents K.synced K.fault keeper.old)
         (file_of K.contents K.synced K.fault keeper.new)
         (input_of J.remaining J.has_failed journal.old journal.new)
         (output_of W.contents W.has_failed W.holds_back output.old output.new)
-        (output_of E.contents E.has_failed E.holds_back errors.old errors.new) result }
+        (output_of E.contents E.has_failed E.holds_back errors.old errors.new)) }
+    ensures older { IfErr result (λ older. spec.IsOlderEdition limits wanted.now
+        (J.remaining journal.old) older.bytes.items (string_bytes older.edition.journal)
+        (string_bytes older.edition.text) (option_map string_bytes older.cut)) }
+    ensures quiet { OnErr result ((keeper.new ≡ keeper.old) × (output.new ≡ output.old)
+        × (errors.new ≡ errors.old)) }
     // as a law: what the file holds after an edition is loaded as the object with that edition
     ensures loads { IsEachEditionLoaded }
 {
     match read_kept(alloc, limits, journal) {
-        Ok((mut object, part)) => publish_plan(
-            alloc,
-            part,
-            keeper,
-            &mut object,
-            path,
-            wanted,
-            output,
-            errors,
-        ),
-        Err(fault) => report(alloc, errors, fault),
+        Ok(held) => publish_plan(alloc, keeper, held, path, wanted, output, errors),
+        Err(fault) => Ok(report(alloc, errors, fault)),
     }
 }

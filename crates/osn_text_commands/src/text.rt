@@ -26,10 +26,7 @@ fn print_land<W: Sink, E: Sink>(
         (output_of E.contents E.has_failed E.holds_back errors.old errors.new) result }
 {
     match register.land(code) {
-        Ok((name, territory)) => {
-            let text = write_territory(alloc, code, name, territory);
-            print(text, output, errors)
-        }
+        Ok(_) => print(write_territory(alloc, register, code), output, errors),
         Err(refusal) => {
             let line = land_refusal_line(alloc, path, code, refusal);
             tell_line(errors, Status::Refused, line)

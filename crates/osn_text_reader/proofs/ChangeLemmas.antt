@@ -22,17 +22,18 @@ abbrev pub change_place : List ℕ → ℕ → Place
 change_place code n = record { code = code; part = Change n }
 
 pub changes_read : (code : List ℕ) (i : ℕ) (before : Option ℤ) (regime : Regime)
-    (vs : List Value) (v : Value) (ms : Members) (day : ℤ) (changed : Regime) (done : List Placed)
+    (vs : List Value) (v : Value) (ms : Members) (day : ℤ) (changed : Regime)
+    (source : Option (List ℕ)) (done : List Placed)
     → i < length vs → v ≡ get_or vs i v
     → table_of (change_place code (i + 1)) (view v) ≡ Ok ms
-    → change_of (change_place code (i + 1)) before regime ms ≡ Ok (day, changed)
+    → change_of (change_place code (i + 1)) before regime ms ≡ Ok (day, changed, source)
     → onto done (changes_from code (i + 1) before regime (items_view (drop i vs)))
-    ≡ onto (done ++ (Change (i + 1), AddChange code day changed) ∷ [])
+    ≡ onto (done ++ (Change (i + 1), AddChange code day changed source) ∷ [])
     (changes_from code (i + 1 + 1) (Some day) changed (items_view (drop (i + 1) vs)))
-changes_read code i before regime vs v ms day changed done within is table read =
+changes_read code i before regime vs v ms day changed source done within is table read =
     let rest = items_view (drop (i + 1) vs) in
     ap (λ ds. onto done (changes_from code (i + 1) before regime ds))
     (items_view-drop vs i v within ∙ ap (λ x. item (view x) rest) (sym is))
     ∙ rw (table, read)
-    (onto_push done (Change (i + 1), AddChange code day changed)
+    (onto_push done (Change (i + 1), AddChange code day changed source)
     (changes_from code (i + 1 + 1) (Some day) changed rest))

@@ -1,3 +1,4 @@
 pub mod ChangeLemmas
 pub mod MemberLemmas
 pub mod NumberLemmas
+pub mod ShownLemmas

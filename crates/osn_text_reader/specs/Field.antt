@@ -10,6 +10,7 @@ use Rattle.osn_computus.specs.RuleWords.{rule_named}
 use Rattle.osn_lands.specs.StyleWords.{style_written}
 use Rattle.osn_lands.specs.declared.regime.Regime.{Regime}
 use Rattle.osn_lands.specs.declared.style.Style.{Style}
+use Rattle.osn_register.specs.Sources.{is_source}
 use Rattle.osn_text_reader.specs.declared.key.Key.{Key}
 use Rattle.osn_text_reader.specs.declared.key.Key.TheVariants as keys
 use Rattle.osn_text_reader.specs.declared.key.Part.{Part}
@@ -88,6 +89,19 @@ note_in at (Some d) = text_in at keys.Note d >>= λ note. Ok (Some note)
 -- the note, a text that may be left out
 abbrev pub note_of : Place → Members → Result (Option (List ℕ)) KeyFault
 note_of at ms = note_in at (value_at keys.Note ms)
+
+-- a text, where it may be a source
+abbrev pub if_source : Place → List ℕ → Result (List ℕ) KeyFault
+if_source at text = if is_source text then Ok text else Err (fault_at at keys.Source Form)
+
+abbrev pub source_in : Place → Option Data → Result (Option (List ℕ)) KeyFault
+source_in at None = Ok None
+source_in at (Some d) =
+    text_in at keys.Source d >>= if_source at >>= λ source. Ok (Some source)
+
+-- the source, which may be left out
+abbrev pub source_at : Place → Members → Result (Option (List ℕ)) KeyFault
+source_at at ms = source_in at (value_at keys.Source ms)
 
 abbrev pub items_in : Place → Key → Option Data → Result Items KeyFault
 items_in at key None = Ok no_items

@@ -4,8 +4,9 @@ use Rattle.std.specs.Fmt.{decimal}
 use Rattle.std.specs.List.{list_any}
 use Rattle.std.specs.Str.{bytes_eq}
 use Rattle.osn_text_reader.specs.declared.key.Key.{Key}
-use Rattle.osn_text_reader.specs.declared.key.Key.TheVariants.{Name, Calendar, Style, Rule, Note}
-use Rattle.osn_text_reader.specs.declared.key.Key.TheVariants.{Changes, Easters, From, Year, Date}
+use Rattle.osn_text_reader.specs.declared.key.Key.TheVariants.{Name, Calendar, Style, Rule, Source}
+use Rattle.osn_text_reader.specs.declared.key.Key.TheVariants.{Note, Changes, Easters, From, Year}
+use Rattle.osn_text_reader.specs.declared.key.Key.TheVariants.{Date}
 use Rattle.osn_text_reader.specs.declared.key.Part.{Part}
 use Rattle.osn_text_reader.specs.declared.key.Part.TheVariants.{Territory, Change, Easter}
 
@@ -14,6 +15,7 @@ key_name Name = codes "name"
 key_name Calendar = codes "calendar"
 key_name Style = codes "style"
 key_name Rule = codes "rule"
+key_name Source = codes "source"
 key_name Note = codes "note"
 key_name Changes = codes "changes"
 key_name Easters = codes "easters"
@@ -23,9 +25,9 @@ key_name Date = codes "date"
 
 -- the keys that a table may have
 abbrev pub keys_of : Part → List Key
-keys_of Territory = Name ∷ Calendar ∷ Style ∷ Rule ∷ Note ∷ Changes ∷ Easters ∷ []
-keys_of (Change n) = From ∷ Calendar ∷ Style ∷ Rule ∷ Note ∷ []
-keys_of (Easter n) = Year ∷ Date ∷ Note ∷ []
+keys_of Territory = Name ∷ Calendar ∷ Style ∷ Rule ∷ Source ∷ Note ∷ Changes ∷ Easters ∷ []
+keys_of (Change n) = From ∷ Calendar ∷ Style ∷ Rule ∷ Source ∷ Note ∷ []
+keys_of (Easter n) = Year ∷ Date ∷ Source ∷ Note ∷ []
 
 -- the table may have a key of this name
 abbrev pub is_key_of : Part → List ℕ → Bool
@@ -45,6 +47,7 @@ allowed_at Name = codes "write a text"
 allowed_at Calendar = codes "write julian, gregorian or swedish"
 allowed_at Style = codes "write january, annunciation, nativity, september, pisan or easter"
 allowed_at Rule = codes "write julian or gregorian"
+allowed_at Source = codes "write a text of 1 to 1,000 bytes, with no control character"
 allowed_at Note = codes "write a text"
 allowed_at Changes = codes "write a list of tables"
 allowed_at Easters = codes "write a list of tables"
@@ -55,9 +58,9 @@ allowed_at Date = allowed_day
 -- which keys a table may have
 abbrev pub keys_text : Part → List ℕ
 keys_text Territory =
-    codes "a territory has name, calendar, style, rule, note, changes and easters"
-keys_text (Change n) = codes "a change has from, calendar, style, rule and note"
-keys_text (Easter n) = codes "a listed Easter has year, date and note"
+    codes "a territory has name, calendar, style, rule, source, note, changes and easters"
+keys_text (Change n) = codes "a change has from, calendar, style, rule, source and note"
+keys_text (Easter n) = codes "a listed Easter has year, date, source and note"
 
 -- the path from a territory to a table of it
 abbrev pub part_text : Part → List ℕ

@@ -1,5 +1,6 @@
 pub mod Key
 pub mod RefusalWords
+pub mod Shown
 pub mod Words
 pub mod Field
 pub mod DayField

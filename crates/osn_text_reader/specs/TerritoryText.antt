@@ -12,7 +12,7 @@ use Rattle.osn_text_reader.specs.declared.key.Part.TheVariants as parts
 use Rattle.osn_text_reader.specs.declared.fault.KeyFault.{KeyFault}
 use Rattle.osn_text_reader.specs.declared.fault.Reason.TheVariants.{NotLater}
 use Rattle.osn_text_reader.specs.Field.{Place, ◌>>=◌, fault_of, table_of, text_at, whole_at}
-use Rattle.osn_text_reader.specs.Field.{note_of, items_at, regime_of}
+use Rattle.osn_text_reader.specs.Field.{note_of, source_at, items_at, regime_of}
 use Rattle.osn_text_reader.specs.DayField.{day_at}
 
 -- an edit, with the table that says it
@@ -29,14 +29,16 @@ is_later (Some before) day = int_lt before day
 abbrev pub if_later : Place → Option ℤ → ℤ → Result ℤ KeyFault
 if_later at before day = if is_later before day then Ok day else Err (fault_of at NotLater)
 
--- the day and the regime of a change, after the period before it
-unfoldable pub change_of : Place → Option ℤ → Regime → Members → Result (ℤ × Regime) KeyFault
+-- the day, the regime and the source of a change, after the period before it
+unfoldable pub change_of : Place → Option ℤ → Regime → Members
+    → Result (ℤ × Regime × Option (List ℕ)) KeyFault
 change_of at before regime ms = do
   day ← day_at at keys.From ms
   changed ← regime_of at (Some regime) ms
+  source ← source_at at ms
   note ← note_of at ms
   later ← if_later at before day
-  Ok (later, changed)
+  Ok (later, changed, source)
 
 -- the changes from that of a number on, after a change on a day and under a regime
 abbrev pub changes_from : List ℕ → ℕ → Option ℤ → Regime → Items → Result (List Placed) KeyFault
@@ -45,17 +47,18 @@ changes_from code n before regime (item d ds) = do
   ms ← table_of (record { code = code; part = parts.Change n }) d
   change ← change_of (record { code = code; part = parts.Change n }) before regime ms
   rest ← changes_from code (n + 1) (Some change.0) change.1 ds
-  Ok ((parts.Change n, AddChange code change.0 change.1) ∷ rest)
+  Ok ((parts.Change n, AddChange code change.0 change.1 change.2) ∷ rest)
 
 -- ---- listed Easters
 
--- the year and the day of a listed Easter
-unfoldable pub easter_of : Place → Members → Result (ℤ × ℤ) KeyFault
+-- the year, the day and the source of a listed Easter
+unfoldable pub easter_of : Place → Members → Result (ℤ × ℤ × Option (List ℕ)) KeyFault
 easter_of at ms = do
   year ← whole_at at keys.Year ms
   day ← day_at at keys.Date ms
+  source ← source_at at ms
   note ← note_of at ms
-  Ok (year, day)
+  Ok (year, day, source)
 
 -- the listed Easters from that of a number on
 abbrev pub easters_from : List ℕ → ℕ → Items → Result (List Placed) KeyFault
@@ -64,17 +67,19 @@ easters_from code n (item d ds) = do
   ms ← table_of (record { code = code; part = parts.Easter n }) d
   easter ← easter_of (record { code = code; part = parts.Easter n }) ms
   rest ← easters_from code (n + 1) ds
-  Ok ((parts.Easter n, AddException code easter.0 easter.1) ∷ rest)
+  Ok ((parts.Easter n, AddException code easter.0 easter.1 easter.2) ∷ rest)
 
 -- ---- territories
 
--- the name and the opening regime of a territory
-unfoldable pub opening_of : Place → Members → Result (List ℕ × Regime) KeyFault
+-- the name of a territory, its opening regime and the source of that
+unfoldable pub opening_of : Place → Members
+    → Result (List ℕ × Regime × Option (List ℕ)) KeyFault
 opening_of at ms = do
   name ← text_at at keys.Name ms
   regime ← regime_of at None ms
+  source ← source_at at ms
   note ← note_of at ms
-  Ok (name, regime)
+  Ok (name, regime, source)
 
 -- the edits of a territory by its table
 unfoldable pub territory_edits : List ℕ → Data → Result (List Placed) KeyFault
@@ -85,4 +90,4 @@ territory_edits code d = do
   changes ← changes_from code 1 None opening.1 change_tables
   easter_tables ← items_at (record { code = code; part = parts.Territory }) keys.Easters ms
   easters ← easters_from code 1 easter_tables
-  Ok ((parts.Territory, AddLand code opening.0 opening.1) ∷ (changes ++ easters))
+  Ok ((parts.Territory, AddLand code opening.0 opening.1 opening.2) ∷ (changes ++ easters))

@@ -5,12 +5,9 @@ use Rattle.std.specs.Prelude.{Result, Ok, Err}
 use Rattle.toml.specs.Data.{Members, no_members, member}
 use Rattle.toml.specs.Parse.{parse_document}
 use Rattle.osn_days.specs.Profile.{newest_rules}
-use Rattle.osn_register.specs.declared.edit.Edit.{Edit}
-use Rattle.osn_register.specs.declared.edit.Edit.TheVariants.{AddLand, AddChange, AlterChange}
-use Rattle.osn_register.specs.declared.edit.Edit.TheVariants.{DropChange, AddException}
-use Rattle.osn_register.specs.declared.edit.Edit.TheVariants.{DropException}
 use Rattle.osn_register.specs.declared.limits.Limits.{Limits}
 use Rattle.osn_register.specs.declared.refusal.Refusal.{Refusal}
+use Rattle.osn_register.specs.Lawful.{code_of}
 use Rattle.osn_register.specs.Plain.{LandModel, refusal, effect}
 use Rattle.osn_text_reader.specs.declared.fault.KeyFault.{KeyFault}
 use Rattle.osn_text_reader.specs.declared.fault.Reason.TheVariants.{Refused}
@@ -26,15 +23,6 @@ text_edits (member code d ms) = do
   first ← territory_edits code d
   rest ← text_edits ms
   Ok (first ++ rest)
-
--- the code of the territory that an edit is of
-abbrev pub code_of : Edit → List ℕ
-code_of (AddLand code name regime) = code
-code_of (AddChange code day regime) = code
-code_of (AlterChange code day regime) = code
-code_of (DropChange code day) = code
-code_of (AddException code year day) = code
-code_of (DropException code year) = code
 
 -- the territories after an edit, or its refusal at its place
 abbrev pub lands_after : Placed → List LandModel → Option Refusal

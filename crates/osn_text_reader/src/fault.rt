@@ -3,6 +3,7 @@ ghost use Rattle.std.specs.Prelude.{Some};
 
 use crate::key::{Key, Part};
 use crate::refusal_words::refusal_words;
+use crate::shown::Shown;
 use osn_days::{Calendar, Keyword};
 use osn_register::{Refusal, Text};
 use std::alloc::AllocError;
@@ -100,7 +101,7 @@ impl<'a> fmt::Display for ValueText<'a> {
                 write!(
                     f,
                     "\"{}\" is no {}: {allowed}",
-                    word.as_str(),
+                    Shown(word.as_str()),
                     self.key.name()
                 )
             }
@@ -133,7 +134,7 @@ impl<'a> fmt::Display for ReasonText<'a> {
                 write!(
                     f,
                     ".{}: unknown key: {}",
-                    name.as_str(),
+                    Shown(name.as_str()),
                     self.part.keys_text()
                 )
             }
@@ -161,7 +162,7 @@ impl fmt::Display for KeyFault {
             part,
             reason: &self.reason,
         };
-        write!(f, "{}{part}{reason}", self.code.as_str())
+        write!(f, "{}{part}{reason}", Shown(self.code.as_str()))
     }
 }
 

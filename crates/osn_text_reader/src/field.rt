@@ -10,7 +10,7 @@ use crate::place::Place;
 use osn_computus::Rule;
 use osn_days::{Calendar, Keyword};
 use osn_lands::{Regime, Style};
-use osn_register::Text;
+use osn_register::{Source, Text};
 use toml::{Table, Value};
 
 /// The first key that a table may not have.
@@ -99,6 +99,20 @@ pub(crate) fn note_of<'a>(at: Place<'_>, table: &'a Table) -> Result<Option<&'a 
         None => Ok(None),
         Some(value) => Ok(Some(text_in(at, Key::Note, value)?)),
     }
+}
+
+/// The source, which may be left out.
+pub(crate) fn source_at(at: Place<'_>, table: &Table) -> Result<Option<Source>, TextFault>
+    ensures { Gives result (spec.source_at (place_of at.entry) (table_view table.now)) }
+{
+    let Some(value) = value_at(table, Key::Source) else {
+        return Ok(None);
+    };
+    let text = text_in(at, Key::Source, value)?;
+    if !Source::is_source(text) {
+        return Err(at.fault_at(Key::Source, ValueFault::Form));
+    }
+    Ok(Some(Source::from_str(at.alloc, text)?))
 }
 
 /// The list at a key, an empty one where the key is left out.

@@ -22,6 +22,7 @@ pub enum Key {
     Calendar,
     Style,
     Rule,
+    Source,
     Note,
     Changes,
     Easters,
@@ -40,6 +41,7 @@ impl Key {
             Key::Calendar => "calendar",
             Key::Style => "style",
             Key::Rule => "rule",
+            Key::Source => "source",
             Key::Note => "note",
             Key::Changes => "changes",
             Key::Easters => "easters",
@@ -58,6 +60,7 @@ impl Key {
             Key::Calendar => "write julian, gregorian or swedish",
             Key::Style => "write january, annunciation, nativity, september, pisan or easter",
             Key::Rule => "write julian or gregorian",
+            Key::Source => "write a text of 1 to 1,000 bytes, with no control character",
             Key::Changes | Key::Easters => "write a list of tables",
             Key::From | Key::Date => {
                 "write { gregorian = \"1752-09-14\" }, with julian or swedish in its place, or \
@@ -76,10 +79,13 @@ impl Part {
         match self {
             Part::Territory => matches!(
                 name,
-                "name" | "calendar" | "style" | "rule" | "note" | "changes" | "easters"
+                "name" | "calendar" | "style" | "rule" | "source" | "note" | "changes" | "easters"
             ),
-            Part::Change(_) => matches!(name, "from" | "calendar" | "style" | "rule" | "note"),
-            Part::Easter(_) => matches!(name, "year" | "date" | "note"),
+            Part::Change(_) => matches!(
+                name,
+                "from" | "calendar" | "style" | "rule" | "source" | "note"
+            ),
+            Part::Easter(_) => matches!(name, "year" | "date" | "source" | "note"),
         }
     }
 
@@ -89,10 +95,10 @@ impl Part {
     {
         match self {
             Part::Territory => {
-                "a territory has name, calendar, style, rule, note, changes and easters"
+                "a territory has name, calendar, style, rule, source, note, changes and easters"
             }
-            Part::Change(_) => "a change has from, calendar, style, rule and note",
-            Part::Easter(_) => "a listed Easter has year, date and note",
+            Part::Change(_) => "a change has from, calendar, style, rule, source and note",
+            Part::Easter(_) => "a listed Easter has year, date, source and note",
         }
     }
 }

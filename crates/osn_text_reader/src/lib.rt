@@ -10,6 +10,7 @@ mod key;
 mod parse;
 mod place;
 mod refusal_words;
+mod shown;
 mod territory_text;
 mod toml_fault;
 

@@ -28,20 +28,6 @@ fn edits_of(alloc: Global, table: &Table) -> Result<Vec<Placed>, TextFault>
     Ok(edits)
 }
 
-/// The code of the territory that an edit is of.
-fn code_of(edit: &Edit) -> &str
-    ensures { result.now ≡ spec.code_of edit.now }
-{
-    match edit {
-        Edit::AddLand { code, .. }
-        | Edit::AddChange { code, .. }
-        | Edit::AlterChange { code, .. }
-        | Edit::DropChange { code, .. }
-        | Edit::AddException { code, .. }
-        | Edit::DropException { code, .. } => code.as_str(),
-    }
-}
-
 /// Applies an edit to the register, or refuses it at its place.
 fn apply(alloc: Global, register: &mut Register, part: Part, edit: &Edit) -> Result<(), TextFault>
     ensures limits { register.new.limits ≡ register.old.limits }
@@ -55,7 +41,7 @@ fn apply(alloc: Global, register: &mut Register, part: Part, edit: &Edit) -> Res
     match register.check(edit) {
         Ok(()) => Ok(register.admit(edit)?),
         Err(refusal) => {
-            let code = code_of(edit);
+            let code = edit.code().as_str();
             Err(Place { alloc, code, part }.fault(Reason::Refused(refusal)))
         }
     }

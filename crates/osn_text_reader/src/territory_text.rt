@@ -7,11 +7,11 @@ ghost use Rattle.osn_text_reader.specs.Inside.{Fails, Gives, onto, place_of};
 
 use crate::day_field::day_at;
 use crate::fault::{Reason, TextFault};
-use crate::field::{items_at, note_of, regime_of, table_of, text_at, whole_at};
+use crate::field::{items_at, note_of, regime_of, source_at, table_of, text_at, whole_at};
 use crate::key::{Key, Part};
 use crate::place::Place;
 use osn_lands::Regime;
-use osn_register::{Edit, Text};
+use osn_register::{Edit, Source, Text};
 use std::alloc::{AllocError, Global};
 use toml::{Table, Value};
 
@@ -36,21 +36,22 @@ fn if_later(at: Place<'_>, before: Option<i64>, day: i64) -> Result<i64, TextFau
     }
 }
 
-/// The day and the regime of a change, after the period before it.
+/// The day, the regime and the source of a change, after the period before it.
 #[tactic(auto, unfolding(crate::specs::TerritoryText::change_of))]
 fn change_of(
     at: Place<'_>,
     before: Option<i64>,
     regime: Regime,
     table: &Table,
-) -> Result<(i64, Regime), TextFault>
+) -> Result<(i64, Regime, Option<Source>), TextFault>
     ensures { Gives result
         (spec.change_of (place_of at.entry) before regime (table_view table.now)) }
 {
     let day = day_at(at, table, Key::From)?;
     let regime = regime_of(at, table, Some(regime))?;
+    let source = source_at(at, table)?;
     note_of(at, table)?;
-    Ok((if_later(at, before, day)?, regime))
+    Ok((if_later(at, before, day)?, regime, source))
 }
 
 /// Adds the changes of a territory, which opens with a regime.
@@ -72,24 +73,31 @@ fn push_changes(
     for (index, value) in changes.iter().enumerate() {
         let part = Part::Change(index + 1);
         let at = Place { part, ..territory };
-        let (day, changed) = change_of(at, before, regime, table_of(at, value)?)?;
+        let (day, changed, source) = change_of(at, before, regime, table_of(at, value)?)?;
         let code = Text::from_str(at.alloc, at.code)?;
         before = Some(day);
         regime = changed;
-        push_edit(edits, part, Edit::AddChange { code, day, regime })?;
+        let edit = Edit::AddChange {
+            code,
+            day,
+            regime,
+            source,
+        };
+        push_edit(edits, part, edit)?;
     }
     Ok(())
 }
 
-/// The year and the day of a listed Easter.
+/// The year, the day and the source of a listed Easter.
 #[tactic(auto, unfolding(crate::specs::TerritoryText::easter_of))]
-fn easter_of(at: Place<'_>, table: &Table) -> Result<(i64, i64), TextFault>
+fn easter_of(at: Place<'_>, table: &Table) -> Result<(i64, i64, Option<Source>), TextFault>
     ensures { Gives result (spec.easter_of (place_of at.entry) (table_view table.now)) }
 {
     let year = whole_at(at, table, Key::Year)?;
     let day = day_at(at, table, Key::Date)?;
+    let source = source_at(at, table)?;
     note_of(at, table)?;
-    Ok((year, day))
+    Ok((year, day, source))
 }
 
 /// Adds the listed Easters of a territory.
@@ -108,40 +116,50 @@ fn push_easters(
     for (index, value) in easters.iter().enumerate() {
         let part = Part::Easter(index + 1);
         let at = Place { part, ..territory };
-        let (year, day) = easter_of(at, table_of(at, value)?)?;
+        let (year, day, source) = easter_of(at, table_of(at, value)?)?;
         let code = Text::from_str(at.alloc, at.code)?;
-        push_edit(edits, part, Edit::AddException { code, year, day })?;
+        let edit = Edit::AddException {
+            code,
+            year,
+            day,
+            source,
+        };
+        push_edit(edits, part, edit)?;
     }
     Ok(())
 }
 
-/// The name and the opening regime of a territory.
+/// The name of a territory, its opening regime and the source of that.
 #[tactic(auto, unfolding(crate::specs::TerritoryText::opening_of))]
-fn opening_of<'a>(at: Place<'_>, table: &'a Table) -> Result<(&'a str, Regime), TextFault>
-    ensures { MatchResult result
-        (λ opening. spec.opening_of (place_of at.entry) (table_view table.now)
-        ≡ Ok (opening.0.now, opening.1))
-        (λ e. Fails e (spec.opening_of (place_of at.entry) (table_view table.now))) }
+fn opening_of(at: Place<'_>, table: &Table) -> Result<(Text, Regime, Option<Source>), TextFault>
+    ensures { Gives result (spec.opening_of (place_of at.entry) (table_view table.now)) }
 {
     let name = text_at(at, table, Key::Name)?;
     let regime = regime_of(at, table, None)?;
+    let source = source_at(at, table)?;
     note_of(at, table)?;
-    Ok((name, regime))
+    Ok((Text::from_str(at.alloc, name)?, regime, source))
 }
 
 /// Adds the edit that opens a territory.
 fn push_opening(
     edits: &mut Vec<Placed>,
     at: Place<'_>,
-    name: &str,
+    name: Text,
     regime: Regime,
+    source: Option<Source>,
 ) -> Result<(), AllocError>
     ensures { OnOk result (edits.new.items ≡ edits.old.items
-        ++ (at.entry.part, AddLand at.entry.code.now name.now regime) ∷ []) }
+        ++ (at.entry.part, AddLand at.entry.code.now name regime source) ∷ []) }
 {
     let code = Text::from_str(at.alloc, at.code)?;
-    let name = Text::from_str(at.alloc, name)?;
-    push_edit(edits, at.part, Edit::AddLand { code, name, regime })
+    let edit = Edit::AddLand {
+        code,
+        name,
+        regime,
+        source,
+    };
+    push_edit(edits, at.part, edit)
 }
 
 /// Adds the edits of a territory by its table.
@@ -160,8 +178,8 @@ pub(crate) fn push_territory(
     let part = Part::Territory;
     let at = Place { alloc, code, part };
     let table = table_of(at, value)?;
-    let (name, regime) = opening_of(at, table)?;
-    push_opening(edits, at, name, regime)?;
+    let (name, regime, source) = opening_of(at, table)?;
+    push_opening(edits, at, name, regime, source)?;
     push_changes(edits, at, regime, items_at(at, table, Key::Changes)?)?;
     push_easters(edits, at, items_at(at, table, Key::Easters)?)
 }

@@ -1,6 +1,6 @@
 -- The text of a register is read as the tables of its territories, in the order of their codes.
 use Rattle.std.proofs.Common.{◌≡◌, ℕ, suc, true, false, cond, ◌==◌, List, [], ◌∷◌, ◌++◌, length}
-use Rattle.std.proofs.Common.{Some, None, option_and_then, map, codes, refl, ap, ◌∙◌, arith}
+use Rattle.std.proofs.Common.{Option, Some, None, option_and_then, map, codes, refl, ap, ◌∙◌, arith}
 use Rattle.std.proofs.Common.{Ordering, Less, Equal, Greater, nat_cmp}
 use Rattle.std.specs.Cmp.Lexicographic.{slice_cmp}
 use Rattle.std.specs.Ordering.{match_ordering}
@@ -25,7 +25,9 @@ use Rattle.osn_register.proofs.LandFacts.{apart_first}
 use Rattle.osn_lands.specs.declared.period.Period.{Period}
 use Rattle.osn_lands.specs.declared.regime.Regime.{Regime}
 use Rattle.osn_lands.specs.Territory.{TerritoryModel, periods_of, regime_at}
+use Rattle.osn_register.specs.Answer.{period_source, easter_source}
 use Rattle.osn_register.specs.Plain.{LandModel, land_of, AreDistinct}
+use Rattle.osn_register.specs.Sources.{SourcesModel}
 use Rattle.osn_text_writer.specs.TerritoryText.{register_text}
 use Rattle.osn_text_writer.proofs.Expressions as lines
 use Rattle.osn_text_writer.proofs.JoinedLines.{IsWritten}
@@ -33,7 +35,7 @@ use Rattle.osn_text_writer.proofs.LandNodes.{land_nodes, land_end, run_land}
 use Rattle.osn_text_writer.proofs.SortedLands.{insert_land, insert_land_by, sorted_lands, AreNew}
 use Rattle.osn_text_writer.proofs.SortedLands.{AreNew-none, AreNew-insert_land}
 use Rattle.osn_text_writer.proofs.TableNodes.{with_table, run_below}
-use Rattle.osn_text_writer.proofs.WrittenLines.{IsCons, IsWritable, AreWritable, lands_written}
+use Rattle.osn_text_writer.proofs.WrittenLands.{IsCons, IsWritable, AreWritable, lands_written}
 
 -- ---- the text is read line by line
 
@@ -80,47 +82,64 @@ changed_plain key before word =
       | false ↦ (text_plain key word, tt)
     ]
 
-change_plain : (before : Regime) (p : Period) → ArePlain (lines.change_pairs before p)
-change_plain before p =
-    let r = p.regime in (
-      date_plain (codes "from") r.calendar p.first,
-      plain_append (lines.changed_pair (codes "calendar") (calendar_word before.calendar)
-          (calendar_word r.calendar))
-          (lines.changed_pair (codes "style") (style_word before.style) (style_word r.style)
-          ++ lines.changed_pair (codes "rule") (rule_word before.rule) (rule_word r.rule))
-          (changed_plain (codes "calendar") (calendar_word before.calendar)
-          (calendar_word r.calendar))
-          (plain_append (lines.changed_pair (codes "style") (style_word before.style)
-          (style_word r.style))
-          (lines.changed_pair (codes "rule") (rule_word before.rule) (rule_word r.rule))
-          (changed_plain (codes "style") (style_word before.style) (style_word r.style))
-          (changed_plain (codes "rule") (rule_word before.rule) (rule_word r.rule))),
-    )
+source_plain : (o : Option (List ℕ)) → ArePlain (lines.source_pair o)
+source_plain None = tt
+source_plain (Some source) = (text_plain (codes "source") source, tt)
 
-changes_plain : (before : Regime) (ps : List Period) → ArePlain (lines.changes before ps)
-changes_plain before [] = tt
-changes_plain before (p ∷ ps) =
-    plain_append (lines.next_in (codes "changes") ∷ lines.change_pairs before p)
-    (lines.changes p.regime ps)
-    (refl, change_plain before p) (changes_plain p.regime ps)
+changed_pairs_plain : (before r : Regime) → ArePlain (lines.changed_pairs before r)
+changed_pairs_plain before r =
+    plain_append (lines.changed_pair (codes "calendar") (calendar_word before.calendar)
+    (calendar_word r.calendar))
+    (lines.changed_pair (codes "style") (style_word before.style) (style_word r.style)
+    ++ lines.changed_pair (codes "rule") (rule_word before.rule) (rule_word r.rule))
+    (changed_plain (codes "calendar") (calendar_word before.calendar) (calendar_word r.calendar))
+    (plain_append (lines.changed_pair (codes "style") (style_word before.style)
+    (style_word r.style))
+    (lines.changed_pair (codes "rule") (rule_word before.rule) (rule_word r.rule))
+    (changed_plain (codes "style") (style_word before.style) (style_word r.style))
+    (changed_plain (codes "rule") (rule_word before.rule) (rule_word r.rule)))
 
-easters_plain : (t : TerritoryModel) (es : List (ℕ × ℕ)) → ArePlain (lines.easters t es)
-easters_plain t [] = tt
-easters_plain t (e ∷ es) = (
+change_plain : (cited : Option SourcesModel) (before : Regime) (p : Period)
+    → ArePlain (lines.change_pairs cited before p)
+change_plain cited before p = (
+  date_plain (codes "from") p.regime.calendar p.first,
+  plain_append (lines.changed_pairs before p.regime)
+      (lines.source_pair (period_source cited p.first)) (changed_pairs_plain before p.regime)
+      (source_plain (period_source cited p.first)),
+)
+
+changes_plain : (cited : Option SourcesModel) (before : Regime) (ps : List Period)
+    → ArePlain (lines.changes cited before ps)
+changes_plain cited before [] = tt
+changes_plain cited before (p ∷ ps) =
+    plain_append (lines.next_in (codes "changes") ∷ lines.change_pairs cited before p)
+    (lines.changes cited p.regime ps)
+    (refl, change_plain cited before p) (changes_plain cited p.regime ps)
+
+easter_plain : (t : TerritoryModel) (cited : Option SourcesModel) (e : ℕ × ℕ)
+    → ArePlain (lines.easter t cited e)
+easter_plain t cited e = (
   refl,
   (
     (refl, omega arith, refl),
     (
       date_plain (codes "date") (regime_at t e.1).calendar e.1,
-      easters_plain t es,
+      source_plain (easter_source cited e.0),
     ),
   ),
 )
 
-territory_plain : (name : List ℕ) (t : TerritoryModel) (ps : List Period)
-    → ArePlain (lines.after_header name t ps)
-territory_plain name t [] = easters_plain t t.exceptions
-territory_plain name t (p ∷ ps) = (
+easters_plain : (t : TerritoryModel) (cited : Option SourcesModel) (es : List (ℕ × ℕ))
+    → ArePlain (lines.easters t cited es)
+easters_plain t cited [] = tt
+easters_plain t cited (e ∷ es) =
+    plain_append (lines.easter t cited e) (lines.easters t cited es) (easter_plain t cited e)
+    (easters_plain t cited es)
+
+territory_plain : (name : List ℕ) (t : TerritoryModel) (cited : Option SourcesModel)
+    (ps : List Period) → ArePlain (lines.after_header name t cited ps)
+territory_plain name t cited [] = easters_plain t cited t.exceptions
+territory_plain name t cited (p ∷ ps) = (
   text_plain (codes "name") name,
   (
     text_plain (codes "calendar") (calendar_word p.regime.calendar),
@@ -128,8 +147,11 @@ territory_plain name t (p ∷ ps) = (
       text_plain (codes "style") (style_word p.regime.style),
       (
         text_plain (codes "rule") (rule_word p.regime.rule),
-        plain_append (lines.changes p.regime ps) (lines.easters t t.exceptions)
-            (changes_plain p.regime ps) (easters_plain t t.exceptions),
+        plain_append (lines.source_pair (period_source cited p.first))
+            (lines.changes cited p.regime ps ++ lines.easters t cited t.exceptions)
+            (source_plain (period_source cited p.first))
+            (plain_append (lines.changes cited p.regime ps) (lines.easters t cited t.exceptions)
+            (changes_plain cited p.regime ps) (easters_plain t cited t.exceptions)),
       ),
     ),
   ),
@@ -140,8 +162,11 @@ all_printed [] = tt
 all_printed (l ∷ ls) =
     printed_append (lines.territory newest_rules l) (lines.territories newest_rules ls) (
       omega arith,
-      below l.code (lines.after_header l.name l.territory (periods_of newest_rules l.territory))
-          (territory_plain l.name l.territory (periods_of newest_rules l.territory)),
+      below l.code
+          (lines.after_header l.name l.territory (Some l.sources)
+          (periods_of newest_rules l.territory))
+          (territory_plain l.name l.territory (Some l.sources)
+          (periods_of newest_rules l.territory)),
     )
     (all_printed ls)
 
@@ -170,7 +195,7 @@ parsed es text doc written printed ran =
 -- ---- the territories, in the order of their codes
 
 abbrev pub table_of : LandModel → Nodes
-table_of l = land_nodes l.name l.territory (periods_of newest_rules l.territory)
+table_of l = land_nodes l.name l.territory (Some l.sources) (periods_of newest_rules l.territory)
 
 abbrev pub nodes_of : List LandModel → Nodes
 nodes_of [] = no_nodes
@@ -223,17 +248,18 @@ header_run l done s none =
     rw (at_key_new l.code std_table (nodes_of done) (no_node l.code done none)) refl
 
 table_run : (l : LandModel) (ps : List Period) → IsCons ps
-    → run (no_nodes, []) (lines.after_header l.name l.territory ps)
-    ≡ Some (land_nodes l.name l.territory ps, land_end l.territory ps)
+    → run (no_nodes, []) (lines.after_header l.name l.territory (Some l.sources) ps)
+    ≡ Some (land_nodes l.name l.territory (Some l.sources) ps, land_end l.territory ps)
 table_run l [] some = absurd some
-table_run l (p ∷ ps) some = run_land l.name l.territory p ps
+table_run l (p ∷ ps) some = run_land l.name l.territory (Some l.sources) p ps
 
 territory_run : (l : LandModel) (done : List LandModel) → IsWritable l → land_of l.code done ≡ None
     → IsRun done (lines.territory newest_rules l) (insert_land l done)
 territory_run l done can none s =
     let ps = periods_of newest_rules l.territory in
-    let after = map (lines.under l.code) (lines.after_header l.name l.territory ps) in
-    let in_table = run_below l.code (lines.after_header l.name l.territory ps) no_nodes (table_of l)
+    let table_lines = lines.after_header l.name l.territory (Some l.sources) ps in
+    let after = map (lines.under l.code) table_lines in
+    let in_table = run_below l.code table_lines no_nodes (table_of l)
     (nodes_of done) [] (land_end l.territory ps) (table_run l ps can.some) in (
       l.code ∷ land_end l.territory ps,
       ap (option_and_then (λ (d : Document). run d after)) (header_run l done s none)

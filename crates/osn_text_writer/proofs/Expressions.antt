@@ -1,5 +1,6 @@
 -- What the lines of a territory's text define, in their order.
-use Rattle.std.proofs.Common.{ℕ, pos, if◌then◌else◌, List, [], ◌∷◌, ◌++◌, map, codes}
+use Rattle.std.proofs.Common.{ℕ, pos, if◌then◌else◌, List, [], ◌∷◌, ◌++◌, map, codes, Option, Some}
+use Rattle.std.proofs.Common.{None}
 use Rattle.std.specs.Str.{bytes_eq}
 use Rattle.toml_parser.specs.Strings.{Key}
 use Rattle.toml.specs.Data.{Data, string, integer, table, no_members, member}
@@ -14,7 +15,9 @@ use Rattle.osn_lands.specs.declared.period.Period.{Period}
 use Rattle.osn_lands.specs.declared.regime.Regime.{Regime}
 use Rattle.osn_lands.specs.StyleWords.{style_word}
 use Rattle.osn_lands.specs.Territory.{TerritoryModel, periods_of, regime_at}
+use Rattle.osn_register.specs.Answer.{period_source, easter_source}
 use Rattle.osn_register.specs.Plain.{LandModel}
+use Rattle.osn_register.specs.Sources.{SourcesModel}
 
 -- a key and its value, in the table of the last header
 abbrev pub pair : List ℕ → Data → Expression
@@ -44,37 +47,46 @@ changed_pairs before r =
     ++ (changed_pair (codes "style") (style_word before.style) (style_word r.style)
     ++ changed_pair (codes "rule") (rule_word before.rule) (rule_word r.rule))
 
-abbrev pub change_pairs : Regime → Period → List Expression
-change_pairs before p =
-    pair (codes "from") (date_data p.regime.calendar p.first) ∷ changed_pairs before p.regime
+-- a source, where one is given
+abbrev pub source_pair : Option (List ℕ) → List Expression
+source_pair None = []
+source_pair (Some source) = pair (codes "source") (string source) ∷ []
+
+abbrev pub change_pairs : Option SourcesModel → Regime → Period → List Expression
+change_pairs cited before p =
+    pair (codes "from") (date_data p.regime.calendar p.first)
+    ∷ (changed_pairs before p.regime ++ source_pair (period_source cited p.first))
 
 -- a change
-abbrev pub change : Regime → Period → List Expression
-change before p = next_in (codes "changes") ∷ change_pairs before p
+abbrev pub change : Option SourcesModel → Regime → Period → List Expression
+change cited before p = next_in (codes "changes") ∷ change_pairs cited before p
 
-abbrev pub changes : Regime → List Period → List Expression
-changes before [] = []
-changes before (p ∷ ps) = change before p ++ changes p.regime ps
+abbrev pub changes : Option SourcesModel → Regime → List Period → List Expression
+changes cited before [] = []
+changes cited before (p ∷ ps) = change cited before p ++ changes cited p.regime ps
 
-abbrev pub easter_pairs : TerritoryModel → ℕ × ℕ → List Expression
-easter_pairs t e =
+abbrev pub easter_pairs : TerritoryModel → Option SourcesModel → ℕ × ℕ → List Expression
+easter_pairs t cited e =
     pair (codes "year") (integer (pos e.0))
     ∷ pair (codes "date") (date_data (regime_at t e.1).calendar e.1)
-    ∷ []
+    ∷ source_pair (easter_source cited e.0)
 
 -- a listed Easter
-abbrev pub easter : TerritoryModel → ℕ × ℕ → List Expression
-easter t e = next_in (codes "easters") ∷ easter_pairs t e
+abbrev pub easter : TerritoryModel → Option SourcesModel → ℕ × ℕ → List Expression
+easter t cited e = next_in (codes "easters") ∷ easter_pairs t cited e
 
-abbrev pub easters : TerritoryModel → List (ℕ × ℕ) → List Expression
-easters t [] = []
-easters t (e ∷ es) = easter t e ++ easters t es
+abbrev pub easters : TerritoryModel → Option SourcesModel → List (ℕ × ℕ) → List Expression
+easters t cited [] = []
+easters t cited (e ∷ es) = easter t cited e ++ easters t cited es
 
-abbrev pub after_header : List ℕ → TerritoryModel → List Period → List Expression
-after_header name t [] = easters t t.exceptions
-after_header name t (p ∷ ps) =
+abbrev pub after_header : List ℕ → TerritoryModel → Option SourcesModel → List Period
+    → List Expression
+after_header name t cited [] = easters t cited t.exceptions
+after_header name t cited (p ∷ ps) =
     pair (codes "name") (string name)
-    ∷ (regime_pairs p.regime ++ (changes p.regime ps ++ easters t t.exceptions))
+    ∷ (regime_pairs p.regime
+    ++ (source_pair (period_source cited p.first)
+    ++ (changes cited p.regime ps ++ easters t cited t.exceptions)))
 
 -- the same below the header of a code
 abbrev pub under_as : List ℕ → Key → Definition → Expression
@@ -88,7 +100,8 @@ under code e = under_as code e.0 e.1
 abbrev pub territory : Profile → LandModel → List Expression
 territory p l =
     (([], l.code), std_table)
-    ∷ map (under l.code) (after_header l.name l.territory (periods_of p l.territory))
+    ∷ map (under l.code)
+    (after_header l.name l.territory (Some l.sources) (periods_of p l.territory))
 
 abbrev pub territories : Profile → List LandModel → List Expression
 territories p [] = []

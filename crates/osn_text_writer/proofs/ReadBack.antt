@@ -1,42 +1,48 @@
--- The text of a register says the register's territories.
-use Rattle.std.proofs.Common.{◌≡◌, ℕ, ◌<◌, ◌≤◌, Bool, true, false, cond, List, [], ◌∷◌, length}
+-- The text of a register says the register's territories, with their sources.
+use Rattle.std.proofs.Common.{◌≡◌, ℕ, ◌≤◌, Bool, true, false, cond, List, [], ◌∷◌, length, map}
 use Rattle.std.proofs.Common.{Option, Some, None, option_map, Ok, refl, sym, ap, ◌∙◌, subst, arith}
 use Rattle.std.proofs.Common.{append-nil}
+use Rattle.std.proofs.lemmas.List.{length-map}
 use Rattle.std.proofs.lemmas.Option.{none-some, same_Some}
-use Rattle.std.proofs.lemmas.Slice.Eq.{bytes_eq-Decides}
+use Rattle.std.specs.Option.{option_map_or}
 use Rattle.std.specs.Str.{bytes_eq}
 use Rattle.toml.specs.Data.{table}
 use Rattle.toml.specs.Tables.{close}
 use Rattle.osn_days.specs.Profile.{newest_rules}
 use Rattle.osn_lands.specs.declared.period.Period.{Period}
-use Rattle.osn_lands.specs.Territory.{TerritoryModel, periods_of}
+use Rattle.osn_lands.specs.Territory.{periods_of}
 use Rattle.osn_register.specs.declared.limits.Limits.{Limits}
+use Rattle.osn_register.specs.Answer.{period_source, easter_source}
 use Rattle.osn_register.specs.Plain.{LandModel, RegisterModel, land_of, AreDistinct, AreNamed}
-use Rattle.osn_register.specs.Plain.{AreSound, AreListed, IsWellFormed}
+use Rattle.osn_register.specs.Plain.{AreSound, AreListed, HaveSources, IsWellFormed}
+use Rattle.osn_register.specs.SameLand.{AreSameLand}
 use Rattle.osn_text_reader.specs.Text.{text_edits}
 use Rattle.osn_text_reader.specs.TerritoryText.{territory_edits}
-use Rattle.osn_text_writer.specs.Says.{SaysLands, SaysLand}
-use Rattle.osn_text_writer.specs.TerritoryText.{register_text, lands_text, territory_text}
+use Rattle.osn_text_writer.specs.Says.{SaysLands, SaysLand, if_there}
+use Rattle.osn_text_writer.specs.TerritoryText.{register_text, lands_text, land_text, text_of_code}
 use Rattle.osn_text_writer.proofs.Documents.{members_of, register_parsed}
+use Rattle.osn_text_writer.proofs.FoundLands.{some_of}
+use Rattle.osn_text_writer.proofs.LandNodes.{land_nodes}
+use Rattle.osn_text_writer.proofs.MadeSources.{source_is, remade, remade_are_same}
+use Rattle.osn_text_writer.proofs.ReadEdits.{Begins, all_edits, edits_by, period_facts, all_made}
+use Rattle.osn_text_writer.proofs.ReadTables.{Ascend, AreGiven, territory_read}
 use Rattle.osn_text_writer.proofs.SortedLands.{sorted_lands, IsReadable, AreReadable, land_of-all}
 use Rattle.osn_text_writer.proofs.SortedLands.{AreDistinct-all, length-all, AreReadable-all}
-use Rattle.osn_text_writer.proofs.LandNodes.{land_nodes}
-use Rattle.osn_text_writer.proofs.ReadEdits.{Begins, all_edits, edits_by, period_facts, all_made}
-use Rattle.osn_text_writer.proofs.ReadTables.{Ascend, territory_read}
-use Rattle.osn_text_writer.proofs.WrittenLines as written
+use Rattle.osn_text_writer.proofs.WrittenLands.{IsCons, IsWritable, AreWritable}
+use Rattle.osn_text_writer.proofs.WrittenLines.{AreDays}
 
 -- ---- what a readable territory has
 
-days : (before : ℕ) (ps : List Period) → Ascend before ps → written.AreDays ps
+days : (before : ℕ) (ps : List Period) → Ascend before ps → AreDays ps
 days before [] all = tt
 days before (p ∷ ps) all = (all.1, days p.first ps all.2)
 
-writable_by : (ps : List Period) → Begins 1 ps → written.AreDays ps × written.IsCons ps
+writable_by : (ps : List Period) → Begins 1 ps → AreDays ps × IsCons ps
 writable_by [] begun = absurd begun
 writable_by (p ∷ ps) begun =
     (((omega (arith, begun.0), omega (arith, begun.0)), days p.first ps begun.1), tt)
 
-writable : (limits : Limits) (l : LandModel) → IsReadable limits l → written.IsWritable l
+writable : (limits : Limits) (l : LandModel) → IsReadable limits l → IsWritable l
 writable limits l can =
     let facts = writable_by (periods_of newest_rules l.territory) (period_facts limits l can) in
     record {
@@ -47,36 +53,72 @@ writable limits l can =
     }
 
 all_writable : (limits : Limits) (ls : List LandModel) → AreReadable limits ls
-    → written.AreWritable ls
+    → AreWritable ls
 all_writable limits [] can = tt
 all_writable limits (l ∷ ls) can = (writable limits l can.0, all_writable limits ls can.1)
 
 -- ---- what the tables say
 
-read_by : (limits : Limits) (l : LandModel) (ps : List Period) → Begins 1 ps
+given : (limits : Limits) (l : LandModel) → IsReadable limits l
+    → AreGiven (period_source (Some l.sources)) × AreGiven (easter_source (Some l.sources))
+given limits l can = (
+  λ day. source_is day l.sources.periods can.sources.periods,
+  λ year. source_is year l.sources.easters can.sources.easters,
+)
+
+read_by : (limits : Limits) (l : LandModel) (ps : List Period) → IsReadable limits l → Begins 1 ps
     → AreListed newest_rules l.territory.exceptions
-    → territory_edits l.code (table (close (land_nodes l.name l.territory ps))) ≡ Ok (edits_by l ps)
-read_by limits l [] begun listings = absurd begun
-read_by limits l (p ∷ ps) begun listings =
-    territory_read l.code l.name l.territory p ps begun.1 listings
+    → territory_edits l.code (table (close (land_nodes l.name l.territory (Some l.sources) ps)))
+    ≡ Ok (edits_by l ps)
+read_by limits l [] can begun listings = absurd begun
+read_by limits l (p ∷ ps) can begun listings =
+    let sources = given limits l can in
+    territory_read l.code l.name l.territory (Some l.sources) p ps sources.0 sources.1 begun.1
+    listings
 
 all_read : (limits : Limits) (ls : List LandModel) → AreReadable limits ls
     → text_edits (members_of ls) ≡ Ok (all_edits ls)
 all_read limits [] can = refl
 all_read limits (l ∷ ls) can =
     rw (
-      read_by limits l (periods_of newest_rules l.territory) (period_facts limits l can.0)
+      read_by limits l (periods_of newest_rules l.territory) can.0 (period_facts limits l can.0)
           can.0.sound.listed,
       all_read limits ls can.1,
     )
 
+-- ---- the territories that the edits make
+
+land_of-remade : (code : List ℕ) (ls : List LandModel)
+    → land_of code (map remade ls) ≡ option_map remade (land_of code ls)
+land_of-remade code [] = refl
+land_of-remade code (l ∷ ls) =
+    elim (bytes_eq code l.code) as (λ b. cond b (Some (remade l)) (land_of code (map remade ls))
+    ≡ option_map remade (cond b (Some l) (land_of code ls))) [
+      | true ↦ refl
+      | false ↦ land_of-remade code ls
+    ]
+
+AreDistinct-remade : (ls : List LandModel) → AreDistinct ls → AreDistinct (map remade ls)
+AreDistinct-remade [] distinct = tt
+AreDistinct-remade (l ∷ ls) distinct = (
+  land_of-remade l.code ls ∙ ap (option_map remade) distinct.0,
+  AreDistinct-remade ls distinct.1,
+)
+
 -- ---- the law
 
 readable : (limits : Limits) (ls : List LandModel) → AreNamed ls → AreSound newest_rules limits ls
-    → AreReadable limits ls
-readable limits [] named sound = tt
-readable limits (l ∷ ls) named sound =
-    (record { code = named.0; name = named.1; sound = sound.0 }, readable limits ls named.2 sound.1)
+    → HaveSources ls → AreReadable limits ls
+readable limits [] named sound sources = tt
+readable limits (l ∷ ls) named sound sources = (
+  record {
+    code = named.0;
+    name = named.1;
+    sound = sound.0;
+    sources = sources.0;
+  },
+  readable limits ls named.2 sound.1 sources.1,
+)
 
 -- the text of territories says them
 says : (limits : Limits) (ls : List LandModel) → AreReadable limits ls → AreDistinct ls
@@ -85,18 +127,24 @@ says limits ls can distinct within =
     let sorted = sorted_lands [] ls in
     let can_all = AreReadable-all limits ls can in
     let edits = all_read limits sorted can_all in
-    let made = all_made limits [] sorted can_all (AreDistinct-all ls distinct)
-    (omega (arith, length-all ls distinct)) in
+    let made = all_made limits [] sorted can_all
+    (AreDistinct-remade sorted (AreDistinct-all ls distinct))
+    (omega (arith, length-map sorted remade, length-all ls distinct)) in
     record {
-      territories = sorted;
+      territories = map remade sorted;
       reads = rw (register_parsed ls (all_writable limits ls can) distinct, edits, made);
-      same = λ code. land_of-all code ls distinct;
+      same = λ code. subst (λ found. AreSameLand found (land_of code ls))
+          (sym (land_of-remade code sorted
+          ∙ ap (option_map remade) (land_of-all code ls distinct)))
+          (remade_are_same (land_of code ls));
     }
+
+all_readable : (r : RegisterModel) → IsWellFormed newest_rules r → AreReadable r.limits r.lands
+all_readable r is = readable r.limits r.lands is.named is.territories is.sources
 
 pub register_says : (r : RegisterModel) → IsWellFormed newest_rules r
     → SaysLands r.limits (register_text newest_rules r.lands) r.lands
-register_says r is =
-    says r.limits r.lands (readable r.limits r.lands is.named is.territories) is.distinct is.within
+register_says r is = says r.limits r.lands (all_readable r is) is.distinct is.within
 
 -- ---- one territory
 
@@ -115,56 +163,20 @@ found limits (m ∷ ms) code l can is =
     found_by limits (bytes_eq code m.code) m (land_of code ms) l can.0
     (λ more. found limits ms code l can.1 more) is
 
-code_by : (code : List ℕ) (b : Bool) (m : LandModel) (rest : Option LandModel) (l : LandModel)
-    → bytes_eq code m.code ≡ b → (rest ≡ Some l → code ≡ l.code) → cond b (Some m) rest ≡ Some l
-    → code ≡ l.code
-code_by code true m rest l same more is =
-    (bytes_eq-Decides code m.code).0 same ∙ ap (λ k. k.code) (same_Some m l is)
-code_by code false m rest l same more is = more is
-
-code_of : (ls : List LandModel) (code : List ℕ) (l : LandModel) → land_of code ls ≡ Some l
-    → code ≡ l.code
-code_of [] code l is = absurd (none-some l is)
-code_of (m ∷ ms) code l is =
-    code_by code (bytes_eq code m.code) m (land_of code ms) l refl
-    (λ more. code_of ms code l more) is
-
-some_of : (ls : List LandModel) (code : List ℕ) (l : LandModel) → land_of code ls ≡ Some l
-    → 0 < length ls
-some_of [] code l is = absurd (none-some l is)
-some_of (m ∷ ms) code l is = omega arith
-
--- the territory that a name and a territory are of
-named_by : (code name : List ℕ) (t : TerritoryModel) (o : Option LandModel)
-    → option_map {U = List ℕ × TerritoryModel} (λ l. (l.name, l.territory)) o ≡ Some (name, t)
-    → (l : LandModel) × (o ≡ Some l) × (l.name ≡ name) × (l.territory ≡ t)
-named_by code name t None is = absurd (none-some (name, t) is)
-named_by code name t (Some l) is =
-    let same = same_Some (l.name, l.territory) (name, t) is in
-    (l, refl, ap (λ p. p.0) same, ap (λ p. p.1) same)
-
-land_is : (l : LandModel) (code name : List ℕ) (t : TerritoryModel) → code ≡ l.code → l.name ≡ name
-    → l.territory ≡ t → l ≡ record { code = code; name = name; territory = t }
-land_is l code name t is_code is_name is_territory =
-    ap (λ c. record { code = c; name = l.name; territory = l.territory }) (sym is_code)
-    ∙ ap (λ n. record { code = code; name = n; territory = l.territory }) is_name
-    ∙ ap (λ u. record { code = code; name = name; territory = u }) is_territory
-
-alone : (l : LandModel) → register_text newest_rules (l ∷ [])
-    ≡ territory_text newest_rules l.code l.name l.territory
+-- what a code finds among readable territories is said
+said_by : (limits : Limits) (ls : List LandModel) (code : List ℕ) (o : Option LandModel)
+    → AreReadable limits ls → length ls ≤ limits.lands → land_of code ls ≡ o
+    → SaysLands limits (option_map_or (land_text newest_rules) o []) (if_there o)
 unfolding register_text lands_text
-alone l = append-nil (territory_text newest_rules l.code l.name l.territory)
+said_by limits ls code None can within is = says limits [] tt tt (omega arith)
+said_by limits ls code (Some l) can within is =
+    let some = some_of ls code l is in
+    let all = says limits (l ∷ []) (found limits ls code l can is, tt) (refl, tt)
+    (omega (arith, some, within)) in
+    subst (λ text. SaysLands limits text (l ∷ [])) (append-nil (land_text newest_rules l)) all
 
--- the text of a territory of a register says it
-pub land_says : (code name : List ℕ) (t : TerritoryModel)
-    → SaysLand (territory_text newest_rules code name t) code name t
-land_says code name t r is known =
-    let (l, there, called, land) = named_by code name t (land_of code r.lands) known in
-    let can = found r.limits r.lands code l
-    (readable r.limits r.lands is.named is.territories) there in
-    let this : LandModel = record { code = code; name = name; territory = t } in
-    let same : l ≡ this = land_is l code name t (code_of r.lands code l there) called land in
-    let some = some_of r.lands code l there in
-    let all = says r.limits (this ∷ []) (subst (IsReadable r.limits) same can, tt) (refl, tt)
-    (omega (arith, some, is.within)) in
-    subst (λ text. SaysLands r.limits text (this ∷ [])) (alone this) all
+-- the text of the territory of a code says it
+pub land_says : (code : List ℕ) (r : RegisterModel)
+    → SaysLand r (text_of_code newest_rules code r.lands) code
+land_says code r is =
+    said_by r.limits r.lands code (land_of code r.lands) (all_readable r is) is.within refl

@@ -12,6 +12,7 @@ use Rattle.osn_days.specs.Profile.{newest_rules}
 use Rattle.osn_register.specs.declared.limits.Limits.{Limits}
 use Rattle.osn_register.specs.Code.{is_code, is_name}
 use Rattle.osn_register.specs.Plain.{LandModel, land_of, AreDistinct, IsSoundTerritory}
+use Rattle.osn_register.specs.Sources.{HasSources}
 use Rattle.osn_register.proofs.LandFacts.{apart_first}
 
 -- where a territory goes: before the first, in its place, or among those after it
@@ -121,6 +122,7 @@ pub record IsReadable (limits : Limits) (l : LandModel) : Type 0 where
   pub code : is_code l.code ≡ true
   pub name : is_name l.name ≡ true
   pub sound : IsSoundTerritory newest_rules limits l.territory
+  pub sources : HasSources l.sources
 
 abbrev pub AreReadable : Limits → List LandModel → Type 0
 AreReadable limits [] = Unit {0}
@@ -136,8 +138,15 @@ AreReadable-insert_land limits l (m ∷ ms) can all =
     by : (o : Ordering) → AreReadable limits (insert_land l ms) → AreReadable limits
         (insert_land_by o l m ms (insert_land l ms))
     by Less more = (can, all)
-    by Equal more =
-        (record { code = all.0.code; name = can.name; sound = can.sound }, all.1)
+    by Equal more = (
+      record {
+        code = all.0.code;
+        name = can.name;
+        sound = can.sound;
+        sources = can.sources;
+      },
+      all.1,
+    )
     by Greater more = (all.0, more)
 
 pub AreNew-insert_land : (l : LandModel) (ls done : List LandModel) → land_of l.code done ≡ None

@@ -1,7 +1,9 @@
 -- The text of a territory in TOML, and that of a register: this project's profile.
 use Rattle.std.specs.Prelude.{ℕ, Bool, true, false, if◌then◌else◌, List, [], ◌∷◌, ◌++◌, codes}
+use Rattle.std.specs.Prelude.{Option, Some, None}
 use Rattle.std.specs.Fmt.{decimal}
 use Rattle.std.specs.List.{flat_map}
+use Rattle.std.specs.Option.{option_map_or}
 use Rattle.std.specs.Str.{bytes_eq}
 use Rattle.toml_writer.specs.Text.{string_text}
 use Rattle.osn_computus.specs.RuleWords.{rule_word}
@@ -14,7 +16,9 @@ use Rattle.osn_lands.specs.declared.period.Period.{Period}
 use Rattle.osn_lands.specs.declared.regime.Regime.{Regime}
 use Rattle.osn_lands.specs.StyleWords.{style_word}
 use Rattle.osn_lands.specs.Territory.{TerritoryModel, periods_of, regime_at}
-use Rattle.osn_register.specs.Plain.{LandModel}
+use Rattle.osn_register.specs.Answer.{period_source, easter_source}
+use Rattle.osn_register.specs.Plain.{LandModel, land_of}
+use Rattle.osn_register.specs.Sources.{SourcesModel}
 
 -- ---- parts of a line
 
@@ -25,6 +29,11 @@ word_line key word = key ++ (codes " = \"" ++ (word ++ codes "\"\n"))
 -- the same, where the word is not the one before
 unfoldable pub changed_line : List ℕ → List ℕ → List ℕ → List ℕ
 changed_line key before word = if bytes_eq before word then [] else word_line key word
+
+-- a source, where one is given: source = "24 Geo. II c. 23"
+unfoldable pub source_line : Option (List ℕ) → List ℕ
+source_line None = []
+source_line (Some source) = codes "source = " ++ (string_text source ++ codes "\n")
 
 -- a day by its date in a calendar: { gregorian = "1752-09-14" }
 unfoldable pub date_table : Calendar → ℕ → List ℕ
@@ -63,25 +72,29 @@ beginning_text code period =
     ++ (date_table period.regime.calendar period.first ++ codes "\n")))
 
 -- the change with which a period begins, after a period of that regime
-unfoldable pub change_text : List ℕ → Regime → Period → List ℕ
-change_text code before period =
-    beginning_text code period ++ changed_lines before period.regime
+unfoldable pub change_text : List ℕ → Option SourcesModel → Regime → Period → List ℕ
+change_text code sources before period =
+    beginning_text code period
+    ++ (changed_lines before period.regime
+    ++ source_line (period_source sources period.first))
 
 -- the changes with which these periods begin, after one of that regime
-unfoldable pub changes_text : List ℕ → Regime → List Period → List ℕ
-changes_text code before [] = []
-changes_text code before (p ∷ ps) =
-    change_text code before p ++ changes_text code p.regime ps
+unfoldable pub changes_text : List ℕ → Option SourcesModel → Regime → List Period → List ℕ
+changes_text code sources before [] = []
+changes_text code sources before (p ∷ ps) =
+    change_text code sources before p ++ changes_text code sources p.regime ps
 
--- the name, the regime that it opens with, and the changes after it
-unfoldable pub periods_text : List ℕ → List ℕ → List Period → List ℕ
-periods_text code name [] = []
-periods_text code name (p ∷ ps) =
-    name_text code name ++ (regime_text p.regime ++ changes_text code p.regime ps)
+-- the name, the regime that it opens with and its source, and the changes after it
+unfoldable pub periods_text : List ℕ → List ℕ → Option SourcesModel → List Period → List ℕ
+periods_text code name sources [] = []
+periods_text code name sources (p ∷ ps) =
+    name_text code name
+    ++ (regime_text p.regime
+    ++ (source_line (period_source sources p.first) ++ changes_text code sources p.regime ps))
 
 -- a year with its listed Easter, dated by the calendar in force on that day
-unfoldable pub easter_text : List ℕ → TerritoryModel → ℕ × ℕ → List ℕ
-easter_text code t listed =
+unfoldable pub listing_text : List ℕ → TerritoryModel → ℕ × ℕ → List ℕ
+listing_text code t listed =
     codes "\n[["
     ++ (code
     ++ (codes ".easters]]\nyear = "
@@ -89,10 +102,24 @@ easter_text code t listed =
     ++ (codes "\ndate = "
     ++ (date_table (regime_at t listed.1).calendar listed.1 ++ codes "\n")))))
 
--- a territory: its periods in order, then its listed Easters by their years
-unfoldable pub territory_text : Profile → List ℕ → List ℕ → TerritoryModel → List ℕ
-territory_text p code name t =
-    periods_text code name (periods_of p t) ++ flat_map (easter_text code t) t.exceptions
+-- the same with its source
+unfoldable pub easter_text : List ℕ → TerritoryModel → Option SourcesModel → ℕ × ℕ → List ℕ
+easter_text code t sources listed =
+    listing_text code t listed ++ source_line (easter_source sources listed.0)
+
+-- a territory with its sources: its periods in order, then its listed Easters by their years
+unfoldable pub territory_text : Profile → List ℕ → List ℕ → TerritoryModel → Option SourcesModel
+    → List ℕ
+territory_text p code name t sources =
+    periods_text code name sources (periods_of p t)
+    ++ flat_map (easter_text code t sources) t.exceptions
+
+abbrev pub land_text : Profile → LandModel → List ℕ
+land_text p l = territory_text p l.code l.name l.territory (Some l.sources)
+
+-- the territory of a code, and nothing where none has it
+abbrev pub text_of_code : Profile → List ℕ → List LandModel → List ℕ
+text_of_code p code lands = option_map_or (land_text p) (land_of code lands) []
 
 -- ---- a register
 
@@ -105,8 +132,7 @@ blank_line false = []
 unfoldable pub lands_text : Profile → Bool → List LandModel → List ℕ
 lands_text p follows [] = []
 lands_text p follows (l ∷ ls) =
-    blank_line follows
-    ++ (territory_text p l.code l.name l.territory ++ lands_text p true ls)
+    blank_line follows ++ (land_text p l ++ lands_text p true ls)
 
 -- the territories of a register, in the order in which they were added
 unfoldable pub register_text : Profile → List LandModel → List ℕ

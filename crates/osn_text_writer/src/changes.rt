@@ -1,11 +1,14 @@
 //! The changes of a territory.
 ghost use Rattle.std.specs.Prelude.{◌≡◌, ◌++◌, OnOk, string_bytes};
+ghost use Rattle.osn_register.specs.Plain.{sources_of};
 ghost use Rattle.osn_text_writer.specs.TerritoryText as spec;
 
 use crate::date_table::DateTable;
+use crate::source_line::push_source;
 use crate::word_line::push_changed;
 use osn_days::Keyword;
 use osn_lands::{Period, Regime};
+use osn_register::Register;
 use std::alloc::AllocError;
 use std::fmt::Write;
 
@@ -42,30 +45,34 @@ fn push_beginning(out: &mut String, code: &str, period: &Period) -> Result<(), A
 #[tactic(auto, unfolding(crate::specs::TerritoryText::change_text))]
 fn push_change(
     out: &mut String,
+    register: &Register,
     code: &str,
     before: Regime,
     period: &Period,
 ) -> Result<(), AllocError>
-    ensures { OnOk result (string_bytes out.new
-        ≡ string_bytes out.old ++ spec.change_text code.now before period.now) }
+    ensures { OnOk result (string_bytes out.new ≡ string_bytes out.old
+        ++ spec.change_text code.now (sources_of code.now register.now.lands) before period.now) }
 {
     push_beginning(out, code, period)?;
-    push_changed_lines(out, before, period.regime)
+    push_changed_lines(out, before, period.regime)?;
+    push_source(out, register.period_source(code, period.first))
 }
 
 /// Appends the changes with which these periods begin, after one of that regime.
 pub(crate) fn push_changes(
     out: &mut String,
+    register: &Register,
     code: &str,
     opening: Regime,
     periods: &[Period],
 ) -> Result<(), AllocError>
-    ensures { OnOk result (string_bytes out.new
-        ≡ string_bytes out.old ++ spec.changes_text code.now opening periods.now) }
+    ensures { OnOk result (string_bytes out.new ≡ string_bytes out.old
+        ++ spec.changes_text code.now (sources_of code.now register.now.lands) opening
+        periods.now) }
 {
     let mut before = opening;
     for period in periods {
-        push_change(out, code, before, period)?;
+        push_change(out, register, code, before, period)?;
         before = period.regime;
     }
     Ok(())

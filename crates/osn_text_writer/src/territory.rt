@@ -3,15 +3,18 @@ ghost use Rattle.std.specs.Prelude.{◌≡◌, ◌++◌, IfOk, OnOk, string_byte
 ghost use Rattle.std.specs.List.{flat_map};
 ghost use Rattle.osn_days.specs.Profile.{newest_rules};
 ghost use Rattle.osn_lands.specs.Territory.{periods_of};
+ghost use Rattle.osn_register.specs.Plain.{sources_of};
 ghost use Rattle.osn_text_writer.specs.Says.{SaysLand};
 ghost use Rattle.osn_text_writer.specs.TerritoryText as spec;
 
 use crate::changes::push_changes;
 use crate::date_table::DateTable;
+use crate::source_line::push_source;
 use crate::toml_string::TomlString;
 use crate::word_line::push_word;
 use osn_days::{Day, Keyword, Year};
 use osn_lands::{Regime, Territory};
+use osn_register::Register;
 use std::alloc::{AllocError, Global};
 use std::fmt::Write;
 
@@ -38,27 +41,30 @@ fn push_regime(out: &mut String, regime: Regime) -> Result<(), AllocError>
     push_word(out, "rule", regime.rule.word())
 }
 
-/// Appends the name, the regime at first and the changes.
+/// Appends the name, the regime at first with its source, and the changes.
 #[tactic(auto, unfolding(crate::specs::TerritoryText::periods_text))]
 fn push_periods(
     out: &mut String,
+    register: &Register,
     code: &str,
     name: &str,
     territory: &Territory,
 ) -> Result<(), AllocError>
     ensures { OnOk result (string_bytes out.new ≡ string_bytes out.old
-        ++ spec.periods_text code.now name.now (periods_of newest_rules territory.now)) }
+        ++ spec.periods_text code.now name.now (sources_of code.now register.now.lands)
+        (periods_of newest_rules territory.now)) }
 {
     let periods = territory.periods();
-    let opening = periods[0].regime;
+    let opening = periods[0];
     push_name(out, code, name)?;
-    push_regime(out, opening)?;
-    push_changes(out, code, opening, &periods[1..])
+    push_regime(out, opening.regime)?;
+    push_source(out, register.period_source(code, opening.first))?;
+    push_changes(out, register, code, opening.regime, &periods[1..])
 }
 
 /// Appends a year with its listed Easter.
-#[tactic(auto, unfolding(crate::specs::TerritoryText::easter_text))]
-fn push_easter(
+#[tactic(auto, unfolding(crate::specs::TerritoryText::listing_text))]
+fn push_listing(
     out: &mut String,
     code: &str,
     territory: &Territory,
@@ -66,7 +72,7 @@ fn push_easter(
     day: Day,
 ) -> Result<(), AllocError>
     ensures { OnOk result (string_bytes out.new
-        ≡ string_bytes out.old ++ spec.easter_text code.now territory.now (year, day)) }
+        ≡ string_bytes out.old ++ spec.listing_text code.now territory.now (year, day)) }
 {
     let date = DateTable {
         calendar: territory.regime_at(day).calendar,
@@ -79,51 +85,83 @@ fn push_easter(
     )
 }
 
-/// Appends the listed Easters, by their years.
-fn push_easters(out: &mut String, code: &str, territory: &Territory) -> Result<(), AllocError>
+/// Appends a year with its listed Easter and the source of that.
+#[tactic(auto, unfolding(crate::specs::TerritoryText::easter_text))]
+fn push_easter(
+    out: &mut String,
+    register: &Register,
+    code: &str,
+    territory: &Territory,
+    year: Year,
+    day: Day,
+) -> Result<(), AllocError>
     ensures { OnOk result (string_bytes out.new ≡ string_bytes out.old
-        ++ flat_map (spec.easter_text code.now territory.now) territory.now.exceptions) }
+        ++ spec.easter_text code.now territory.now (sources_of code.now register.now.lands)
+        (year, day)) }
+{
+    push_listing(out, code, territory, year, day)?;
+    push_source(out, register.easter_source(code, year))
+}
+
+/// Appends the listed Easters, by their years.
+fn push_easters(
+    out: &mut String,
+    register: &Register,
+    code: &str,
+    territory: &Territory,
+) -> Result<(), AllocError>
+    ensures { OnOk result (string_bytes out.new ≡ string_bytes out.old
+        ++ flat_map
+        (spec.easter_text code.now territory.now (sources_of code.now register.now.lands))
+        territory.now.exceptions) }
 {
     for (year, day) in territory.exceptions() {
-        push_easter(out, code, territory, *year, *day)?;
+        push_easter(out, register, code, territory, *year, *day)?;
     }
     Ok(())
 }
 
-/// Appends a territory.
+/// Appends a territory, with the sources that the register has of it.
 #[tactic(auto, unfolding(crate::specs::TerritoryText::territory_text))]
 pub(crate) fn push_territory(
     out: &mut String,
+    register: &Register,
     code: &str,
     name: &str,
     territory: &Territory,
 ) -> Result<(), AllocError>
     ensures { OnOk result (string_bytes out.new ≡ string_bytes out.old
-        ++ spec.territory_text newest_rules code.now name.now territory.now) }
+        ++ spec.territory_text newest_rules code.now name.now territory.now
+        (sources_of code.now register.now.lands)) }
 {
-    push_periods(out, code, name, territory)?;
-    push_easters(out, code, territory)
+    push_periods(out, register, code, name, territory)?;
+    push_easters(out, register, code, territory)
 }
 
-/// The text of a territory. A change is dated by the calendar that it brings, a listed Easter by
-/// the one in force on its day.
+/// Appends the territory of a code, and nothing where none has it.
+fn push_of_code(out: &mut String, register: &Register, code: &str) -> Result<(), AllocError>
+    ensures { OnOk result (string_bytes out.new ≡ string_bytes out.old
+        ++ spec.text_of_code newest_rules code.now register.now.lands) }
+{
+    match register.find_land(code) {
+        Some((name, territory)) => push_territory(out, register, code, name, territory),
+        None => Ok(()),
+    }
+}
+
+/// The text of the territory that a register has of a code, and an empty text where it has none. A
+/// change is dated by the calendar that it brings, a listed Easter by the one in force on its day.
 ///
 /// # Errors
 ///
 /// Want of memory, and nothing else.
-pub fn write_territory(
-    alloc: Global,
-    code: &str,
-    name: &str,
-    territory: &Territory,
-) -> Result<String, AllocError>
+pub fn write_territory(alloc: Global, register: &Register, code: &str) -> Result<String, AllocError>
     ensures text { IfOk result (λ s. string_bytes s
-        ≡ spec.territory_text newest_rules code.now name.now territory.now) }
-    // as a law: the text is read as the territory
-    ensures reads_back { IfOk result (λ s.
-        SaysLand (string_bytes s) code.now name.now territory.now) }
+        ≡ spec.text_of_code newest_rules code.now register.now.lands) }
+    // as a law: the text is read as that territory with its sources
+    ensures reads_back { IfOk result (λ s. SaysLand register.now (string_bytes s) code.now) }
 {
     let mut text = String::with_capacity(alloc, ROOM)?;
-    push_territory(&mut text, code, name, territory)?;
+    push_of_code(&mut text, register, code)?;
     Ok(text)
 }

@@ -6,10 +6,10 @@
 pub use osn_almanac::almanac_text;
 pub use osn_audit::audit;
 pub use osn_files::{
-    FileFault, LineFault, Role, head_line, journal_text, load_journal, read_questions,
-    read_schedule, read_script, with_edit, with_publish,
+    FileFault, LineFault, Role, head_line, journal_text, journal_text_of, load_journal,
+    read_questions, read_schedule, read_script, with_edit, with_publish,
 };
-pub use osn_format::{Member, WireFault};
+pub use osn_format::{Member, Version, WireFault};
 pub use osn_journal::serve_kept;
 pub use osn_lines::{
     Interrupted, LONGEST_LINE, Line, LineTaker, Plain, ReadFailed, Sink, Source, TakeFault,

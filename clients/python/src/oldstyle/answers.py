@@ -104,13 +104,15 @@ class Land:
 
 @dataclass(frozen=True)
 class Period:
-    """The days over which a territory has one calendar, one year beginning and one Easter rule."""
+    """The days over which a territory has one calendar, one year beginning and one Easter rule, and
+    where that is stated, if the register says it."""
 
     calendar: str
     first: int
     last: int
     rule: str
     style: str
+    source: Optional[str] = None
 
 
 def reading_of(code: str, date: str, reply: Mapping[str, Any]) -> Reading:

@@ -2,6 +2,8 @@
 ghost use Rattle.std.specs.Prelude.{◌≡◌, [], true, None, IfOk, OnOk, OnErr, ◌<◌, length};
 ghost use Rattle.osn_days.specs.Profile.{newest_rules};
 ghost use Rattle.osn_register.specs.Code as form;
+ghost use Rattle.osn_register.specs.Inside.{sources_in};
+ghost use Rattle.osn_register.specs.Sources.{HasSources};
 ghost use Rattle.osn_register.specs.Plain.{applied_all, folded, fold_takes_memory};
 ghost use Rattle.osn_register.specs.Plain.{land_of, with_land, IsSoundTerritory};
 
@@ -34,21 +36,23 @@ impl Register {
         requires name { form.is_name entry.now.name ≡ true }
         requires room { length self.old.lands < self.old.limits.lands }
         requires territory { IsSoundTerritory newest_rules self.old.limits entry.now.territory }
+        requires sources { HasSources (sources_in entry.now.sources) }
         ensures ok { OnOk result (self.new ≡ record self.old {
-          lands = with_land self.old.lands code.now entry.now.name entry.now.territory;
+          lands = with_land self.old.lands code.now entry.now.name entry.now.territory
+              (sources_in entry.now.sources);
         }) }
         ensures err { OnErr result (self.new ≡ self.old) }
     {
         let key = String::from_str(self.alloc, code)?;
-        self.insert(key, entry.copy()?)
+        self.insert(key, entry.copy(self.alloc)?)
     }
 
     /// Applies edits in turn, and passes over those that are refused.
     ///
     /// # Errors
     ///
-    /// Only where no memory is found, of which refused edits and those that alter or drop take
-    /// none. Some of the edits may be applied then.
+    /// Only where no memory is found, of which refused edits take none, nor those that drop, nor
+    /// those that alter and give no source. Some of the edits may be applied then.
     pub fn apply_all(&mut self, edits: &[Edit]) -> Result<(), AllocError>
         ensures ok { OnOk result (self.new ≡ record self.old {
           lands = applied_all newest_rules self.old.limits self.old.lands edits.now;
@@ -66,8 +70,8 @@ impl Register {
     ///
     /// # Errors
     ///
-    /// Only where no memory is found, of which refused edits and those that alter or drop take
-    /// none.
+    /// Only where no memory is found, of which refused edits take none, nor those that drop, nor
+    /// those that alter and give no source.
     pub fn fold(alloc: Global, limits: Limits, edits: &[Edit]) -> Result<Register, AllocError>
         ensures value { IfOk result (λ r. r ≡ folded newest_rules limits edits.now) }
         ensures memory { OnErr result (fold_takes_memory newest_rules limits [] edits.now ≡ true) }

@@ -1,9 +1,11 @@
 //! The territory that the register keeps under a code or a name or at a place, lent.
-ghost use Rattle.std.specs.Prelude.{◌≡◌, Some, is_some, option_map, slice_get, IfOk, IfSome};
+ghost use Rattle.std.specs.Prelude.{◌≡◌, ℕ, List, Some, is_some, option_map, slice_get, IfOk};
+ghost use Rattle.std.specs.Prelude.{IfSome};
+ghost use Rattle.osn_lands.specs.Territory.{TerritoryModel};
 ghost use Rattle.osn_days.specs.Profile.{newest_rules};
 ghost use Rattle.osn_register.specs.ByName as by_name;
-ghost use Rattle.osn_register.specs.Named.{named_of};
-ghost use Rattle.osn_register.specs.Plain.{LandModel, IsWellFormed, code_refusal, land_of};
+ghost use Rattle.osn_register.specs.Named.{listing_of, named_of};
+ghost use Rattle.osn_register.specs.Plain.{IsWellFormed, code_refusal, land_of};
 ghost use Rattle.osn_register.specs.Refusal.{IsTestOf};
 
 use crate::code::is_code;
@@ -14,9 +16,9 @@ use osn_lands::Territory;
 impl Register {
     /// The code, the name and the territory at a place, from 0, in the order of addition.
     pub fn land_at(&self, place: usize) -> Option<(&str, &str, &Territory)>
-        ensures value { option_map {U = LandModel}
-            (λ l. record { code = l.0.now; name = l.1.now; territory = l.2.now }) result
-            ≡ slice_get self.now.lands place }
+        ensures value { option_map {U = List ℕ × List ℕ × TerritoryModel}
+            (λ l. (l.0.now, l.1.now, l.2.now)) result
+            ≡ option_map listing_of (slice_get self.now.lands place) }
         ensures well_formed { IsWellFormed newest_rules self.now }
     {
         match self.lands.get_index(place) {

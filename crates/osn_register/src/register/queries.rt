@@ -119,9 +119,9 @@ impl Register {
             (spec.day_refusal newest_rules self.now.lands code.now day)
             (spec.day_in_answer newest_rules self.now.lands code.now day) result }
     {
-        let territory = self.known_territory(code)?;
+        let (territory, sources) = self.known_land(code)?;
         let day = day_on_line(day)?;
-        Ok(on_day(self.alloc, territory, day)?)
+        Ok(on_day(self.alloc, territory, sources, day)?)
     }
 
     fn easter(&self, code: &str, year: i64) -> Result<Answer, Unanswered>
@@ -129,9 +129,9 @@ impl Register {
             (spec.easter_refusal newest_rules self.now.lands code.now year)
             (spec.easter_answer newest_rules self.now.lands code.now year) result }
     {
-        let territory = self.known_territory(code)?;
+        let (territory, sources) = self.known_land(code)?;
         let year = year_in_range(year)?;
-        Ok(easters(self.alloc, territory, year)?)
+        Ok(easters(self.alloc, territory, sources, year)?)
     }
 
     fn periods(&self, code: &str) -> Result<Answer, Unanswered>
@@ -139,8 +139,8 @@ impl Register {
             (code_refusal self.now.lands code.now)
             (spec.periods_in_answer newest_rules self.now.lands code.now) result }
     {
-        let territory = self.known_territory(code)?;
-        Ok(periods(self.alloc, territory)?)
+        let (territory, sources) = self.known_land(code)?;
+        Ok(periods(self.alloc, territory, sources)?)
     }
 
     fn written(

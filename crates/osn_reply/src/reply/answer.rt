@@ -6,13 +6,12 @@ ghost use Rattle.osn_reply.specs.ReplyText as spec;
 
 use crate::line_writer::LineWriter;
 use crate::reply::figures::Reckoning;
-use crate::reply::write_json::{WriteJson, write_flag, write_list, write_member};
+use crate::reply::write_json::{WriteJson, write_flag, write_list, write_member, write_source};
 use crate::reply::written::write_written;
 use osn_computus::Epact;
 use osn_core::Reply;
 use osn_days::{Day, Year};
-use osn_lands::Period;
-use osn_register::{Answer, Found, Land, Refusal};
+use osn_register::{Answer, Found, Land, PeriodAndSource, Refusal, Source};
 use std::alloc::AllocError;
 
 /// Begins a reply with a reading.
@@ -28,26 +27,37 @@ fn write_reading(out: &mut LineWriter, found: &[Found], skipped: &[Day]) -> Resu
 }
 
 /// Begins a reply with a day and its period.
-fn write_on_day(out: &mut LineWriter, found: &Found, period: &Period) -> Result<(), AllocError>
+fn write_on_day(
+    out: &mut LineWriter,
+    found: &Found,
+    period: &PeriodAndSource,
+) -> Result<(), AllocError>
     ensures text { OnOk result (out.new.text ≡ out.old.text
         ++ (codes "{\"answer\":" ++ compact_text (spec.on_day_data found.now period.now))) }
     ensures before { out.new.before ≡ out.old.before }
 {
-    out.push_number(r#"{"answer":{"first":"#, period.first.number())?;
+    out.push_number(r#"{"answer":{"first":"#, period.period.first.number())?;
     write_member(out, r#","found":"#, found)?;
-    out.push_number(r#","last":"#, period.last.number())?;
-    write_member(out, r#","regime":"#, &period.regime)?;
+    out.push_number(r#","last":"#, period.period.last.number())?;
+    write_member(out, r#","regime":"#, &period.period.regime)?;
+    write_source(out, &period.source)?;
     out.push("}")
 }
 
 /// Begins a reply with the Easters of a year.
-fn write_easters(out: &mut LineWriter, found: &[Found], listed: bool) -> Result<(), AllocError>
-    ensures text { OnOk result (out.new.text ≡ out.old.text
-        ++ (codes "{\"answer\":" ++ compact_text (spec.easters_data found.now listed))) }
+fn write_easters(
+    out: &mut LineWriter,
+    found: &[Found],
+    listed: bool,
+    source: &Option<Source>,
+) -> Result<(), AllocError>
+    ensures text { OnOk result (out.new.text ≡ out.old.text ++ (codes "{\"answer\":"
+        ++ compact_text (spec.easters_data found.now listed source.now))) }
     ensures before { out.new.before ≡ out.old.before }
 {
     write_list(out, r#"{"answer":{"days":"#, found)?;
     write_flag(out, r#","listed":"#, listed)?;
+    write_source(out, source)?;
     out.push("}")
 }
 
@@ -62,7 +72,7 @@ fn write_lands(out: &mut LineWriter, lands: &[Land]) -> Result<(), AllocError>
 }
 
 /// Begins a reply with periods.
-fn write_periods(out: &mut LineWriter, periods: &[Period]) -> Result<(), AllocError>
+fn write_periods(out: &mut LineWriter, periods: &[PeriodAndSource]) -> Result<(), AllocError>
     ensures text { OnOk result (out.new.text ≡ out.old.text
         ++ (codes "{\"answer\":" ++ compact_text (spec.periods_data periods.now))) }
     ensures before { out.new.before ≡ out.old.before }
@@ -140,7 +150,11 @@ pub(crate) fn write_reply(
             write_reading(out, found.as_slice(), skipped.as_slice())
         }
         Answer::OnDay { found, period } => write_on_day(out, found, period),
-        Answer::Easters { found, listed } => { write_easters(out, found.as_slice(), *listed) }
+        Answer::Easters {
+            found,
+            listed,
+            source,
+        } => write_easters(out, found.as_slice(), *listed, source),
         Answer::Figures {
             year,
             golden,

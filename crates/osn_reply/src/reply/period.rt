@@ -2,9 +2,10 @@
 ghost use Rattle.osn_reply.specs.ReplyText.{regime_data, period_data};
 
 use crate::line_writer::LineWriter;
-use crate::reply::write_json::WriteJson;
+use crate::reply::write_json::{WriteJson, write_source};
 use osn_days::Keyword;
-use osn_lands::{Period, Regime};
+use osn_lands::Regime;
+use osn_register::PeriodAndSource;
 use std::alloc::AllocError;
 
 impl WriteJson for Regime {
@@ -18,15 +19,17 @@ impl WriteJson for Regime {
     }
 }
 
-impl WriteJson for Period {
+impl WriteJson for PeriodAndSource {
     ghost json_value = { period_data };
 
     fn write_json(&self, out: &mut LineWriter) -> Result<(), AllocError> {
-        out.push_text(r#"{"calendar":"#, self.regime.calendar.word())?;
-        out.push_number(r#","first":"#, self.first.number())?;
-        out.push_number(r#","last":"#, self.last.number())?;
-        out.push_text(r#","rule":"#, self.regime.rule.word())?;
-        out.push_text(r#","style":"#, self.regime.style.word())?;
+        let period = self.period;
+        out.push_text(r#"{"calendar":"#, period.regime.calendar.word())?;
+        out.push_number(r#","first":"#, period.first.number())?;
+        out.push_number(r#","last":"#, period.last.number())?;
+        out.push_text(r#","rule":"#, period.regime.rule.word())?;
+        write_source(out, &self.source)?;
+        out.push_text(r#","style":"#, period.regime.style.word())?;
         out.push("}")
     }
 }

@@ -4,9 +4,11 @@ ghost use Rattle.serde_json.specs.Data.{Data, boolean};
 ghost use Rattle.serde_json.specs.Written.{compact_text, comma_if};
 ghost use Rattle.osn_format.specs.Json.{whole, list_data};
 ghost use Rattle.osn_reply.specs.ReplyText.{option_data};
+ghost use Rattle.osn_reply.specs.SourceInside.{source_text};
 
 use crate::line_writer::LineWriter;
 use osn_days::Day;
+use osn_register::Source;
 use std::alloc::AllocError;
 
 /// A value that a reply shows.
@@ -71,6 +73,17 @@ pub(crate) fn write_flag(out: &mut LineWriter, front: &str, flag: bool) -> Resul
 {
     out.push(front)?;
     out.push(if flag { "true" } else { "false" })
+}
+
+/// Writes the member that a source is, after another one, where a source is given.
+pub(crate) fn write_source(out: &mut LineWriter, source: &Option<Source>) -> Result<(), AllocError>
+    ensures text { OnOk result (out.new.text ≡ out.old.text ++ source_text source.now) }
+    ensures before { out.new.before ≡ out.old.before }
+{
+    match source {
+        Some(source) => out.push_text(r#","source":"#, source.as_str()),
+        None => Ok(()),
+    }
 }
 
 /// Writes the comma that stands before a later item of a list.

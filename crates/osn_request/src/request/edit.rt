@@ -1,16 +1,27 @@
 //! The edit of a line's object. A journal, a script and a schedule read theirs by the same call.
-ghost use Rattle.std.specs.Prelude.{◌≡◌, Err, IsOk};
+ghost use Rattle.std.specs.Prelude.{◌≡◌, true, Err, IsOk, IfOk, IfSome, option_map};
 ghost use Rattle.osn_request.specs.EditRequest as spec;
 ghost use Rattle.osn_request.specs.Request.{GivesLast};
-ghost use Rattle.osn_format.specs.Version.{rules_of};
+ghost use Rattle.osn_register.specs.Sources.{is_source};
 
 use crate::request::RequestError;
-use crate::request::field::{regime_of, text_at, whole_at};
+use crate::request::field::{regime_of, source_at, text_at, whole_at};
 use crate::request::json_object::JsonObject;
 use crate::request::op::EditOp;
 use osn_format::{Member, Version};
-use osn_register::{Edit, Text};
-use std::alloc::Global;
+use osn_register::{Edit, Source, Text};
+use std::alloc::{AllocError, Global};
+
+/// The source of a text, where one is given.
+fn source_of(alloc: Global, text: Option<&str>) -> Result<Option<Source>, AllocError>
+    requires { IfSome text (λ t. is_source t.now ≡ true) }
+    ensures { IfOk result (λ source. source ≡ option_map (λ t. t.now) text.entry) }
+{
+    match text {
+        Some(text) => Ok(Some(Source::from_str(alloc, text)?)),
+        None => Ok(None),
+    }
+}
 
 #[tactic(auto, unfolding(crate::specs::EditRequest::add_land_of))]
 fn add_land_of<O: JsonObject>(
@@ -18,14 +29,21 @@ fn add_land_of<O: JsonObject>(
     version: Version,
     object: &O,
 ) -> Result<Edit, RequestError>
-    ensures { GivesLast result (spec.add_land_of (rules_of version) (O.value object.now)) }
+    ensures { GivesLast result (spec.add_land_of version (O.value object.now)) }
 {
     let code = text_at(object, Member::Code)?;
     let name = text_at(object, Member::Name)?;
     let regime = regime_of(version, object)?;
+    let source = source_at(version, object)?;
     let code = Text::from_str(alloc, code)?;
     let name = Text::from_str(alloc, name)?;
-    Ok(Edit::AddLand { code, name, regime })
+    let source = source_of(alloc, source)?;
+    Ok(Edit::AddLand {
+        code,
+        name,
+        regime,
+        source,
+    })
 }
 
 #[tactic(auto, unfolding(crate::specs::EditRequest::add_change_of))]
@@ -34,13 +52,20 @@ fn add_change_of<O: JsonObject>(
     version: Version,
     object: &O,
 ) -> Result<Edit, RequestError>
-    ensures { GivesLast result (spec.add_change_of (rules_of version) (O.value object.now)) }
+    ensures { GivesLast result (spec.add_change_of version (O.value object.now)) }
 {
     let code = text_at(object, Member::Code)?;
     let day = whole_at(object, Member::Day)?;
     let regime = regime_of(version, object)?;
+    let source = source_at(version, object)?;
     let code = Text::from_str(alloc, code)?;
-    Ok(Edit::AddChange { code, day, regime })
+    let source = source_of(alloc, source)?;
+    Ok(Edit::AddChange {
+        code,
+        day,
+        regime,
+        source,
+    })
 }
 
 #[tactic(auto, unfolding(crate::specs::EditRequest::alter_change_of))]
@@ -49,13 +74,20 @@ fn alter_change_of<O: JsonObject>(
     version: Version,
     object: &O,
 ) -> Result<Edit, RequestError>
-    ensures { GivesLast result (spec.alter_change_of (rules_of version) (O.value object.now)) }
+    ensures { GivesLast result (spec.alter_change_of version (O.value object.now)) }
 {
     let code = text_at(object, Member::Code)?;
     let day = whole_at(object, Member::Day)?;
     let regime = regime_of(version, object)?;
+    let source = source_at(version, object)?;
     let code = Text::from_str(alloc, code)?;
-    Ok(Edit::AlterChange { code, day, regime })
+    let source = source_of(alloc, source)?;
+    Ok(Edit::AlterChange {
+        code,
+        day,
+        regime,
+        source,
+    })
 }
 
 #[tactic(auto, unfolding(crate::specs::EditRequest::drop_change_of))]
@@ -69,14 +101,25 @@ fn drop_change_of<O: JsonObject>(alloc: Global, object: &O) -> Result<Edit, Requ
 }
 
 #[tactic(auto, unfolding(crate::specs::EditRequest::add_exception_of))]
-fn add_exception_of<O: JsonObject>(alloc: Global, object: &O) -> Result<Edit, RequestError>
-    ensures { GivesLast result (spec.add_exception_of (O.value object.now)) }
+fn add_exception_of<O: JsonObject>(
+    alloc: Global,
+    version: Version,
+    object: &O,
+) -> Result<Edit, RequestError>
+    ensures { GivesLast result (spec.add_exception_of version (O.value object.now)) }
 {
     let code = text_at(object, Member::Code)?;
     let year = whole_at(object, Member::Year)?;
     let day = whole_at(object, Member::Day)?;
+    let source = source_at(version, object)?;
     let code = Text::from_str(alloc, code)?;
-    Ok(Edit::AddException { code, year, day })
+    let source = source_of(alloc, source)?;
+    Ok(Edit::AddException {
+        code,
+        year,
+        day,
+        source,
+    })
 }
 
 #[tactic(auto, unfolding(crate::specs::EditRequest::drop_exception_of))]
@@ -101,14 +144,14 @@ pub fn edit_of<O: JsonObject>(
     op: EditOp,
     object: &O,
 ) -> Result<Edit, RequestError>
-    ensures { GivesLast result (spec.edit_of (rules_of version) op (O.value object.now)) }
+    ensures { GivesLast result (spec.edit_of version op (O.value object.now)) }
 {
     match op {
         EditOp::AddLand => add_land_of(alloc, version, object),
         EditOp::AddChange => add_change_of(alloc, version, object),
         EditOp::AlterChange => alter_change_of(alloc, version, object),
         EditOp::DropChange => drop_change_of(alloc, object),
-        EditOp::AddException => add_exception_of(alloc, object),
+        EditOp::AddException => add_exception_of(alloc, version, object),
         EditOp::DropException => drop_exception_of(alloc, object),
     }
 }

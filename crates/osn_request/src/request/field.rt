@@ -1,5 +1,6 @@
 //! The members of a line's object, by their types.
-ghost use Rattle.std.specs.Prelude.{◌≡◌, MatchResult, Ok, Err};
+ghost use Rattle.std.specs.Prelude.{◌≡◌, true, MatchResult, IfOk, IfSome, Ok, Err, option_map};
+ghost use Rattle.osn_register.specs.Sources.{is_source};
 ghost use Rattle.osn_written.specs.WrittenDate.{weekday_named};
 ghost use Rattle.osn_format.specs.declared.member.Member.TheVariants as members;
 ghost use Rattle.osn_request.specs.Field as spec;
@@ -9,6 +10,7 @@ use crate::request::json_object::JsonObject;
 use osn_days::{Keyword, Weekday};
 use osn_format::{Member, Version, WireFault};
 use osn_lands::{Regime, Style};
+use osn_register::Source;
 use osn_written::weekday_named;
 
 /// A member that is a text.
@@ -94,4 +96,35 @@ pub fn regime_of<O: JsonObject>(version: Version, object: &O) -> Result<Regime, 
         style,
         rule,
     })
+}
+
+/// The text of a source that a member gives, which has to be there.
+fn given_source_at<O: JsonObject>(object: &O) -> Result<&str, WireFault>
+    ensures source { MatchResult result
+        (λ text. spec.given_source_at (O.value object.now) ≡ Ok text.now)
+        (λ f. spec.given_source_at (O.value object.now) ≡ Err f) }
+    ensures allowed { IfOk result (λ text. is_source text.now ≡ true) }
+{
+    let text = text_at(object, Member::Source)?;
+    if Source::is_source(text) {
+        Ok(text)
+    } else {
+        Err(WireFault::BadField(Member::Source))
+    }
+}
+
+/// The text of the source of a member that may be left out. A version that has no sources does not
+/// look at the member.
+pub fn source_at<O: JsonObject>(version: Version, object: &O) -> Result<Option<&str>, WireFault>
+    ensures source { MatchResult result
+        (λ source. spec.source_at version (O.value object.now)
+        ≡ Ok (option_map (λ text. text.now) source))
+        (λ f. spec.source_at version (O.value object.now) ≡ Err f) }
+    ensures allowed { IfOk result (λ source.
+        IfSome source (λ text. is_source text.now ≡ true)) }
+{
+    if !version.has_sources() || !object.has(Member::Source.name()) {
+        return Ok(None);
+    }
+    Ok(Some(given_source_at(object)?))
 }

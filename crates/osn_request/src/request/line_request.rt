@@ -1,6 +1,6 @@
 //! The request of a line's object, whose query borrows from it.
 ghost use Rattle.std.specs.Prelude.{◌≡◌, true, Ok, MatchResult, IfOk, IfErr};
-ghost use Rattle.osn_days.specs.Profile.{newest_rules};
+ghost use Rattle.osn_format.specs.Version.{newest_version};
 ghost use Rattle.osn_request.specs.declared.request.RequestError.TheVariants.{NoMemory};
 ghost use Rattle.osn_request.specs.LineRequest.{as_request, is_edit};
 ghost use Rattle.osn_request.specs.Op.{op_of as asked_of};
@@ -46,7 +46,7 @@ impl<'a> LineRequest<'a> {
     }
 }
 
-/// The request of a line's object by the newest rules, where there are this many readers.
+/// The request of a line's object by the newest version, where there are this many readers.
 ///
 /// # Errors
 /// The first fault of the object. Memory is taken only for the texts of an edit, once every member
@@ -57,8 +57,8 @@ pub fn line_request_of<O: JsonObject>(
     object: &O,
 ) -> Result<LineRequest<'_>, RequestError>
     ensures request { MatchResult result
-        (λ r. request_of newest_rules readers (O.value object.now) ≡ Ok (as_request r))
-        (λ e. FailsLast e (request_of newest_rules readers (O.value object.now))) }
+        (λ r. request_of newest_version readers (O.value object.now) ≡ Ok (as_request r))
+        (λ e. FailsLast e (request_of newest_version readers (O.value object.now))) }
     ensures memory { IfErr result
         (λ e. e ≡ NoMemory → is_edit (asked_of (O.value object.now)) ≡ true) }
 {

@@ -5,7 +5,7 @@ use Rattle.osn_almanac.specs.Almanac as spec
 use Rattle.osn_almanac.proofs.changes.push_changes_among.Given as goal
 
 -- the changes of the year so far
-abbrev pub invariant-loop-period : goal.invariant-loop-period
-invariant-loop-period l =
+abbrev pub invariant-loop-item : goal.invariant-loop-item
+invariant-loop-item l =
     string_bytes l.out ≡ string_bytes l.initial.out
-    ++ flat_map (spec.changes_text newest_rules l.year) (take l.period-index l.periods)
+    ++ flat_map (spec.changes_text newest_rules l.year) (take l.item-index l.periods)

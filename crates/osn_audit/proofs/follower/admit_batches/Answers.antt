@@ -1,7 +1,8 @@
 use Rattle.std.proofs.Common.{◌+◌, drop, ap, sym, subst, ◌∙◌, arith}
 use Rattle.osn_days.specs.Profile.{newest_rules}
 use Rattle.osn_register.specs.Plain.{applied_all}
-use Rattle.osn_core.specs.Sequential.{joined, AreLawful}
+use Rattle.osn_register.specs.Lawful.{AreLawful}
+use Rattle.osn_core.specs.Sequential.{joined}
 use Rattle.osn_audit.proofs.EditLemmas.{batch_more, next_batch_lawful}
 use Rattle.osn_audit.proofs.follower.admit_batches.Goals as goal
 

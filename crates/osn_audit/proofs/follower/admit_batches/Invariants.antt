@@ -1,7 +1,8 @@
 use Rattle.std.proofs.Common.{◌≡◌, drop}
 use Rattle.osn_days.specs.Profile.{newest_rules}
 use Rattle.osn_register.specs.Plain.{applied_all}
-use Rattle.osn_core.specs.Sequential.{joined, AreLawful}
+use Rattle.osn_register.specs.Lawful.{AreLawful}
+use Rattle.osn_core.specs.Sequential.{joined}
 use Rattle.osn_audit.proofs.follower.admit_batches.Given as goal
 
 -- the batches that are left are lawful, and lead to the same territories

@@ -1,7 +1,7 @@
 use Rattle.std.proofs.Common.{◌≡◌, ◌+◌, None, drop, ap, sym, subst, ◌∙◌, arith}
 use Rattle.osn_days.specs.Profile.{newest_rules}
 use Rattle.osn_register.specs.Plain.{refusal}
-use Rattle.osn_core.specs.Sequential.{AreLawful}
+use Rattle.osn_register.specs.Lawful.{AreLawful}
 use Rattle.osn_audit.proofs.EditLemmas.{next_lawful, edit_more}
 use Rattle.osn_audit.proofs.follower.admit_edits.Goals as goal
 

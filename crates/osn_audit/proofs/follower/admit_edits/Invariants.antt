@@ -1,7 +1,7 @@
 use Rattle.std.proofs.Common.{◌≡◌, drop}
 use Rattle.osn_days.specs.Profile.{newest_rules}
 use Rattle.osn_register.specs.Plain.{applied_all}
-use Rattle.osn_core.specs.Sequential.{AreLawful}
+use Rattle.osn_register.specs.Lawful.{AreLawful}
 use Rattle.osn_audit.proofs.follower.admit_edits.Given as goal
 
 -- the edits that are left are lawful, and lead to the same territories

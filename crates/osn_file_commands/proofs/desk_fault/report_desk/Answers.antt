@@ -1,10 +1,9 @@
 use Rattle.std.proofs.Common.{◌∙◌}
 use Rattle.std.proofs.lemmas.Result.{IfOk-weaker}
 use Rattle.osn_file_commands.specs.DeskFault.{desk_line}
-use Rattle.osn_file_commands.proofs.DeskLemmas.{other_told}
+use Rattle.osn_file_commands.proofs.DeskLemmas.{other_told, same_end}
 use Rattle.osn_file_commands.proofs.desk_fault.report_desk.Goals as goal
 use Rattle.osn_lines.specs.Streams.{output_of}
-use Rattle.osn_report.proofs.TellLemmas.{same_end}
 
 pub returns-in_default : goal.returns-in_default
 returns-in_default g c =

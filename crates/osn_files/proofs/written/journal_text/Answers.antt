@@ -1,16 +1,16 @@
-use Rattle.std.proofs.Common.{sym, subst, IsUtf8}
-use Rattle.osn_files.proofs.LawFacts.{load-journal_text}
-use Rattle.osn_files.proofs.Utf8Facts.{IsUtf8-journal_text}
+use Rattle.std.proofs.Common.{◌≡◌, Ok, subst, sym}
+use Rattle.osn_days.specs.Profile.{newest_rules}
+use Rattle.osn_lines.specs.Lines.{lines}
+use Rattle.osn_files.specs.Journal.{load}
+use Rattle.osn_files.specs.JournalText.{journal_text_of}
+use Rattle.osn_files.specs.Loaded.{HasEdits}
+use Rattle.osn_files.proofs.VersionFacts.{has_own_edits}
 use Rattle.osn_files.proofs.written.journal_text.Goals as goal
 
-pub from_utf8_unchecked-requires : goal.from_utf8_unchecked-requires
-from_utf8_unchecked-requires c =
-    subst IsUtf8 (sym c.in_ok-bytes.ensures.text)
-    (IsUtf8-journal_text c.args.object.now c.in_ok-bytes.ensures.sound)
-
-pub returns-in_err-bytes-clause-law : goal.returns-in_err-bytes-clause-law
-returns-in_err-bytes-clause-law c =
-    load-journal_text c.args.object.now c.journal_bytes.ensures.sound
-
 pub returns-clause-law : goal.returns-clause-law
-returns-clause-law c = load-journal_text c.args.object.now c.journal_bytes.ensures.sound
+returns-clause-law c =
+    let s = c.args.object.now in
+    let is = c.version_for.ensures in
+    subst (λ version. load newest_rules s.limits (lines (journal_text_of version s)) ≡ Ok s) is
+    (c.journal_text_of.ensures.law
+    (subst (λ version. HasEdits version s) (sym is) (has_own_edits s)))

@@ -1,5 +1,7 @@
-use Rattle.std.proofs.Common.{◌≡◌, append_assoc, rules, to_z, of_z, w64}
-use Rattle.osn_format.proofs.WriteLemmas.{at_last}
+use Rattle.std.proofs.Common.{◌≡◌, append_assoc, codes, rules, to_z, of_z, w64}
+use Rattle.serde_json.specs.Data.{member, no_members}
+use Rattle.osn_format.specs.Json.{signed}
+use Rattle.osn_format.proofs.WriteLemmas.{at_last, source_first}
 use Rattle.osn_files.proofs.written.write_add_exception.Goals as goal
 
 pub returns-clause-tokens : goal.returns-clause-tokens
@@ -10,6 +12,7 @@ returns-clause-tokens c =
     (λ e. rw (
       e,
       c.in_ok-write_signed-2.ensures.tokens,
+      c.in_ok-write_source.ensures.tokens,
       c.in_ok-write_text-2.ensures.tokens,
       c.in_ok-write_signed.ensures.tokens,
       c.in_ok-write_text.ensures.tokens,
@@ -17,4 +20,5 @@ returns-clause-tokens c =
       c.as_str.ensures.value,
       year,
       day,
+      source_first c.args.source.now (member (codes "year") (signed c.args.year) no_members),
     ) (simp append_assoc))

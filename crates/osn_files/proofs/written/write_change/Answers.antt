@@ -1,5 +1,7 @@
-use Rattle.std.proofs.Common.{◌≡◌, append_assoc, rules, to_z, of_z, w64}
-use Rattle.osn_format.proofs.WriteLemmas.{at_last}
+use Rattle.std.proofs.Common.{◌≡◌, append_assoc, codes, rules, to_z, of_z, w64}
+use Rattle.serde_json.specs.Data.{string, member, no_members}
+use Rattle.osn_lands.specs.StyleWords.{style_word}
+use Rattle.osn_format.proofs.WriteLemmas.{at_last, source_first}
 use Rattle.osn_files.proofs.written.write_change.Goals as goal
 
 pub returns-clause-tokens : goal.returns-clause-tokens
@@ -9,6 +11,7 @@ returns-clause-tokens c =
     (λ e. rw (
       e,
       c.in_ok-write_text-5.ensures.tokens,
+      c.in_ok-write_source.ensures.tokens,
       c.in_ok-write_text-4.ensures.tokens,
       c.in_ok-write_text-3.ensures.tokens,
       c.in_ok-write_signed.ensures.tokens,
@@ -20,4 +23,6 @@ returns-clause-tokens c =
       c.word-3.ensures,
       c.as_str.ensures.value,
       day,
+      source_first c.args.source.now
+          (member (codes "style") (string (style_word c.args.regime.style)) no_members),
     ) (simp append_assoc))

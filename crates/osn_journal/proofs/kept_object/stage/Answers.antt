@@ -9,7 +9,7 @@ returns g c =
     let change = Stage c.args.edit in
     let append = c.append.ensures in
     Keeping-result change _ _ c.deref.result.now c.append.result c.map_err.result _ _
-    c.in_ok-admit.ensures.ok
+    c.in_ok-admit.ensures.ok c.in_ok-admit.ensures.source
     (c.deref.ensures.value
     ∙ (c.in_ok-line.ensures ∙ ap (λ l. l ++ change_line change) c.new.ensures.items))
     c.map_err.ensures.cases

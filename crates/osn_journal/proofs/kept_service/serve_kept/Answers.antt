@@ -2,6 +2,7 @@ use Rattle.std.proofs.Common.{rules}
 use Rattle.osn_lines.specs.Streams.{input_of}
 use Rattle.osn_journal.specs.declared.kept_object.KeptObject.{KeptObject}
 use Rattle.osn_journal.proofs.StoreLemmas.{KeepsFile-begun}
+use Rattle.osn_journal.proofs.VersionLemmas.{KeepsEdits-sourceless}
 use Rattle.osn_journal.proofs.kept_service.serve_kept.Goals as goal
 
 pub returns-clause-keeps : goal.returns-clause-keeps
@@ -14,4 +15,11 @@ returns-clause-keeps g c =
     let kept =
     KeepsFile-begun g.K.KeptFile.contents g.K.KeptFile.synced g.K.KeptFile.fault c.args.rules begun
     c.serve_store.new.store input c.serve_store.result c.serve_store.ensures.keeps in
+    search rules
+
+pub returns-clause-edits : goal.returns-clause-edits
+returns-clause-edits g c =
+    let kept =
+    KeepsEdits-sourceless c.args.rules c.args.object.now c.serve_store.new.store.object.now
+    c.serve_store.ensures.sources in
     search rules

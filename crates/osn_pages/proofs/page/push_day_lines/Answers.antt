@@ -13,6 +13,6 @@ returns c =
     c.periods.result.now c.period_at-place.result.0 1 newest_rules.high c.args.day period
     c.periods.ensures.value c.periods.ensures.whole c.period_at-place.ensures.within
     c.period_at-place.ensures.holds c.index-periods-place.is in
-    on_ok_weaker c.push_period.result (day_and_period c.args.territory.now c.args.day period
-    (string_bytes c.args.out.now) (string_bytes c.push_day.new.out)
+    on_ok_weaker c.push_period.result (day_and_period c.args.territory.now c.args.sources.now
+    c.args.day period (string_bytes c.args.out.now) (string_bytes c.push_day.new.out)
     (string_bytes c.push_period.new.out) held (search rules)) c.push_period.ensures

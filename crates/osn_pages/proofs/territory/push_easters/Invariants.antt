@@ -8,5 +8,6 @@ use Rattle.osn_pages.proofs.territory.push_easters.Given as goal
 abbrev pub invariant-loop-year : goal.invariant-loop-year
 invariant-loop-year l =
     string_bytes l.initial.out
-    ++ flat_map (spec.easter_line newest_rules l.territory) l.territory.exceptions
-    ≡ string_bytes l.out ++ flat_map (spec.easter_line newest_rules l.territory) l.year-iterator
+    ++ flat_map (spec.easter_lines newest_rules l.territory l.sources) l.territory.exceptions
+    ≡ string_bytes l.out
+    ++ flat_map (spec.easter_lines newest_rules l.territory l.sources) l.year-iterator

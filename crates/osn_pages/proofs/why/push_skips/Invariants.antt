@@ -8,4 +8,5 @@ use Rattle.osn_pages.proofs.why.push_skips.Given as goal
 abbrev pub invariant-loop-change : goal.invariant-loop-change
 invariant-loop-change l =
     string_bytes l.out ≡ string_bytes l.initial.out
-    ++ flat_map (spec.skip_lines newest_rules l.territory l.date) (take l.change-index l.changes)
+    ++ flat_map (spec.skip_lines newest_rules l.territory l.sources l.date)
+    (take l.change-index l.changes)

@@ -2,11 +2,13 @@ use Rattle.std.proofs.Common.{◌≡◌, ◌++◌, map, take}
 use Rattle.std.specs.List.{flat_map}
 use Rattle.osn_plan.specs.Change.{edit_of}
 use Rattle.osn_plan.specs.Differences as spec
+use Rattle.osn_plan.specs.Inside.{sources_at}
 use Rattle.osn_plan.proofs.changes.push_additions.Given as goal
 
 -- the additions so far
 abbrev pub invariant-loop-period : goal.invariant-loop-period
 invariant-loop-period l =
     l.edits.items ≡ l.initial.edits.items
-    ++ flat_map (λ p. map (edit_of l.code) (spec.added_change (p.first, p.regime)))
+    ++ flat_map (λ p. map (edit_of l.sides.code.now)
+    (spec.added_change (sources_at l.sides).wanted (p.first, p.regime)))
     (take l.period-index l.periods)

@@ -2,11 +2,13 @@ use Rattle.std.proofs.Common.{◌≡◌, ◌++◌, map, take}
 use Rattle.std.specs.List.{flat_map}
 use Rattle.osn_plan.specs.Change.{edit_of}
 use Rattle.osn_plan.specs.Differences as spec
+use Rattle.osn_plan.specs.Inside.{sources_at}
 use Rattle.osn_plan.proofs.changes.push_all_wanted.Given as goal
 
 -- the edits so far
 abbrev pub invariant-loop-period : goal.invariant-loop-period
 invariant-loop-period l =
     l.edits.items ≡ l.initial.edits.items
-    ++ flat_map (λ p. map (edit_of l.code)
-    (spec.wanted_change l.standing (p.first, p.regime))) (take l.period-index l.wanted)
+    ++ flat_map (λ p. map (edit_of l.sides.code.now)
+    (spec.wanted_change (sources_at l.sides) l.standing (p.first, p.regime)))
+    (take l.period-index l.wanted)

@@ -2,12 +2,14 @@ use Rattle.std.proofs.Common.{◌≡◌, ◌++◌, map}
 use Rattle.std.specs.List.{flat_map}
 use Rattle.osn_plan.specs.Change.{edit_of}
 use Rattle.osn_plan.specs.Differences as spec
+use Rattle.osn_plan.specs.Inside.{sources_at}
 use Rattle.osn_plan.proofs.exceptions.push_additions.Given as goal
 
 -- the edits of the days that are left are still to come
 abbrev pub invariant-loop-year : goal.invariant-loop-year
 invariant-loop-year l =
     l.initial.edits.items
-    ++ flat_map (λ e. map (edit_of l.code) (spec.added_exception e)) l.wanted.exceptions
-    ≡ l.edits.items
-    ++ flat_map (λ e. map (edit_of l.code) (spec.added_exception e)) l.year-iterator
+    ++ flat_map (λ e. map (edit_of l.sides.code.now)
+    (spec.added_exception (sources_at l.sides).wanted e)) l.wanted.exceptions
+    ≡ l.edits.items ++ flat_map (λ e. map (edit_of l.sides.code.now)
+    (spec.added_exception (sources_at l.sides).wanted e)) l.year-iterator

@@ -1,4 +1,5 @@
 use Rattle.std.proofs.Common.{◌++◌, ap, ◌∙◌}
+use Rattle.osn_plan.specs.Inside.{sources_at}
 use Rattle.osn_plan.proofs.Mapped.{two, later_mapped, ok_by}
 use Rattle.osn_plan.proofs.lands.push_later.Goals as goal
 
@@ -6,5 +7,6 @@ pub returns : goal.returns
 returns c = ok_by c.push_additions-2.result
     (λ is. two c.args.edits.now.items _ _ _ _ c.in_ok-push_additions.ensures is
     ∙ ap (λ es. c.args.edits.now.items ++ es)
-    (later_mapped c.args.code.now c.args.wanted.now c.periods.result.now c.periods.ensures.value))
+    (later_mapped c.args.sides.code.now (sources_at c.args.sides).wanted c.args.wanted.now
+    c.periods.result.now c.periods.ensures.value))
     c.push_additions-2.ensures

@@ -1,11 +1,12 @@
 use Rattle.std.proofs.Common.{◌≡◌, ◌-◌, ◌++◌, drop, length}
-use Rattle.osn_plan.specs.Differences.{all_edits}
+use Rattle.osn_plan.specs.Differences.{edits_for, all_edits}
 use Rattle.osn_plan.proofs.planning.all_edits.Given as goal
 
 -- the edits of the territories that are left are still to come
 abbrev pub invariant-loop-code : goal.invariant-loop-code
 invariant-loop-code l =
-    l.edits.items ++ all_edits (drop l.place l.wanted.lands) l.register.lands
+    l.edits.items
+    ++ edits_for l.wanted.lands l.register.lands (drop l.place l.wanted.lands)
     ≡ all_edits l.wanted.lands l.register.lands
 
 abbrev pub decreases-loop-code : goal.decreases-loop-code

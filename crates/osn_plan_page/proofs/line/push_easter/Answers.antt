@@ -1,11 +1,11 @@
 use Rattle.std.proofs.Common.{◌≡◌, to_z, of_z, w64}
 use Rattle.std.proofs.lemmas.Int.{to_z-of_z}
-use Rattle.osn_plan_page.specs.Line.{easter_line}
+use Rattle.osn_plan_page.specs.Line.{easter_words}
 use Rattle.osn_plan_page.proofs.line.push_easter.Goals as goal
 
 pub returns : goal.returns
-unfolding easter_line
+unfolding easter_words
 returns c =
     let year : to_z w64 (of_z w64 c.args.year) ≡ c.args.year =
     to_z-of_z w64 c.args.year c.ranges.year in
-    rw year at c.writeln.ensures.bytes
+    rw year at c.write.ensures.bytes

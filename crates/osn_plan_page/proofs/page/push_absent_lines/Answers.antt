@@ -9,6 +9,6 @@ returns-in_default c =
 
 pub loop-place-preserved : goal.loop-place-preserved
 loop-place-preserved c =
-    next_written c.args.wanted.now.lands c.args.register.now.lands c.loop-place.place _ _
+    next_written c.args.wanted.now.lands c.args.register.now.lands c.loop-place.place _ _ _ _
     (string_bytes c.loop-place.out) _ (sym c.in-Some.ensures.value) c.loop-place.invariant
     c.in_ok-push_absent_line.ensures

@@ -32,6 +32,13 @@ returns-in-KeptWithOther g c =
     tells_by told c.args.fault faults.KeptWithOther _ c.in-KeptWithOther.is
     (c.tell.ensures.status, c.tell.ensures.line)
 
+pub returns-in-UpgradeWithoutKeep : goal.returns-in-UpgradeWithoutKeep
+returns-in-UpgradeWithoutKeep g c =
+    let told = output_of g.E.Sink.contents g.E.Sink.has_failed g.E.Sink.holds_back
+    c.args.errors.now c.tell-in-UpgradeWithoutKeep.new.errors in
+    tells_by told c.args.fault faults.UpgradeWithoutKeep _ c.in-UpgradeWithoutKeep.is
+    (c.tell-in-UpgradeWithoutKeep.ensures.status, c.tell-in-UpgradeWithoutKeep.ensures.line)
+
 pub returns-in-Keep : goal.returns-in-Keep
 returns-in-Keep g c =
     let told = output_of g.E.Sink.contents g.E.Sink.has_failed g.E.Sink.holds_back

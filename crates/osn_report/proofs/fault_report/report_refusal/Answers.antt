@@ -3,7 +3,7 @@ use Rattle.std.proofs.lemmas.Result.{IfOk-weaker}
 use Rattle.osn_lines.specs.Streams.{output_of}
 use Rattle.osn_report.specs.Fault.{fault_line}
 use Rattle.osn_report.specs.declared.fault.CommandFault.TheVariants.{Refused}
-use Rattle.osn_report.proofs.TellLemmas.{other_line, other_status, tells_refusal, same_end}
+use Rattle.osn_report.proofs.TellLemmas.{other_line, other_status, tells_refusal}
 use Rattle.osn_report.proofs.fault_report.report_refusal.Goals as goal
 
 pub returns-in_default : goal.returns-in_default
@@ -14,6 +14,5 @@ returns-in_default g c =
     tells_refusal told (Refused refusal) (fault_line (Refused refusal)) _
     (other_status refusal c.in_default.not-NoMemory) refl
     (c.tell_line.ensures (fault_line (Refused refusal))
-    (IfOk-weaker c.refused-line.result _ _ (λ text e. e
-    ∙ same_end _ _ _ _ c.number.ensures c.name.ensures
-    ∙ other_line refusal c.in_default.not-NoMemory) c.refused-line.ensures))
+    (IfOk-weaker c.hinted_line-line.result _ _
+    (λ text e. e ∙ other_line refusal c.in_default.not-NoMemory) c.hinted_line-line.ensures))

@@ -13,4 +13,4 @@ pub returns : goal.returns
 returns g c =
     runs_alone (λ path. path.now) c.args.limits c.args.options.journal c.args.options.save _
     (service_model c.args.options) _ _ _ _ _ _ (sym c.is_given.ensures ∙ c.if-is_given.false)
-    (rw c.rules_of-rules.ensures at (c.keep.ensures))
+    (rw c.rules_of.ensures at (c.keep_as_asked.ensures))

@@ -1,6 +1,5 @@
 use Rattle.std.proofs.Common.{ap, option_map}
 use Rattle.std.proofs.lemmas.Result.{IfOk-weaker}
-use Rattle.osn_invocation.specs.Invocation.{service_model}
 use Rattle.osn_serve_commands.proofs.OptionLemmas.{served_by, unserved_by}
 use Rattle.osn_serve_commands.proofs.in_folder.serve_edits.Goals as goal
 

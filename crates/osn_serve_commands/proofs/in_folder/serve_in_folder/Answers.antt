@@ -1,23 +1,17 @@
-use Rattle.std.proofs.Common.{ap, option_map}
+use Rattle.std.proofs.Common.{refl, sym, ◌∙◌}
 use Rattle.std.proofs.lemmas.Result.{IfOk-weaker}
-use Rattle.osn_serve_commands.proofs.FollowLemmas.{followed_by, unfollowed_by}
+use Rattle.osn_invocation.specs.Invocation.{service_model}
+use Rattle.osn_serve_commands.proofs.OptionLemmas.{lacking_keep, lacking_none}
 use Rattle.osn_serve_commands.proofs.in_folder.serve_in_folder.Goals as goal
 
-pub returns-in-None-clause-ok : goal.returns-in-None-clause-ok
-returns-in-None-clause-ok g c =
-    IfOk-weaker c.serve_edits.result _ _
-    (λ status h. followed_by c.args.limits _ _ _ _ _ _ _ _ _ _ _ status
-    (ap (option_map (λ path. path.now)) c.in-None.is) h)
-    c.serve_edits.ensures.ok
+pub returns-then-lacks_keep-clause-ok : goal.returns-then-lacks_keep-clause-ok
+returns-then-lacks_keep-clause-ok g c =
+    lacking_keep c.args.limits _ _ _ _ (service_model c.args.options) _ _ _ _ _ c.report.result
+    _ (sym c.lacks_keep.ensures ∙ c.if-lacks_keep.true) (refl, (refl, c.report.ensures))
 
-pub returns-in-None-clause-err : goal.returns-in-None-clause-err
-returns-in-None-clause-err g c =
-    unfollowed_by c.serve_edits.result (option_map (λ path. path.now) c.args.options.journal)
-    (option_map (λ path. path.now) c.args.options.keep) _ _ _ _ _
-    (ap (option_map (λ path. path.now)) c.in-None.is)
-    c.serve_edits.ensures.err
-
-pub returns-in-Some-clause-ok : goal.returns-in-Some-clause-ok
-returns-in-Some-clause-ok g c =
-    followed_by c.args.limits _ _ _ _ _ _ _ _ _ _ _ c.follow_alone.result
-    (ap (option_map (λ path. path.now)) c.in-Some.is) c.follow_alone.ensures
+pub returns-clause-ok : goal.returns-clause-ok
+returns-clause-ok g c =
+    IfOk-weaker c.serve_by_files.result _ _
+    (λ status h. lacking_none c.args.limits _ _ _ _ (service_model c.args.options) _ _ _ _ _
+    status _ (sym c.lacks_keep.ensures ∙ c.if-lacks_keep.false) h)
+    c.serve_by_files.ensures.ok

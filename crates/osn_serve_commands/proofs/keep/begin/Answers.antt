@@ -1,22 +1,44 @@
-use Rattle.std.proofs.Common.{None, ap, inl, inr, refl, sym, subst, ◌∙◌}
-use Rattle.osn_files.specs.WholePart.{IsWholePart}
-use Rattle.osn_serve_commands.specs.Keep.{HoldsObject, HoldsNoObject, IsChangeFault}
-use Rattle.osn_serve_commands.proofs.KeepLemmas.{is_ready}
+use Rattle.std.proofs.Common.{None, inl, inr, refl, sym, subst, ◌∙◌}
+use Rattle.osn_serve_commands.specs.Keep.{HoldsNoObject, IsChangeFault}
+use Rattle.osn_serve_commands.proofs.KeepLemmas.{held_as_read, is_ready}
 use Rattle.osn_serve_commands.proofs.ResultLemmas.{if_err_made, known_bytes}
 use Rattle.osn_serve_commands.proofs.keep.begin.Goals as goal
 
-pub returns-in_err-object-clause-err : goal.returns-in_err-object-clause-err
-returns-in_err-object-clause-err g c =
+pub returns-in_err-held-clause-err : goal.returns-in_err-held-clause-err
+returns-in_err-held-clause-err g c =
     let failed = g.J.Source.has_failed c.read_kept.new.journal in
-    let fault = c.in_err-object.field-0.0 in
+    let fault = c.in_err-held.field-0.0 in
     if_err_made c.from_residual.result c.from_residual.ensures.1
     (λ e is. (
       None,
       refl,
       (λ held known given. inl (
-        subst (HoldsNoObject c.args.limits held failed) (sym is)
+        inl (subst (HoldsNoObject c.args.limits held failed) (sym is)
             (known_bytes _ held (λ bytes. HoldsNoObject c.args.limits bytes failed fault) given
-            c.in_err-object.ensures.err),
+            c.in_err-held.ensures.err)),
+        refl,
+        known,
+      )),
+    ))
+
+pub returns-in_err-check_kept-clause-err : goal.returns-in_err-check_kept-clause-err
+returns-in_err-check_kept-clause-err g c =
+    let older = c.in_err-check_kept.ensures.err in
+    let read = c.in_ok-held in
+    if_err_made c.from_residual-in_err-check_kept.result
+    c.from_residual-in_err-check_kept.ensures.1
+    (λ e is. (
+      None,
+      refl,
+      (λ held known given. inl (
+        inr (
+          read.held.version,
+          is ∙ older.0,
+          older.1,
+          read.held.object,
+          (held_as_read c.args.limits _ held _ read.held.part read.held.version read.held.object
+              given read.ensures.bytes read.ensures.ok).1,
+        ),
         refl,
         known,
       )),
@@ -25,35 +47,37 @@ returns-in_err-object-clause-err g c =
 pub returns-in_err-make_ready-clause-err : goal.returns-in_err-make_ready-clause-err
 returns-in_err-make_ready-clause-err g c =
     let h = c.in_err-make_ready.ensures.err in
-    let object = c.in_ok-object.object in
+    let read = c.in_ok-held in
     if_err_made c.from_residual-in_err-make_ready.result
     c.from_residual-in_err-make_ready.ensures.1
     (λ e is. (
       h.1,
       h.2,
       (λ held known given.
-          let read = known_bytes _ held (λ held. IsWholePart c.in_ok-object.part held
-          × HoldsObject c.args.limits held object) given c.in_ok-object.ensures.ok in
+          let whole = held_as_read c.args.limits _ held _ read.held.part read.held.version
+          read.held.object given read.ensures.bytes read.ensures.ok in
           inr (
             subst (λ f. IsChangeFault f (g.K.KeptFile.fault c.make_ready.new.keeper)) (sym is)
                 h.0,
-            h.3 held known read.0,
-            object,
-            read.1,
+            h.3 held known whole.0,
+            read.held.version,
+            read.held.object,
+            whole.1,
           )),
     ))
 
 pub returns-clause-ok : goal.returns-clause-ok
 returns-clause-ok g c =
     let r = c.in_ok-make_ready.ensures.ok in
-    let object = c.in_ok-object.object in (
+    let read = c.in_ok-held in (
       r.0,
       r.1,
       (λ held known given.
-          let read = known_bytes _ held (λ held. IsWholePart c.in_ok-object.part held
-          × HoldsObject c.args.limits held object) given c.in_ok-object.ensures.ok in
-          let ready = r.2 held known read.0 in (
-            read.1,
+          let whole = held_as_read c.args.limits _ held _ read.held.part read.held.version
+          read.held.object given read.ensures.bytes read.ensures.ok in
+          let ready = r.2 held known whole.0 in (
+            whole.1,
+            c.in_ok-check_kept.ensures.ok,
             ready.0,
             is_ready _ _ _ _ _ _ ready.1 ready.2 c.in_ok-make_ready.ensures.sound,
           )),

@@ -13,7 +13,13 @@ returns-in-Ok g c =
       failed = g.E.Sink.has_failed errors;
       held_back = g.E.Sink.holds_back errors;
       tells = h.1;
-      ended = inr (c.in-Ok.object, state c.begin.new.keeper, h.2, c.keep_lines.ensures);
+      ended = inr (
+        c.in-Ok.version,
+        c.in-Ok.object,
+        state c.begin.new.keeper,
+        h.2,
+        rw c.for_version-rules.ensures at (c.keep_lines.ensures),
+      );
     }
 
 pub returns-in-Err : goal.returns-in-Err

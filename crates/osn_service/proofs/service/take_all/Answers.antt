@@ -38,6 +38,9 @@ returns-in-Ok-clause-same g c = (all g c).same
 pub returns-in-Ok-clause-lent : goal.returns-in-Ok-clause-lent
 returns-in-Ok-clause-lent g c = (all g c).lent
 
+pub returns-in-Ok-clause-sources : goal.returns-in-Ok-clause-sources
+returns-in-Ok-clause-sources g c = (all g c).sources
+
 pub returns-in-Ok-clause-takes : goal.returns-in-Ok-clause-takes
 returns-in-Ok-clause-takes g c = (all g c).takes
 
@@ -49,6 +52,9 @@ returns-in-Err-clause-same g c = (early g c).same
 
 pub returns-in-Err-clause-lent : goal.returns-in-Err-clause-lent
 returns-in-Err-clause-lent g c = (early g c).lent
+
+pub returns-in-Err-clause-sources : goal.returns-in-Err-clause-sources
+returns-in-Err-clause-sources g c = (early g c).sources
 
 pub returns-in-Err-clause-takes : goal.returns-in-Err-clause-takes
 returns-in-Err-clause-takes g c = rw c.early_end.ensures (early g c).takes

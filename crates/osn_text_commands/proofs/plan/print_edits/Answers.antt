@@ -1,9 +1,10 @@
-use Rattle.std.proofs.Common.{◌≡◌, ℕ, List, Option, refl, subst}
+use Rattle.std.proofs.Common.{◌≡◌, ℕ, List, Option, IfOk, refl, string_bytes, subst}
 use Rattle.osn_lines.specs.Streams.{Output, output_of}
 use Rattle.osn_report.specs.Printing.{PrintsIfMade}
 use Rattle.osn_report.specs.Messages.{TellsNothing}
 use Rattle.osn_report.specs.declared.status.Status.{Status}
 use Rattle.osn_report.specs.declared.status.Status.TheVariants as statuses
+use Rattle.osn_text_commands.specs.Note.{note_of}
 use Rattle.osn_text_commands.specs.Plan.{TellsNoteAfter, plan_text}
 use Rattle.osn_text_commands.proofs.plan.print_edits.Goals as goal
 
@@ -20,7 +21,9 @@ not_printed statuses.NoMemory line e other nothing = (refl, nothing)
 pub returns-in-Done : goal.returns-in-Done
 returns-in-Done g c =
     let errors = c.print.new.errors in
-    let text = plan_text c.args.object.now c.args.wanted.now c.args.edits.now in
+    let object = c.args.object.now in
+    let wanted = c.args.wanted.now in
+    let text = plan_text object wanted c.args.edits.items in
     record {
       between = g.E.Sink.contents errors;
       failed = g.E.Sink.has_failed errors;
@@ -31,19 +34,29 @@ returns-in-Done g c =
           (output_of g.W.Sink.contents g.W.Sink.has_failed g.W.Sink.holds_back c.args.output.now
           c.print.new.output)
           (output_of g.E.Sink.contents g.E.Sink.has_failed g.E.Sink.holds_back c.args.errors.now
-          errors)) c.in-Done.is (c.print.ensures text c.plan_text.ensures);
-      notes = c.tell_note.ensures;
+          errors)) c.in-Done.is (c.print.ensures text
+          (subst (λ es. IfOk c.plan_text.result (λ t. string_bytes t
+          ≡ plan_text object wanted es)) c.deref.ensures.value c.plan_text.ensures));
+      notes =
+          c.tell_note.ensures
+          (note_of c.args.is_there c.args.version object c.args.edits.items)
+          c.note_of-note.ensures;
     }
 
 pub returns-in_default : goal.returns-in_default
 returns-in_default g c =
     let errors = c.print.new.errors in
-    let text = plan_text c.args.object.now c.args.wanted.now c.args.edits.now in
+    let object = c.args.object.now in
+    let wanted = c.args.wanted.now in
+    let text = plan_text object wanted c.args.edits.items in
     record {
       between = g.E.Sink.contents errors;
       failed = g.E.Sink.has_failed errors;
       held_back = g.E.Sink.holds_back errors;
       printed = c.print.result;
-      prints = c.print.ensures text c.plan_text.ensures;
+      prints =
+          c.print.ensures text
+          (subst (λ es. IfOk c.plan_text.result (λ t. string_bytes t
+          ≡ plan_text object wanted es)) c.deref.ensures.value c.plan_text.ensures);
       notes = not_printed c.print.result _ _ c.in_default.not-Done (refl, refl);
     }

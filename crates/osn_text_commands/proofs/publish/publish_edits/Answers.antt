@@ -1,39 +1,34 @@
-use Rattle.std.proofs.Common.{◌≡◌, ◌==◌, ◌∙◌, ℕ, length, vec_len, ap, arith, refl, sym}
-use Rattle.osn_text_commands.proofs.PublishLemmas.{edition_refused, edition_written}
-use Rattle.osn_text_commands.proofs.PublishLemmas.{nothing_published}
-use Rattle.osn_text_commands.specs.Publish.{standing_text}
+use Rattle.std.proofs.Common.{◌≡◌, false, true, refl, subst, sym, ◌∙◌}
+use Rattle.osn_text_commands.proofs.PublishLemmas.{anew_refused, none_needed}
+use Rattle.osn_text_commands.specs.Edition.{needs_sources}
 use Rattle.osn_text_commands.specs.PublishInside.{CanStay}
 use Rattle.osn_text_commands.proofs.publish.publish_edits.Goals as goal
 
-pub returns-then-is_empty : goal.returns-then-is_empty
-returns-then-is_empty g c = λ given part_of.
-    let size : length c.args.edits.items ≡ vec_len c.args.edits =
-    omega (arith, c.args.edits.ok.0) in
-    nothing_published (CanStay g.K.KeptFile.cut_back_may_fail) c.args.object.now c.args.wanted.now
-    _ _ given _ _ c.print.result c.args.edits.items
-    (ap (λ (n : ℕ). n == 0) size
-    ∙ (sym c.is_empty.ensures ∙ c.if-is_empty.true))
-    refl
-    (c.print.ensures (standing_text c.args.object.now c.args.wanted.now)
-    c.standing_text.ensures)
+pub returns-in-Ok-clause-older : goal.returns-in-Ok-clause-older
+returns-in-Ok-clause-older g c = record {
+  same = c.in-Ok.ensures.bytes;
+  needs =
+      subst (λ l. needs_sources c.args.held.version l ≡ true) c.deref.ensures.value
+      (sym c.needs_sources.ensures ∙ c.if-needs_sources.true);
+  lawful = c.in-Ok.ensures.lawful;
+  sources = c.in-Ok.ensures.sources;
+  anew = c.in-Ok.ensures.journal;
+  printed = c.in-Ok.ensures.text;
+  told = c.in-Ok.ensures.cut;
+}
 
-pub returns-in-Ok : goal.returns-in-Ok
-returns-in-Ok g c = λ given part_of.
-    let size : length c.args.edits.items ≡ vec_len c.args.edits =
-    omega (arith, c.args.edits.ok.0) in
-    edition_written (CanStay g.K.KeptFile.cut_back_may_fail) c.args.object.now c.args.wanted.now
-    _ _ given _ _ c.publish_edition.result c.args.edits.items
-    (ap (λ (n : ℕ). n == 0) size
-    ∙ (sym c.is_empty.ensures ∙ c.if-is_empty.false)) c.in-Ok.ensures.lawful
-    (rw (← c.in-Ok.ensures.text)
-    (c.publish_edition.ensures given part_of c.args.edits.items c.in-Ok.ensures.lines))
+pub returns-in-Err-clause-ok : goal.returns-in-Err-clause-ok
+returns-in-Err-clause-ok g c = λ given part_of.
+    anew_refused (CanStay g.K.KeptFile.cut_back_may_fail) c.args.held.object c.args.wanted.now
+    _ _ given _ _ c.report.result c.args.held.version _
+    (subst (λ l. needs_sources c.args.held.version l ≡ true) c.deref.ensures.value
+    (sym c.needs_sources.ensures ∙ c.if-needs_sources.true)) c.args.edits.items
+    c.in-Err.refusal c.in-Err.ensures.refused (refl, (refl, c.report.ensures))
 
-pub returns-in-Err : goal.returns-in-Err
-returns-in-Err g c = λ given part_of.
-    let size : length c.args.edits.items ≡ vec_len c.args.edits =
-    omega (arith, c.args.edits.ok.0) in
-    edition_refused (CanStay g.K.KeptFile.cut_back_may_fail) c.args.object.now c.args.wanted.now
-    _ _ given _ _ c.report.result c.args.edits.items c.in-Err.refusal
-    (ap (λ (n : ℕ). n == 0) size
-    ∙ (sym c.is_empty.ensures ∙ c.if-is_empty.false)) c.in-Err.ensures.refused
-    (refl, (refl, c.report.ensures))
+pub returns-clause-ok : goal.returns-clause-ok
+returns-clause-ok g c = λ given part_of.
+    none_needed (CanStay g.K.KeptFile.cut_back_may_fail) c.args.held.object c.args.wanted.now
+    _ _ given _ _ c.append_if_kept.result c.args.held.version _
+    (subst (λ l. needs_sources c.args.held.version l ≡ false) c.deref.ensures.value
+    (sym c.needs_sources.ensures ∙ c.if-needs_sources.false)) c.args.edits.items
+    (c.append_if_kept.ensures given part_of)

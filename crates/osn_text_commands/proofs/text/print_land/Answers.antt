@@ -1,9 +1,8 @@
-use Rattle.std.proofs.Common.{[], ap, refl, sym, ◌∙◌}
-use Rattle.std.proofs.lemmas.Result.{IfOk-weaker}
-use Rattle.std.specs.Option.{option_map_or}
+use Rattle.std.proofs.Common.{refl}
+use Rattle.osn_days.specs.Profile.{newest_rules}
 use Rattle.osn_lines.specs.Streams.{output_of}
 use Rattle.osn_page_commands.specs.Page.{land_refusal_line}
-use Rattle.osn_text_commands.specs.Text.{land_text, named_text}
+use Rattle.osn_text_writer.specs.TerritoryText.{text_of_code}
 use Rattle.osn_text_commands.proofs.TextLemmas.{land_printed, land_refused}
 use Rattle.osn_text_commands.proofs.text.print_land.Goals as goal
 
@@ -17,11 +16,7 @@ returns-in-Ok g c =
     (output_of g.E.Sink.contents g.E.Sink.has_failed g.E.Sink.holds_back c.args.errors.now
     c.print.new.errors)
     c.print.result c.in-Ok.ensures.test
-    (c.print.ensures (land_text lands code)
-    (IfOk-weaker c.write_territory-text.result _ _
-    (λ text is.
-    is ∙ sym (ap (λ o. option_map_or (named_text code) o []) c.in-Ok.ensures.value))
-    c.write_territory-text.ensures.text))
+    (c.print.ensures (text_of_code newest_rules code lands) c.write_territory.ensures.text)
 
 pub returns-in-Err : goal.returns-in-Err
 returns-in-Err g c =

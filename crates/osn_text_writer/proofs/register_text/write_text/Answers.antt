@@ -1,6 +1,6 @@
-use Rattle.std.proofs.Common.{◌≡◌, ◌++◌, false, string_bytes, ap, sym, arith, subst}
+use Rattle.std.proofs.Common.{◌≡◌, ◌++◌, false, string_bytes, option_map, ap, sym, arith, subst}
 use Rattle.osn_days.specs.Profile.{newest_rules}
-use Rattle.osn_register.specs.Plain.{LandModel}
+use Rattle.osn_register.specs.Named.{listing_of}
 use Rattle.osn_text_writer.specs.Says.{SaysLands}
 use Rattle.osn_text_writer.specs.TerritoryText.{register_text, lands_text}
 use Rattle.std.proofs.lemmas.Option.{slice_get_past}
@@ -18,13 +18,9 @@ lands-init c =
 
 pub lands-preserved : goal.lands-preserved
 lands-preserved c =
-    let l : LandModel = record {
-      code = c.in-Some.code.now;
-      name = c.in-Some.name.now;
-      territory = c.in-Some.territory.now;
-    } in
-    land_step c.args.register.now.lands c.lands.place l _ (string_bytes c.lands.text)
-    (string_bytes c.push_land.new.out) (sym c.in-Some.ensures.value) c.lands.invariant
+    land_step c.args.register.now.lands c.lands.place c.in-Some.code.now c.in-Some.name.now
+    c.in-Some.territory.now _ (string_bytes c.lands.text) (string_bytes c.push_land.new.out)
+    c.in-Some.ensures.well_formed.distinct c.in-Some.ensures.value c.lands.invariant
     c.in_ok-push_land.ensures
 
 whole : (c : goal.Left-lands) → string_bytes c.lands.text
@@ -34,16 +30,16 @@ whole c =
     elim c.lands-test.branch [
       | else-lands-test w ↦
           lands_end lands c.lands.place _ (string_bytes c.lands.text)
-          (slice_get_past lands c.lands.place (omega (
+          (ap (option_map listing_of) (sym (slice_get_past lands c.lands.place (omega (
             arith,
             c.limits-place-end.ensures.well_formed.within,
             ap (λ m. m.lands) c.limits-place-end.ensures.value,
             w.lands-test.false,
-          )))
+          )))))
           c.lands.invariant
       | then-lands-test+in_default w ↦
           lands_end lands c.lands.place _ (string_bytes c.lands.text)
-          (sym w.in_default.ensures.value)
+          w.in_default.ensures.value
           c.lands.invariant
     ]
 

@@ -1,5 +1,6 @@
 use Rattle.std.proofs.Common.{◌≡◌, ◌++◌, string_bytes}
 use Rattle.std.specs.List.{flat_map}
+use Rattle.osn_register.specs.Plain.{sources_of}
 use Rattle.osn_text_writer.specs.TerritoryText as spec
 use Rattle.osn_text_writer.proofs.territory.push_easters.Given as goal
 
@@ -7,5 +8,8 @@ use Rattle.osn_text_writer.proofs.territory.push_easters.Given as goal
 abbrev pub invariant-loop-year : goal.invariant-loop-year
 invariant-loop-year l =
     string_bytes l.initial.out
-    ++ flat_map (spec.easter_text l.code l.territory) l.territory.exceptions
-    ≡ string_bytes l.out ++ flat_map (spec.easter_text l.code l.territory) l.year-iterator
+    ++ flat_map (spec.easter_text l.code l.territory (sources_of l.code l.register.lands))
+    l.territory.exceptions
+    ≡ string_bytes l.out
+    ++ flat_map (spec.easter_text l.code l.territory (sources_of l.code l.register.lands))
+    l.year-iterator

@@ -17,4 +17,5 @@ invariant_of-self-2 c =
     let lawful : edit_refusal d e ≡ None = edit_refused d bs e c.self.invariant.draft
     ∙ ap (λ (s : CopiesState). stage_refusal newest_rules s.object e) same ∙ c.requires.lawful in
     rw c.in_ok-admit.ensures.ok
-    (one_staged d bs c.self.inside.lag c.self.inside.other e c.self.invariant none lawful)
+    (one_staged d bs c.self.inside.lag c.self.inside.other e c.self.invariant none lawful
+    c.in_ok-admit.ensures.source)

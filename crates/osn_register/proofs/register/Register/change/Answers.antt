@@ -7,8 +7,10 @@ use Rattle.osn_days.specs.Profile.{newest_rules}
 use Rattle.osn_lands.specs.Territory.{TerritoryModel}
 use Rattle.osn_register.specs.declared.register.NamedTerritory.{NamedTerritory}
 use Rattle.osn_register.specs.Plain.{territory_of, with_territory, IsWellFormed}
-use Rattle.osn_register.specs.InsideChange.{change_refusal, territory_after}
-use Rattle.osn_register.specs.Inside.{register_in}
+use Rattle.osn_register.specs.InsideChange.{change_refusal, territory_after, sources_after}
+use Rattle.osn_register.specs.Sources.{SourcesModel}
+use Rattle.osn_register.proofs.SourceFacts.{has_after}
+use Rattle.osn_register.specs.Inside.{register_in, sources_in}
 use Rattle.osn_register.proofs.LandFacts.{territory_of-map}
 use Rattle.osn_register.proofs.TerritoryFacts.{register-with, lawful_in, no_territory, still_sound}
 use Rattle.osn_register.proofs.TerritoryFacts.{with_same, IsWellFormed-with}
@@ -28,16 +30,18 @@ unwrap-entry-requires c =
     c.args.self.now.limits c.args.change) c.requires
     (
     ap (λ r. territory_of c.args.code.now r.lands) (sym c.self.view_is)
-    ∙ territory_of-map string_bytes (λ v. v.name) (λ v. v.territory) c.args.code.now es
+    ∙ territory_of-map string_bytes (λ v. v.name) (λ v. v.territory) (λ v. sources_in v.sources)
+    c.args.code.now es
     ∙ ap (option_map (λ v. v.territory)) (sym c.get_mut.ensures.value)
     ∙ ap (option_map (λ v. v.territory)) none
     ))
 
-known : (c : goal.After-make-arg-1) → territory_of c.args.code.now c.args.self.now.lands ≡ Some
+known : (c : goal.After-make-arg-2-1) → territory_of c.args.code.now c.args.self.now.lands ≡ Some
     c.unwrap-entry.result.now.territory
 known c =
     ap (λ r. territory_of c.args.code.now r.lands) (sym c.self.view_is)
-    ∙ territory_of-map string_bytes (λ v. v.name) (λ v. v.territory) c.args.code.now
+    ∙ territory_of-map string_bytes (λ v. v.name) (λ v. v.territory)
+    (λ v. sources_in v.sources) c.args.code.now
     c.self.inside.lands.entries
     ∙ ap (option_map (λ v. v.territory)) (sym c.get_mut.ensures.value)
     ∙ ap (λ o. option_map (λ v. v.territory) (option_copied_mut o)) c.unwrap-entry.ensures
@@ -59,34 +63,43 @@ err_by : {X Y : Type 0} {A B : Type 0} (r : Result X Y) → (A → B) → OnErr 
 err_by (Ok x) f a = a
 err_by (Err y) f a = f a
 
+both_ok : {X Y : Type 0} (A B : Type 0) (r : Result X Y) → OnOk r A → OnOk r B → OnOk r (A × B)
+both_ok A B (Ok x) a b = (a, b)
+both_ok A B (Err y) a b = tt
+
 either : {X Y : Type 0} {A B C : Type 0} (r : Result X Y) → (A → C) → (B → C) → OnOk r A →
     OnErr r B → C
 either (Ok x) f g a b = f a
 either (Err y) f g a b = g b
 
--- the register with the territory that the change left, as f makes it of the old one
-written : (c : goal.After-self-1) (f : TerritoryModel → TerritoryModel) →
+-- the register with the territory that the change left, as f makes it of the old one, and its
+-- sources, as g makes them
+written : (c : goal.After-self-1) (f : TerritoryModel → TerritoryModel)
+    (g : SourcesModel → SourcesModel) →
     c.make.new.territory ≡ f c.unwrap-entry.result.now.territory →
+    sources_in c.make.new.sources ≡ g (sources_in c.unwrap-entry.result.now.sources) →
     register_in (record {
       alloc = c.self.inside.alloc;
       limits = c.self.inside.limits;
-      lands =
-          c.get_mut.follows.lender (record {
-            name = c.unwrap-entry.result.now.name;
-            territory =
-                c.make.new.territory;
-          });
+      lands = c.get_mut.follows.lender (record {
+        name = c.unwrap-entry.result.now.name;
+        territory = c.make.new.territory;
+        sources = c.make.new.sources;
+      });
     }) ≡ record c.args.self.now {
-      lands = with_territory c.args.code.now f
-          c.args.self.now.lands;
+      lands = with_territory c.args.code.now f g c.args.self.now.lands;
     }
-written c f land =
+written c f g land cited =
     let before = c.unwrap-entry.result.now in
-    let after : NamedTerritory = record { name = before.name; territory = c.make.new.territory } in
+    let after : NamedTerritory = record {
+      name = before.name;
+      territory = c.make.new.territory;
+      sources = c.make.new.sources;
+    } in
     let found = sym c.get_mut.ensures.value ∙ ap option_copied_mut c.unwrap-entry.ensures in
-    register-with string_bytes (λ v. v.name) (λ v. v.territory) c.self.inside.limits
-    c.self.inside.lands.entries _ c.args.self.now c.args.code.now f
-    before after c.self.view_is (c.get_mut.follows.holds after).0 found refl land
+    register-with string_bytes (λ v. v.name) (λ v. v.territory) (λ v. sources_in v.sources)
+    c.self.inside.limits c.self.inside.lands.entries _ c.args.self.now c.args.code.now f g
+    before after c.self.view_is (c.get_mut.follows.holds after).0 found refl land cited
 
 pub invariant_of-self : goal.invariant_of-self
 invariant_of-self c =
@@ -94,22 +107,27 @@ invariant_of-self c =
     (IsWellFormed newest_rules) c.self.view_is
     c.self.invariant in
     let refused = change_refusal newest_rules c.args.self.now.limits c.args.change in
+    let source = c.args.source.now in
     either c.make.result
-    (λ is. subst (IsWellFormed newest_rules) (sym (written c (territory_after c.args.change) is))
+    (λ is. subst (IsWellFormed newest_rules)
+    (sym (written c (territory_after c.args.change) (sources_after c.args.change source) is.0.0
+    is.0.1))
     (IsWellFormed-with newest_rules c.args.self.now c.args.code.now (territory_after c.args.change)
-    before
+    (sources_after c.args.change source) before
     (λ t there sound. still_sound newest_rules c.args.self.now.limits c.args.change t
-    (lawful_in c.args.self.now.lands c.args.code.now refused c.requires t there) sound)))
-    (λ is. subst (IsWellFormed newest_rules) (sym (written c (λ t. t) is))
-    (IsWellFormed-with newest_rules c.args.self.now c.args.code.now (λ t. t) before
-    (λ t there sound. sound)))
-    c.make.ensures.ok c.make.ensures.err
+    (lawful_in c.args.self.now.lands c.args.code.now refused c.requires t there) sound)
+    (λ s given. has_after c.args.change source s is.1 given)))
+    (λ is. subst (IsWellFormed newest_rules) (sym (written c (λ t. t) (λ s. s) is.0 is.1))
+    (IsWellFormed-with newest_rules c.args.self.now c.args.code.now (λ t. t) (λ s. s) before
+    (λ t there sound. sound) (λ s given. given)))
+    (both_ok _ _ c.make.result c.make.ensures.ok c.make.ensures.allowed) c.make.ensures.err
 
 pub returns-clause-ok : goal.returns-clause-ok
-returns-clause-ok c = ok_by c.make.result (λ is. written c (territory_after c.args.change) is)
-    c.make.ensures.ok
+returns-clause-ok c = ok_by c.make.result
+    (λ is. written c (territory_after c.args.change) (sources_after c.args.change c.args.source.now)
+    is.0 is.1) c.make.ensures.ok
 
 pub returns-clause-err : goal.returns-clause-err
-returns-clause-err c = err_by c.make.result (λ is. written c (λ t. t) is ∙ ap
+returns-clause-err c = err_by c.make.result (λ is. written c (λ t. t) (λ s. s) is.0 is.1 ∙ ap
     (λ ls. record c.args.self.now { lands = ls }) (with_same c.args.code.now c.args.self.now.lands))
     c.make.ensures.err

@@ -5,13 +5,15 @@ use Rattle.osn_register.specs.Named.{named_of}
 use Rattle.osn_register.proofs.LandFacts.{land_of-map}
 use Rattle.osn_register.proofs.NamedFacts.{named_of-map}
 use Rattle.osn_register.proofs.register.Register.find_land.Goals as goal
+use Rattle.osn_register.specs.Inside.{sources_in}
 
 pub returns-in-Some-clause-value : goal.returns-in-Some-clause-value
 returns-in-Some-clause-value c =
     let code = c.args.code.now in
     let entry = c.in-Some.entry.now in
     sym (ap (λ r. named_of code r.lands) c.self.view_is)
-    ∙ named_of-map string_bytes (λ v. v.name) (λ v. v.territory) code c.self.inside.lands.entries
+    ∙ named_of-map string_bytes (λ v. v.name) (λ v. v.territory)
+    (λ v. sources_in v.sources) code c.self.inside.lands.entries
     ∙ ap (option_map {U = List ℕ × TerritoryModel} (λ v. (v.name, v.territory)))
     (sym c.in-Some.ensures.value)
     ∙ ap (λ (name : List ℕ).
@@ -21,13 +23,15 @@ returns-in-Some-clause-value c =
 pub returns-in-Some-clause-known : goal.returns-in-Some-clause-known
 returns-in-Some-clause-known c =
     ap is_some c.in-Some.ensures.value
-    ∙ sym (land_of-map string_bytes (λ v. v.name) (λ v. v.territory) c.args.code.now
+    ∙ sym (land_of-map string_bytes (λ v. v.name) (λ v. v.territory)
+    (λ v. sources_in v.sources) c.args.code.now
     c.self.inside.lands.entries)
     ∙ ap (λ r. is_some (land_of c.args.code.now r.lands)) c.self.view_is
 
 pub returns-in-None-clause-known : goal.returns-in-None-clause-known
 returns-in-None-clause-known c =
     ap is_some c.in-None.ensures.value
-    ∙ sym (land_of-map string_bytes (λ v. v.name) (λ v. v.territory) c.args.code.now
+    ∙ sym (land_of-map string_bytes (λ v. v.name) (λ v. v.territory)
+    (λ v. sources_in v.sources) c.args.code.now
     c.self.inside.lands.entries)
     ∙ ap (λ r. is_some (land_of c.args.code.now r.lands)) c.self.view_is

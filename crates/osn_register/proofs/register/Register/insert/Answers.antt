@@ -5,7 +5,7 @@ use Rattle.indexmap.specs.IndexMap.{get}
 use Rattle.indexmap.proofs.CallerLemmas.{insert_entry-new}
 use Rattle.osn_days.specs.Profile.{newest_rules}
 use Rattle.osn_register.specs.Plain.{LandModel, RegisterModel, land_of, IsWellFormed}
-use Rattle.osn_register.specs.Inside.{register_in}
+use Rattle.osn_register.specs.Inside.{register_in, sources_in}
 use Rattle.osn_register.proofs.LandFacts.{land_of-none, lands_with_new, IsWellFormed-push}
 use Rattle.osn_register.proofs.register.Register.insert.Goals as goal
 
@@ -19,8 +19,8 @@ abbrev new_land : goal.Joined-branch-2 → LandModel
 new_land c = record {
   code = string_bytes c.args.code;
   name = c.args.entry.name;
-  territory =
-      c.args.entry.territory;
+  territory = c.args.entry.territory;
+  sources = sources_in c.args.entry.sources;
 }
 
 -- the register with the new territory last
@@ -30,12 +30,14 @@ added : (c : goal.Joined-branch-2) → register_in (record
 added c =
     let es = c.self.inside.lands.entries in
     let none : get string_eq c.self.inside.lands c.args.code ≡ None =
-    land_of-none string_bytes (λ v. v.name) (λ v. v.territory) (string_bytes c.args.code) es
+    land_of-none string_bytes (λ v. v.name) (λ v. v.territory) (λ v. sources_in v.sources)
+    (string_bytes c.args.code) es
     (ap (λ r. land_of (string_bytes c.args.code) r.lands) c.self.view_is ∙ c.requires.absent) in
     let entries = c.in_ok-insert.ensures.entries ∙ insert_entry-new string_eq c.self.inside.lands
     c.args.code c.args.entry none in
-    let lands = lands_with_new string_bytes (λ v. v.name) (λ v. v.territory) es
-    c.insert.new.self.entries c.args.code c.args.entry (new_land c) entries refl refl refl in
+    let lands = lands_with_new string_bytes (λ v. v.name) (λ v. v.territory)
+    (λ v. sources_in v.sources) es
+    c.insert.new.self.entries c.args.code c.args.entry (new_land c) entries refl in
     ap (with_lands (register_in c.self.inside)) lands ∙ ap (with_new (new_land c)) c.self.view_is
 
 pub invariant_of-self-2 : goal.invariant_of-self-2
@@ -46,7 +48,7 @@ invariant_of-self-2 c =
     subst (IsWellFormed newest_rules) (sym (added c))
     (IsWellFormed-push newest_rules c.args.self.now
     (new_land c) before c.requires.absent c.requires.code c.requires.name c.requires.room
-    c.requires.territory)
+    c.requires.territory c.requires.sources)
 
 pub returns-clause-ok : goal.returns-clause-ok
 returns-clause-ok c = added c

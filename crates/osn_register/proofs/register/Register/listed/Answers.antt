@@ -4,7 +4,7 @@ use Rattle.std.proofs.lemmas.List.{length-map}
 use Rattle.osn_register.specs.declared.answer.Land.{Land}
 use Rattle.osn_register.specs.declared.register.NamedTerritory.{NamedTerritory}
 use Rattle.osn_register.specs.Answer as spec
-use Rattle.osn_register.specs.Inside.{land_in}
+use Rattle.osn_register.specs.Inside.{land_in, sources_in}
 use Rattle.osn_register.specs.Plain.{LandModel}
 use Rattle.osn_register.proofs.LandFacts.{on_err}
 use Rattle.osn_register.proofs.register.Register.listed.Goals as goal
@@ -36,7 +36,8 @@ some_left L so_far left rest all e lands is listed kept =
 
 pub loop-code-preserved : goal.loop-code-preserved
 loop-code-preserved c =
-    let L = land_in {V = NamedTerritory} string_bytes (λ v. v.name) (λ v. v.territory) in
+    let L = land_in {V = NamedTerritory} string_bytes (λ v. v.name) (λ v. v.territory)
+    (λ v. sources_in v.sources) in
     ap (λ ls. ls ++ map spec.listed (map L c.next.new.self)) c.in_ok-push.ensures.items
     ∙ listed_more c.loop-code.listed.items c.in_ok-land.field-0
     (map spec.listed (map L c.next.new.self)) _ (string_bytes c.in-Some.code.now)
@@ -47,7 +48,8 @@ loop-code-preserved c =
 
 pub returns-clause-value : goal.returns-clause-value
 returns-clause-value c =
-    let L = land_in {V = NamedTerritory} string_bytes (λ v. v.name) (λ v. v.territory) in
+    let L = land_in {V = NamedTerritory} string_bytes (λ v. v.name) (λ v. v.territory)
+    (λ v. sources_in v.sources) in
     sym (append-nil c.loop-code.listed.items)
     ∙ ap (λ it. c.loop-code.listed.items ++ map spec.listed (map L it))
     (sym c.in-None.ensures.steps.0)
@@ -56,14 +58,16 @@ returns-clause-value c =
 
 pub returns-in_err-land-clause-memory : goal.returns-in_err-land-clause-memory
 returns-in_err-land-clause-memory c = on_err c.from_residual-in_err-land.result
-    (some_left (land_in {V = NamedTerritory} string_bytes (λ v. v.name) (λ v. v.territory))
+    (some_left (land_in {V = NamedTerritory} string_bytes (λ v. v.name) (λ v. v.territory)
+    (λ v. sources_in v.sources))
     c.loop-code.listed.items c.loop-code.code-iterator c.next.new.self c.self.inside.lands.entries
     (c.in-Some.code.now, c.in-Some.entry.now) c.args.self.now.lands c.in-Some.ensures.steps
     c.loop-code.invariant (ap (λ r. r.lands) c.self.view_is))
 
 pub returns-in_err-push-clause-memory : goal.returns-in_err-push-clause-memory
 returns-in_err-push-clause-memory c = on_err c.from_residual-in_err-push.result
-    (some_left (land_in {V = NamedTerritory} string_bytes (λ v. v.name) (λ v. v.territory))
+    (some_left (land_in {V = NamedTerritory} string_bytes (λ v. v.name) (λ v. v.territory)
+    (λ v. sources_in v.sources))
     c.loop-code.listed.items c.loop-code.code-iterator c.next.new.self c.self.inside.lands.entries
     (c.in-Some.code.now, c.in-Some.entry.now) c.args.self.now.lands c.in-Some.ensures.steps
     c.loop-code.invariant (ap (λ r. r.lands) c.self.view_is))

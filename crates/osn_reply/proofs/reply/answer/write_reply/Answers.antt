@@ -32,7 +32,8 @@ returns-clause-text c =
           ∙ given _ _ _ c.in_ok-begun.was w.begun-is w.write_on_day-begun.ensures.text) e)
       | goal.in-Easters w ↦
           rw w.in-Easters.is (reply _ _
-          (ap (λ l. spec.easters_data l w.in-Easters.listed) w.as_slice-in-Easters.ensures)
+          (ap (λ l. spec.easters_data l w.in-Easters.listed w.in-Easters.source)
+          w.as_slice-in-Easters.ensures)
           (ap (λ v. v.text) w.out-is
           ∙ given _ _ _ c.in_ok-begun.was w.begun-is w.write_easters-begun.ensures.text) e)
       | goal.in-Figures w ↦

@@ -1,0 +1,103 @@
+//! Runs of the program over real files: it opens those that the words name, in their order, and
+//! what it saves is loaded again. Each test works in a folder of its own.
+use crate::compare::same;
+use osn_test_runs::{
+    ADDED, File, NAMED, NOTED, PUBLISHED, RUNS, RunRow, SAVED, are_run, entered, has_text,
+    left_over,
+};
+use std::fs;
+use std::process::Abort;
+use std::rt::Files;
+use std::sync::Wait;
+use std::test::Fail;
+use std::thread::Threads;
+
+#[test]
+fn the_files_that_the_words_name(rt: HostRuntime) -> Result<(), Fail> {
+    let folder = entered(&rt, "named", &NAMED)?;
+    are_run(&rt, &RUNS)?;
+    fs::remove_dir_all(&rt, folder.as_path())?;
+    Ok(())
+}
+
+const LANDS: &str = "{\"op\":\"lands\",\"reader\":1}\n";
+
+const ROME: &str = r#"{"answer":{"lands":[{"code":"RM","name":"Rome"}]},"edition":1,"reader":1}
+"#;
+
+const LATER: &str = r#"{"answer":{"lands":[{"code":"RM","name":"Rome"}]},"edition":2,"reader":1}
+"#;
+
+const EASTER: &str = "{\"op\":\"easter\",\"reader\":1,\"code\":\"RM\",\"year\":1582}\n";
+
+const LISTED: &str = r#"{"answer":{"days":[{"day":577736,"dual":"5 October 1582",
+  "gregorian":"1582-10-15","jdn":2299161,"julian":"1582-10-05","label":"1582-10-05",
+  "weekday":"Friday"}],"listed":true},"edition":2,"reader":1}
+"#;
+
+/// What was added is found where it was saved, and not where it was loaded from. A run that is
+/// refused saves nothing.
+const KEPT: [RunRow; 5] = [
+    (
+        "oldstyle serve --journal a.journal --save b.journal",
+        ADDED,
+        (0, NOTED, ""),
+    ),
+    (
+        "oldstyle serve --journal b.journal",
+        EASTER,
+        (0, LISTED, ""),
+    ),
+    ("oldstyle serve --journal a.journal", LANDS, (0, ROME, "")),
+    (
+        "oldstyle serve --journal a.questions --save b.journal",
+        LANDS,
+        (1, "", "oldstyle: journal line 1: 37 BadHead\n"),
+    ),
+    (
+        "oldstyle serve --journal b.journal --save b.journal",
+        LANDS,
+        (0, LATER, ""),
+    ),
+];
+
+#[test]
+fn what_was_saved_is_loaded(rt: HostRuntime) -> Result<(), Fail> {
+    let folder = entered(&rt, "saved", &NAMED)?;
+    are_run(&rt, &KEPT)?;
+    has_text(&rt, "b.journal", SAVED)?;
+    fs::remove_dir_all(&rt, folder.as_path())?;
+    Ok(())
+}
+
+const ASKED: &str = r#"{"op":"lands","reader":1}
+{"op":"periods","reader":2,"code":"RM"}
+{"op":"easter","reader":1,"code":"RM","year":1500}
+{"op":"read","reader":2,"code":"RM","year":1500,"month":4,"day":19}
+"#;
+
+const DESK: [File; 2] = [("a.script", PUBLISHED), ("a.questions", ASKED)];
+
+const AGREED: [RunRow; 1] = [(
+    "oldstyle audit a.script a.transcript",
+    "",
+    (0, "audit: 4 replies agree\n", ""),
+)];
+
+/// Checks that what a desk tells two readers, under whatever editions, is what its script gives.
+fn is_agreed<R: Files<File = fs::File> + Threads + Wait + AllocGlobal + Abort>(
+    rt: &R,
+) -> Result<(), Fail> {
+    let left = left_over(rt, "oldstyle desk a.script a.questions", "")?;
+    same(rt, (left.status.code(), left.errors.len()), (0, 0));
+    fs::write(rt, "a.transcript", left.written.as_slice())?;
+    are_run(rt, &AGREED)
+}
+
+#[test]
+fn a_desk_is_audited(rt: HostRuntime) -> Result<(), Fail> {
+    let folder = entered(&rt, "desk", &DESK)?;
+    is_agreed(&rt)?;
+    fs::remove_dir_all(&rt, folder.as_path())?;
+    Ok(())
+}

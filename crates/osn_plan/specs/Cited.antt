@@ -1,0 +1,30 @@
+-- The sources of a territory in two registers: those that stand, and the wanted ones.
+use Rattle.std.specs.Prelude.{ℕ, Bool, true, false, List, Option, Some, None}
+use Rattle.std.specs.Str.{bytes_eq}
+use Rattle.osn_register.specs.Answer.{period_source, easter_source}
+use Rattle.osn_register.specs.Plain.{LandModel, sources_of}
+use Rattle.osn_register.specs.Sources.{SourcesModel}
+
+pub record BothSources : Type 0 where
+  pub standing : Option SourcesModel
+  pub wanted : Option SourcesModel
+
+-- those of the territory that has the code
+abbrev pub both_sources : List ℕ → List LandModel → List LandModel → BothSources
+both_sources code lands wanted =
+    record { standing = sources_of code lands; wanted = sources_of code wanted }
+
+-- the two are one, or neither is given
+abbrev pub same_source : Option (List ℕ) → Option (List ℕ) → Bool
+same_source None None = true
+same_source None (Some other) = false
+same_source (Some source) None = false
+same_source (Some source) (Some other) = bytes_eq source other
+
+-- the period that starts on a day has the wanted source
+abbrev pub same_period : BothSources → ℕ → Bool
+same_period both d = same_source (period_source both.standing d) (period_source both.wanted d)
+
+-- the listed Easter of a year has
+abbrev pub same_easter : BothSources → ℕ → Bool
+same_easter both y = same_source (easter_source both.standing y) (easter_source both.wanted y)

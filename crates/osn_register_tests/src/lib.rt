@@ -1,0 +1,29 @@
+//! Tests of the register, of the objects that hold it, of desks, almanacs and audits over their
+//! public calls. What a contract says is not tested again. Here stands each public call once with
+//! ample memory, and values from outside.
+#![tactic(auto)]
+
+#[cfg(test)]
+mod almanac;
+#[cfg(test)]
+mod audits;
+#[cfg(test)]
+mod compare;
+#[cfg(test)]
+mod desks;
+#[cfg(test)]
+mod gates;
+#[cfg(test)]
+mod live;
+#[cfg(test)]
+mod names;
+#[cfg(test)]
+mod objects;
+#[cfg(test)]
+mod register;
+#[cfg(test)]
+mod register_lines;
+#[cfg(test)]
+mod schedules;
+#[cfg(test)]
+mod takers;

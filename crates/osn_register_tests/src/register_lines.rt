@@ -1,0 +1,54 @@
+//! Edits and queries that are read from their lines, and registers and replies as lines.
+use osn_core::Reply;
+use osn_register::{Edit, Limits, Query, Register};
+use osn_reply::{Outcome, reply_text};
+use osn_request::{Request, read_request};
+use osn_test_texts::joined;
+use std::alloc::{AllocError, Global};
+use std::test::Fail;
+
+/// The edit of a line.
+pub fn edit_of(alloc: Global, line: &str) -> Result<Edit, Fail> {
+    match read_request(alloc, 1, line.as_bytes())? {
+        Request::Stage(edit) => Ok(edit),
+        _ => Err(Fail::new("no edit")),
+    }
+}
+
+/// The query of a line.
+pub fn query_of(alloc: Global, line: &str) -> Result<Query, Fail> {
+    match read_request(alloc, 1, line.as_bytes())? {
+        Request::Ask { query, .. } => Ok(query),
+        _ => Err(Fail::new("no query")),
+    }
+}
+
+/// The line of a reply that the first reader is told.
+pub fn first_reply_text(alloc: Global, reply: Reply) -> Result<String, AllocError> {
+    reply_text(alloc, &Outcome::Replied { reader: 1, reply })
+}
+
+/// A copy of an edit, which itself goes.
+fn copy_of(edit: Edit) -> Result<Edit, AllocError> {
+    edit.copy()
+}
+
+/// Adds a copy of the edit of a line.
+fn push_edit(alloc: Global, edits: &mut Vec<Edit>, line: &str) -> Result<(), Fail> {
+    Ok(edits.push(copy_of(edit_of(alloc, line)?)?)?)
+}
+
+/// Copies of the edits of lines.
+fn edits_of(alloc: Global, lines: &str) -> Result<Vec<Edit>, Fail> {
+    let mut edits = Vec::new(alloc);
+    for line in lines.lines() {
+        push_edit(alloc, &mut edits, line)?;
+    }
+    Ok(edits)
+}
+
+/// The register of edits, each on a line.
+pub fn folded(alloc: Global, lines: &str) -> Result<Register, Fail> {
+    let edits = edits_of(alloc, joined(alloc, lines)?.as_str())?;
+    Ok(Register::fold(alloc, Limits::standard(), &edits)?)
+}

@@ -1,0 +1,8 @@
+-- What is written of a source after another member.
+use Rattle.std.specs.Prelude.{ℕ, List, [], ◌++◌, codes, Option, Some, None}
+use Rattle.json.specs.Print.{quoted}
+
+-- the text of the member that it is, or none where none is given
+abbrev pub source_text : Option (List ℕ) → List ℕ
+source_text None = []
+source_text (Some source) = codes ",\"source\":" ++ quoted source

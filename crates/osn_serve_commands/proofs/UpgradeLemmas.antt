@@ -1,0 +1,117 @@
+-- A journal that is to be kept was saved anew, where its version has no sources, as the contract
+-- says.
+use Rattle.std.proofs.Common.{◌≡◌, ℕ, Bool, List, Option, Some, None, Result, Ok, Err}
+use Rattle.std.proofs.Common.{OnOk, inl, inr, sym, subst}
+use Rattle.std.specs.Option.{MatchOption}
+use Rattle.osn_register.specs.declared.limits.Limits.{Limits}
+use Rattle.osn_folder.specs.Folder.{Known, Changes, IsKeptAt, Keeps, Leaves}
+use Rattle.osn_lines.specs.Streams.{Input, Output}
+use Rattle.osn_report.specs.Folders.{Folders}
+use Rattle.osn_report.specs.Messages.{Tells}
+use Rattle.osn_report.specs.declared.fault.CommandFault.{CommandFault}
+use Rattle.osn_report.specs.declared.status.Status.{Status}
+use Rattle.osn_serve_commands.specs.Keep.{TellsCut, TellsText, cut_text, unfinished_line}
+use Rattle.osn_serve_commands.specs.KeepInside.{IsUnreadKept}
+use Rattle.osn_serve_commands.specs.Upgrade.{CannotSaveAnew, CannotUpgrade, IsLookedAt, SavesAnew}
+use Rattle.osn_serve_commands.specs.Upgrade.{SavesIfOlder, Upgrades}
+use Rattle.osn_serve_commands.specs.UpgradeInside.{IsNewest, IsOlder}
+
+-- what was told of a line is what its text says
+pub cut_told : (e : Output) (line : Option ℕ) → TellsText e (cut_text line) → TellsCut e line
+cut_told e None h = h
+cut_told e (Some line) h = h
+
+-- ---- cases
+
+pub none_found : {A : Type 0} (found : Option A) (P : Type 0) (Q : A → Type 0) → found ≡ None
+    → MatchOption found P Q → P
+none_found found P Q is h = subst (λ f. MatchOption f P Q) is h
+
+pub some_found : {A : Type 0} (found : Option A) (x : A) (P : Type 0) (Q : A → Type 0)
+    → found ≡ Some x → MatchOption found P Q → Q x
+some_found found x P Q is h = subst (λ f. MatchOption f P Q) is h
+
+pub both_ok : {T E : Type 0} (r : Result T E) (P Q R : Type 0) → OnOk r P → OnOk r Q
+    → (P → Q → R) → OnOk r R
+both_ok (Ok x) P Q R p q f = f p q
+both_ok (Err x) P Q R p q f = tt
+
+-- ---- what was done in the folder
+
+-- a file was looked at
+pub looked_at : (path : List ℕ) (CanFail : Bool → Type 0) (before held after : Option Known)
+    (contents : Option (List ℕ)) (given : Input) → Changes (Keeps path) before held
+    → IsKeptAt before path contents → given.bytes ≡ contents → CanFail given.unread
+    → Changes (Leaves path contents) held after → IsLookedAt path CanFail before after given
+looked_at path CanFail before held after contents given keeps kept same fails leaves = record {
+  held = held;
+  keeps = keeps;
+  contents = subst (IsKeptAt before path) (sym same) kept;
+  fails = fails;
+  leaves = subst (λ b. Changes (Leaves path b) held after) (sym same) leaves;
+}
+
+module _ (limits : Limits) (path : List ℕ) (CanFail : Bool → Type 0) (d : Folders) (e : Output)
+    (looked : Option Known) (given : Input)
+    (looks : IsLookedAt path CanFail d.before looked given) where
+  -- its version has sources, and it was left
+  pub upgrade_left : IsNewest limits given.bytes → d.after ≡ looked → e.new ≡ e.old
+      → Upgrades limits path CanFail d e
+  upgrade_left is same quiet = record {
+    looked = looked;
+    given = given;
+    looks = looks;
+    bytes = is.bytes;
+    version = is.version;
+    object = is.object;
+    reads = (is.read, is.holds);
+    saves =
+        subst (λ b. SavesIfOlder b path is.bytes is.object looked d.after e) (sym is.newest)
+        (same, quiet);
+  }
+
+  module _ (bytes text : List ℕ) (cut : Option (List ℕ))
+      (is : IsOlder limits given.bytes bytes text cut) where
+    -- it was saved anew
+    pub upgrade_saved : SavesAnew path bytes text looked d.after → TellsText e cut
+        → Upgrades limits path CanFail d e
+    upgrade_saved saved told = record {
+      looked = looked;
+      given = given;
+      looks = looks;
+      bytes = bytes;
+      version = is.version;
+      object = is.object;
+      reads = (is.read, is.holds);
+      saves =
+          subst (λ b. SavesIfOlder b path bytes is.object looked d.after e) (sym is.older) (
+            subst (λ t. SavesAnew path bytes t looked d.after) is.anew saved,
+            cut_told e (unfinished_line bytes) (subst (TellsText e) is.told told),
+          );
+    }
+
+    -- or it could not be
+    pub upgrade_unsaved : (status : Status)
+        → CannotSaveAnew path bytes text looked d.after e status
+        → CannotUpgrade limits path CanFail d e status
+    upgrade_unsaved status h =
+        inr (
+          looked,
+          given,
+          looks,
+          inr (
+            bytes,
+            is.version,
+            is.object,
+            (is.read, is.holds),
+            is.older,
+            subst (λ t. CannotSaveAnew path bytes t looked d.after e status) is.anew h,
+          ),
+        )
+
+  -- it makes no object, or memory ran out
+  pub upgrade_unread : (fault : CommandFault) (status : Status)
+      → IsUnreadKept limits given.bytes given.unread fault → d.after ≡ looked
+      → Tells e fault status → CannotUpgrade limits path CanFail d e status
+  upgrade_unread fault status unread same h =
+      inr (looked, given, looks, inl (fault, same, unread, h))

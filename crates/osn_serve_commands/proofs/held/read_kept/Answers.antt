@@ -1,0 +1,29 @@
+use Rattle.std.proofs.Common.{◌≡◌, false, subst}
+use Rattle.osn_lines.specs.Whole.{WhyNotRead}
+use Rattle.osn_serve_commands.specs.Keep.{IsUnread}
+use Rattle.osn_serve_commands.proofs.ResultLemmas.{if_err_made, any_bytes, known_bytes}
+use Rattle.osn_serve_commands.proofs.KeepLemmas.{none_held, not_read, unread_told}
+use Rattle.osn_serve_commands.proofs.held.read_kept.Goals as goal
+
+pub returns-in_err-bytes-clause-err : goal.returns-in_err-bytes-clause-err
+returns-in_err-bytes-clause-err g c =
+    let before = g.J.Source.has_failed c.args.journal.now in
+    let failed = g.J.Source.has_failed c.read_all.new.source in
+    let why = c.in_err-bytes.field-0.0 in
+    if_err_made c.from_residual.result c.from_residual.ensures.1
+    (λ e is. any_bytes _ _ (λ held known.
+    not_read c.args.limits held before failed why e is
+    (subst (WhyNotRead why before failed) known c.in_err-bytes.ensures.reason)))
+
+pub returns-in_err-held_journal-clause-err : goal.returns-in_err-held_journal-clause-err
+returns-in_err-held_journal-clause-err g c =
+    let failed = g.J.Source.has_failed c.read_all.new.source in
+    let why = c.in_err-held_journal.field-0.0 in
+    if_err_made c.from_residual-in_err-held_journal.result
+    c.from_residual-in_err-held_journal.ensures.1
+    (λ e is. any_bytes _ _ (λ held known.
+    unread_told c.args.limits held failed why e is
+    (none_held c.args.limits held failed why
+    (subst (λ l. IsUnread c.args.limits l false why)
+    (known_bytes _ held (λ bytes. c.in_ok-bytes.bytes.items ≡ bytes) known
+    c.in_ok-bytes.ensures.bytes) c.in_err-held_journal.ensures.err))))

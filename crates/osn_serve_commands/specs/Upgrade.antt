@@ -1,0 +1,97 @@
+-- What is done in a folder where a journal is saved anew, whole or not at all, and with one that is
+-- to be kept and is of a version that has no sources.
+use Rattle.std.specs.Prelude.{◌≡◌, ◌⊎◌, ℕ, Bool, true, false, List, Option, Some, None, IfSome}
+use Rattle.osn_register.specs.declared.limits.Limits.{Limits}
+use Rattle.osn_core.specs.Sequential.{ObjectState}
+use Rattle.osn_lines.specs.Streams.{Input, Output}
+use Rattle.osn_format.specs.Version.{has_sources, newest_version}
+use Rattle.osn_format.specs.declared.version.Version.{Version}
+use Rattle.osn_files.specs.JournalText.{journal_text_of}
+use Rattle.osn_folder.specs.Folder.{Known, Changes, Keeps, CannotKeep, IsKeptAt, Leaves, Locks}
+use Rattle.osn_folder.specs.Folder.{CannotLock, Saves, CannotSave}
+use Rattle.osn_folder.specs.declared.fault.KeepFault.{KeepFault}
+use Rattle.osn_folder.specs.declared.fault.SaveFault.{SaveFault}
+use Rattle.osn_report.specs.Folders.{Folders}
+use Rattle.osn_report.specs.Messages.{Tells}
+use Rattle.osn_report.specs.declared.fault.CommandFault.{CommandFault}
+use Rattle.osn_report.specs.declared.fault.CommandFault.TheVariants.{Keep}
+use Rattle.osn_report.specs.declared.status.Status.{Status}
+use Rattle.osn_serve_commands.specs.Keep.{HoldsNoObject, HoldsObject, TellsCut, unfinished_line}
+use Rattle.osn_serve_commands.specs.Saving.{TellsUnsaved}
+
+-- ---- a text that is saved anew
+
+-- the file of this path was locked, and a text put in its place, which held these bytes still
+abbrev pub SavesAnew : List ℕ → List ℕ → List ℕ → Option Known → Option Known → Type 0
+SavesAnew path loaded text before after =
+    (locked : Option Known) × Changes (Locks path) before locked
+    × Changes (Saves path (Some loaded) text) locked after
+
+-- it could not be locked; or it was, and the text is not saved for sure. Standard error was told
+-- why
+abbrev pub CannotSaveAnew : List ℕ → List ℕ → List ℕ → Option Known → Option Known
+    → Output → Status → Type 0
+CannotSaveAnew path loaded text before after e status =
+    ((fault : KeepFault) × Changes (CannotLock path fault) before after
+    × Tells e (Keep fault) status)
+    ⊎ ((locked : Option Known) × Changes (Locks path) before locked
+    × (fault : SaveFault) × Changes (CannotSave path (Some loaded) text fault) locked after
+    × TellsUnsaved e fault status)
+
+-- ---- a journal that is to be kept
+
+-- The file of this path was kept, this was read of it, and it was given back as it was.
+pub record IsLookedAt (path : List ℕ) (CanFail : Bool → Type 0) (before after : Option Known)
+    (given : Input) : Type 0 where
+  pub held : Option Known
+  pub keeps : Changes (Keeps path) before held
+  pub contents : IsKeptAt before path given.bytes
+  pub fails : CanFail given.unread
+  pub leaves : Changes (Leaves path given.bytes) held after
+
+-- what was read are these bytes, and they hold this object, in a journal of this version
+abbrev pub IsReadAs : Limits → Input → List ℕ → Version → ObjectState → Type 0
+IsReadAs limits given bytes version s =
+    IfSome given.bytes (λ held. bytes ≡ held) × HoldsObject limits bytes version s
+
+-- a journal was left where its version has sources. Else it was saved anew, as one of the newest
+-- version, and standard error was told which line was cut off, if the last one was not finished
+abbrev pub SavesIfOlder : Bool → List ℕ → List ℕ → ObjectState → Option Known → Option Known
+    → Output → Type 0
+SavesIfOlder true path bytes s before after e = (after ≡ before) × TellsCut e None
+SavesIfOlder false path bytes s before after e =
+    SavesAnew path bytes (journal_text_of newest_version s) before after
+    × TellsCut e (unfinished_line bytes)
+
+-- The file of this path was looked at, and holds a journal of a version that has sources now.
+pub record Upgrades (limits : Limits) (path : List ℕ) (CanFail : Bool → Type 0) (d : Folders)
+    (e : Output) : Type 0 where
+  pub looked : Option Known
+  pub given : Input
+  pub looks : IsLookedAt path CanFail d.before looked given
+  pub bytes : List ℕ
+  pub version : Version
+  pub object : ObjectState
+  pub reads : IsReadAs limits given bytes version object
+  pub saves : SavesIfOlder (has_sources version) path bytes object looked d.after e
+
+-- a journal that was read was not saved anew. It makes no object, or memory ran out, and it was
+-- left; or it is of a version that has no sources, and could not be saved
+abbrev pub CannotSaveOlder : Limits → List ℕ → Input → Option Known → Option Known → Output
+    → Status → Type 0
+CannotSaveOlder limits path given before after e status =
+    ((fault : CommandFault) × (after ≡ before)
+    × IfSome given.bytes (λ held. HoldsNoObject limits held given.unread fault)
+    × Tells e fault status)
+    ⊎ ((bytes : List ℕ) × (version : Version) × (s : ObjectState)
+    × IsReadAs limits given bytes version s × (has_sources version ≡ false)
+    × CannotSaveAnew path bytes (journal_text_of newest_version s) before after e status)
+
+-- it is not sure that the file of this path holds a journal of a version that has sources. It could
+-- not be kept; or it was looked at, and that was done
+abbrev pub CannotUpgrade : Limits → List ℕ → (Bool → Type 0) → Folders → Output → Status → Type 0
+CannotUpgrade limits path CanFail d e status =
+    ((fault : KeepFault) × Changes (CannotKeep path fault) d.before d.after
+    × Tells e (Keep fault) status)
+    ⊎ ((looked : Option Known) × (given : Input) × IsLookedAt path CanFail d.before looked given
+    × CannotSaveOlder limits path given looked d.after e status)

@@ -1,0 +1,29 @@
+-- What the parts have done that save a journal anew.
+use Rattle.std.specs.Prelude.{◌≡◌, ℕ, true, false, List, Option}
+use Rattle.osn_register.specs.declared.limits.Limits.{Limits}
+use Rattle.osn_core.specs.Sequential.{ObjectState}
+use Rattle.osn_format.specs.Version.{has_sources, newest_version}
+use Rattle.osn_format.specs.declared.version.Version.{Version}
+use Rattle.osn_files.specs.JournalText.{journal_text_of}
+use Rattle.osn_serve_commands.specs.Keep.{HoldsObject, cut_text, unfinished_line}
+use Rattle.osn_serve_commands.specs.KeepInside.{AreReadOf}
+
+-- a journal that was read is of a version that has sources
+pub record IsNewest (limits : Limits) (given : Option (List ℕ)) : Type 0 where
+  pub bytes : List ℕ
+  pub version : Version
+  pub object : ObjectState
+  pub read : AreReadOf given bytes
+  pub holds : HoldsObject limits bytes version object
+  pub newest : has_sources version ≡ true
+
+-- it is of one that has none: these bytes, and the texts of the journal anew and of what is told
+pub record IsOlder (limits : Limits) (given : Option (List ℕ)) (bytes text : List ℕ)
+    (cut : Option (List ℕ)) : Type 0 where
+  pub version : Version
+  pub object : ObjectState
+  pub read : AreReadOf given bytes
+  pub holds : HoldsObject limits bytes version object
+  pub older : has_sources version ≡ false
+  pub anew : text ≡ journal_text_of newest_version object
+  pub told : cut ≡ cut_text (unfinished_line bytes)

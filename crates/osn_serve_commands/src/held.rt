@@ -1,0 +1,100 @@
+//! What a file holds that is to be kept: the journal of its lines that count.
+ghost use Rattle.std.specs.Prelude.{◌≡◌, ◌^◌, ◌<◌, ℕ, List, Ok, IfOk, IfErr, OnOk, IfSome, true};
+ghost use Rattle.std.specs.Prelude.{false};
+ghost use Rattle.osn_files.specs.WholePart.{whole_bytes};
+ghost use Rattle.osn_report.specs.declared.fault.CommandFault.{CommandFault};
+ghost use Rattle.osn_serve_commands.specs.Keep.{IsUnread, SaysVersion, is_kept, object_of};
+ghost use Rattle.osn_serve_commands.specs.KeepInside.{AreReadOf, IsHeldIn, IsUnreadKept};
+
+use osn_core::Object;
+use osn_files::{FileFault, WholePart, load_with_version, whole_part};
+use osn_format::Version;
+use osn_lines::{Bytes, Source, read_all};
+use osn_register::Limits;
+use osn_report::CommandFault;
+use std::alloc::Global;
+
+/// What a file holds that is to be kept.
+#[derive(Drop)]
+pub struct HeldJournal {
+    /// Its bytes.
+    pub bytes: Vec<u8>,
+    /// How much of them counts.
+    pub part: WholePart,
+    /// The version that the lines say which count, or the plain one where none does.
+    pub version: Version,
+    /// The object of these lines, which is an empty one where none counts.
+    pub object: Object,
+}
+
+/// The object of the lines of a journal that count, and the version that they say. Where there are
+/// no lines, it is an empty object and the plain version.
+fn kept_object(alloc: Global, limits: Limits, lines: &[u8]) -> Result<(Object, Version), FileFault>
+    ensures object { IfOk result (λ read. object_of limits lines.now ≡ Ok read.0) }
+    ensures version { IfOk result (λ read. SaysVersion read.1 lines.now) }
+    // Whatever stands after the lines that count.
+    ensures err { IfErr result (λ fault. (held : List ℕ) → lines.now ≡ whole_bytes held →
+        IsUnread limits held false fault) }
+{
+    if lines.is_empty() {
+        return Ok((Object::new(alloc, limits), Version::plain()));
+    }
+    load_with_version(alloc, limits, &mut Bytes::new(lines))
+}
+
+/// What these bytes of a file hold. They are measured and loaded.
+fn held_journal(alloc: Global, limits: Limits, bytes: Vec<u8>) -> Result<HeldJournal, FileFault>
+    ensures few { IfOk result (λ held. held.part.lines < 2 ^ 63) }
+    ensures bytes { IfOk result (λ held. held.bytes.items ≡ bytes.items) }
+    ensures ok { IfOk result
+        (λ held. IsHeldIn limits bytes.items held.part held.version held.object) }
+    ensures err { IfErr result (IsUnread limits bytes.items false) }
+{
+    let part = whole_part(alloc, &mut Bytes::new(&bytes))?;
+    let (object, version) = kept_object(alloc, limits, &bytes[..part.bytes as usize])?;
+    Ok(HeldJournal {
+        bytes,
+        part,
+        version,
+        object,
+    })
+}
+
+/// What a file holds that is to be kept, by the source that gives it. It is read once, then
+/// measured and loaded.
+///
+/// # Errors
+///
+/// Why it makes no object. Any version is read.
+pub fn read_kept<J: Source>(
+    alloc: Global,
+    limits: Limits,
+    journal: &mut J,
+) -> Result<HeldJournal, CommandFault>
+    ensures few { IfOk result (λ held. held.part.lines < 2 ^ 63) }
+    ensures bytes { IfOk result (λ held. AreReadOf (J.remaining journal.old) held.bytes.items) }
+    ensures ok { IfOk result
+        (λ held. IsHeldIn limits held.bytes.items held.part held.version held.object) }
+    ensures err { IfErr result (λ fault. IsUnreadKept limits
+        (J.remaining journal.old) (J.has_failed journal.new) fault) }
+{
+    let bytes = read_all(alloc, journal)?;
+    Ok(held_journal(alloc, limits, bytes)?)
+}
+
+/// Checks that a journal of this version is kept: one of the first version lacks styles that an
+/// edit may have.
+///
+/// # Errors
+///
+/// `OlderVersion` where it is not.
+pub fn check_kept(version: Version) -> Result<(), CommandFault>
+    ensures ok { OnOk result (is_kept version ≡ true) }
+    ensures err { IfErr result (λ fault. (fault ≡ CommandFault.OlderVersion version)
+        × (is_kept version ≡ false)) }
+{
+    match version {
+        Version::First => Err(CommandFault::OlderVersion(version)),
+        Version::Second | Version::Fourth => Ok(()),
+    }
+}

@@ -1,0 +1,184 @@
+//! A journal that is to be kept is saved anew first, where it is of a version that has no sources.
+ghost use Rattle.std.specs.Prelude.{◌≡◌, ◌^◌, ◌<◌, ℕ, List, None, IfErr, IfOk, OnOk};
+ghost use Rattle.std.specs.Prelude.{option_map, string_bytes};
+ghost use Rattle.std.specs.Option.{MatchOption};
+ghost use Rattle.osn_folder.specs.Folder.{MayFail};
+ghost use Rattle.osn_files.specs.WholePart.{IsWholePart};
+ghost use Rattle.osn_lines.specs.Streams.{output_of};
+ghost use Rattle.osn_report.specs.Folders.{folders_of};
+ghost use Rattle.osn_serve_commands.specs.Keep.{TellsText, cut_text, unfinished_line};
+ghost use Rattle.osn_serve_commands.specs.KeepInside.{IsUnreadKept};
+ghost use Rattle.osn_serve_commands.specs.Upgrade.{CannotSaveAnew, CannotUpgrade, SavesAnew};
+ghost use Rattle.osn_serve_commands.specs.Upgrade.{Upgrades};
+ghost use Rattle.osn_serve_commands.specs.UpgradeInside.{IsNewest, IsOlder};
+
+use crate::held::read_kept;
+use crate::keep::cut_text;
+use crate::saving::report_unsaved;
+use osn_files::{LastLine, WholePart, journal_text_of};
+use osn_folder::{Folder, save_file};
+use osn_format::Version;
+use osn_lines::{Sink, Source};
+use osn_register::Limits;
+use osn_report::{CommandFault, Status, report, write_line};
+use std::alloc::{AllocError, Global};
+
+/// Puts a text in place of the file of a path, which is locked for that, whole or not at all. The
+/// file has to hold exactly the bytes of `loaded`.
+///
+/// # Errors
+///
+/// The status, where it is not saved for sure. Standard error is told why.
+pub fn save_anew<D: Folder, E: Sink>(
+    alloc: Global,
+    folder: &mut D,
+    path: &str,
+    loaded: &[u8],
+    text: &str,
+    errors: &mut E,
+) -> Result<(), Status>
+    ensures ok { OnOk result (SavesAnew path.now loaded.now text.now
+        (D.known folder.old) (D.known folder.new)) }
+    ensures quiet { OnOk result (errors.new ≡ errors.old) }
+    ensures err { IfErr result (CannotSaveAnew path.now loaded.now text.now
+        (D.known folder.old) (D.known folder.new)
+        (output_of E.contents E.has_failed E.holds_back errors.old errors.new)) }
+{
+    let lock = match folder.lock_to_save(path) {
+        Ok(lock) => lock,
+        Err(fault) => return Err(report(alloc, errors, CommandFault::Keep(fault))),
+    };
+    match save_file(folder, alloc, lock, path, Some(loaded), text) {
+        Ok(()) => Ok(()),
+        Err(fault) => Err(report_unsaved(alloc, errors, fault)),
+    }
+}
+
+/// The text on the last line of a file of which this part counts, if that was not finished.
+pub fn cut_text_of(alloc: Global, part: WholePart) -> Result<Option<String>, AllocError>
+    requires { part.lines < 2 ^ 63 }
+    ensures { IfOk result (λ text. (held : List ℕ) → IsWholePart part held
+        → option_map string_bytes text ≡ cut_text (unfinished_line held)) }
+{
+    match part.last {
+        LastLine::Ended | LastLine::LacksFeed => Ok(None),
+        LastLine::Unfinished => Ok(Some(cut_text(alloc, part.lines + 1)?)),
+    }
+}
+
+/// Tells standard error a text on a line that was cut off, if there is one.
+pub fn tell_cut<E: Sink>(errors: &mut E, text: &Option<String>)
+    ensures { TellsText (output_of E.contents E.has_failed E.holds_back errors.old errors.new)
+        (option_map string_bytes text.now) }
+{
+    if let Some(text) = text {
+        write_line(errors, text.as_str());
+    }
+}
+
+/// A journal of a version that has no sources.
+#[derive(Drop)]
+struct OlderJournal {
+    /// What its file holds.
+    bytes: Vec<u8>,
+    /// Its text as one of the newest version.
+    text: String,
+    /// The text on its last line, if that was not finished.
+    cut: Option<String>,
+}
+
+/// The journal that a source gives, if it is of a version that has no sources.
+///
+/// # Errors
+///
+/// Why it makes no object, or want of memory.
+fn older_journal<J: Source>(
+    alloc: Global,
+    limits: Limits,
+    journal: &mut J,
+) -> Result<Option<OlderJournal>, CommandFault>
+    ensures ok { IfOk result (λ found. MatchOption found
+        (IsNewest limits (J.remaining journal.old))
+        (λ older. IsOlder limits (J.remaining journal.old) older.bytes.items
+        (string_bytes older.text) (option_map string_bytes older.cut))) }
+    ensures err { IfErr result (λ fault. IsUnreadKept limits
+        (J.remaining journal.old) (J.has_failed journal.new) fault) }
+{
+    let held = read_kept(alloc, limits, journal)?;
+    if held.version.has_sources() {
+        return Ok(None);
+    }
+    let text = journal_text_of(alloc, Version::newest(), &held.object)?;
+    let cut = cut_text_of(alloc, held.part)?;
+    Ok(Some(OlderJournal {
+        bytes: held.bytes,
+        text,
+        cut,
+    }))
+}
+
+/// Saves an older journal anew in its file, which has to hold still what was read.
+fn save_older<D: Folder, E: Sink>(
+    alloc: Global,
+    folder: &mut D,
+    path: &str,
+    older: &OlderJournal,
+    errors: &mut E,
+) -> Result<(), Status>
+    ensures ok { OnOk result (SavesAnew path.now older.now.bytes.items
+        (string_bytes older.now.text) (D.known folder.old) (D.known folder.new)) }
+    ensures tells { OnOk result
+        (TellsText (output_of E.contents E.has_failed E.holds_back errors.old errors.new)
+        (option_map string_bytes older.now.cut)) }
+    ensures err { IfErr result (CannotSaveAnew path.now older.now.bytes.items
+        (string_bytes older.now.text) (D.known folder.old) (D.known folder.new)
+        (output_of E.contents E.has_failed E.holds_back errors.old errors.new)) }
+{
+    save_anew(
+        alloc,
+        folder,
+        path,
+        &older.bytes,
+        older.text.as_str(),
+        errors,
+    )?;
+    tell_cut(errors, &older.cut);
+    Ok(())
+}
+
+/// Has the file of a path hold a journal of a version that has sources. Where it holds one of
+/// another version, or no line, its journal is saved anew as one of the newest version: the file is
+/// as it was, or holds the journal whole. A file is made where none is there. A last line that was
+/// not finished is left out, and standard error is told so.
+///
+/// # Errors
+///
+/// The status, where that is not sure. Standard error is told why.
+pub fn upgrade_file<D: Folder, E: Sink>(
+    alloc: Global,
+    limits: Limits,
+    folder: &mut D,
+    path: &str,
+    errors: &mut E,
+) -> Result<(), Status>
+    ensures ok { OnOk result (Upgrades limits path.now (MayFail D.File.has_failed)
+        (folders_of D.known folder.old folder.new)
+        (output_of E.contents E.has_failed E.holds_back errors.old errors.new)) }
+    ensures err { IfErr result (CannotUpgrade limits path.now (MayFail D.File.has_failed)
+        (folders_of D.known folder.old folder.new)
+        (output_of E.contents E.has_failed E.holds_back errors.old errors.new)) }
+{
+    let (kept, mut journal) = match folder.keep(path) {
+        Ok(found) => found,
+        Err(fault) => return Err(report(alloc, errors, CommandFault::Keep(fault))),
+    };
+    let found = older_journal(alloc, limits, &mut journal);
+    // What reads the file has its lock too.
+    drop(journal);
+    folder.release(path, kept);
+    match found {
+        Ok(None) => Ok(()),
+        Ok(Some(older)) => save_older(alloc, folder, path, &older, errors),
+        Err(fault) => Err(report(alloc, errors, fault)),
+    }
+}

@@ -1,0 +1,144 @@
+-- The note beside a plan is the one that its definition says, and was told.
+use Rattle.std.proofs.Common.{◌≡◌, ◌==◌, ◌∙◌, ℕ, Bool, true, false, List, [], ◌∷◌, length, Option}
+use Rattle.std.proofs.Common.{Some, None, ap, arith, eqb-true, inl, inr, refl, subst, sym}
+use Rattle.osn_core.specs.Sequential.{ObjectState}
+use Rattle.osn_format.specs.declared.version.Version.{Version}
+use Rattle.osn_lines.specs.Streams.{Output}
+use Rattle.osn_register.specs.declared.edit.Edit.{Edit}
+use Rattle.osn_register.specs.declared.refusal.Refusal.{Refusal}
+use Rattle.osn_register.specs.declared.refusal.Refusal.TheVariants as refusals
+use Rattle.osn_report.specs.Messages.{Ends, EndsBy, TellsIfMade}
+use Rattle.osn_report.specs.declared.fault.CommandFault.TheVariants as faults
+use Rattle.osn_report.specs.declared.status.Status.{Status}
+use Rattle.osn_report.specs.declared.status.Status.TheVariants as statuses
+use Rattle.osn_serve_commands.specs.Keep.{is_kept}
+use Rattle.osn_text_commands.specs.Edition.{IsNoMemoryOr, edition_refusal, needs_sources}
+use Rattle.osn_text_commands.specs.Note.{IsNoteOf, TellsNote, TellsRefused, edits_note, kept_note}
+use Rattle.osn_text_commands.specs.Note.{missing_note, note_line, pending_or, refusal_or}
+use Rattle.osn_text_commands.specs.Note.{version_note}
+use Rattle.osn_text_commands.specs.PlanWords.{refused_edits_line}
+use Rattle.osn_text_commands.specs.declared.note.Note.{Note}
+use Rattle.osn_text_commands.specs.declared.note.Note.TheVariants as notes
+
+-- ---- which note
+
+-- nothing refuses the edits, or something does, or memory ran out
+pub none_refused : (refused : Option Refusal) (other : Note) → refused ≡ None
+    → IsNoteOf (refusal_or refused other) other
+none_refused refused other is = inl (rw is refl)
+
+pub some_refused : (refused : Option Refusal) (other : Note) (f : Refusal)
+    → IsNoMemoryOr refused f → IsNoteOf (refusal_or refused other) (notes.Refused f)
+some_refused refused other f (inl is) = inr (ap notes.Refused is)
+some_refused refused other f (inr is) = inl (rw is refl)
+
+module _ (s : ObjectState) (found : Note) where
+  -- by whether there are edits, for a journal that is not there
+  pub missing_none : (edits : List Edit) → (length edits == 0) ≡ true
+      → IsNoteOf notes.Absent found → IsNoteOf (missing_note s edits) found
+  missing_none [] none h = h
+  missing_none (e ∷ es) none h = absurd (omega (arith, eqb-true (length (e ∷ es)) 0 none))
+
+  pub missing_some : (edits : List Edit) → (length edits == 0) ≡ false
+      → IsNoteOf (refusal_or (edition_refusal s edits) notes.Missing) found
+      → IsNoteOf (missing_note s edits) found
+  missing_some [] some h = absurd (cc)
+  missing_some (e ∷ es) some h = h
+
+  -- and for one that takes them
+  pub kept_none : (edits : List Edit) → (length edits == 0) ≡ true
+      → IsNoteOf notes.Nothing found → IsNoteOf (kept_note s edits) found
+  kept_none [] none h = h
+  kept_none (e ∷ es) none h = absurd (omega (arith, eqb-true (length (e ∷ es)) 0 none))
+
+  pub kept_some : (edits : List Edit) → (length edits == 0) ≡ false
+      → IsNoteOf (refusal_or (edition_refusal s edits) notes.Nothing) found
+      → IsNoteOf (kept_note s edits) found
+  kept_some [] some h = absurd (cc)
+  kept_some (e ∷ es) some h = h
+
+  -- by the version of the journal
+  pub version_needs : (version : Version) (edits : List Edit) → needs_sources version edits ≡ true
+      → IsNoteOf (refusal_or (edition_refusal s edits) (notes.Anew version)) found
+      → IsNoteOf (version_note version s edits) found
+  version_needs version edits needs h = rw needs h
+
+  pub version_kept : (version : Version) (edits : List Edit) → needs_sources version edits ≡ false
+      → is_kept version ≡ true → IsNoteOf (kept_note s edits) found
+      → IsNoteOf (version_note version s edits) found
+  version_kept version edits needs kept h = rw (needs, kept) h
+
+  pub version_older : (version : Version) (edits : List Edit) → needs_sources version edits ≡ false
+      → is_kept version ≡ false → IsNoteOf (notes.NotKept version) found
+      → IsNoteOf (version_note version s edits) found
+  version_older version edits needs kept h = rw (needs, kept) h
+
+  -- by whether edits are pending
+  pub is_pending : (pending : List Edit) (other : Note) (n : ℕ) → n ≡ length pending
+      → (n ≡ 0 → ⊥) → found ≡ notes.Pending n → IsNoteOf (pending_or pending other) found
+  is_pending [] other n size some is = absurd (some size)
+  is_pending (e ∷ es) other n size some is = inl (is ∙ ap notes.Pending size)
+
+  pub not_pending : (pending : List Edit) (other : Note) (n : ℕ) → n ≡ length pending
+      → n ≡ 0 → IsNoteOf other found → IsNoteOf (pending_or pending other) found
+  not_pending [] other n size none h = h
+  not_pending (e ∷ es) other n size none h = absurd (omega (arith, size, none))
+
+  -- by whether the journal is there
+  pub is_missing : (is_there : Bool) (version : Version) (edits : List Edit) → is_there ≡ false
+      → IsNoteOf (missing_note s edits) found → IsNoteOf (edits_note is_there version s edits) found
+  is_missing is_there version edits is h = rw is h
+
+  pub is_found : (is_there : Bool) (version : Version) (edits : List Edit) → is_there ≡ true
+      → IsNoteOf (version_note version s edits) found
+      → IsNoteOf (edits_note is_there version s edits) found
+  is_found is_there version edits is h = rw is h
+
+-- ---- its line
+
+-- a note was told that is not want of memory
+pub note_told : (path line : List ℕ) (note is wanted : Note) (e : Output) (status : Status)
+    → note ≡ is → (is ≡ notes.Refused refusals.NoMemory → ⊥) → note_line path is ≡ Some line
+    → IsNoteOf wanted note → TellsIfMade e statuses.Done line status
+    → TellsNote (note_line path wanted) e status
+note_told path line note is wanted e status same other says (inl found) h =
+    subst (λ l. TellsNote l e status) (sym says ∙ ap (note_line path) (sym same ∙ found)) h
+note_told path line note is wanted e status same other says (inr none) h =
+    absurd (other (sym same ∙ none))
+
+-- want of memory was
+memory_told : (line : Option (List ℕ)) (e : Output) (status : Status)
+    → EndsBy e faults.NoMemory status → TellsNote line e status
+memory_told None e status h = inr h
+memory_told (Some line) e status h = inr h
+
+-- that a publish refuses edits was, or want of memory
+pub refused_told : (path : List ℕ) (refusal : Refusal) (wanted : Note) (e : Output)
+    (status : Status) → IsNoteOf wanted (notes.Refused refusal) → TellsRefused refusal e status
+    → TellsNote (note_line path wanted) e status
+refused_told path refusals.NoMemory wanted e status found h =
+    memory_told (note_line path wanted) e status h
+refused_told path refusal wanted e status (inl found) h =
+    subst (λ n. TellsNote (note_line path n) e status) found (other refusal h)
+  where
+    other : (f : Refusal) → TellsRefused f e status
+        → TellsNote (Some (refused_edits_line f)) e status
+    other refusals.NoMemory h = inr h
+    other f h = h
+refused_told path refusal wanted e status (inr none) h = absurd (cc)
+
+-- nothing was, where that was the note
+pub nothing_told : (path : List ℕ) (note wanted : Note) (e : Output) (status : Status)
+    → note ≡ notes.Nothing → IsNoteOf wanted note → Ends e None status
+    → TellsNote (note_line path wanted) e status
+nothing_told path note wanted e status same (inl found) h =
+    subst (λ n. TellsNote (note_line path n) e status) (sym same ∙ found) (inl h)
+nothing_told path note wanted e status same (inr none) h = absurd (cc)
+
+-- a refusal other than want of memory was
+pub other_told : (refusal : Refusal) (e : Output) (status : Status)
+    → (refusal ≡ refusals.NoMemory → ⊥)
+    → TellsIfMade e statuses.Done (refused_edits_line refusal) status
+    → TellsRefused refusal e status
+other_told refusals.NoMemory e status other h = absurd (other refl)
+other_told refusal e status other h = h

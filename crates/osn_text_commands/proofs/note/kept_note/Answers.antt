@@ -1,0 +1,18 @@
+use Rattle.std.proofs.Common.{◌≡◌, ◌==◌, ◌∙◌, ℕ, length, vec_len, ap, arith, inl, refl, sym}
+use Rattle.osn_text_commands.proofs.NoteLemmas.{kept_none, kept_some}
+use Rattle.osn_text_commands.proofs.note.kept_note.Goals as goal
+
+pub returns-then-is_empty : goal.returns-then-is_empty
+returns-then-is_empty c =
+    let size : length c.args.edits.items ≡ vec_len c.args.edits =
+    omega (arith, c.args.edits.ok.0) in
+    kept_none c.args.object.now _ c.args.edits.items
+    (ap (λ (n : ℕ). n == 0) size ∙ (sym c.is_empty.ensures ∙ c.if-is_empty.true)) (inl refl)
+
+pub returns : goal.returns
+returns c =
+    let size : length c.args.edits.items ≡ vec_len c.args.edits =
+    omega (arith, c.args.edits.ok.0) in
+    kept_some c.args.object.now _ c.args.edits.items
+    (ap (λ (n : ℕ). n == 0) size ∙ (sym c.is_empty.ensures ∙ c.if-is_empty.false))
+    c.refusal_or.ensures

@@ -1,0 +1,130 @@
+//! What standard error is told beside a plan: what a publish of its edits refuses, or does first.
+ghost use Rattle.osn_lines.specs.Streams.{output_of};
+ghost use Rattle.osn_text_commands.specs.Edition.{edition_refusal};
+ghost use Rattle.osn_text_commands.specs.Note as spec;
+ghost use Rattle.osn_text_commands.specs.declared.note.Note.{Note};
+
+use crate::edition::make_edition;
+use crate::plan_words::{
+    absent_line, anew_line, missing_line, not_kept_line, pending_line, refused_edits_line,
+};
+use crate::publish::needs_sources;
+use osn_core::Object;
+use osn_format::Version;
+use osn_lines::Sink;
+use osn_register::{Edit, Refusal};
+use osn_report::{Status, tell_line, tell_no_memory};
+use osn_serve_commands::check_kept;
+use std::alloc::Global;
+
+/// What is told beside a plan.
+#[derive(Clone, Copy, Debug, PartialEq, Eq)]
+pub(crate) enum Note {
+    /// Nothing.
+    Nothing,
+    /// This many edits are pending.
+    Pending(usize),
+    /// The journal is not there, and a publish makes it.
+    Missing,
+    /// The journal is not there, and nothing is to change.
+    Absent,
+    /// A publish refuses the edits.
+    Refused(Refusal),
+    /// A publish saves the journal of this version anew.
+    Anew(Version),
+    /// A publish refuses a journal of this version.
+    NotKept(Version),
+}
+
+/// That a publish refuses these edits, or else another note.
+fn refusal_or(object: &mut Object, edits: Vec<Edit>, other: Note) -> Note
+    ensures { spec.IsNoteOf (spec.refusal_or (edition_refusal object.old edits.items) other)
+        result }
+{
+    match make_edition(object, edits) {
+        Ok(_) => other,
+        Err(refusal) => Note::Refused(refusal),
+    }
+}
+
+/// The note on edits for a journal that is not there.
+fn missing_note(object: &mut Object, edits: Vec<Edit>) -> Note
+    ensures { spec.IsNoteOf (spec.missing_note object.old edits.items) result }
+{
+    if edits.is_empty() {
+        return Note::Absent;
+    }
+    refusal_or(object, edits, Note::Missing)
+}
+
+/// The note on edits that a journal of this version takes.
+fn kept_note(object: &mut Object, edits: Vec<Edit>) -> Note
+    ensures { spec.IsNoteOf (spec.kept_note object.old edits.items) result }
+{
+    if edits.is_empty() {
+        return Note::Nothing;
+    }
+    refusal_or(object, edits, Note::Nothing)
+}
+
+/// The note on edits for a journal of this version.
+fn version_note(version: Version, object: &mut Object, edits: Vec<Edit>) -> Note
+    ensures { spec.IsNoteOf (spec.version_note version object.old edits.items) result }
+{
+    if needs_sources(version, &edits) {
+        return refusal_or(object, edits, Note::Anew(version));
+    }
+    match check_kept(version) {
+        Ok(()) => kept_note(object, edits),
+        Err(_) => Note::NotKept(version),
+    }
+}
+
+/// The note on edits for the journal of this version that makes an object, and is there or not.
+pub(crate) fn note_of(
+    is_there: bool,
+    version: Version,
+    object: &mut Object,
+    edits: Vec<Edit>,
+) -> Note
+    ensures { spec.IsNoteOf (spec.note_of is_there version object.old edits.items) result }
+{
+    let pending = object.pending().len();
+    if pending > 0 {
+        return Note::Pending(pending);
+    }
+    if is_there {
+        version_note(version, object, edits)
+    } else {
+        missing_note(object, edits)
+    }
+}
+
+/// Tells standard error that a publish refuses edits, or that memory ran out. Answers the status.
+fn tell_refused<E: Sink>(alloc: Global, errors: &mut E, refusal: Refusal) -> Status
+    ensures { spec.TellsRefused refusal
+        (output_of E.contents E.has_failed E.holds_back errors.old errors.new) result }
+{
+    match refusal {
+        Refusal::NoMemory => tell_no_memory(errors),
+        _ => tell_line(errors, Status::Done, refused_edits_line(alloc, refusal)),
+    }
+}
+
+/// Tells standard error a note on the journal of this path. Answers the status.
+pub(crate) fn tell_note<E: Sink>(alloc: Global, errors: &mut E, path: &str, note: Note) -> Status
+    // Whatever note was to be found.
+    ensures { (wanted : Note) → spec.IsNoteOf wanted note
+        → spec.TellsNote (spec.note_line path.now wanted)
+        (output_of E.contents E.has_failed E.holds_back errors.old errors.new) result }
+{
+    match note {
+        Note::Nothing => Status::Done,
+        Note::Pending(edits) => tell_line(errors, Status::Done, pending_line(alloc, edits)),
+        Note::Missing => tell_line(errors, Status::Done, missing_line(alloc, path)),
+        Note::Absent => tell_line(errors, Status::Done, absent_line(alloc, path)),
+        Note::Refused(refusal) => tell_refused(alloc, errors, refusal),
+        Note::Anew(version) => tell_line(errors, Status::Done, anew_line(alloc, version)),
+        Note::NotKept(version) => tell_line(errors, Status::Done, not_kept_line(alloc, version)),
+    }
+}

@@ -1,0 +1,70 @@
+"""A folder with journals and texts of registers, and runs over them, for register_text.py."""
+import os
+
+from common import compact, run
+from keeping import hold
+from reference import Service, version_of
+from text_draws import journal_lines
+
+# A territory, whose code is put in.
+LAND = '[{}]\nname = "n"\ncalendar = "julian"\nstyle = "january"\nrule = "julian"\n'
+
+
+class Files:
+    """A folder with journals and texts, and the program that works on them."""
+
+    def __init__(self, program, folder):
+        self.program, self.folder, self.runs = program, folder, 0
+
+    def path(self, name):
+        return os.path.join(self.folder, name)
+
+    def write(self, name, text):
+        with open(self.path(name), "w", encoding="utf-8", newline="") as file:
+            file.write(text)
+        return self.path(name)
+
+    def journal(self, name, lands, version=None):
+        lines = journal_lines(lands, version)
+        return self.write(name, "".join(compact(line) + "\n" for line in lines))
+
+    def run(self, *words, lines=()):
+        self.runs += 1
+        return run(self.program, words, lines)
+
+    def printed(self, what, *words, told=""):
+        """What a run prints that has nothing else to tell."""
+        done = self.run(*words)
+        hold(f"{what}: {words[0]} is told {done.returncode} {done.stderr!r}",
+             (done.returncode, done.stderr) == (0, told))
+        return done.stdout
+
+
+def bytes_of(path):
+    with open(path, "rb") as file:
+        return file.read()
+
+
+def lines_of(held):
+    """The lines of these bytes; names may hold other ends of lines than the line feed."""
+    return held.decode().split("\n")[:-1]
+
+
+def published(path):
+    """The service that has run the lines of a journal, and those after the head."""
+    head, *lines = lines_of(bytes_of(path))
+    service = Service(version=version_of(head))
+    faults = [line for line in lines if '"fault"' in service.reply(line.encode())]
+    hold(f"{path}: these lines are refused: {faults}", not faults)
+    return service, lines
+
+
+def refused(files, what, path, text, wanted, journal):
+    """A text is refused by `plan` and by `publish`, and nothing changes."""
+    before = bytes_of(journal)
+    for command in ("plan", "publish"):
+        done = files.run(command, journal, text)
+        told = done.returncode, done.stdout, done.stderr
+        hold(f"{what}: {command} is told {told}\n  and not {wanted!r}",
+             told == (1, "", f"oldstyle: {path}: {wanted}\n"))
+    hold(f"{what}: the journal has changed", bytes_of(journal) == before)

@@ -1,0 +1,262 @@
+"""Journals into which texts are published: those that can't be, those of each version and
+`--upgrade`, publishes at once, a keeper and a follower beside them. For register_text.py."""
+import fcntl
+import json
+import os
+import subprocess
+
+from common import JULIAN, compact
+from keeping import HEAD, HELD, PUBLISH, Run, hold
+from reference import NEWEST
+from territory_texts import lands_of
+from text_files import LAND, bytes_of, published, refused
+
+AT_ONCE = 8
+CHANGED = "oldstyle: the file has changed meanwhile and is left as it is: the journal is in "
+EDIT = {"op": "add_change", "code": "GB", "day": 5, "calendar": "gregorian", "style": "january",
+        "rule": "julian"}
+
+
+def told_by(files, command, journal, text):
+    """What a run of a command tells, with the bytes of the journal before and after it."""
+    before = bytes_of(journal) if os.path.exists(journal) else None
+    done = files.run(command, journal, text)
+    after_it = bytes_of(journal) if os.path.exists(journal) else None
+    return done.returncode, done.stderr.replace(journal, "J").replace(text, "T"), before == after_it
+
+
+PENDING = ("oldstyle: publish refuses a journal with 1 pending edit: publish what is pending by "
+           'serve --keep with {"op":"publish"}, or take the lines after the last publish out of '
+           "the journal\n")
+OLDER = ("oldstyle: a journal of version 1 is not kept: serve --keep with --upgrade saves it anew "
+         "as version 4\n")
+# What a plan tells of a journal that its publish refuses, or saves anew.
+NOT_KEPT = ("oldstyle: publish refuses a journal of version 1: serve --keep with --upgrade saves "
+            "it anew as version 4\n")
+ANEW = ("oldstyle: the journal is of version {}, which has no sources: publish saves it anew as "
+        "version 4\n")
+FULL = "oldstyle: {}17 EditionsFull (--limits editions=N allows more)\n"
+
+
+def try_journals(files):
+    """Journals and texts that are not there, and journals that can't be published into."""
+    text, new = files.write("text", LAND.format("GB")), files.path("new")
+    none = "oldstyle: J: there is no such journal yet: publish makes it\n"
+    hold("a plan of a new journal", told_by(files, "plan", new, text) == (0, none, True))
+    for command in ("plan", "publish"):
+        told = told_by(files, command, new, files.path("none"))
+        hold(f"no text: {told}", told == (3, "oldstyle: T: no such file\n", True))
+    files.printed("a new journal", "publish", new, text)
+    hold("a new journal", published(new)[0].edition == 1)
+    kept, edit = bytes_of(new).decode(), compact(EDIT)
+    older = kept.replace(HEAD, HEAD.replace("2", "1"))
+    for command, held, wanted in (
+            ("publish", kept + edit + "\n", (1, PENDING, True)),
+            ("plan", kept + edit + "\n", (0, PENDING, True)),
+            ("publish", older, (1, OLDER, True)),
+            ("plan", older, (0, NOT_KEPT, True)),
+            ("publish", "x\n", (1, "oldstyle: journal line 1: 32 NotJson\n", True)),
+            ("publish", kept + edit[:9], (0, "", True))):
+        told = told_by(files, command, files.write("journal", held), text)
+        hold(f"{command} with {held!r} is told {told}", told == wanted)
+
+
+CITED = '[GB]\nname = "n"\ncalendar = "julian"\nstyle = "january"\nrule = "julian"\n' \
+        'source = "a bull"\n'
+OPENING = {"op": "add_land", "code": "GB", "name": "n", **JULIAN, "source": "a bull"}
+NEEDS_4 = '{"fault":46,"name":"NeedsUpgrade"}'
+REFUSED = "oldstyle: line 1 is refused, and no line after it was answered\n"
+REPLACED = ("oldstyle: another file, or none, stands where the journal that is followed was: no "
+            "further line is answered\n")
+
+
+def journal_of(version, *lines):
+    return "".join(compact(line) + "\n" for line in [{"journal": version}, *lines])
+
+
+def try_versions(files):
+    """A kept journal takes sources from version 4 on; `--upgrade` and `publish` save it anew."""
+    plain = {key: value for key, value in OPENING.items() if key != "source"}
+    edit, publish = {**OPENING, "code": "FR"}, {"op": "publish"}
+    for version in (1, 2, NEWEST):
+        lines = [plain if version < NEWEST else OPENING, publish]
+        said = journal_of(version, OPENING, publish)
+        path = files.write("journal", said)
+        node = os.stat(path).st_ino
+        if version == 2:
+            done = files.run("serve", "--keep", path, lines=[compact(edit)])
+            hold(f"a source in version 2 is told {done}", done.stdout == NEEDS_4 + "\n"
+                 and bytes_of(path).decode() == said)
+            done = files.run("serve", "--keep", path, "--stop-at-refusal", lines=[compact(edit)])
+            hold(f"a batch with a source in version 2 is told {done.stderr!r}",
+                 (done.returncode, done.stderr) == (1, REFUSED))
+        done = files.run("serve", "--keep", path, "--upgrade", lines=[compact(edit)])
+        hold(f"version {version}, upgraded, is told {done}",
+             (done.returncode, done.stdout, done.stderr)
+             == (0, compact({"ok": "staged", "pending": 1}) + "\n", ""))
+        held = bytes_of(path).decode()
+        hold(f"version {version}, upgraded, is {held!r}",
+             held == journal_of(NEWEST, *lines, edit))
+        hold(f"version {version}: another file",
+             (os.stat(path).st_ino == node) == (version == NEWEST))
+
+
+def try_new(files):
+    """Files that are not there yet: the version of a new journal."""
+    text, path = files.write("cited text", CITED), files.path("cited")
+    files.printed("a new journal with a source", "publish", path, text)
+    hold("a new journal with a source",
+         bytes_of(path).decode() == journal_of(NEWEST, OPENING, {"op": "publish"}))
+    for words, version in ((["--upgrade"], NEWEST), ([], 2)):
+        path = files.path(f"kept{version}")
+        files.run("serve", "--keep", path, *words)
+        hold(f"a new kept file of {words}", bytes_of(path).decode() == journal_of(version))
+    older = files.write("journal", journal_of(1))
+    told = told_by(files, "plan", older, text)
+    hold(f"a plan of sources in version 1 is told {told}", told == (0, ANEW.format(1), True))
+    told = told_by(files, "publish", older, text)
+    hold(f"a source in version 1 is told {told}", told == (0, "", False))
+    hold("version 1, saved anew", bytes_of(older) == bytes_of(files.path("cited")))
+    try_nothing(files)
+
+
+def try_nothing(files):
+    """A text that says nothing makes an empty file, which a publish takes."""
+    text, path = files.write("text", ""), files.path("nothing")
+    told = told_by(files, "plan", path, text)
+    hold(f"a plan of nothing is told {told}",
+         told == (0, "oldstyle: J: there is no such journal yet\n", True))
+    told = told_by(files, "publish", path, text)
+    hold(f"a publish of nothing is told {told}", told == (0, "", False) and bytes_of(path) == b"")
+    files.printed("an empty file", "publish", path, files.path("cited text"))
+    hold("an empty file", bytes_of(path) == bytes_of(files.path("cited")))
+
+
+def try_cut(files):
+    """A line that was not finished is cut off by a publish that has edits."""
+    journal = files.write("journal", HEAD + "\n" + PUBLISH[:9])
+    told = told_by(files, "publish", journal, files.write("text", LAND.format("GB")))
+    hold(f"a front of a line is told {told}",
+         told == (0, "oldstyle: journal line 2 was not finished, and is cut off\n", False))
+    hold("a front of a line is left", published(journal)[0].edition == 1)
+
+
+def try_full(files):
+    """A journal that has room for no further territory."""
+    lands = lands_of("".join(LAND.format(f"T{number:03}") for number in range(500)))
+    journal, text = files.journal("journal", lands), files.write("text", LAND.format("GB"))
+    told = told_by(files, "publish", journal, text)
+    hold(f"a full journal is told {told}",
+         told == (1, "oldstyle: T: GB: 12 TooManyLands (--limits lands=N allows more)\n", True))
+    few = "--limits", "lands=501,editions=1"
+    done = files.run("publish", journal, text, *few)
+    hold(f"no edition more is told {done}",
+         (done.returncode, done.stdout, done.stderr) == (1, "", FULL.format("")))
+    files.printed("a plan of no edition more", "plan", journal, text, *few,
+                  told=FULL.format("publish refuses the edits: "))
+    files.printed("a larger journal", "publish", journal, text, "--limits", "lands=501")
+
+
+def try_renamed(files):
+    journal, text = files.path("new"), files.write("text", LAND.format("GB").replace('"n"', '"m"'))
+    refused(files, "renamed", text, text,
+            "GB: a name can't be changed: it is n, and the text has m", journal)
+
+
+def try_held(files):
+    """A publish waits for nobody: neither for a lock nor for a keeper."""
+    journal, text = files.path("new"), files.write("text", LAND.format("HELD"))
+    before = bytes_of(journal)
+    with open(journal, "rb") as file:
+        fcntl.flock(file, fcntl.LOCK_EX)
+        done = files.run("publish", journal, text)
+    hold(f"beside a lock {done}", (done.returncode, done.stdout, done.stderr) == HELD)
+    keeper = Run(files.program, journal)
+    keeper.send([{"op": "lands", "reader": 1}])
+    keeper.wait_for(1)
+    done = files.run("publish", journal, text)
+    hold(f"beside a keeper {done}", (done.returncode, done.stdout, done.stderr) == HELD)
+    keeper.process.stdin.close()
+    keeper.stopped()
+    hold("a publish that was refused changes the journal", bytes_of(journal) == before)
+
+
+def publish_at_once(files, journal, codes, text):
+    """Publishes a text of each code at once. Answers the codes that are editions, and what the
+    others were told."""
+    texts = [files.write(code, text.replace("CODE", code)) for code in codes]
+    runs = [subprocess.Popen([files.program, "publish", journal, text], text=True,
+                             stdout=subprocess.PIPE, stderr=subprocess.PIPE) for text in texts]
+    told = [(*running.communicate(), running.returncode) for running in runs]
+    return ([code for code, (_, _, status) in zip(codes, told) if status == 0],
+            [(status, out, errors) for out, errors, status in told if status])
+
+
+def try_at_once(files, rounds):
+    """Publishes at once: each is an edition, or is told that another run keeps the journal."""
+    journal, done, held = files.journal("journal", {}), [], []
+    for turn in range(rounds):
+        codes = [f"R{turn}P{number}" for number in range(AT_ONCE)]
+        more, others = publish_at_once(files, journal, codes, LAND.format("CODE"))
+        done, held = done + more, held + others
+    service, _ = published(journal)
+    hold(f"they are told {set(held)}", set(held) == {HELD})
+    hold("the journal has other territories than were published",
+         sorted(service.published) == sorted(done) and service.edition == len(done))
+    return len(done), len(held)
+
+
+def try_upgrades_at_once(files, rounds):
+    """The same of texts with sources, and a journal of version 2 or none: one of them saves it
+    anew. What another one would have saved meanwhile stands beside it."""
+    codes = [f"P{number}" for number in range(AT_ONCE)]
+    for turn in range(rounds):
+        journal = files.write("journal", f"{HEAD}\n")
+        if turn % 2:
+            os.remove(journal)
+        done, others = publish_at_once(files, journal, codes, CITED.replace("GB", "CODE"))
+        service, _ = published(journal)
+        hold("the journal has other territories than were saved anew",
+             sorted(service.published) == done and service.edition == len(done) > 0)
+        for status, out, errors in others:
+            is_changed = errors.startswith(CHANGED) and (status, out) == (3, "")
+            hold(f"a publish at once is told {errors!r}",
+                 (status, out, errors) == HELD or is_changed)
+            if is_changed:
+                os.remove(errors.removeprefix(CHANGED).rstrip("\n"))
+
+
+def try_follower(files):
+    """A follower goes on after a publish, and tells its edition. One that has sources puts another
+    file in the journal's place, which ends the follower."""
+    journal = files.path("new")
+    words = [files.program, "serve", "--follow", journal]
+    lands = {"op": "lands", "reader": 1}
+    with subprocess.Popen(words, stdin=subprocess.PIPE, stdout=subprocess.PIPE,
+                          stderr=subprocess.PIPE) as follower:
+        for number in range(2, 12):
+            code = f"F{number}"
+            files.printed(code, "publish", journal, files.write("text", LAND.format(code)))
+            follower.stdin.write((compact(lands) + "\n").encode())
+            follower.stdin.flush()
+            told = json.loads(follower.stdout.readline())
+            codes = [land["code"] for land in told["answer"]["lands"]]
+            hold(f"a follower is told {told}", told["edition"] == number and code in codes)
+        files.printed("sources", "publish", journal, files.write("text", CITED))
+        _, told = follower.communicate((compact(lands) + "\n").encode())
+        hold(f"a follower of a file that is saved anew is told {told}",
+             (follower.returncode, told.decode()) == (1, REPLACED))
+
+
+def try_all_journals(files):
+    """All of these. Answers how many publishes at once were editions, and how many were refused."""
+    try_journals(files)
+    try_versions(files)
+    try_new(files)
+    try_cut(files)
+    try_full(files)
+    try_renamed(files)
+    try_held(files)
+    try_follower(files)
+    try_upgrades_at_once(files, 20)
+    return try_at_once(files, 40)
