@@ -129,8 +129,7 @@ NEXT = {"idle": "look", "noted": "pin", "marked": "check", "entered": "answer", 
 WORK = {"ready": ["stage", "stage", "publish"], "draining": ["claim"], "claimed": ["absorb"]}
 READER, EDITOR = list(NEXT.values()), ["stage", "publish", "claim", "absorb"]
 CODES = ["RM", "GB", "FR", "DE", "rm"]
-# The last two are refused in the form of the line.
-SOURCES = ["a bull", "an edict", "\u00e9dit", "s" * 1_000, "", 5]
+SOURCES = ["a bull", "an edict", "\u00e9dit", "s" * 1_000]
 
 
 def query(chance):

@@ -153,9 +153,9 @@ def keep_rules(trace, way):
     yield "once it is locked, its path is looked at again", bool(between(locks, looks, read))
     yield "it stays locked to the end", not between(
         [], trace.at("close", "unlock", name=place), asked + trace.replies())
-    if way.old is None:
-        yield "the name of a new file is on the disk before the first reply", precede(
-            trace.at("sync", name=folder), asked)
+    yield "what it held and its name are on the disk before it is read", precede(
+        locks, trace.at("sync", name=folder)) and precede(trace.at("sync", name=folder), read) and (
+        bool(between(locks, synced, read)))
     yield "all that it holds is on the disk before a request is read", bool(ready) and not between(
         ready[-1:], trace.at("write", "cut", name=place), asked)
     yield "it is cut only where its last line was not finished, before any append", len(
@@ -164,9 +164,9 @@ def keep_rules(trace, way):
     yield from change_rules(trace, way, between(asked[:1], trace.at("write", name=place), [LATE]))
     yield "no other file is changed", {trace.steps[at].name for at in trace.changes()} == {place}
     # (its length, which file is at its path, and which one is open)
-    yield "each sync is followed by a look at length and path", all(
+    yield "each sync after that is followed by a look at length and path", all(
         sorted(step.file == 0 for step in trace.steps[at + 1:at + 4] if step.kind == "look")
-        == [False, False, True] for at in synced)
+        == [False, False, True] for at in between(read, synced, [LATE]))
 
 
 def is_unfinished(held):

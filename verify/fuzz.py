@@ -18,6 +18,7 @@ something is wrong is kept in a file, which is named, and 20 of them end the run
 All that is tried follows from the seed: the rounds of a long run are those of a short one and more.
 """
 import itertools
+import multiprocessing
 import os
 import random
 import sys
@@ -68,6 +69,26 @@ def keep(target, number, found):
     print(f"{path}, {words}: {why}"[:2_000], flush=True)
 
 
+def try_rounds(target, program, seed, rounds, most):
+    """Tries these rounds up to so many inputs; answers how many were tried, of what, and how many
+    went wrong."""
+    tried = wrong = 0
+    with tempfile.TemporaryDirectory() as folder:
+        fuzzed = TARGETS[target](program, folder)
+        try:
+            for number in rounds:
+                if tried >= most or wrong >= MOST_FAULTS:
+                    break
+                count, found = fuzzed.round(random.Random(seed * 1_000_003 + number))
+                for one in found:
+                    keep(target, wrong, (f"round {number}: {one[0]}", *one[1:]))
+                    wrong += 1
+                tried += count
+        finally:
+            getattr(fuzzed, "close", lambda: None)()
+    return tried, fuzzed.about, wrong
+
+
 def main():
     line = CommandLine(__doc__)
     line.add_argument("target", choices=list(TARGETS), help="what is tried")
@@ -75,28 +96,20 @@ def main():
     line.add_count(2_000, "inputs, or some more")
     line.add_seed()
     line.add_number("--first", 0, "the first round that is tried", 0)
+    line.add_number("--processes", 1, "how many work at once, and take the rounds in turn")
     options = line.read()
-    tried = wrong = 0
-    began = time.monotonic()
-    with tempfile.TemporaryDirectory() as folder:
-        try:
-            fuzzed = TARGETS[options.target](options.program, folder)
-        except ImportError as why:
-            sys.exit(f"fuzz.py: {options.target} can't be tried yet: {why.name} is missing")
-        try:
-            for number in itertools.count(options.first):
-                chance = random.Random(options.seed * 1_000_003 + number)
-                count, found = fuzzed.round(chance)
-                for one in found:
-                    keep(options.target, wrong, (f"round {number}: {one[0]}", *one[1:]))
-                    wrong += 1
-                tried += count
-                if tried >= options.count or wrong >= MOST_FAULTS:
-                    break
-        finally:
-            getattr(fuzzed, "close", lambda: None)()
+    began, step = time.monotonic(), options.processes
+    shares = [(options.target, options.program, options.seed,
+               itertools.count(options.first + number, step), -(-options.count // step))
+              for number in range(step)]
+    try:
+        with multiprocessing.Pool(step) as pool:
+            done = pool.starmap(try_rounds, shares)
+    except ImportError as why:
+        sys.exit(f"fuzz.py: {options.target} can't be tried yet: {why.name} is missing")
+    tried, wrong = sum(one[0] for one in done), sum(one[2] for one in done)
     rate = tried / (time.monotonic() - began)
-    print(f"{tried} {fuzzed.about}, {rate:.0f} a second: {wrong} went wrong")
+    print(f"{tried} {done[0][1]}, {rate:.0f} a second: {wrong} went wrong")
     return 1 if wrong else 0
 
 

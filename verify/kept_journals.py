@@ -110,7 +110,7 @@ def cut_anywhere(path, chance, lines):
 
 
 def is_front(rest, wanted, lines):
-    return not rest or wanted[len(lines)].startswith(rest)
+    return not rest or len(lines) < len(wanted) and wanted[len(lines)].startswith(rest)
 
 
 def cut_line(known):

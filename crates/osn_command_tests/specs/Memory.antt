@@ -1,6 +1,8 @@
 -- What a folder in memory holds.
-use Rattle.std.specs.Prelude.{ℕ, false, List, map, fold, bytes_eq, string_bytes, if◌then◌else◌}
-use Rattle.std.specs.Prelude.{Option, None, option_map, String}
+use Rattle.std.specs.Prelude.{◌≡◌, ℕ, true, false, List, [], ◌∷◌, ◌++◌, map, fold, bytes_eq}
+use Rattle.std.specs.Prelude.{string_bytes, if◌then◌else◌, Option, None, option_map, String}
+use Rattle.std.specs.List.{flat_map}
+use Rattle.osn_folder.specs.Crash.{LeavesOthersSafe}
 use Rattle.osn_folder.specs.Folder.{Known, Paths}
 
 -- what a path was left with by a change, and by changes in turn: a text, or nothing
@@ -21,11 +23,29 @@ plain_paths = record {
   is_changed = λ _. false;
 }
 
--- what is known of such a folder, after these changes and openings
-abbrev pub known_of : {Z : Type 0} → List (String Z × Option (String Z)) → List (String Z) → Known
-known_of changes opened = record {
-  at = holds changes;
+-- what changes in turn left a path with
+abbrev pub left_in_turn : {Z : Type 0} → List (String Z × Option (String Z)) → List ℕ
+    → List (Option (List ℕ))
+left_in_turn changes path =
+    flat_map (λ change. if bytes_eq (string_bytes change.0) path
+    then option_map string_bytes change.1 ∷ [] else []) changes
+
+-- what is known of such a folder, after changes that are on the disk and others that may not be
+-- there after a crash, in turn, and after these openings
+abbrev pub known_of : {Z : Type 0} → List (String Z × Option (String Z))
+    → List (String Z × Option (String Z)) → List (String Z) → Known
+known_of synced unsynced opened = record {
+  at = holds (synced ++ unsynced);
   opened = map string_bytes opened;
   paths = plain_paths;
   has_failed = false;
+  is_whole = λ _. true;
+  left = λ path. holds synced path ∷ left_in_turn unsynced path;
+  risked = left_in_turn (synced ++ unsynced);
 }
+
+-- this is the last of what a path was left with, and each other path is as safe as it was
+abbrev pub LeavesLast : List ℕ → Option (List ℕ) → Known → Known → Type 0
+LeavesLast path file k n =
+    (n.left path ≡ k.left path ++ file ∷ []) × (n.risked path ≡ k.risked path ++ file ∷ [])
+    × LeavesOthersSafe path k n

@@ -1,8 +1,8 @@
-//! A folder in memory, of which everything is known: what its files hold, and which were opened.
-//! It has no links and no pipes.
-ghost use Rattle.std.specs.Prelude.{◌≡◌, ◌∷◌, ◌++◌, [], Some, option_map, string_bytes};
+//! A folder in memory, of which everything is known: what its files hold, which were opened, and
+//! what a crash of the machine may leave. It has no links and no pipes.
+ghost use Rattle.std.specs.Prelude.{◌≡◌, ◌∷◌, ◌++◌, [], Some, fold, option_map, string_bytes};
 ghost use Rattle.osn_folder.specs.Folder.{Becomes, Opens};
-ghost use Rattle.osn_command_tests.specs.Memory.{holds, known_of};
+ghost use Rattle.osn_command_tests.specs.Memory.{holds, known_of, left_by, LeavesLast};
 
 use crate::kept_journals::MemoryFile;
 use osn_folder::{
@@ -22,7 +22,10 @@ pub(crate) type Change = (String, Option<String>);
 #[derive(Drop)]
 pub struct MemoryFolder<'a, R> {
     pub rt: &'a R,
-    pub changes: Vec<Change>,
+    /// The changes that are on the disk.
+    pub synced: Vec<Change>,
+    /// Those after them, of which a crash may leave none or some.
+    pub unsynced: Vec<Change>,
     pub opened: Vec<String>,
 }
 
@@ -31,21 +34,25 @@ impl<'a, R: Abort + AllocGlobal> MemoryFolder<'a, R> {
     pub fn new(rt: &'a R) -> MemoryFolder<'a, R> {
         MemoryFolder {
             rt,
-            changes: Vec::new(rt.alloc()),
+            synced: Vec::new(rt.alloc()),
+            unsynced: Vec::new(rt.alloc()),
             opened: Vec::new(rt.alloc()),
         }
     }
 
     /// What a file holds, if it is there.
     pub fn text(&self, path: &str) -> Option<&str>
-        ensures { option_map (λ text. text.now) result ≡ holds self.now.changes.items path.now }
+        ensures { option_map (λ text. text.now) result
+            ≡ holds (self.now.synced.items ++ self.now.unsynced.items) path.now }
     {
-        left_with(&self.changes, path)
+        let synced = left_with(&self.synced, path, None);
+        left_with(&self.unsynced, path, synced)
     }
 
     /// The same as a text of its own.
     fn copy(&self, path: &str) -> Option<String>
-        ensures { option_map string_bytes result ≡ holds self.now.changes.items path.now }
+        ensures { option_map string_bytes result
+            ≡ holds (self.now.synced.items ++ self.now.unsynced.items) path.now }
     {
         match self.text(path) {
             Some(text) => Some(owned(self.rt, text)),
@@ -55,12 +62,15 @@ impl<'a, R: Abort + AllocGlobal> MemoryFolder<'a, R> {
 
     /// Leaves a path with a text, or nothing.
     pub fn leave(&mut self, path: &str, text: Option<String>)
-        ensures { Becomes path.now (option_map string_bytes text)
-            (known_of self.old.changes.items self.old.opened.items)
-            (known_of self.new.changes.items self.new.opened.items) }
+        ensures becomes { Becomes path.now (option_map string_bytes text)
+            (known_of self.old.synced.items self.old.unsynced.items self.old.opened.items)
+            (known_of self.new.synced.items self.new.unsynced.items self.new.opened.items) }
+        ensures last { LeavesLast path.now (option_map string_bytes text)
+            (known_of self.old.synced.items self.old.unsynced.items self.old.opened.items)
+            (known_of self.new.synced.items self.new.unsynced.items self.new.opened.items) }
     {
         let change = (owned(self.rt, path), text);
-        if self.changes.push(change).is_err() {
+        if self.unsynced.push(change).is_err() {
             self.rt.panic("no memory");
         }
     }
@@ -68,8 +78,8 @@ impl<'a, R: Abort + AllocGlobal> MemoryFolder<'a, R> {
     /// Notes that a path was opened.
     fn note(&mut self, path: &str)
         ensures { Opens (path.now ∷ [])
-            (known_of self.old.changes.items self.old.opened.items)
-            (known_of self.new.changes.items self.new.opened.items) }
+            (known_of self.old.synced.items self.old.unsynced.items self.old.opened.items)
+            (known_of self.new.synced.items self.new.unsynced.items self.new.opened.items) }
     {
         let path = owned(self.rt, path);
         if self.opened.push(path).is_err() {
@@ -105,7 +115,7 @@ impl<R: Abort + AllocGlobal> Folder for MemoryFolder<'_, R> {
 
     type Lock = MemoryLock;
 
-    ghost known = { λ f. Some (known_of f.changes.items f.opened.items) };
+    ghost known = { λ f. Some (known_of f.synced.items f.unsynced.items f.opened.items) };
 
     fn open(&mut self, path: &str) -> Result<Plain<Cursor<String>>, OpenFailed> {
         let text = self.copy(path);
@@ -122,10 +132,11 @@ impl<R: Abort + AllocGlobal> Folder for MemoryFolder<'_, R> {
             .unwrap_or_else(|| String::new(self.rt.alloc()));
         self.leave(path, Some(owned(self.rt, held.as_str())));
         let given = owned(self.rt, held.as_str());
+        let synced = owned(self.rt, held.as_str());
         let kept = MemoryFile {
             alloc: self.rt.alloc(),
             contents: held.into_bytes(),
-            synced: Vec::new(self.rt.alloc()),
+            synced: synced.into_bytes(),
             appends: u32::MAX,
             fault: None,
         };
@@ -192,7 +203,10 @@ impl<R: Abort + AllocGlobal> Folder for MemoryFolder<'_, R> {
     }
 
     fn sync_name(&mut self, _path: &str) -> Result<(), ChangeFailed> {
-        Ok(())
+        match self.synced.append(&mut self.unsynced) {
+            Ok(()) => Ok(()),
+            Err(_) => self.rt.panic("no memory"),
+        }
     }
 
     fn remove(&mut self, path: &str) {
@@ -207,11 +221,11 @@ fn owned<R: Abort + AllocGlobal>(rt: &R, text: &str) -> String
     String::from_str(rt.alloc(), text).expect(rt, "no memory")
 }
 
-/// What the changes left a path with.
-fn left_with<'a>(changes: &'a [Change], path: &str) -> Option<&'a str>
-    ensures { option_map (λ text. text.now) result ≡ holds changes.now path.now }
+/// What changes left a path with that was as it is given.
+fn left_with<'a>(changes: &'a [Change], path: &str, mut left: Option<&'a str>) -> Option<&'a str>
+    ensures { option_map (λ text. text.now) result
+        ≡ fold (left_by path.now) (option_map (λ text. text.now) left.entry) changes.now }
 {
-    let mut left = None;
     for (changed, text) in changes {
         if changed.as_str() == path {
             left = text.as_deref();

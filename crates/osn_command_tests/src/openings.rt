@@ -1,6 +1,6 @@
 //! Which files a run opens and changes, over a folder in memory.
 use crate::compare::same;
-use crate::memory::{Change, MemoryFolder, holding};
+use crate::memory::{MemoryFolder, holding};
 use osn_test_runs::{ADDED, NAMED, NOTED, RUNS, RunRow, SAVED, is_left, left_in};
 use std::alloc::{AllocError, Global};
 use std::process::Abort;
@@ -34,12 +34,14 @@ fn are_opened(
 fn are_changed(
     rt: &impl Abort,
     alloc: Global,
-    changes: &[Change],
+    folder: &MemoryFolder<'_, impl Abort + AllocGlobal>,
     first: usize,
     wanted: &str,
 ) -> Result<(), AllocError> {
-    let paths: Vec<&str> = changes
+    let paths: Vec<&str> = folder
+        .synced
         .iter()
+        .chain(folder.unsynced.iter())
         .skip(first)
         .map(|(path, _)| path.as_str())
         .collect(alloc)?;
@@ -59,7 +61,7 @@ fn is_run<'a, R: Threads + Wait + AllocGlobal + Abort>(
     let left = left_in(rt, &mut folder, line, read)?;
     is_left(rt.alloc(), left, wanted)?;
     are_opened(rt, rt.alloc(), &folder.opened, opened)?;
-    are_changed(rt, rt.alloc(), &folder.changes, NAMED.len(), changed)?;
+    are_changed(rt, rt.alloc(), &folder, NAMED.len(), changed)?;
     Ok(folder)
 }
 

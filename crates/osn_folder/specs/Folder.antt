@@ -28,6 +28,12 @@ pub record Known : Type 0 where
   pub opened : List (List ℕ)
   pub paths : Paths
   pub has_failed : Bool
+  -- whether the bytes of the file at a path are all on the disk
+  pub is_whole : List ℕ → Bool
+  -- what a crash of the machine may leave at a path now, and what one might have left there at this
+  -- moment or an earlier one
+  pub left : List ℕ → List (Option (List ℕ))
+  pub risked : List ℕ → List (Option (List ℕ))
 
 -- a change of a folder, where that is known
 abbrev pub Changes : (Known → Known → Type 0) → Option Known → Option Known → Type 0
@@ -38,6 +44,11 @@ Changes Change (Some k) (Some n) = Change k n
 -- nothing was changed
 abbrev pub Stays : Known → Known → Type 0
 Stays k n = n ≡ k
+
+-- nothing was changed but what a crash may leave
+abbrev pub Syncs : Known → Known → Type 0
+Syncs k n =
+    (n.at ≡ k.at) × (n.opened ≡ k.opened) × (n.paths ≡ k.paths) × (n.has_failed ≡ k.has_failed)
 
 -- the system failed, and nothing was changed
 abbrev pub Fails : Known → Known → Type 0

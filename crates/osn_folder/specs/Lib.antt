@@ -1,3 +1,4 @@
+pub mod Crash
 pub mod Folder
 pub mod FollowedFile
 pub mod FolderInside

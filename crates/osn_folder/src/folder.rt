@@ -6,7 +6,9 @@ ghost use Rattle.osn_folder.specs.Folder.{Known, Changes, Stays, Fails, IsFileOf
 ghost use Rattle.osn_folder.specs.Folder.{KeepsOthers, Becomes, IsKeptAt, Keeps, CannotKeep};
 ghost use Rattle.osn_folder.specs.Folder.{Leaves};
 ghost use Rattle.osn_folder.specs.Folder.{Locks, CannotLock, IsPlaceOf, LeavesAll, WritesBeside};
-ghost use Rattle.osn_folder.specs.Folder.{Compares, Moves, CannotMove, Spoils};
+ghost use Rattle.osn_folder.specs.Folder.{Compares, Moves, CannotMove, Spoils, Syncs};
+ghost use Rattle.osn_folder.specs.Crash.{LeavesSafe, LeavesAllSafe, LeavesOthersSafe};
+ghost use Rattle.osn_folder.specs.Crash.{WritesWhole, MovesWhole, SyncsName};
 
 use crate::fault::{ChangeFailed, KeepFault, MoveFault, OpenFailed, SaveFault};
 use crate::followed_file::FollowedFile;
@@ -44,7 +46,8 @@ pub trait Folder {
         ensures none { OnErr result (HasNoFile (known self.old) path.now) };
 
     /// Opens a file to be kept. It is made where no file is there, and locked, so that no other run
-    /// of the program keeps it or saves to it at the same time. The second part of the answer reads
+    /// of the program keeps it or saves to it at the same time. What it holds is on the disk then,
+    /// at its path, whatever made it and did not come to that. The second part of the answer reads
     /// the same open file, from its first byte on, as long as the first part has not changed it.
     ///
     /// # Errors
@@ -58,6 +61,8 @@ pub trait Folder {
             (λ kept. Self.File.remaining kept.1 ≡ Self.Keeper.contents kept.0) }
         ensures sound { IfOk result (λ kept. (Self.Keeper.fault kept.0 ≡ None)
             × (Self.File.has_failed kept.1 ≡ false)) }
+        ensures disk { IfOk result
+            (λ kept. Self.Keeper.synced kept.0 ≡ Self.Keeper.contents kept.0) }
         ensures ok { OnOk result (Changes (Keeps path.now) (known self.old) (known self.new)) }
         ensures err { IfErr result
             (λ why. Changes (CannotKeep path.now why) (known self.old) (known self.new)) };
@@ -96,7 +101,8 @@ pub trait Folder {
         ensures ok { IfOk result (λ place. Changes (IsPlaceOf path.now (string_bytes place))
             (known self.old) (known self.new)) }
         ensures err { IfErr result
-            (λ why. Changes (LeavesAll why) (known self.old) (known self.new)) };
+            (λ why. Changes (LeavesAll why) (known self.old) (known self.new)) }
+        ensures crash { Changes LeavesAllSafe (known self.old) (known self.new) };
 
     /// Whether something is there that is no file, as a pipe.
     fn is_stream(&self, path: &str) -> bool
@@ -120,13 +126,18 @@ pub trait Folder {
             Changes (WritesBeside place.now text.now (string_bytes path))
             (known self.old) (known self.new)) }
         ensures err { IfErr result
-            (λ why. Changes (LeavesAll why) (known self.old) (known self.new)) };
+            (λ why. Changes (LeavesAll why) (known self.old) (known self.new)) }
+        ensures whole { IfOk result (λ path. Changes (WritesWhole place.now (string_bytes path))
+            (known self.old) (known self.new)) }
+        ensures crash { OnErr result
+            (Changes (LeavesSafe place.now) (known self.old) (known self.new)) };
 
     /// Whether the file that is locked, at this place, holds exactly these bytes.
     fn holds(&mut self, lock: &Self::Lock, place: &str, bytes: &[u8]) -> Result<bool, ChangeFailed>
         ensures ok { IfOk result (λ same. Changes (Compares place.now bytes.now same)
             (known self.old) (known self.new)) }
-        ensures err { OnErr result (Changes Fails (known self.old) (known self.new)) };
+        ensures err { OnErr result (Changes Fails (known self.old) (known self.new)) }
+        ensures crash { Changes LeavesAllSafe (known self.old) (known self.new) };
 
     /// Puts a file at a place, if that still names the file that is locked, or still nothing where
     /// nothing was. A reader finds the place as it was or as it is then.
@@ -139,14 +150,23 @@ pub trait Folder {
         ensures ok { OnOk result
             (Changes (Moves from.now place.now) (known self.old) (known self.new)) }
         ensures err { IfErr result
-            (λ why. Changes (CannotMove place.now why) (known self.old) (known self.new)) };
+            (λ why. Changes (CannotMove place.now why) (known self.old) (known self.new)) }
+        ensures whole { OnOk result
+            (Changes (MovesWhole from.now place.now) (known self.old) (known self.new)) }
+        ensures crash { OnErr result
+            (Changes LeavesAllSafe (known self.old) (known self.new)) };
 
     /// Answers once it is on the disk which file is at a path.
     fn sync_name(&mut self, path: &str) -> Result<(), ChangeFailed>
-        ensures ok { OnOk result (Changes Stays (known self.old) (known self.new)) }
-        ensures err { OnErr result (Changes Fails (known self.old) (known self.new)) };
+        ensures ok { OnOk result (Changes Syncs (known self.old) (known self.new)) }
+        ensures err { OnErr result (Changes Fails (known self.old) (known self.new)) }
+        ensures name { OnOk result
+            (Changes (SyncsName path.now) (known self.old) (known self.new)) }
+        ensures crash { OnErr result
+            (Changes LeavesAllSafe (known self.old) (known self.new)) };
 
     /// Takes a file away, where it can be.
     fn remove(&mut self, path: &str)
-        ensures { Changes (Becomes path.now None) (known self.old) (known self.new) };
+        ensures becomes { Changes (Becomes path.now None) (known self.old) (known self.new) }
+        ensures crash { Changes (LeavesOthersSafe path.now) (known self.old) (known self.new) };
 }

@@ -1,7 +1,10 @@
 //! Saves a text in a file that was locked, whole or not at all.
-ghost use Rattle.std.specs.Prelude.{◌≡◌, Some, IfErr, OnOk, option_map};
+ghost use Rattle.std.specs.Prelude.{◌≡◌, Some, IfErr, OnErr, OnOk, option_map};
 ghost use Rattle.osn_folder.specs.Folder.{Changes, Stays, Fails, Saves, CannotSave};
-ghost use Rattle.osn_folder.specs.Folder.{SavesAt, CannotSaveAt};
+ghost use Rattle.osn_folder.specs.Folder.{SavesAt, CannotSaveAt, Syncs};
+ghost use Rattle.osn_folder.specs.Crash.{IsSafelySaved, CannotSafelySave, IsSafelySavedAt};
+ghost use Rattle.osn_folder.specs.Crash.{IsSafelyLeftAt, IsSafelyLeft, LeavesText};
+ghost use Rattle.osn_folder.specs.Crash.{LeavesAllSafe, MovesWhole, SyncsName};
 ghost use Rattle.osn_folder.specs.FolderInside.{ReplacesAt, CannotReplaceAt, HoldsLoaded};
 ghost use Rattle.osn_folder.specs.FolderInside.{MovesLoaded, CannotMoveLoaded};
 ghost use Rattle.osn_folder.specs.declared.fault.SaveFault.{SaveFault};
@@ -38,6 +41,10 @@ pub fn save_file<D: Folder>(
     ensures err { IfErr result (λ why.
         Changes (CannotSave path.now (option_map (λ bytes. bytes.now) loaded.entry) text.now why)
         (D.known folder.old) (D.known folder.new)) }
+    ensures safe { OnOk result (Changes (IsSafelySaved path.now text.now)
+        (D.known folder.old) (D.known folder.new)) }
+    ensures crash { IfErr result (λ why. Changes (CannotSafelySave path.now text.now why)
+        (D.known folder.old) (D.known folder.new)) }
 {
     let place = folder.place(alloc, path)?;
     save_at(folder, alloc, lock, place.as_str(), loaded, text)
@@ -57,6 +64,10 @@ fn save_at<D: Folder>(
         (D.known folder.old) (D.known folder.new)) }
     ensures err { IfErr result (λ why. Changes (CannotSaveAt place.now
         (option_map (λ bytes. bytes.now) loaded.entry) text.now why)
+        (D.known folder.old) (D.known folder.new)) }
+    ensures safe { OnOk result (Changes (IsSafelySavedAt place.now text.now)
+        (D.known folder.old) (D.known folder.new)) }
+    ensures crash { IfErr result (λ why. Changes (IsSafelyLeftAt place.now text.now why)
         (D.known folder.old) (D.known folder.new)) }
 {
     if folder.is_stream(place) {
@@ -81,6 +92,10 @@ fn save_as_file<D: Folder>(
     ensures err { IfErr result (λ why. Changes (CannotReplaceAt place.now
         (option_map (λ bytes. bytes.now) loaded.entry) text.now why)
         (D.known folder.old) (D.known folder.new)) }
+    ensures safe { OnOk result (Changes (LeavesText place.now text.now)
+        (D.known folder.old) (D.known folder.new)) }
+    ensures crash { IfErr result (λ why. Changes (IsSafelyLeft place.now text.now why)
+        (D.known folder.old) (D.known folder.new)) }
 {
     let beside = folder.write_beside(alloc, place, text)?;
     match move_loaded(folder, lock, beside.as_str(), place, loaded) {
@@ -95,9 +110,13 @@ fn save_as_file<D: Folder>(
 
 /// Has it on the disk which file is at a place.
 fn sync_saved<D: Folder>(folder: &mut D, place: &str) -> Result<(), SaveFault>
-    ensures ok { OnOk result (Changes Stays (D.known folder.old) (D.known folder.new)) }
+    ensures ok { OnOk result (Changes Syncs (D.known folder.old) (D.known folder.new)) }
     ensures err { IfErr result (λ why. (why ≡ SaveFault.NotSynced)
         × Changes Fails (D.known folder.old) (D.known folder.new)) }
+    ensures safe { OnOk result
+        (Changes (SyncsName place.now) (D.known folder.old) (D.known folder.new)) }
+    ensures crash { OnErr result
+        (Changes LeavesAllSafe (D.known folder.old) (D.known folder.new)) }
 {
     match folder.sync_name(place) {
         Ok(()) => Ok(()),
@@ -117,6 +136,7 @@ fn check_loaded<D: Folder>(
     ensures err { IfErr result (λ why.
         Changes (CannotMoveLoaded place.now (option_map (λ bytes. bytes.now) loaded.entry) why)
         (D.known folder.old) (D.known folder.new)) }
+    ensures crash { Changes LeavesAllSafe (D.known folder.old) (D.known folder.new) }
 {
     match loaded {
         Some(bytes) => check_bytes(folder, lock, place, bytes),
@@ -135,6 +155,7 @@ fn check_bytes<D: Folder>(
         (D.known folder.old) (D.known folder.new)) }
     ensures err { IfErr result (λ why. Changes (CannotMoveLoaded place.now (Some bytes.now) why)
         (D.known folder.old) (D.known folder.new)) }
+    ensures crash { Changes LeavesAllSafe (D.known folder.old) (D.known folder.new) }
 {
     if folder.holds(lock, place, bytes)? {
         Ok(())
@@ -157,6 +178,10 @@ fn move_loaded<D: Folder>(
     ensures err { IfErr result (λ why.
         Changes (CannotMoveLoaded place.now (option_map (λ bytes. bytes.now) loaded.entry) why)
         (D.known folder.old) (D.known folder.new)) }
+    ensures safe { OnOk result (Changes (MovesWhole from.now place.now)
+        (D.known folder.old) (D.known folder.new)) }
+    ensures crash { OnErr result
+        (Changes LeavesAllSafe (D.known folder.old) (D.known folder.new)) }
 {
     check_loaded(folder, &lock, place, loaded)?;
     folder.replace(lock, from, place)

@@ -36,13 +36,13 @@ use Rattle.osn_follower.specs.Outcomes as specs
 -- ---- lines in turn
 
 -- what a line makes that has no fault
-record Goes {S T : Type 0} (r : Result S LineFault) (next : S → Result T (ℕ × LineFault)) (t : T)
+pub record Goes {S T : Type 0} (r : Result S LineFault) (next : S → Result T (ℕ × LineFault)) (t : T)
     : Type 0 where
-  now : S
-  is : r ≡ Ok now
-  rest : next now ≡ Ok t
+  pub now : S
+  pub is : r ≡ Ok now
+  pub rest : next now ≡ Ok t
 
-goes : {S T : Type 0} (n : ℕ) (r : Result S LineFault) (next : S → Result T (ℕ × LineFault))
+pub goes : {S T : Type 0} (n : ℕ) (r : Result S LineFault) (next : S → Result T (ℕ × LineFault))
     (t : T) → go_on n r next ≡ Ok t → Goes r next t
 goes n (Ok s) next t h = record { now = s; is = refl; rest = h }
 goes n (Err f) next t h = absurd (cc)

@@ -1,4 +1,4 @@
--- A journal that grows keeps its editions.
+-- A journal that grows keeps its editions, and so does what a crash leaves of it.
 use Rattle.std.proofs.Common.{◌≡◌, ◌∙◌, ◌+◌, ℕ, List, [], ◌∷◌, ◌++◌, Some, None, Option, Result, Ok}
 use Rattle.std.proofs.Common.{Err}
 use Rattle.std.proofs.Common.{refl, sym, ap, subst, append-nil, append_assoc}
@@ -19,9 +19,11 @@ use Rattle.osn_files.specs.Journal.{after_command, after_object, unless_refused}
 use Rattle.osn_files.specs.Turns.{on_read, go_on, in_turn}
 use Rattle.osn_files.specs.Version.{version_of}
 use Rattle.osn_files.specs.declared.fault.LineFault.{LineFault}
-use Rattle.osn_follower.specs.Law.{BeginsWith, DoEditionsNeverFall}
+use Rattle.osn_folder.specs.FollowedFile.{IsOfWholeLines}
+use Rattle.osn_follower.specs.Law.{BeginsWith, DoEditionsNeverFall, DoSyncedEditionsStay}
+use Rattle.osn_follower.specs.Law.{IsBetween}
 use Rattle.osn_follower.specs.Outcomes as specs
-use Rattle.osn_follower.proofs.JournalLemmas.{goes_on_from, lines-whole}
+use Rattle.osn_follower.proofs.JournalLemmas.{goes, goes_on_from, lines-whole, whole-append}
 
 same : (s : ObjectState) → BeginsWith s s
 same s = record { later = []; batches = sym (append-nil s.batches) }
@@ -107,3 +109,49 @@ unfolding DoEditionsNeverFall
 editions_never_fall limits file more s t whole h k =
     by_file limits s t (lines file) (lines more) h
     (sym (ap (specs.object_of limits) (lines-whole file more whole)) ∙ k)
+
+-- the first of lines that are loaded are loaded
+first_lines : (n : ℕ) (version : Version) (s t : ObjectState) (xs ys : List (List ℕ))
+    → in_turn (after_object newest_rules) n (Some version) s (xs ++ ys) ≡ Ok t
+    → (u : ObjectState) × (in_turn (after_object newest_rules) n (Some version) s xs ≡ Ok u)
+first_lines n version s t [] ys h = (s, refl)
+first_lines n version s t (x ∷ xs) ys h =
+    let first =
+    goes n (on_read (object_of x) (after_object newest_rules version s))
+    (λ u. in_turn (after_object newest_rules) (n + 1) (Some version) u (xs ++ ys)) t h in
+    let more = first_lines (n + 1) version first.now t xs ys first.rest in (
+      more.0,
+      ap (λ r. go_on n r (λ u. in_turn (after_object newest_rules) (n + 1) (Some version) u xs))
+          first.is ∙ more.1,
+    )
+
+first_file : (limits : Limits) (t : ObjectState) (xs ys : List (List ℕ))
+    → specs.object_of limits (xs ++ ys) ≡ Ok t
+    → (u : ObjectState) × (specs.object_of limits xs ≡ Ok u)
+first_file limits t [] ys h = (opened limits, refl)
+first_file limits t (head ∷ xs) ys h = headed (version_of head) h
+  where
+    headed : (r : Result Version WireFault)
+        → go_on 1 (on_read r Ok)
+        (λ version. in_turn (after_object newest_rules) 2 (Some version) (opened limits) (xs ++ ys))
+        ≡ Ok t
+        → (u : ObjectState) × (go_on 1 (on_read r Ok) (λ version.
+        in_turn (after_object newest_rules) 2 (Some version) (opened limits) xs)
+        ≡ Ok u)
+    headed (Ok version) h = first_lines 2 version (opened limits) t xs ys h
+    headed (Err f) h = absurd (cc)
+
+pub synced_editions_stay : DoSyncedEditionsStay
+unfolding DoSyncedEditionsStay DoEditionsNeverFall
+synced_editions_stay limits synced front rest s t whole front_whole h k =
+    let left = synced ++ front in
+    let all_whole : IsOfWholeLines left = whole-append synced front whole front_whole in
+    let by_lines : specs.object_of limits (lines left ++ lines rest) ≡ Ok t =
+    sym (ap (specs.object_of limits) (lines-whole left rest all_whole)) ∙ k in
+    let found = first_file limits t (lines left) (lines rest) by_lines in
+    record {
+      object = found.0;
+      shown = found.1;
+      keeps = editions_never_fall limits synced front s found.0 whole h found.1;
+      no_more = editions_never_fall limits left rest found.0 t all_whole found.1 k;
+    }

@@ -7,7 +7,7 @@ ghost use Rattle.osn_reply.specs.declared.outcome.Outcome.{Outcome};
 ghost use Rattle.osn_follower.specs.Arrivals.{Arrival, Arrive};
 ghost use Rattle.osn_follower.specs.Follows.{Follows};
 ghost use Rattle.osn_follower.specs.FollowerInside.{HasFew, IsFollowing};
-ghost use Rattle.osn_follower.specs.Law.{DoEditionsNeverFall};
+ghost use Rattle.osn_follower.specs.Law.{DoEditionsNeverFall, DoSyncedEditionsStay};
 ghost use Rattle.osn_follower.specs.RoundInside.{Answers, Comes, ComesNot, IsReadOf, IsUnreadOf};
 ghost use Rattle.osn_follower.specs.RoundInside.{Loads, LoadsNot, IsUnloaded, GoesOn, IsOver};
 ghost use Rattle.osn_follower.specs.RoundInside.{IsInterrupted};
@@ -224,7 +224,7 @@ fn answer_next<A: Arrivals, W: Sink>(
 /// The lines that were read since the last look are not answered then. `Serve` with `NoMemory`,
 /// with `ReadFault` where the input failed or gave no end within 4,294,967,295 reads, or
 /// `WriteFault`.
-#[tactic(auto, using(crate::proofs::LawLemmas::editions_never_fall))]
+#[tactic(auto, using(crate::proofs::LawLemmas::editions_never_fall, crate::proofs::LawLemmas::synced_editions_stay))]
 pub fn follow<A: Arrivals, W: Sink>(
     alloc: Global,
     limits: Limits,
@@ -238,6 +238,8 @@ pub fn follow<A: Arrivals, W: Sink>(
         (output_of W.contents W.has_failed W.holds_back sink.old sink.new) result }
     // as a law: what a file shows once it has gained more begins with what it showed
     ensures never_fall { DoEditionsNeverFall }
+    // as a law: whatever a crash leaves of it shows no fewer than what was synced
+    ensures stay { DoSyncedEditionsStay }
 {
     let rules = ServeRules {
         readers,

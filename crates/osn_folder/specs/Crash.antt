@@ -1,0 +1,72 @@
+-- What a crash of the machine may leave of a folder. What was synced stays. A name that was changed
+-- since may be as it is or as it was.
+use Rattle.std.specs.Prelude.{◌≡◌, ◌≢◌, ℕ, true, false, List, [], ◌∷◌, ◌++◌, Option, Some}
+use Rattle.osn_folder.specs.Folder.{Known}
+use Rattle.osn_folder.specs.declared.fault.SaveFault.{SaveFault}
+use Rattle.osn_folder.specs.declared.fault.SaveFault.TheVariants as saves
+
+-- ---- of calls
+
+-- what a crash may leave at this path is as it was, and so is what one might have left before
+abbrev pub LeavesSafe : List ℕ → Known → Known → Type 0
+LeavesSafe path k n = (n.left path ≡ k.left path) × (n.risked path ≡ k.risked path)
+
+-- so it is at each path, and nothing of it was written
+abbrev pub LeavesAllSafe : Known → Known → Type 0
+LeavesAllSafe k n =
+    (n.left ≡ k.left) × (n.risked ≡ k.risked) × (n.is_whole ≡ k.is_whole)
+
+-- so it is at each path but this one
+abbrev pub LeavesOthersSafe : List ℕ → Known → Known → Type 0
+LeavesOthersSafe path k n = (other : List ℕ) → other ≢ path → LeavesSafe other k n
+
+-- the file of this path has all its bytes on the disk, whatever its name is after a crash, and
+-- another place is safe
+abbrev pub WritesWhole : List ℕ → List ℕ → Known → Known → Type 0
+WritesWhole place path k n = LeavesSafe place k n × (n.is_whole path ≡ true)
+
+-- a file was put at another path. Where it was whole, a crash leaves it there, or what it might
+-- have left there before
+abbrev pub MovesWhole : List ℕ → List ℕ → Known → Known → Type 0
+MovesWhole from to k n =
+    from ≢ to → k.is_whole from ≡ true
+    → (n.is_whole to ≡ true) × (n.left to ≡ k.left to ++ k.at from ∷ [])
+    × (n.risked to ≡ k.risked to ++ k.at from ∷ [])
+
+-- the name of the file at this path is on the disk. Where the file is whole, a crash leaves it
+abbrev pub SyncsName : List ℕ → Known → Known → Type 0
+SyncsName path k n =
+    (n.risked path ≡ k.risked path) × (k.is_whole path ≡ true → n.left path ≡ k.at path ∷ [])
+
+-- ---- of a save
+
+-- whenever the machine crashed, this place was left with what it might have been left with before
+-- the save, or with the text, whole; from now on with the text
+abbrev pub LeavesText : List ℕ → List ℕ → Known → Known → Type 0
+LeavesText place text k n =
+    (n.left place ≡ Some text ∷ []) × (n.risked place ≡ k.risked place ++ Some text ∷ [])
+
+abbrev pub IsSafelySavedAt : List ℕ → List ℕ → Known → Known → Type 0
+IsSafelySavedAt place text k n =
+    k.paths.is_stream place ≡ false → LeavesText place text k n
+
+-- the same where the save failed for this reason: the text may be left only where it stands there
+-- and its name is not synced
+abbrev pub IsSafelyLeft : List ℕ → List ℕ → SaveFault → Known → Known → Type 0
+IsSafelyLeft place text saves.NoMemory k n = LeavesSafe place k n
+IsSafelyLeft place text saves.WriteFault k n = LeavesSafe place k n
+IsSafelyLeft place text saves.NotSynced k n =
+    (n.left place ≡ k.left place ++ Some text ∷ [])
+    × (n.risked place ≡ k.risked place ++ Some text ∷ [])
+IsSafelyLeft place text (saves.Changed unfinished) k n = LeavesSafe place k n
+
+abbrev pub IsSafelyLeftAt : List ℕ → List ℕ → SaveFault → Known → Known → Type 0
+IsSafelyLeftAt place text fault k n =
+    k.paths.is_stream place ≡ false → IsSafelyLeft place text fault k n
+
+-- the same of the place where a path leads
+abbrev pub IsSafelySaved : List ℕ → List ℕ → Known → Known → Type 0
+IsSafelySaved path text k n = IsSafelySavedAt (k.paths.place path) text k n
+
+abbrev pub CannotSafelySave : List ℕ → List ℕ → SaveFault → Known → Known → Type 0
+CannotSafelySave path text fault k n = IsSafelyLeftAt (k.paths.place path) text fault k n
