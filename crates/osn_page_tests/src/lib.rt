@@ -25,6 +25,8 @@ mod meanings;
 #[cfg(test)]
 mod places;
 #[cfg(test)]
+mod rare_rows;
+#[cfg(test)]
 mod readings;
 #[cfg(test)]
 mod source_pages;
