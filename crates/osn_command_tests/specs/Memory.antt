@@ -40,12 +40,13 @@ known_of synced unsynced opened = record {
   paths = plain_paths;
   has_failed = false;
   is_whole = λ _. true;
-  left = λ path. holds synced path ∷ left_in_turn unsynced path;
-  risked = left_in_turn (synced ++ unsynced);
+  may_leave = λ path. holds synced path ∷ left_in_turn unsynced path;
+  might_have_left = left_in_turn (synced ++ unsynced);
 }
 
 -- this is the last of what a path was left with, and each other path is as safe as it was
 abbrev pub LeavesLast : List ℕ → Option (List ℕ) → Known → Known → Type 0
 LeavesLast path file k n =
-    (n.left path ≡ k.left path ++ file ∷ []) × (n.risked path ≡ k.risked path ++ file ∷ [])
+    (n.may_leave path ≡ k.may_leave path ++ file ∷ [])
+    × (n.might_have_left path ≡ k.might_have_left path ++ file ∷ [])
     × LeavesOthersSafe path k n

@@ -1,6 +1,7 @@
 //! A folder in memory, of which everything is known: what its files hold, which were opened, and
 //! what a crash of the machine may leave. It has no links and no pipes.
 ghost use Rattle.std.specs.Prelude.{◌≡◌, ◌∷◌, ◌++◌, [], Some, fold, option_map, string_bytes};
+ghost use Rattle.osn_folder.specs.Crash.{LeavesAllSafe};
 ghost use Rattle.osn_folder.specs.Folder.{Becomes, Opens};
 ghost use Rattle.osn_command_tests.specs.Memory.{holds, known_of, left_by, LeavesLast};
 
@@ -77,7 +78,10 @@ impl<'a, R: Abort + AllocGlobal> MemoryFolder<'a, R> {
 
     /// Notes that a path was opened.
     fn note(&mut self, path: &str)
-        ensures { Opens (path.now ∷ [])
+        ensures opens { Opens (path.now ∷ [])
+            (known_of self.old.synced.items self.old.unsynced.items self.old.opened.items)
+            (known_of self.new.synced.items self.new.unsynced.items self.new.opened.items) }
+        ensures safe { LeavesAllSafe
             (known_of self.old.synced.items self.old.unsynced.items self.old.opened.items)
             (known_of self.new.synced.items self.new.unsynced.items self.new.opened.items) }
     {

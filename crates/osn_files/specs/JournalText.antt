@@ -102,7 +102,7 @@ give_source = list_any gives_source
 abbrev pub gives_any_source : ObjectState → Bool
 gives_any_source s = list_any give_source s.batches || give_source s.pending
 
--- the version that a journal's head says: the third where an edit gives a source, and nowhere else
+-- the version that a journal's head says: the fourth where an edit gives a source, and nowhere else
 abbrev pub version_for : ObjectState → Version
 version_for s = if gives_any_source s then Fourth else plain_version
 

@@ -1,7 +1,7 @@
 -- What a crash of the machine may leave of a folder. What was synced stays. A name that was changed
 -- since may be as it is or as it was.
 use Rattle.std.specs.Prelude.{◌≡◌, ◌≢◌, ℕ, true, false, List, [], ◌∷◌, ◌++◌, Option, Some}
-use Rattle.osn_folder.specs.Folder.{Known}
+use Rattle.osn_folder.specs.Folder.{Known, Changes, Saves, CannotSave}
 use Rattle.osn_folder.specs.declared.fault.SaveFault.{SaveFault}
 use Rattle.osn_folder.specs.declared.fault.SaveFault.TheVariants as saves
 
@@ -9,12 +9,14 @@ use Rattle.osn_folder.specs.declared.fault.SaveFault.TheVariants as saves
 
 -- what a crash may leave at this path is as it was, and so is what one might have left before
 abbrev pub LeavesSafe : List ℕ → Known → Known → Type 0
-LeavesSafe path k n = (n.left path ≡ k.left path) × (n.risked path ≡ k.risked path)
+LeavesSafe path k n =
+    (n.may_leave path ≡ k.may_leave path) × (n.might_have_left path ≡ k.might_have_left path)
 
 -- so it is at each path, and nothing of it was written
 abbrev pub LeavesAllSafe : Known → Known → Type 0
 LeavesAllSafe k n =
-    (n.left ≡ k.left) × (n.risked ≡ k.risked) × (n.is_whole ≡ k.is_whole)
+    (n.may_leave ≡ k.may_leave) × (n.might_have_left ≡ k.might_have_left)
+    × (n.is_whole ≡ k.is_whole)
 
 -- so it is at each path but this one
 abbrev pub LeavesOthersSafe : List ℕ → Known → Known → Type 0
@@ -30,13 +32,14 @@ WritesWhole place path k n = LeavesSafe place k n × (n.is_whole path ≡ true)
 abbrev pub MovesWhole : List ℕ → List ℕ → Known → Known → Type 0
 MovesWhole from to k n =
     from ≢ to → k.is_whole from ≡ true
-    → (n.is_whole to ≡ true) × (n.left to ≡ k.left to ++ k.at from ∷ [])
-    × (n.risked to ≡ k.risked to ++ k.at from ∷ [])
+    → (n.is_whole to ≡ true) × (n.may_leave to ≡ k.may_leave to ++ k.at from ∷ [])
+    × (n.might_have_left to ≡ k.might_have_left to ++ k.at from ∷ [])
 
 -- the name of the file at this path is on the disk. Where the file is whole, a crash leaves it
 abbrev pub SyncsName : List ℕ → Known → Known → Type 0
 SyncsName path k n =
-    (n.risked path ≡ k.risked path) × (k.is_whole path ≡ true → n.left path ≡ k.at path ∷ [])
+    (n.might_have_left path ≡ k.might_have_left path)
+    × (k.is_whole path ≡ true → n.may_leave path ≡ k.at path ∷ [])
 
 -- ---- of a save
 
@@ -44,7 +47,8 @@ SyncsName path k n =
 -- the save, or with the text, whole; from now on with the text
 abbrev pub LeavesText : List ℕ → List ℕ → Known → Known → Type 0
 LeavesText place text k n =
-    (n.left place ≡ Some text ∷ []) × (n.risked place ≡ k.risked place ++ Some text ∷ [])
+    (n.may_leave place ≡ Some text ∷ [])
+    × (n.might_have_left place ≡ k.might_have_left place ++ Some text ∷ [])
 
 abbrev pub IsSafelySavedAt : List ℕ → List ℕ → Known → Known → Type 0
 IsSafelySavedAt place text k n =
@@ -56,8 +60,8 @@ abbrev pub IsSafelyLeft : List ℕ → List ℕ → SaveFault → Known → Know
 IsSafelyLeft place text saves.NoMemory k n = LeavesSafe place k n
 IsSafelyLeft place text saves.WriteFault k n = LeavesSafe place k n
 IsSafelyLeft place text saves.NotSynced k n =
-    (n.left place ≡ k.left place ++ Some text ∷ [])
-    × (n.risked place ≡ k.risked place ++ Some text ∷ [])
+    (n.may_leave place ≡ k.may_leave place ++ Some text ∷ [])
+    × (n.might_have_left place ≡ k.might_have_left place ++ Some text ∷ [])
 IsSafelyLeft place text (saves.Changed unfinished) k n = LeavesSafe place k n
 
 abbrev pub IsSafelyLeftAt : List ℕ → List ℕ → SaveFault → Known → Known → Type 0
@@ -70,3 +74,16 @@ IsSafelySaved path text k n = IsSafelySavedAt (k.paths.place path) text k n
 
 abbrev pub CannotSafelySave : List ℕ → List ℕ → SaveFault → Known → Known → Type 0
 CannotSafelySave path text fault k n = IsSafelyLeftAt (k.paths.place path) text fault k n
+
+-- ---- of a save where a folder may not be known
+
+-- the text was saved where the path leads, and a crash leaves what is told of it
+abbrev pub SavesSafely : List ℕ → Option (List ℕ) → List ℕ → Option Known → Option Known → Type 0
+SavesSafely path loaded text old new =
+    Changes (Saves path loaded text) old new × Changes (IsSafelySaved path text) old new
+
+abbrev pub CannotSaveSafely : List ℕ → Option (List ℕ) → List ℕ → SaveFault → Option Known
+    → Option Known → Type 0
+CannotSaveSafely path loaded text fault old new =
+    Changes (CannotSave path loaded text fault) old new
+    × Changes (CannotSafelySave path text fault) old new

@@ -32,8 +32,8 @@ pub record Known : Type 0 where
   pub is_whole : List ℕ → Bool
   -- what a crash of the machine may leave at a path now, and what one might have left there at this
   -- moment or an earlier one
-  pub left : List ℕ → List (Option (List ℕ))
-  pub risked : List ℕ → List (Option (List ℕ))
+  pub may_leave : List ℕ → List (Option (List ℕ))
+  pub might_have_left : List ℕ → List (Option (List ℕ))
 
 -- a change of a folder, where that is known
 abbrev pub Changes : (Known → Known → Type 0) → Option Known → Option Known → Type 0

@@ -43,7 +43,8 @@ pub trait Folder {
         ensures opened { Changes (Opens (path.now ∷ [])) (known self.old) (known self.new) }
         ensures file { IfOk result
             (λ file. IsFileOf (known self.old) path.now (Self.File.remaining file)) }
-        ensures none { OnErr result (HasNoFile (known self.old) path.now) };
+        ensures none { OnErr result (HasNoFile (known self.old) path.now) }
+        ensures crash { Changes LeavesAllSafe (known self.old) (known self.new) };
 
     /// Opens a file to be kept. It is made where no file is there, and locked, so that no other run
     /// of the program keeps it or saves to it at the same time. What it holds is on the disk then,

@@ -2,8 +2,9 @@
 //! and those that are kept. What the crate promises to those above, of a folder that is known:
 //! `open_file`, `open_both` and `open_if` open the files that are named and no others. `save_file`
 //! puts a text in the place of a file that was locked, whole or not at all, and of none that anyone
-//! else has changed. A file may also be kept, to be appended to while a program runs, or followed,
-//! to be read while another run appends to it.
+//! else has changed. A crash of the machine leaves the file that was there, or the text. A file may
+//! also be kept, to be appended to while a program runs, or followed, to be read while another run
+//! appends to it.
 #![tactic(auto)]
 
 mod disk;

@@ -1,5 +1,6 @@
 //! Opens the files that are read, in their order.
 ghost use Rattle.std.specs.Prelude.{◌≡◌, ◌∷◌, [], IfOk, OnOk, OnErr, option_map};
+ghost use Rattle.osn_folder.specs.Crash.{LeavesAllSafe};
 ghost use Rattle.osn_folder.specs.Folder.{Changes, IsFileOf, IsFileIf, Opens, CannotOpen, path_if};
 
 use crate::fault::OpenFailed;
@@ -17,6 +18,7 @@ pub fn open_file<D: Folder>(folder: &mut D, path: &str) -> Result<D::File, OpenF
         (Changes (Opens (path.now ∷ [])) (D.known folder.old) (D.known folder.new)) }
     ensures err { OnErr result
         (CannotOpen (path.now ∷ []) (D.known folder.old) (D.known folder.new)) }
+    ensures crash { Changes LeavesAllSafe (D.known folder.old) (D.known folder.new) }
 {
     folder.open(path)
 }
@@ -39,6 +41,7 @@ pub fn open_both<D: Folder>(
         (D.known folder.old) (D.known folder.new)) }
     ensures err { OnErr result (CannotOpen (first.now ∷ second.now ∷ [])
         (D.known folder.old) (D.known folder.new)) }
+    ensures crash { Changes LeavesAllSafe (D.known folder.old) (D.known folder.new) }
 {
     let one = open_file(folder, first)?;
     let other = open_file(folder, second)?;
@@ -57,6 +60,7 @@ pub fn open_if<D: Folder>(folder: &mut D, path: Option<&str>) -> Result<Option<D
         (D.known folder.old) (D.known folder.new)) }
     ensures err { OnErr result (CannotOpen (path_if (option_map (λ path. path.now) path.entry))
         (D.known folder.old) (D.known folder.new)) }
+    ensures crash { Changes LeavesAllSafe (D.known folder.old) (D.known folder.new) }
 {
     match path {
         Some(path) => Ok(Some(open_file(folder, path)?)),

@@ -36,8 +36,8 @@ use Rattle.osn_follower.specs.Outcomes as specs
 -- ---- lines in turn
 
 -- what a line makes that has no fault
-pub record Goes {S T : Type 0} (r : Result S LineFault) (next : S → Result T (ℕ × LineFault)) (t : T)
-    : Type 0 where
+pub record Goes {S T : Type 0} (r : Result S LineFault) (next : S → Result T (ℕ × LineFault))
+    (t : T) : Type 0 where
   pub now : S
   pub is : r ≡ Ok now
   pub rest : next now ≡ Ok t

@@ -127,7 +127,8 @@ module _ (rules : ServeRules) (f g : Follower) (bytes gained text : List ℕ)
         (Ok (record { lines = f.lines + n; refused = false }))
     unfolding more
     ends-all now n last wrote spared =
-        subst (λ (l : List Outcome). Ends rules limits (arrivals ++ round_of bytes gained) l begun now
+        subst (λ (l : List Outcome).
+        Ends rules limits (arrivals ++ round_of bytes gained) l begun now
         (Ok (record { lines = f.lines + n; refused = false }))) (sym outcomes-now) (
           subst (λ (k : ℕ). WritesAll (all ++ more) begun now (k + n)) (sym h.count)
               (all-after begun old now all h.written more n wrote),
@@ -150,7 +151,8 @@ module _ (rules : ServeRules) (f g : Follower) (bytes gained text : List ℕ)
         (Ok (record { lines = f.lines + n; refused = true }))
     unfolding more
     ends-refused now n stop wrote refused =
-        subst (λ (l : List Outcome). Ends rules limits (arrivals ++ round_of bytes gained) l begun now
+        subst (λ (l : List Outcome).
+        Ends rules limits (arrivals ++ round_of bytes gained) l begun now
         (Ok (record { lines = f.lines + n; refused = true }))) (sym outcomes-now)
         (subst (λ (k : ℕ). WritesFirst (all ++ more) begun now (k + n)
         × IsFirstRefused (all ++ more) (k + n)
@@ -167,7 +169,8 @@ module _ (rules : ServeRules) (f g : Follower) (bytes gained text : List ℕ)
         (Err (record { lines = f.lines + n; cause = Serve why }))
     unfolding more
     ends-early now n why h2 =
-        subst (λ (l : List Outcome). Ends rules limits (arrivals ++ round_of bytes gained) l begun now
+        subst (λ (l : List Outcome).
+        Ends rules limits (arrivals ++ round_of bytes gained) l begun now
         (Err (record { lines = f.lines + n; cause = Serve why }))) (sym outcomes-now)
         (subst (λ (k : ℕ). MatchFault why (WritesFirst (all ++ more) begun now (k + n))
         (WritesAll (all ++ more) begun now (k + n))

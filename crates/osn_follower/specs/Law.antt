@@ -1,5 +1,5 @@
--- A journal that grows keeps its editions: what a follower shows never falls, and what was synced of
--- it shows no fewer after a crash of the machine.
+-- A journal that grows keeps its editions: what a follower shows never falls, and what was synced
+-- of it shows no fewer after a crash of the machine.
 use Rattle.std.specs.Prelude.{◌≡◌, ℕ, List, ◌++◌, Ok}
 use Rattle.osn_register.specs.declared.edit.Edit.{Edit}
 use Rattle.osn_register.specs.declared.limits.Limits.{Limits}

@@ -23,8 +23,8 @@ pub trait Arrivals {
         ensures err { OnErr result (Arrive (arrived self.old) (arrived self.new) []) };
 
     /// Lines that the file holds now after those of the looks before, in order. There are none
-    /// where no file has been there yet. A last line without its line feed waits, and so may what is more
-    /// than a look reads.
+    /// where no file has been there yet. A last line without its line feed waits, and so may what
+    /// is more than a look reads.
     ///
     /// # Errors
     ///

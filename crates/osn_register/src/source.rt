@@ -77,7 +77,7 @@ impl Source {
     ///
     /// # Errors
     ///
-    /// Only where no memory is found, of which no source takes none.
+    /// Only where no memory is found. None is asked for where there is no source.
     pub fn copy_if_given(source: &Option<Source>) -> Result<Option<Source>, AllocError>
         ensures value { IfOk result (λ s. s ≡ source.now) }
         ensures allowed { IsGiven source.now }

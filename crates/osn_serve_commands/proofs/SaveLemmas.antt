@@ -8,7 +8,8 @@ use Rattle.std.proofs.lemmas.Option.{same_Some}
 use Rattle.osn_core.specs.Sequential.{ObjectState}
 use Rattle.osn_register.specs.declared.limits.Limits.{Limits}
 use Rattle.osn_files.specs.JournalText.{journal_text}
-use Rattle.osn_folder.specs.Folder.{Known, Changes, Saves, CannotSave, CannotOpen, IsFileIf}
+use Rattle.osn_folder.specs.Crash.{LeavesAllSafe, SavesSafely, CannotSaveSafely}
+use Rattle.osn_folder.specs.Folder.{Known, Changes, CannotOpen, IsFileIf}
 use Rattle.osn_folder.specs.Folder.{IsFileOf, MayFail, Opens, path_if}
 use Rattle.osn_folder.specs.declared.fault.SaveFault.{SaveFault}
 use Rattle.osn_lines.specs.Streams.{Input, Output, output_of}
@@ -90,9 +91,9 @@ module _ {E D J P : Type 0} (contents : E → Option (List ℕ)) (has_failed hol
   abbrev SavesOne : P → J → Type 0
   SavesOne path text =
       ((is ≡ was) × (new ≡ mid)
-      × Changes (Saves (now path) loaded (bytes text)) (known opened) (known after))
+      × SavesSafely (now path) loaded (bytes text) (known opened) (known after))
       ⊎ ((fault : SaveFault)
-      × Changes (CannotSave (now path) loaded (bytes text) fault) (known opened) (known after)
+      × CannotSaveSafely (now path) loaded (bytes text) fault (known opened) (known after)
       × TellsUnsaved (output_of contents has_failed holds_back mid new) fault is)
 
   abbrev SavesBoth : Option P → Option J → Type 0
@@ -126,13 +127,13 @@ module _ {E D J P : Type 0} (contents : E → Option (List ℕ)) (has_failed hol
       inr (inl (
         as_before contents has_failed holds_back old mid new was is (λ e status. Ends e None status)
             saved.0 saved.1 h,
-        subst (λ l. Changes (Saves (now path) loaded l) (known opened) (known after)) same saved.2,
+        subst (λ l. SavesSafely (now path) loaded l (known opened) (known after)) same saved.2,
       ))
   one_saved t path text same h (inr told) =
       inr (inr (
         told.0,
-        subst (λ l. Changes (CannotSave (now path) loaded l told.0) (known opened) (known after))
-            same told.1,
+        subst (λ l. CannotSaveSafely (now path) loaded l told.0 (known opened) (known after)) same
+            told.1,
         unsaved_told told.0 h.1 told.2,
       ))
 
@@ -273,15 +274,17 @@ module _ (limits : Limits) (journal save found : Option (List ℕ)) (given rules
   pub service_ran : (begun : Option Input) → replaced_path journal save ≡ None
       → IsFileIf d.before journal (option_map (λ journal. journal.bytes) begun)
       → CanFailIf CanFail begun → Changes (Opens (path_if journal)) d.before opened
+      → Changes LeavesAllSafe d.before opened
       → EndsServing limits found given begun None opened d.after i o e status
       → RunsService limits journal save rules CanFail d i o e status
-  service_ran begun none file fails opens h = record {
+  service_ran begun none file fails opens crash h = record {
     begun = begun;
     opened = opened;
     loaded = None;
     file = file;
     fails = fails;
     opens = opens;
+    crash = crash;
     stands = rw none refl;
     ended = inr (as_asked begun None h);
   }
@@ -289,10 +292,10 @@ module _ (limits : Limits) (journal save found : Option (List ℕ)) (given rules
   -- it was run, and the file that it began with is replaced
   pub replacing_ran : (path : List ℕ) (file : Input) → replaced_path journal save ≡ Some path
       → IsFileOf d.before path file.bytes → CanFail file.unread → CanFail false
-      → Changes (Opens (path ∷ [])) d.before opened
+      → Changes (Opens (path ∷ [])) d.before opened → Changes LeavesAllSafe d.before opened
       → ReplacesRead limits found given file opened d.after i o e status
       → RunsService limits journal save rules CanFail d i o e status
-  replacing_ran path file is given_file fails sound opens (inl none) =
+  replacing_ran path file is given_file fails sound opens crash (inl none) =
       let journal_is = replaces_journal journal save path is in record {
         begun = Some file;
         opened = opened;
@@ -300,10 +303,11 @@ module _ (limits : Limits) (journal save found : Option (List ℕ)) (given rules
         file = rw journal_is (file.bytes, refl, given_file);
         fails = fails;
         opens = rw journal_is opens;
+        crash = crash;
         stands = rw is (known_is file.bytes);
         ended = inl (rw is none);
       }
-  replacing_ran path file is given_file fails sound opens (inr (held, begun, whole, h)) =
+  replacing_ran path file is given_file fails sound opens crash (inr (held, begun, whole, h)) =
       let journal_is = replaces_journal journal save path is in record {
         begun = Some begun;
         opened = opened;
@@ -315,6 +319,7 @@ module _ (limits : Limits) (journal save found : Option (List ℕ)) (given rules
         );
         fails = subst CanFail (sym whole.sound) sound;
         opens = rw journal_is opens;
+        crash = crash;
         stands = rw (is, whole.bytes) refl;
         ended = inr (as_asked (Some begun) (Some held) h);
       }

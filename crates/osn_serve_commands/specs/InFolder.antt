@@ -12,7 +12,8 @@ use Rattle.osn_lines.specs.declared.fault.Interrupted.{Interrupted}
 use Rattle.osn_files.specs.JournalText.{journal_text}
 use Rattle.osn_files.specs.declared.fault.FileFault.{FileFault}
 use Rattle.osn_files.specs.declared.fault.FileFault.TheVariants.{ReadFault}
-use Rattle.osn_folder.specs.Folder.{Known, Changes, IsFileIf, Opens, Saves, CannotSave, path_if}
+use Rattle.osn_folder.specs.Crash.{LeavesAllSafe, SavesSafely, CannotSaveSafely}
+use Rattle.osn_folder.specs.Folder.{Known, Changes, IsFileIf, Opens, path_if}
 use Rattle.osn_folder.specs.Folder.{Keeps, CannotKeep, IsKeptAt, Leaves, Stays}
 use Rattle.osn_follower.specs.Arrivals.{Arrival}
 use Rattle.osn_folder.specs.declared.fault.KeepFault.{KeepFault}
@@ -68,8 +69,8 @@ abbrev pub EndsSaving : Option (List ℕ) → Option (List ℕ) → ObjectState 
 EndsSaving None loaded t opened after e status = (after ≡ opened) × Ends e None status
 EndsSaving (Some path) loaded t opened after e status =
     ((after ≡ opened) × EndsBy e NoMemory status)
-    ⊎ ((Ends e None status × Changes (Saves path loaded (journal_text t)) opened after)
-    ⊎ ((fault : SaveFault) × Changes (CannotSave path loaded (journal_text t) fault) opened after
+    ⊎ ((Ends e None status × SavesSafely path loaded (journal_text t) opened after)
+    ⊎ ((fault : SaveFault) × CannotSaveSafely path loaded (journal_text t) fault opened after
     × TellsUnsaved e fault status))
 
 -- The journal, if any, makes an object, and the lines were answered from it. Where all were, its
@@ -122,6 +123,7 @@ pub record RunsService (limits : Limits) (journal save : Option (List ℕ)) (rul
     pub file : IsFileIf d.before journal (option_map (λ journal. journal.bytes) begun)
     pub fails : CanFailIf CanFail begun
     pub opens : Changes (Opens (path_if journal)) d.before opened
+    pub crash : Changes LeavesAllSafe d.before opened
     pub stands : IsToStand (replaced_path journal save) begun loaded
     pub ended : CannotReplace (replaced_path journal save) begun opened d.after o e status
         ⊎ EndsServing limits save rules begun loaded opened d.after i o e status

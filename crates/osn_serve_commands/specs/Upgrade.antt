@@ -7,8 +7,9 @@ use Rattle.osn_lines.specs.Streams.{Input, Output}
 use Rattle.osn_format.specs.Version.{has_sources, newest_version}
 use Rattle.osn_format.specs.declared.version.Version.{Version}
 use Rattle.osn_files.specs.JournalText.{journal_text_of}
+use Rattle.osn_folder.specs.Crash.{SavesSafely, CannotSaveSafely}
 use Rattle.osn_folder.specs.Folder.{Known, Changes, Keeps, CannotKeep, IsKeptAt, Leaves, Locks}
-use Rattle.osn_folder.specs.Folder.{CannotLock, Saves, CannotSave}
+use Rattle.osn_folder.specs.Folder.{CannotLock}
 use Rattle.osn_folder.specs.declared.fault.KeepFault.{KeepFault}
 use Rattle.osn_folder.specs.declared.fault.SaveFault.{SaveFault}
 use Rattle.osn_report.specs.Folders.{Folders}
@@ -21,11 +22,12 @@ use Rattle.osn_serve_commands.specs.Saving.{TellsUnsaved}
 
 -- ---- a text that is saved anew
 
--- the file of this path was locked, and a text put in its place, which held these bytes still
+-- the file of this path was locked, and a text put in its place, which held these bytes still. A
+-- crash of the machine leaves one of the two
 abbrev pub SavesAnew : List ℕ → List ℕ → List ℕ → Option Known → Option Known → Type 0
 SavesAnew path loaded text before after =
     (locked : Option Known) × Changes (Locks path) before locked
-    × Changes (Saves path (Some loaded) text) locked after
+    × SavesSafely path (Some loaded) text locked after
 
 -- it could not be locked; or it was, and the text is not saved for sure. Standard error was told
 -- why
@@ -35,7 +37,7 @@ CannotSaveAnew path loaded text before after e status =
     ((fault : KeepFault) × Changes (CannotLock path fault) before after
     × Tells e (Keep fault) status)
     ⊎ ((locked : Option Known) × Changes (Locks path) before locked
-    × (fault : SaveFault) × Changes (CannotSave path (Some loaded) text fault) locked after
+    × (fault : SaveFault) × CannotSaveSafely path (Some loaded) text fault locked after
     × TellsUnsaved e fault status)
 
 -- ---- a journal that is to be kept

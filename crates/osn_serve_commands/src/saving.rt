@@ -2,7 +2,8 @@
 //! journal is saved to is locked first.
 ghost use Rattle.std.specs.Prelude.{◌≡◌, ◌⊎◌, None, option_map};
 ghost use Rattle.std.specs.Prelude.{IfErr, IfOk, IfSome, OnErr, string_bytes};
-ghost use Rattle.osn_folder.specs.Folder.{Changes, CannotOpen, MayFail, Saves, CannotSave, path_if};
+ghost use Rattle.osn_folder.specs.Crash.{SavesSafely, CannotSaveSafely};
+ghost use Rattle.osn_folder.specs.Folder.{CannotOpen, MayFail, path_if};
 ghost use Rattle.osn_invocation.specs.Invocation.{service_model};
 ghost use Rattle.osn_lines.specs.Streams.{input_of, output_of};
 ghost use Rattle.osn_report.specs.Folders.{folders_of};
@@ -108,10 +109,10 @@ fn finish<D: Folder, E: Sink>(
         → (result ≡ served.status) × (errors.new ≡ errors.old) × (folder.new ≡ folder.old) }
     ensures saved { IfSome locked.entry (λ file. IfSome served.journal (λ text.
         ((result ≡ served.status) × (errors.new ≡ errors.old)
-        × Changes (Saves file.path.now (option_map (λ bytes. bytes.now) loaded.entry)
-        (string_bytes text)) (D.known folder.old) (D.known folder.new))
-        ⊎ ((fault : SaveFault) × Changes (CannotSave file.path.now
-        (option_map (λ bytes. bytes.now) loaded.entry) (string_bytes text) fault)
+        × SavesSafely file.path.now (option_map (λ bytes. bytes.now) loaded.entry)
+        (string_bytes text) (D.known folder.old) (D.known folder.new))
+        ⊎ ((fault : SaveFault) × CannotSaveSafely file.path.now
+        (option_map (λ bytes. bytes.now) loaded.entry) (string_bytes text) fault
         (D.known folder.old) (D.known folder.new)
         × TellsUnsaved (output_of E.contents E.has_failed E.holds_back errors.old errors.new)
         fault result))) }

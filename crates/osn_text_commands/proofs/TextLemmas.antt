@@ -15,7 +15,8 @@ use Rattle.osn_text_writer.specs.TerritoryText.{text_of_code}
 module _ (lands : List LandModel) (path code : List ℕ) (o e : Output) (status : Status) where
   -- a territory has the code
   pub land_printed : code_refusal lands code ≡ None
-      → PrintsIfMade (text_of_code newest_rules code lands) o e status → PrintsLand lands path code o e status
+      → PrintsIfMade (text_of_code newest_rules code lands) o e status
+      → PrintsLand lands path code o e status
   land_printed none h = rw none h
 
   -- none has it

@@ -6,4 +6,5 @@ use Rattle.osn_command_tests.proofs.memory.left_with.Given as goal
 abbrev pub invariant-loop-changed : goal.invariant-loop-changed
 invariant-loop-changed l =
     option_map (λ text. text.now) l.left
-    ≡ fold (left_by l.path) (option_map (λ text. text.now) l.fn.left) (take l.changed-index l.changes)
+    ≡ fold (left_by l.path) (option_map (λ text. text.now) l.fn.left)
+    (take l.changed-index l.changes)

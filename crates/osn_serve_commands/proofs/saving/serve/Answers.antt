@@ -19,7 +19,7 @@ returns-in_ok-file-in-Some-clause-ok g c =
           (input_of g.D.File.Source.remaining g.D.File.Source.has_failed found.file left)
           (sym c.replaced_path.ensures ∙ ap (option_map (λ path. path.now)) c.in-Some.is)
           found.ensures.file (λ yes. (left, yes)) (λ yes. absurd (cc)) found.ensures.ok
-          c.serve_replacing.ensures,
+          found.ensures.crash c.serve_replacing.ensures,
     )
 
 pub returns-in_ok-source-in-None-clause-ok : goal.returns-in_ok-source-in-None-clause-ok
@@ -37,5 +37,5 @@ returns-in_ok-source-in-None-clause-ok g c =
           (sym c.replaced_path.ensures ∙ ap (option_map (λ path. path.now)) c.in-None.is)
           (given_if file.remaining file.has_failed _ _ found.source left found.ensures.file)
           (may_fail_if file.remaining file.has_failed found.source left) found.ensures.ok
-          c.serve_opened.ensures,
+          found.ensures.crash c.serve_opened.ensures,
     )
