@@ -19,15 +19,16 @@ def is_leap(calendar, year):
     return year % 4 == 0 and (calendar != "gregorian" or year % 100 != 0 or year % 400 == 0)
 
 
+# What follows some dates of the Swedish calendar.
+SWEDISH = {(1700, 2, 28): (1700, 3, 1), (1712, 2, 29): (1712, 2, 30), (1712, 2, 30): (1712, 3, 1)}
+
+
 def next_date(calendar, date):
-    swedish = {
-        (1700, 2, 28): (1700, 3, 1),
-        (1712, 2, 29): (1712, 2, 30),
-        (1712, 2, 30): (1712, 3, 1),
-    }
-    if calendar == "swedish" and date in swedish:
-        return swedish[date]
     year, month, day = date
+    if day < 28:
+        return year, month, day + 1
+    if calendar == "swedish" and date in SWEDISH:
+        return SWEDISH[date]
     length = 30 if month in (4, 6, 9, 11) else 31
     if month == 2:
         length = 29 if is_leap(calendar, year) else 28

@@ -28,35 +28,38 @@ import time
 from common import CommandLine, end
 
 MOST_FAULTS = 20
+# A folder in memory, where the system has one: a run that syncs a journal waits for no disk there.
+MEMORY = "/dev/shm" if os.access("/dev/shm", os.W_OK) else None
 
 
-def letters(program, folder):
+def letters():
     from fuzz_letters import Letters
-    return Letters(program, folder)
+    return Letters
 
 
-def dates(program, folder):
+def dates():
     from fuzz_dates import Dates
-    return Dates(program, folder)
+    return Dates
 
 
-def web(program, folder):
+def web():
     from fuzz_web import Web
-    return Web(program, folder)
+    return Web
 
 
-def stamp(program, folder):
+def stamp():
     from fuzz_stamp import Stamps
-    return Stamps(program, folder)
+    return Stamps
 
 
-def toml(program, folder):
+def toml():
     from fuzz_toml import Registers
-    return Registers(program, folder)
+    return Registers
 
 
-# Each makes what tries a target: its `round` takes a source of chance, and answers how many inputs
-# it tried, and of each that went wrong why, with which words, and the input itself.
+# Each answers the class of what tries a target: its `round` takes a source of chance, and answers
+# how many inputs it tried, and of each that went wrong why, with which words, and the input itself.
+# Its `prepare`, where it has one, does once what all processes need.
 TARGETS = {function.__name__: function for function in (letters, dates, web, stamp, toml)}
 
 
@@ -73,8 +76,8 @@ def try_rounds(target, program, seed, rounds, most):
     """Tries these rounds up to so many inputs; answers how many were tried, of what, and how many
     went wrong."""
     tried = wrong = 0
-    with tempfile.TemporaryDirectory() as folder:
-        fuzzed = TARGETS[target](program, folder)
+    with tempfile.TemporaryDirectory(dir=MEMORY) as folder:
+        fuzzed = TARGETS[target]()(program, folder)
         try:
             for number in rounds:
                 if tried >= most or wrong >= MOST_FAULTS:
@@ -103,10 +106,12 @@ def main():
                itertools.count(options.first + number, step), -(-options.count // step))
               for number in range(step)]
     try:
-        with multiprocessing.Pool(step) as pool:
-            done = pool.starmap(try_rounds, shares)
+        fuzzed = TARGETS[options.target]()
     except ImportError as why:
         sys.exit(f"fuzz.py: {options.target} can't be tried yet: {why.name} is missing")
+    getattr(fuzzed, "prepare", lambda: None)()
+    with multiprocessing.get_context("fork").Pool(step) as pool:
+        done = pool.starmap(try_rounds, shares)
     tried, wrong = sum(one[0] for one in done), sum(one[2] for one in done)
     rate = tried / (time.monotonic() - began)
     print(f"{tried} {done[0][1]}, {rate:.0f} a second: {wrong} went wrong")

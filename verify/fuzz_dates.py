@@ -11,7 +11,7 @@ import os
 import re
 
 from common import TOP, compact
-from fuzz_letters import JOURNAL, SPACES, register
+from fuzz_letters import JOURNAL, SPACES, register, walk_calendars
 from mutations import Run, mutated
 from reference import written_answer
 from samples import MALFORMED
@@ -111,6 +111,7 @@ class Dates:
     """Some hundred dates each time."""
 
     about = "dates"
+    prepare = staticmethod(walk_calendars)
 
     def __init__(self, program, _folder):
         self.program = program

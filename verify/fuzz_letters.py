@@ -13,13 +13,15 @@ from letter_rows import COLUMNS, letter_fields
 from letters import (IS_THERE, LACKS, LONGEST, OPEN_QUOTE, OTHER_NUMBER, SEPARATORS, TEXT_AFTER,
                      TOO_LONG, line_ends)
 from mutations import Run, mutated
-from reference import Service
-from written import Malformed, Territory, parse, weekday_named
+from reference import REGIME, Service
+from written import Malformed, Territory, days_by_month_and_day, parse, weekday_named
 
 JOURNAL = os.path.join(TOP, "examples", "samples.journal")
 SPACES = " \t\n\r\f"
 MARK = b"\xef\xbb\xbf"
 ROLES = ["place", "date", "weekday"]
+# (of two quotes none closes the field)
+QUOTED = re.compile(b'"((?:[^"]|"")*)"(?!")')
 SAMPLES = [
     b"place,date\nGB,1731-02-11\nSE,30 February 1712\nGB,Friday 11 February 1731/2\n",
     b'letter;place;date;weekday\r\n1;GB;11 February 1731/2;Friday\r\n\r\n"2";"FR";1543-04-01;\r\n',
@@ -65,19 +67,23 @@ def record_at(table, at, found):
         found, at = mark, at + 1
 
 
+@functools.cache
+def field_end(found):
+    """What ends a field."""
+    return re.compile(b"[\r\n" + re.escape(found or b",;\t") + b"]")
+
+
 def field_at(table, at, found):
     """The field at a place, where it ends, and what is wrong."""
-    ends = b"\r\n" + (found or b",;\t")
     if table[at:at + 1] != b'"':
-        end = re.compile(b"[" + re.escape(ends) + b"]").search(table, at)
+        end = field_end(found).search(table, at)
         end = end.start() if end else len(table)
         return table[at:end], end, None
-    # (of two quotes none closes the field)
-    quoted = re.compile(b'"((?:[^"]|"")*)"(?!")').match(table, at)
+    quoted = QUOTED.match(table, at)
     if not quoted:
         return b"", len(table), OPEN_QUOTE
     end = quoted.end()
-    is_stray = end < len(table) and table[end:end + 1] not in [bytes([mark]) for mark in ends]
+    is_stray = end < len(table) and not field_end(found).match(table, end)
     return quoted[1].replace(b'""', b'"'), end, TEXT_AFTER if is_stray else None
 
 
@@ -87,6 +93,12 @@ def row_written(fields, separator):
     return separator.join(
         b'"' + field.replace(b'"', b'""') + b'"' if any(mark in field for mark in marks) else field
         for field in fields) + b"\n"
+
+
+def walk_calendars():
+    """Walks along the line once by each calendar, for all processes that are forked after that."""
+    for calendar in REGIME["calendar"]:
+        days_by_month_and_day(calendar)
 
 
 @functools.cache
@@ -177,6 +189,7 @@ class Letters:
     """A table each time."""
 
     about = "tables of letters"
+    prepare = staticmethod(walk_calendars)
 
     def __init__(self, program, _folder):
         self.program = program

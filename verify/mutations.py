@@ -46,16 +46,21 @@ def change(chance, text, samples, words):
 
 
 class Run:
-    """How a run ended."""
+    """How a run ended: with the status None where it didn't."""
 
     def __init__(self, command, given=b"", folder=None):
-        done = subprocess.run(command, input=given, capture_output=True, timeout=SECONDS,
-                              check=False, cwd=folder)
-        self.status, self.out, self.told = done.returncode, done.stdout, done.stderr
+        try:
+            done = subprocess.run(command, input=given, capture_output=True, timeout=SECONDS,
+                                  check=False, cwd=folder)
+            self.status, self.out, self.told = done.returncode, done.stdout, done.stderr
+        except subprocess.TimeoutExpired:
+            self.status, self.out, self.told = None, b"", b""
 
     def why_wrong(self):
-        """What no run may do: end by a signal, with another status than 0 to 4, or with a fault
-        that isn't told in a line; or tell of one where there is none."""
+        """What no run may do: go on, end by a signal, with another status than 0 to 4, or with a
+        fault that isn't told in a line; or tell of one where there is none."""
+        if self.status is None:
+            return f"no end within {SECONDS} seconds"
         if not 0 <= self.status <= 4:
             return f"it ended with {self.status}: {self.told!r}"
         if self.status == 0:

@@ -6,6 +6,7 @@ pages.py, letters.py and dual_dates.py.
 import bisect
 import functools
 from array import array
+from collections import defaultdict
 from typing import NamedTuple, Optional
 
 from calendars import HIGH, MONTHS, WEEKDAYS, dates, dual_text, easter, style_year
@@ -95,10 +96,10 @@ def parse(text):
 
 @functools.cache
 def days_by_month_and_day(calendar):
-    found = {}
-    for day in range(1, HIGH + 1):
-        found.setdefault(dates(calendar)[day][1:], array("i")).append(day)
-    return found
+    found = defaultdict(functools.partial(array, "i"))
+    for day, date in enumerate(dates(calendar)[1:], 1):
+        found[date[1:]].append(day)
+    return dict(found)
 
 
 def years_about(year):
