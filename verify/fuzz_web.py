@@ -74,15 +74,16 @@ def sent(page, given):
 
 def why_wrong(given, held):
     """What is wrong with a reply."""
-    words = given.partition(b"\n")[0].split()
-    if not words or len(words) == 2 and words[0] == b"GET":
+    # (the standard library takes the line so, with the white space of Latin-1 between its words)
+    words = given.partition(b"\n")[0].decode("latin-1").split()
+    if not words or len(words) == 2 and words[0] == "GET":
         # (no request; or one of the first version of HTTP, whose reply has no head)
         return ""
     head = HEAD.match(held)
     if not head or int(head[1]) not in STATUSES:
         return f"the reply {held[:200]!r}"
     length, body = LENGTH.search(head[2]), held[head.end():]
-    has_body = words[0] != b"HEAD" and head[1] != b"304"
+    has_body = words[0] != "HEAD" and head[1] != b"304"
     if length and has_body and int(length[1]) != len(body):
         return f"{len(body)} bytes of a body of {int(length[1])}"
     return ""
