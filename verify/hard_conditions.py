@@ -100,7 +100,7 @@ def try_outputs():
 
 def try_input():
     """Standard input that fails, or is closed: nothing is saved."""
-    for words in ["", SAVING]:
+    for words in ["", SAVING, "serve --follow a.journal"]:
         with filled() as folder:
             before = held(folder)
             input_folder = os.open(folder, os.O_RDONLY)

@@ -1,12 +1,13 @@
 //! The commands of the program over memory: the status, the output and the text on standard error.
 use crate::compare::same;
-use osn_commands::tell_no_words;
+use crate::memory::MemoryFolder;
+use osn_commands::{run, tell_no_words};
 use osn_lines::Plain;
 use osn_register::Limits;
 use osn_report::Status;
 use osn_serve_commands::{ServeResult, serve_command};
 use osn_service::ServeRules;
-use osn_test_runs::{Left, RunRow, Wanted, are_run, is_left, left_by, left_over, sink};
+use osn_test_runs::{Left, RunRow, Wanted, are_run, is_left, is_outcome, left_by, left_over, sink};
 use osn_test_texts::joined;
 use std::alloc::Global;
 use std::io::{ErrorKind, Read, Write};
@@ -207,6 +208,23 @@ fn streams_that_fail(rt: HostRuntime) -> Result<(), Fail> {
         "oldstyle: write fault\n",
     );
     Ok(())
+}
+
+#[test]
+fn a_follower_whose_input_fails(rt: HostRuntime) -> Result<(), Fail> {
+    let alloc = rt.alloc();
+    let (mut output, mut errors) = (sink(alloc), sink(alloc));
+    let status = run(
+        &rt,
+        &mut MemoryFolder::new(&rt),
+        &["oldstyle", "serve", "--follow", "a.journal"],
+        &mut Plain::new(Failing),
+        &mut output,
+        &mut errors,
+        Some(sink(alloc)),
+    );
+    let told = (3, "", "oldstyle: read fault\n");
+    is_outcome(&left_by(status, output, errors), told)
 }
 
 /// Command lines, and the number of the status of each.

@@ -28,8 +28,8 @@ use std::thread::Threads;
 /// answers how that ended. Files that are read are opened before the command begins, in the order
 /// of the arguments. The journal is saved where the service ended well, and nowhere else.
 ///
-/// A terminal, where there is one, is told how far a long audit or table of letters is, and of
-/// editions that were published and saved nowhere.
+/// A terminal, where there is one, is told how far a long audit or table of letters is. Of a
+/// service that neither saves nor keeps a journal it is told how many editions were published.
 pub fn run<F, D: Folder, S: AsStr, R: Source, W: Sink, E: Sink, T: Sink + Drop>(
     rt: &F,
     folder: &mut D,

@@ -1,9 +1,11 @@
 //! How standard error is told of a file that could not be opened.
-ghost use Rattle.std.specs.Prelude.{◌≡◌, option_map};
+ghost use Rattle.std.specs.Prelude.{◌≡◌, IfSome, option_map};
 ghost use Rattle.osn_invocation.specs.Invocation.{command_model};
 ghost use Rattle.osn_commands.specs.Run.{TellsUnopened};
 ghost use Rattle.osn_lines.specs.Streams.{output_of};
 ghost use Rattle.osn_commands.specs.Unopened as spec;
+ghost use Rattle.osn_report.specs.Messages.{TellsIfMade};
+ghost use Rattle.osn_report.specs.Unopened.{unopened_line};
 
 use osn_folder::OpenFailed;
 use osn_invocation::{CommandWords, PageWords};
@@ -42,8 +44,11 @@ pub(crate) fn tell_unopened_file<E: Sink>(
     named: Option<&str>,
     cause: OpenFailed,
 ) -> Status
-    ensures { TellsUnopened (option_map (λ path. path.now) named.entry)
+    ensures told { TellsUnopened (option_map (λ path. path.now) named.entry)
         (output_of E.contents E.has_failed E.holds_back errors.old errors.new) result }
+    ensures cause { IfSome named.entry (λ path. TellsIfMade
+        (output_of E.contents E.has_failed E.holds_back errors.old errors.new)
+        Status.ReadFault (unopened_line path.now cause) result) }
 {
     match named {
         Some(path) => tell_unopened(alloc, errors, path, cause),

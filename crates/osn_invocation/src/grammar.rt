@@ -108,7 +108,7 @@ const SERVE_EXAMPLE: &str = "Example:
 
 Requests and replies are JSON lines. With --save, the journal is saved only if all lines were
 answered. With --keep, each change is in the journal before its reply is written. A journal of an
-earlier version than 3 takes no source of an edit: --upgrade saves it anew as version 4, whole or
+earlier version than 4 takes no source of an edit: --upgrade saves it anew as version 4, whole or
 not at all. With --follow, edits are refused, and FILE need not be there yet. With
 --stop-at-refusal, a batch of edits is published whole or not at all.";
 

@@ -30,8 +30,8 @@ fn is_given(one: Option<&str>, other: Option<&str>) -> bool
 }
 
 /// Opens what is to be read, answers the request lines as `serve_command`, `keep_command` or
-/// `follow_command` does, and keeps or saves the journal. A terminal, where there is one, is told
-/// of editions that were published and saved nowhere.
+/// `follow_command` does, and keeps or saves the journal. Where that is neither, a terminal, if
+/// there is one, is told how many editions were published.
 ///
 /// # Errors
 ///
