@@ -1,0 +1,295 @@
+//! The calls of the running register.
+use crate::register_lines::{EDITS, JOURNAL, QUERIES, edit_of, query_of};
+use osn_core::{Command, Reply};
+use osn_files::read_script;
+use osn_lines::Plain;
+use osn_live::{AskFault, Editor, OpenFault, PublishFault, Reader, open};
+use osn_register::{Edit, Limits, Query, Refusal};
+use osn_scarce_memory::{Change, is_sound_change};
+use osn_test_texts::joined;
+use std::alloc::Global;
+use std::sync::Wait;
+use std::test::Fail;
+
+/// An editor and a reader.
+struct Running {
+    editor: Editor,
+    reader: Reader,
+}
+
+/// Ends a running register.
+fn close<R: Wait>(rt: &R, running: Running) {
+    let Running { editor, reader: _ } = running;
+    editor.close(rt);
+}
+
+/// Does what a command says, for good.
+fn command<R: Wait>(rt: &R, editor: &mut Editor, command: &Command) -> Result<(), Fail> {
+    match command {
+        Command::Stage(edit) => {
+            editor.stage(edit)?;
+        }
+        Command::Publish => {
+            editor.publish(rt)?;
+        }
+    }
+    Ok(())
+}
+
+/// Does what all commands say.
+fn command_all<R: Wait>(rt: &R, editor: &mut Editor, commands: &[Command]) -> Result<(), Fail> {
+    for each in commands {
+        command(rt, editor, each)?;
+    }
+    Ok(())
+}
+
+/// A running register of one reader, with nothing published.
+fn opened<R: Wait>(rt: &R, alloc: Global) -> Result<Running, Fail> {
+    let (editor, mut readers) = open(rt, alloc, Limits::standard(), 1)?;
+    match readers.pop() {
+        Some(reader) => Ok(Running { editor, reader }),
+        None => {
+            editor.close(rt);
+            Err(Fail::new("no reader"))
+        }
+    }
+}
+
+/// One with the edition of the journal.
+fn begun<R: Wait>(rt: &R, alloc: Global) -> Result<Running, Fail> {
+    let text = joined(alloc, JOURNAL)?;
+    let commands = read_script(alloc, &mut Plain::new(text.as_bytes()))?;
+    let mut running = opened(rt, alloc)?;
+    match command_all(rt, &mut running.editor, &commands) {
+        Ok(()) => Ok(running),
+        Err(fail) => {
+            close(rt, running);
+            Err(fail)
+        }
+    }
+}
+
+/// What its reader is told of a query.
+fn told(alloc: Global, reader: &mut Reader, line: &str) -> Result<String, Fail> {
+    let query = query_of(alloc, line)?;
+    let reply = reader.ask(&query)?;
+    Ok(format!(in alloc; "{reply:?}\n")?)
+}
+
+/// What tells how it stands, as far as its reader is told.
+fn running_text(alloc: Global, running: &mut Running) -> Result<String, Fail> {
+    let mut text = String::new(alloc);
+    for line in QUERIES {
+        text.push_str(told(alloc, &mut running.reader, line)?.as_str())?;
+    }
+    Ok(text)
+}
+
+/// Opens a running register to where one may be.
+#[derive(Drop)]
+struct OpenLive<'a, R> {
+    rt: &'a R,
+}
+
+impl<R: Wait> Change for OpenLive<'_, R> {
+    type On = Option<(Editor, Vec<Reader>)>;
+
+    type Answer = Result<(), OpenFault>;
+
+    fn on(&self, _alloc: Global) -> Result<Option<(Editor, Vec<Reader>)>, Fail> {
+        Ok(None)
+    }
+
+    fn make(
+        &self,
+        alloc: Global,
+        on: &mut Option<(Editor, Vec<Reader>)>,
+    ) -> Option<Result<(), OpenFault>> {
+        match open(self.rt, alloc, Limits::standard(), 2) {
+            Ok(opened) => {
+                if let Some((editor, _readers)) = on.replace(opened) {
+                    editor.close(self.rt);
+                }
+                Some(Ok(()))
+            }
+            Err(OpenFault::NoMemory | OpenFault::NoPlace) => None,
+            Err(fault) => Some(Err(fault)),
+        }
+    }
+
+    fn standing(
+        &self,
+        alloc: Global,
+        on: &mut Option<(Editor, Vec<Reader>)>,
+    ) -> Result<String, Fail> {
+        match on {
+            Some((editor, readers)) => {
+                let counts = (editor.note().edition(), readers.len());
+                Ok(format!(in alloc; "{counts:?}")?)
+            }
+            None => Ok(String::new(alloc)),
+        }
+    }
+
+    fn end(&self, on: Option<(Editor, Vec<Reader>)>) {
+        if let Some((editor, _readers)) = on {
+            editor.close(self.rt);
+        }
+    }
+}
+
+#[test]
+fn a_running_register_is_opened(rt: HostRuntime) -> Result<(), Fail> {
+    let open = OpenLive { rt: &rt };
+    is_sound_change(rt.alloc(), &open)
+}
+
+#[derive(Drop)]
+struct StageLive<'a, R> {
+    rt: &'a R,
+    edit: &'a Edit,
+}
+
+impl<R: Wait> Change for StageLive<'_, R> {
+    type On = Running;
+
+    type Answer = Result<u32, Refusal>;
+
+    fn on(&self, alloc: Global) -> Result<Running, Fail> {
+        begun(self.rt, alloc)
+    }
+
+    fn make(&self, _alloc: Global, on: &mut Running) -> Option<Result<u32, Refusal>> {
+        match on.editor.stage(self.edit) {
+            Err(Refusal::NoMemory) => None,
+            answer => Some(answer),
+        }
+    }
+
+    fn standing(&self, alloc: Global, on: &mut Running) -> Result<String, Fail> {
+        running_text(alloc, on)
+    }
+
+    fn end(&self, on: Running) {
+        close(self.rt, on);
+    }
+}
+
+/// Checks the edit of a line, staged.
+fn is_staged<R: Wait>(rt: &R, alloc: Global, line: &str) -> Result<(), Fail> {
+    let edit = edit_of(alloc, line)?;
+    is_sound_change(alloc, &StageLive { rt, edit: &edit })
+}
+
+#[test]
+fn an_edit_is_staged_live(rt: HostRuntime) -> Result<(), Fail> {
+    for line in EDITS {
+        is_staged(&rt, rt.alloc(), line)?;
+    }
+    Ok(())
+}
+
+#[derive(Drop)]
+struct PublishLive<'a, R> {
+    rt: &'a R,
+}
+
+/// Stages the edit of a line, for good.
+fn stage_line(alloc: Global, editor: &mut Editor, line: &str) -> Result<(), Fail> {
+    let edit = edit_of(alloc, line)?;
+    editor.stage(&edit)?;
+    Ok(())
+}
+
+/// Stages an edit of each kind, for good.
+fn stage_all(alloc: Global, editor: &mut Editor) -> Result<(), Fail> {
+    for line in EDITS {
+        stage_line(alloc, editor, line)?;
+    }
+    Ok(())
+}
+
+impl<R: Wait> Change for PublishLive<'_, R> {
+    type On = Running;
+
+    type Answer = Result<u32, PublishFault>;
+
+    fn on(&self, alloc: Global) -> Result<Running, Fail> {
+        let mut running = begun(self.rt, alloc)?;
+        match stage_all(alloc, &mut running.editor) {
+            Ok(()) => Ok(running),
+            Err(fail) => {
+                close(self.rt, running);
+                Err(fail)
+            }
+        }
+    }
+
+    fn make(&self, _alloc: Global, on: &mut Running) -> Option<Result<u32, PublishFault>> {
+        match on.editor.publish(self.rt) {
+            Ok(note) => Some(Ok(note.edition())),
+            Err(PublishFault::NoMemory) => None,
+            Err(fault) => Some(Err(fault)),
+        }
+    }
+
+    fn standing(&self, alloc: Global, on: &mut Running) -> Result<String, Fail> {
+        running_text(alloc, on)
+    }
+
+    fn end(&self, on: Running) {
+        close(self.rt, on);
+    }
+}
+
+#[test]
+fn edits_are_published_live(rt: HostRuntime) -> Result<(), Fail> {
+    let publish = PublishLive { rt: &rt };
+    is_sound_change(rt.alloc(), &publish)
+}
+
+#[derive(Drop)]
+struct AskLive<'a, R> {
+    rt: &'a R,
+    query: &'a Query,
+}
+
+impl<R: Wait> Change for AskLive<'_, R> {
+    type On = Running;
+
+    type Answer = Result<Reply, AskFault>;
+
+    fn on(&self, alloc: Global) -> Result<Running, Fail> {
+        begun(self.rt, alloc)
+    }
+
+    fn make(&self, _alloc: Global, on: &mut Running) -> Option<Result<Reply, AskFault>> {
+        match on.reader.ask(self.query) {
+            Err(AskFault::NoMemory | AskFault::NoPlace) => None,
+            answer => Some(answer),
+        }
+    }
+
+    fn standing(&self, alloc: Global, on: &mut Running) -> Result<String, Fail> {
+        running_text(alloc, on)
+    }
+
+    fn end(&self, on: Running) {
+        close(self.rt, on);
+    }
+}
+
+/// Checks the query of a line, asked of a reader.
+fn is_asked<R: Wait>(rt: &R, alloc: Global, line: &str) -> Result<(), Fail> {
+    let query = query_of(alloc, line)?;
+    is_sound_change(alloc, &AskLive { rt, query: &query })
+}
+
+#[test]
+fn a_reader_is_asked(rt: HostRuntime) -> Result<(), Fail> {
+    for line in QUERIES {
+        is_asked(&rt, rt.alloc(), line)?;
+    }
+    Ok(())
+}

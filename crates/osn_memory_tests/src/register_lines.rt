@@ -1,0 +1,116 @@
+//! Edits, queries, registers and objects that are read from their lines, and what tells how a
+//! register stands.
+use osn_core::Object;
+use osn_files::{journal_text, load_journal};
+use osn_lines::Plain;
+use osn_register::{Edit, Limits, Query, Register};
+use osn_request::{Request, read_request};
+use osn_test_texts::joined;
+use std::alloc::Global;
+use std::test::Fail;
+
+/// A published edition: a territory with changes, an exception and sources, and one with none.
+pub const JOURNAL: &str = r#"{"journal":4}
+{"op":"add_land","code":"GB","name":"Great Britain","calendar":"julian","style":"annunciation",
+  "rule":"julian"}
+{"op":"add_change","code":"GB","day":639551,"calendar":"julian","style":"january",
+  "rule":"julian"}
+{"op":"add_change","code":"GB","day":639797,"calendar":"gregorian","style":"january",
+  "rule":"gregorian","source":"24 Geo. II c. 23"}
+{"op":"add_exception","code":"GB","year":1753,"day":640010,"source":"a rubric"}
+{"op":"add_land","code":"FR","name":"France","calendar":"julian","style":"easter","rule":"julian"}
+{"op":"publish"}
+"#;
+
+/// An edit of each kind, of which each may follow those before it. The last two drop something, and
+/// are applied without memory.
+pub const EDITS: [&str; 6] = [
+    r#"{"op":"add_land","code":"RM","name":"Rome","calendar":"julian","style":"january",
+  "rule":"julian"}"#,
+    r#"{"op":"add_change","code":"FR","day":577736,"calendar":"gregorian","style":"january",
+  "rule":"gregorian"}"#,
+    r#"{"op":"alter_change","code":"GB","day":639551,"calendar":"gregorian","style":"january",
+  "rule":"gregorian","source":"an act"}"#,
+    r#"{"op":"add_exception","code":"FR","year":1724,"day":629412}"#,
+    r#"{"op":"drop_change","code":"GB","day":639551}"#,
+    r#"{"op":"drop_exception","code":"GB","year":1753}"#,
+];
+
+/// A query of each kind whose answer takes memory.
+pub const QUERIES: [&str; 8] = [
+    r#"{"op":"read","reader":1,"code":"GB","year":1731,"month":2,"day":11}"#,
+    r#"{"op":"read","reader":1,"code":"FR","year":1543,"month":4,"day":1}"#,
+    r#"{"op":"read","reader":1,"code":"GB","year":1752,"month":9,"day":3}"#,
+    r#"{"op":"day","reader":1,"code":"GB","day":639797}"#,
+    r#"{"op":"easter","reader":1,"code":"GB","year":1753}"#,
+    r#"{"op":"lands","reader":1}"#,
+    r#"{"op":"periods","reader":1,"code":"GB"}"#,
+    r#"{"op":"written","reader":1,"code":"GB","date":"11 February 1731/2","weekday":"Friday"}"#,
+];
+
+/// The queries whose answers tell how a register stands.
+const TELLING: [&str; 5] = [
+    r#"{"op":"lands","reader":1}"#,
+    r#"{"op":"periods","reader":1,"code":"GB"}"#,
+    r#"{"op":"periods","reader":1,"code":"FR"}"#,
+    r#"{"op":"easter","reader":1,"code":"GB","year":1753}"#,
+    r#"{"op":"easter","reader":1,"code":"FR","year":1724}"#,
+];
+
+/// The edit of a line.
+pub fn edit_of(alloc: Global, line: &str) -> Result<Edit, Fail> {
+    let line = joined(alloc, line)?;
+    match read_request(alloc, 1, line.as_bytes())? {
+        Request::Stage(edit) => Ok(edit),
+        _ => Err(Fail::new("no edit")),
+    }
+}
+
+/// The query of a line.
+pub fn query_of(alloc: Global, line: &str) -> Result<Query, Fail> {
+    match read_request(alloc, 1, line.as_bytes())? {
+        Request::Ask { query, .. } => Ok(query),
+        _ => Err(Fail::new("no query")),
+    }
+}
+
+/// An object with the published edition.
+pub fn begun_object(alloc: Global) -> Result<Object, Fail> {
+    let text = joined(alloc, JOURNAL)?;
+    let mut source = Plain::new(text.as_bytes());
+    Ok(load_journal(alloc, Limits::standard(), &mut source)?)
+}
+
+/// A register of the published edition.
+pub fn begun_register(alloc: Global) -> Result<Register, Fail> {
+    let object = begun_object(alloc)?;
+    Ok(object.register().copy()?)
+}
+
+/// Adds what the query of a line is answered.
+fn push_answer(
+    alloc: Global,
+    register: &Register,
+    line: &str,
+    text: &mut String,
+) -> Result<(), Fail> {
+    let answer = register.answer(&query_of(alloc, line)?)?;
+    let told = format!(in alloc; "{answer:?}\n")?;
+    Ok(text.push_str(told.as_str())?)
+}
+
+/// What tells how a register stands.
+pub fn register_text(alloc: Global, register: &Register) -> Result<String, Fail> {
+    let mut text = String::new(alloc);
+    for line in TELLING {
+        push_answer(alloc, register, line, &mut text)?;
+    }
+    Ok(text)
+}
+
+/// What tells how an object stands.
+pub fn object_text(alloc: Global, object: &Object) -> Result<String, Fail> {
+    let mut text = journal_text(alloc, object)?;
+    text.push_str(register_text(alloc, object.register())?.as_str())?;
+    Ok(text)
+}

@@ -1,0 +1,238 @@
+//! Sessions of the service, and audits of what it told.
+use crate::files::known;
+use crate::register_lines::{JOURNAL, begun_object, object_text};
+use osn_audit::audit;
+use osn_core::Object;
+use osn_files::FileFault;
+use osn_lines::{Interrupted, Plain};
+use osn_register::Limits;
+use osn_scarce_memory::{Ample, Change, Reading, is_sound_change, is_sound_reading};
+use osn_service::{ServeFault, serve, serve_from};
+use osn_test_texts::joined;
+use std::alloc::Global;
+use std::test::Fail;
+use std::{mem, str};
+
+/// How many readers there are.
+const READERS: u32 = 8;
+
+/// Bytes that replies take with no growth of memory.
+const ROOM: usize = 8_192;
+
+/// Requests of each kind, of which some are refused.
+const REQUESTS: &str = r#"{"op":"add_land","code":"RM","name":"Rome","calendar":"julian",
+  "style":"january","rule":"julian"}
+{"op":"add_change","code":"RM","day":577736,"calendar":"gregorian","style":"january",
+  "rule":"gregorian","source":"Inter gravissimas"}
+{"op":"add_exception","code":"RM","year":1724,"day":629412}
+{"op":"add_land","code":"RM","name":"Rome","calendar":"julian","style":"january","rule":"julian"}
+{"op":"publish"}
+{"op":"read","reader":1,"code":"RM","year":1582,"month":10,"day":4}
+{"op":"easter","reader":8,"code":"RM","year":1724}
+{"op":"figures","reader":1,"year":1954}
+{"op":"lands","reader":1}
+{"op":"periods","reader":1,"code":"RM"}
+{"op":"written","reader":1,"code":"RM","date":"4 October 1582","weekday":"Thursday"}
+no request
+{"op":"publish"}
+{"op":"drop_exception","code":"RM","year":1724}
+{"op":"publish"}
+"#;
+
+/// The replies that a service has written, and to how many lines.
+#[derive(Drop)]
+struct Told {
+    replies: Vec<u8>,
+    lines: u64,
+}
+
+type Served = Result<u64, Interrupted<ServeFault>>;
+
+/// No replies, and room for some.
+fn nothing_told(alloc: Global) -> Result<Told, Fail> {
+    Ok(Told {
+        replies: Vec::with_capacity(alloc, ROOM)?,
+        lines: 0,
+    })
+}
+
+impl Told {
+    /// Counts the lines to which a service replied. Answers nothing where it wants memory.
+    fn note(&mut self, served: Served) -> Option<Served> {
+        match served {
+            Ok(lines) => {
+                self.lines = self.lines.saturating_add(lines);
+                Some(Ok(self.lines))
+            }
+            Err(
+                Interrupted {
+                    lines,
+                    cause: ServeFault::NoMemory,
+                },
+            ) => {
+                self.lines = self.lines.saturating_add(lines);
+                None
+            }
+            Err(interrupted) => Some(Err(interrupted)),
+        }
+    }
+
+    /// Checks that the replies are those to as many lines as were counted, whole, and the first of
+    /// these ones.
+    fn are_first(&self, all: &str) -> Result<(), Fail> {
+        let replies = str::from_utf8(&self.replies)?;
+        let is_whole = replies.is_empty() || replies.ends_with('\n');
+        if !is_whole || !all.starts_with(replies) {
+            return Err(Fail::new("the replies are others"));
+        }
+        if replies.lines().count() as u64 != self.lines {
+            return Err(Fail::new("the replies are to more lines, or to fewer"));
+        }
+        Ok(())
+    }
+}
+
+/// What is left of a text after as many lines.
+fn after_lines(text: &str, lines: u64) -> &str {
+    let mut rest = text;
+    for _line in 0..lines {
+        match rest.split_once('\n') {
+            Some((_, later)) => rest = later,
+            None => return "",
+        }
+    }
+    rest
+}
+
+/// A session from an empty object, which is dropped.
+#[derive(Drop)]
+struct Serve<'a> {
+    requests: &'a str,
+}
+
+impl Change for Serve<'_> {
+    type On = Told;
+
+    type Answer = Served;
+
+    fn on(&self, alloc: Global) -> Result<Told, Fail> {
+        nothing_told(alloc)
+    }
+
+    fn make(&self, alloc: Global, on: &mut Told) -> Option<Served> {
+        let mut source = Plain::new(self.requests.as_bytes());
+        let mut replies = mem::replace(&mut on.replies, Vec::new(alloc));
+        replies.clear();
+        let mut sink = Plain::new(replies);
+        let served = serve(alloc, Limits::standard(), READERS, &mut source, &mut sink);
+        on.replies = sink.into_inner();
+        on.lines = 0;
+        on.note(served)
+    }
+
+    fn standing(&self, alloc: Global, on: &mut Told) -> Result<String, Fail> {
+        Ok(String::from_str(alloc, str::from_utf8(&on.replies)?)?)
+    }
+
+    fn end(&self, _on: Told) {}
+
+    fn stands(&self, _alloc: Global, on: &mut Told, ample: &Ample) -> Result<(), Fail> {
+        on.are_first(ample.after.as_str())
+    }
+}
+
+#[test]
+fn a_session_is_served(rt: HostRuntime) -> Result<(), Fail> {
+    let requests = joined(rt.alloc(), REQUESTS)?;
+    is_sound_change(
+        rt.alloc(),
+        &Serve {
+            requests: &requests,
+        },
+    )
+}
+
+/// A session from an object, which goes on behind the lines that were answered.
+#[derive(Drop)]
+struct ServeFrom<'a> {
+    requests: &'a str,
+}
+
+impl Change for ServeFrom<'_> {
+    type On = (Object, Told);
+
+    type Answer = Served;
+
+    fn on(&self, alloc: Global) -> Result<(Object, Told), Fail> {
+        Ok((begun_object(alloc)?, nothing_told(alloc)?))
+    }
+
+    fn make(&self, alloc: Global, on: &mut (Object, Told)) -> Option<Served> {
+        let (object, told) = on;
+        let mut source = Plain::new(after_lines(self.requests, told.lines).as_bytes());
+        let mut sink = Plain::new(mem::replace(&mut told.replies, Vec::new(alloc)));
+        let served = serve_from(alloc, object, READERS, &mut source, &mut sink);
+        told.replies = sink.into_inner();
+        told.note(served)
+    }
+
+    fn standing(&self, alloc: Global, on: &mut (Object, Told)) -> Result<String, Fail> {
+        let (object, told) = on;
+        let mut text = String::from_str(alloc, str::from_utf8(&told.replies)?)?;
+        text.push_str(object_text(alloc, object)?.as_str())?;
+        Ok(text)
+    }
+
+    fn end(&self, _on: (Object, Told)) {}
+
+    fn stands(&self, _alloc: Global, on: &mut (Object, Told), ample: &Ample) -> Result<(), Fail> {
+        on.1.are_first(ample.after.as_str())
+    }
+}
+
+#[test]
+fn a_session_goes_on(rt: HostRuntime) -> Result<(), Fail> {
+    let requests = joined(rt.alloc(), REQUESTS)?;
+    is_sound_change(
+        rt.alloc(),
+        &ServeFrom {
+            requests: &requests,
+        },
+    )
+}
+
+/// What the service told of a journal.
+const TRANSCRIPT: &str = r#"{"ask":{"op":"lands","reader":1},"reply":{"answer":{"lands":[]},
+  "edition":0,"reader":1}}
+{"ask":{"code":"ZZ","op":"periods","reader":1},"reply":{"edition":1,"fault":3,
+  "name":"UnknownLand","reader":1}}
+"#;
+
+#[derive(Drop)]
+struct Audit<'a> {
+    journal: &'a str,
+    transcript: &'a str,
+}
+
+impl Reading for Audit<'_> {
+    type Answer = Result<u64, FileFault>;
+
+    fn read(&self, alloc: Global) -> Option<Result<u64, FileFault>> {
+        let mut journal = Plain::new(self.journal.as_bytes());
+        let mut transcript = Plain::new(self.transcript.as_bytes());
+        known(audit(alloc, Limits::standard(), &mut journal, &mut transcript))
+    }
+}
+
+#[test]
+fn a_transcript_is_audited(rt: HostRuntime) -> Result<(), Fail> {
+    let journal = joined(rt.alloc(), JOURNAL)?;
+    let transcript = joined(rt.alloc(), TRANSCRIPT)?;
+    is_sound_reading(
+        rt.alloc(),
+        &Audit {
+            journal: &journal,
+            transcript: &transcript,
+        },
+    )
+}
