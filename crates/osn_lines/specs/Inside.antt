@@ -18,7 +18,7 @@ pub record Cuts (bytes : List ℕ) (done : List (List ℕ)) (left : List ℕ) : 
 -- these bytes are all of the line, unless it is too long
 abbrev pub HoldsBytes : Bool → List ℕ → List ℕ → Type 0
 HoldsBytes false bytes line = (bytes ≡ line) × (length line ≤ longest_line)
-HoldsBytes true bytes line = longest_line < length line
+HoldsBytes true bytes line = (longest_line < length line) × (length bytes ≤ longest_line)
 
 -- what has come of a line, or that it is too long
 abbrev pub Holds : UnendedLine → List ℕ → Type 0

@@ -1,0 +1,144 @@
+//! A follower of a journal, which answers lines from what the file holds.
+ghost use Rattle.std.specs.Prelude.{◌<◌, IfOk, length};
+ghost use Rattle.osn_folder.specs.FollowedFile.{IsOfWholeLines};
+
+use crate::register_lines::JOURNAL;
+use crate::sessions::{Told, nothing_told};
+use osn_files::FileFault;
+use osn_folder::FollowFault;
+use osn_follower::{Arrivals, FollowerFault, follow};
+use osn_lines::{Interrupted, ReadFailed, ended_length};
+use osn_lines::Plain;
+use osn_register::Limits;
+use osn_scarce_memory::{Ample, Change, is_sound_change};
+use osn_service::{ServeFault, Served};
+use osn_test_texts::joined;
+use std::alloc::{AllocError, Global};
+use std::mem;
+use std::str;
+use std::test::Fail;
+
+/// The most bytes of a file.
+const MOST: usize = 65_536;
+
+const REQUESTS: &str = r#"{"op":"lands","reader":1}
+{"op":"periods","reader":1,"code":"GB"}
+{"op":"publish"}
+{"op":"day","reader":2,"code":"GB","day":639797}
+"#;
+
+/// Request lines that all come at once, and a file that has all its lines when they do.
+#[derive(Drop)]
+struct AtOnce<'a> {
+    requests: &'a str,
+    journal: &'a str,
+}
+
+/// The lines of a text that have ended.
+fn whole_lines(alloc: Global, text: &str) -> Result<Vec<u8>, AllocError>
+    ensures lines { IfOk result (λ lines. IsOfWholeLines lines.items) }
+    ensures few { IfOk result (λ lines. length lines.items < 4294967295) }
+{
+    let bytes = text.as_bytes();
+    let bytes = &bytes[..bytes.len().min(MOST)];
+    let mut lines = Vec::new(alloc);
+    lines.extend_from_slice(bytes)?;
+    let ended = ended_length(&lines);
+    lines.truncate(ended);
+    Ok(lines)
+}
+
+impl Arrivals for AtOnce<'_> {
+    ghost use Rattle.std.specs.Prelude.{None};
+
+    ghost arrived = { λ _. None };
+
+    fn read(&mut self, buffer: &mut [u8]) -> Result<usize, ReadFailed> {
+        let bytes = self.requests.as_bytes();
+        let count = bytes.len().min(buffer.len());
+        buffer[..count].copy_from_slice(&bytes[..count]);
+        self.requests = "";
+        Ok(count)
+    }
+
+    fn look(&mut self, alloc: Global) -> Result<Vec<u8>, FollowFault> {
+        let lines = whole_lines(alloc, self.journal)?;
+        self.journal = "";
+        Ok(lines)
+    }
+}
+
+#[derive(Drop)]
+struct Follow<'a> {
+    journal: &'a str,
+}
+
+/// How many lines were answered, or nothing where that ended for want of memory.
+fn known(
+    told: &mut Told,
+    served: Result<Served, Interrupted<FollowerFault>>,
+) -> Option<Result<Served, Interrupted<FollowerFault>>> {
+    match served {
+        Err(Interrupted {
+            lines,
+            cause:
+                FollowerFault::Serve(ServeFault::NoMemory)
+                | FollowerFault::Journal(FileFault::NoMemory)
+                | FollowerFault::File(FollowFault::NoMemory),
+        }) => {
+            told.lines = lines;
+            None
+        }
+        served => Some(served),
+    }
+}
+
+impl Change for Follow<'_> {
+    type On = Told;
+
+    type Answer = Result<Served, Interrupted<FollowerFault>>;
+
+    fn on(&self, alloc: Global) -> Result<Told, Fail> {
+        nothing_told(alloc)
+    }
+
+    fn make(
+        &self,
+        alloc: Global,
+        on: &mut Told,
+    ) -> Option<Result<Served, Interrupted<FollowerFault>>> {
+        let mut arrivals = AtOnce {
+            requests: REQUESTS,
+            journal: self.journal,
+        };
+        let mut replies = mem::replace(&mut on.replies, Vec::new(alloc));
+        replies.clear();
+        let mut sink = Plain::new(replies);
+        let served = follow(
+            alloc,
+            Limits::standard(),
+            2,
+            false,
+            &mut arrivals,
+            &mut sink,
+        );
+        on.replies = sink.into_inner();
+        known(on, served)
+    }
+
+    fn standing(&self, alloc: Global, on: &mut Told) -> Result<String, Fail> {
+        Ok(String::from_str(alloc, str::from_utf8(&on.replies)?)?)
+    }
+
+    fn end(&self, _on: Told) {}
+
+    fn stands(&self, _alloc: Global, on: &mut Told, ample: &Ample) -> Result<(), Fail> {
+        on.are_first(ample.after.as_str())
+    }
+}
+
+#[test]
+fn a_journal_is_followed(rt: HostRuntime) -> Result<(), Fail> {
+    let journal = joined(rt.alloc(), JOURNAL)?;
+    is_sound_change(rt.alloc(), &Follow { journal: &journal })
+}
