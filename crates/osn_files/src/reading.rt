@@ -202,6 +202,10 @@ impl<F: LineFold> LineTaker for Reading<F> {
             line,
         )
     }
+
+    fn before_read(&mut self) -> Result<(), LineStop> {
+        Ok(())
+    }
 }
 
 /// Why a file of this role gave nothing, where the reading of its lines ended early.

@@ -1,9 +1,10 @@
 //! Runs the lines of a journal on its object.
-ghost use Rattle.std.specs.Prelude.{◌≡◌, Ok, OnOk, IfErr};
+ghost use Rattle.std.specs.Prelude.{◌≡◌, Ok, OnOk, IfErr, is_ok, true};
 ghost use Rattle.osn_days.specs.Profile.{newest_rules};
 ghost use Rattle.osn_core.specs.declared.command.Command.TheVariants.{Stage, Publish};
 ghost use Rattle.osn_files.specs.Journal.{after_command};
 ghost use Rattle.osn_files.specs.Stops.{Stops};
+ghost use Rattle.osn_files.specs.declared.stop.LineStop.TheVariants.{NoMemory};
 
 use crate::command_line::command_in;
 use crate::reading::LineFold;
@@ -18,6 +19,8 @@ fn stage(object: &mut Object, edit: Edit) -> Result<(), LineStop>
     ensures ok { OnOk result
         (after_command newest_rules object.old (Stage edit) ≡ Ok object.new) }
     ensures err { IfErr result (Stops (after_command newest_rules object.old (Stage edit))) }
+    ensures memory { IfErr result (λ stop. stop ≡ NoMemory
+        → is_ok (after_command newest_rules object.old (Stage edit)) ≡ true) }
 {
     object.check(&edit)?;
     object.admit(edit)?;
@@ -27,16 +30,20 @@ fn stage(object: &mut Object, edit: Edit) -> Result<(), LineStop>
 fn publish(object: &mut Object) -> Result<(), LineStop>
     ensures ok { OnOk result (after_command newest_rules object.old Publish ≡ Ok object.new) }
     ensures err { IfErr result (Stops (after_command newest_rules object.old Publish)) }
+    ensures memory { IfErr result (λ stop. stop ≡ NoMemory
+        → is_ok (after_command newest_rules object.old Publish) ≡ true) }
 {
     object.check_publish()?;
     object.make_edition()?;
     Ok(())
 }
 
-/// Runs a command on the object.
+/// Runs a command on the object. It wants memory only where the command is not refused.
 fn run(object: &mut Object, command: Command) -> Result<(), LineStop>
     ensures ok { OnOk result (after_command newest_rules object.old command ≡ Ok object.new) }
     ensures err { IfErr result (Stops (after_command newest_rules object.old command)) }
+    ensures memory { IfErr result (λ stop. stop ≡ NoMemory
+        → is_ok (after_command newest_rules object.old command) ≡ true) }
 {
     match command {
         Command::Stage(edit) => stage(object, edit),

@@ -82,6 +82,7 @@ abbrev pub SavesSafely : List ℕ → Option (List ℕ) → List ℕ → Option 
 SavesSafely path loaded text old new =
     Changes (Saves path loaded text) old new × Changes (IsSafelySaved path text) old new
 
+-- it was not for this reason, and a crash left the old file or the text, whole
 abbrev pub CannotSaveSafely : List ℕ → Option (List ℕ) → List ℕ → SaveFault → Option Known
     → Option Known → Type 0
 CannotSaveSafely path loaded text fault old new =

@@ -15,10 +15,10 @@ HasNoFeed (b ∷ bs) = ((b == 10) ≡ false) × HasNoFeed bs
 pub record Cuts (bytes : List ℕ) (done : List (List ℕ)) (left : List ℕ) : Type 0 where
   pub whole : (more : List ℕ) → lines (bytes ++ more) ≡ done ++ lines (left ++ more)
 
--- these bytes are all of the line, unless it is too long
+-- these bytes are all of the line, unless it is too long: then no more than the longest are held
 abbrev pub HoldsBytes : Bool → List ℕ → List ℕ → Type 0
 HoldsBytes false bytes line = (bytes ≡ line) × (length line ≤ longest_line)
-HoldsBytes true bytes line = longest_line < length line
+HoldsBytes true bytes line = (longest_line < length line) × (length bytes ≤ longest_line)
 
 -- what has come of a line, or that it is too long
 abbrev pub Holds : UnendedLine → List ℕ → Type 0

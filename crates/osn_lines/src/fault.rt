@@ -5,7 +5,7 @@ use thiserror::Error;
 
 /// An end before the end of the input: how many lines, and why no more.
 #[derive(Debug, Drop, Error)]
-#[error("behind {lines} lines {cause}")]
+#[error("after {lines} lines {cause}")]
 #[error_bound(C: Display)]
 pub struct Interrupted<C> {
     /// How many lines were done with before.

@@ -8,6 +8,6 @@ pub const LONGEST_LINE: usize = 65_536;
 pub enum Line<'a> {
     /// All its bytes, 65,536 at most.
     Whole(&'a [u8]),
-    /// It has more than 65,536 bytes, and none of them is kept.
+    /// It has more than 65,536 bytes, and none of them is given.
     TooLong,
 }

@@ -47,8 +47,8 @@ pub trait Sink {
 ///
 /// # Errors
 ///
-/// `Err(n)` where the sink took the first n of them and then failed, or where 4,294,967,295 writes
-/// did not suffice.
+/// `Err(n)` where the sink took the first n of them and then failed, or where 4,294,967,295 calls
+/// of it did not suffice.
 pub fn write_all<W: Sink>(sink: &mut W, bytes: &[u8]) -> Result<(), usize>
     ensures ok { OnOk result (Appends (W.contents sink.old) (W.contents sink.new) bytes.now) }
     ensures passed { OnOk result (W.holds_back sink.new ≡ false) }

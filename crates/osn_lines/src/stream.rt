@@ -76,6 +76,11 @@ pub fn take_lines<T: LineTaker, R: Source>(
     // A further line can be counted.
     ensures few { IfErr result (λ end. end.lines < 2 ^ 63) }
 
+    // The taker was ready for the read that failed.
+    ensures waits { IfErr result (λ end. MatchFault end.cause ⊤
+        ((R.has_failed source.new ≡ R.has_failed source.old) ⊎ T.is_ready taker.new)
+        (λ _. ⊤)) }
+
     // The source failed where a read fault says so, or gave no end in 4,294,967,295 reads, and
     // nowhere else.
     ensures sound { OnOk result (R.has_failed source.new ≡ R.has_failed source.old) }

@@ -1,5 +1,5 @@
 //! What takes lines.
-ghost use Rattle.std.specs.Prelude.{◌≡◌, ℕ, List, [], ◌∷◌, Option, Some, None, OnOk, IfErr};
+ghost use Rattle.std.specs.Prelude.{◌≡◌, ℕ, List, [], ◌∷◌, Option, Some, None, OnOk, IfErr, ⊤};
 ghost use Rattle.osn_lines.specs.Lines.{IsLine};
 ghost use Rattle.osn_lines.specs.Taking.{Takes, Rests, Stops};
 
@@ -17,6 +17,9 @@ pub trait LineTaker {
     // `stopped begun taken at now why`: what was `begun` took these lines, and stopped at this
     // line, or between two lines where no line is given. It is `now`, and has this reason.
     ghost stopped: { Self → List (List ℕ) → Option (List ℕ) → Self → Self.Stop → Type 0 };
+
+    // Whether more input may be long in coming.
+    ghost is_ready: { Self → Type 0 } = { λ _. ⊤ };
 
     /// Takes a line.
     ///
@@ -36,8 +39,6 @@ pub trait LineTaker {
     /// Why it stops here.
     fn before_read(&mut self) -> Result<(), Self::Stop>
         ensures ready { OnOk result (Rests after self.old self.new) }
-        ensures stop { IfErr result (λ why. Stops after stopped self.old self.new None why) }
-    {
-        Ok(())
-    }
+        ensures waits { OnOk result (is_ready self.new) }
+        ensures stop { IfErr result (λ why. Stops after stopped self.old self.new None why) };
 }

@@ -146,6 +146,12 @@ abbrev pub moment_of : {W S : Type 0} → (W → Option (List ℕ)) → (W → B
 moment_of contents has_failed state s =
     moment contents has_failed state s.store.now s.sink.now s.waiting.now
 
+-- no reply waits, and none is held back
+pub record IsReady {W S : Type 0} (holds_back : W → Bool) (now : Session W S) : Type 0 where
+  pub text : now.waiting.now.text.items ≡ []
+  pub ends : now.waiting.now.ends.items ≡ []
+  pub passed : holds_back now.sink.now ≡ false
+
 module _ {W S F : Type 0} (contents : W → Option (List ℕ)) (has_failed holds_back : W → Bool)
     (state : S → ObjectState) (lends has_kept : S → S → Type 0)
     (has_lost : S → ObjectState → S → F → Type 0) where

@@ -2,8 +2,8 @@
 //!
 //! What waits is written before a line that changes the object, so that of the lines whose replies
 //! wait only the first has changed it.
-ghost use Rattle.std.specs.Prelude.{◌≡◌, ◌<◌, ℕ, List, Ok, length, IfErr, IfOk, MatchResult, OnOk};
-ghost use Rattle.std.specs.Prelude.{OnErr};
+ghost use Rattle.std.specs.Prelude.{◌≡◌, ◌<◌, ℕ, List, Ok, Err, length, IfErr, IfOk, MatchResult};
+ghost use Rattle.std.specs.Prelude.{OnOk, OnErr};
 ghost use Rattle.osn_lines.specs.Faults.{WriteFails};
 ghost use Rattle.osn_lines.specs.Lines.{IsLine};
 ghost use Rattle.osn_register.specs.BorrowedQuery.{as_query};
@@ -11,8 +11,9 @@ ghost use Rattle.osn_reply.specs.Outcome.{is_refused};
 ghost use Rattle.osn_reply.specs.ReplyText.{reply_line};
 ghost use Rattle.osn_request.specs.LineRequest.{as_request};
 ghost use Rattle.osn_request.specs.Request.{Fails};
+ghost use Rattle.osn_request.specs.declared.request.RequestError.TheVariants.{NoMemory};
 ghost use Rattle.osn_service.specs.Change.{change_outcome, change_after};
-ghost use Rattle.osn_service.specs.RequestInside.{IsReadOf};
+ghost use Rattle.osn_service.specs.RequestInside.{IsReadOf, WantsMemory};
 ghost use Rattle.osn_service.specs.ServiceInside.{full, Pushes, Settles, WritesSome};
 ghost use Rattle.osn_service.specs.Session as spec;
 ghost use Rattle.osn_service.specs.SessionInside.{Answers, moment};
@@ -91,36 +92,39 @@ fn ask<S: Store>(
 }
 
 /// What a line asks for, where the rules let it in.
-fn allowed(rules: ServeRules, request: LineRequest<'_>) -> Result<LineRequest<'_>, RequestError>
+fn allowed(rules: ServeRules, request: LineRequest<'_>) -> Result<LineRequest<'_>, WireFault>
     ensures { MatchResult result
         (λ r. spec.allowed rules.read_only rules.takes_sources (Ok (as_request request.entry))
         ≡ Ok (as_request r))
-        (λ e. Fails e
-        (spec.allowed rules.read_only rules.takes_sources (Ok (as_request request.entry)))) }
+        (λ f. spec.allowed rules.read_only rules.takes_sources (Ok (as_request request.entry))
+        ≡ Err f) }
 {
     match request {
         LineRequest::Stage(_) | LineRequest::Publish if rules.read_only => {
-            Err(RequestError::Fault(WireFault::ReadOnly))
+            Err(WireFault::ReadOnly)
         }
         LineRequest::Stage(edit) if !rules.takes_sources && edit.source().is_some() => {
-            Err(RequestError::Fault(WireFault::NeedsUpgrade))
+            Err(WireFault::NeedsUpgrade)
         }
         request => Ok(request),
     }
 }
 
-/// The request of a line of which this was read, or the fault as which it was read.
+/// The request of a line of which this was read, or the fault as which it was read. It wants memory
+/// only for a line that has a request.
 fn request_in<'a>(
     alloc: Global,
     rules: ServeRules,
     read: &'a Result<LineObject<'_>, RequestError>,
 ) -> Result<LineRequest<'a>, RequestError>
-    ensures { (whole : List ℕ) → IsReadOf whole read.now → MatchResult result
+    ensures request { (whole : List ℕ) → IsReadOf whole read.now → MatchResult result
         (λ r. spec.line_request rules whole ≡ Ok (as_request r))
         (λ e. Fails e (spec.line_request rules whole)) }
+    ensures memory { IfErr result (λ e. e ≡ NoMemory → (whole : List ℕ) → IsReadOf whole read.now
+        → WantsMemory rules.readers whole read.now) }
 {
     match read {
-        Ok(object) => allowed(rules, line_request_of(alloc, rules.readers, object)?),
+        Ok(object) => Ok(allowed(rules, line_request_of(alloc, rules.readers, object)?)?),
         Err(error) => Err(*error),
     }
 }
@@ -203,7 +207,7 @@ pub(crate) struct Session<'a, 'b, 'c, W, S> {
 }
 
 impl<'a, 'b, 'c, W: Sink, S: Store> LineTaker for Session<'a, 'b, 'c, W, S> {
-    ghost use Rattle.osn_service.specs.SessionInside.{HasServed, HasStopped};
+    ghost use Rattle.osn_service.specs.SessionInside.{HasServed, HasStopped, IsReady};
 
     type Stop = Stop<S::Fault>;
 
@@ -212,6 +216,8 @@ impl<'a, 'b, 'c, W: Sink, S: Store> LineTaker for Session<'a, 'b, 'c, W, S> {
 
     ghost stopped = { HasStopped W.contents W.has_failed W.holds_back S.state S.lends S.has_kept
         S.has_lost };
+
+    ghost is_ready = { IsReady W.holds_back };
 
     fn take(&mut self, line: Line<'_>) -> Result<(), Stop<S::Fault>> {
         make_room(self.sink, self.waiting)?;
