@@ -1,6 +1,8 @@
 //! What arrives: request lines, and what a file has gained.
-ghost use Rattle.std.specs.Prelude.{◌<◌, ◌∷◌, [], List, Option, take, length, IfOk, OnErr};
+ghost use Rattle.std.specs.Prelude.{◌≡◌, ◌<◌, ◌∷◌, [], ℕ, List, Option, None, take, length, IfOk};
+ghost use Rattle.std.specs.Prelude.{OnErr};
 ghost use Rattle.std.specs.Io.{ReadsAtMost};
+ghost use Rattle.std.specs.Io.KnownBytes.{Appends, ReadConsumes};
 ghost use Rattle.osn_folder.specs.FollowedFile.{IsOfWholeLines};
 ghost use Rattle.osn_follower.specs.Arrivals.{Arrival, Arrive, Gained, arrival_of};
 
@@ -14,13 +16,21 @@ pub trait Arrivals {
     // What has arrived so far, in order, where that is known.
     ghost arrived: { Self → Option (List Arrival) };
 
+    // The bytes of request lines that reads will give from here on, where they are known.
+    ghost remaining: { Self → Option (List ℕ) } = { λ _. None };
+
+    // The lines of the file that looks have given so far, where they are known.
+    ghost contents: { Self → Option (List ℕ) } = { λ _. None };
+
     /// Reads bytes of request lines once: `Ok(n)` for n bytes at the front of `buffer`, and `Ok(0)`
     /// for a buffer with room at the end of the input.
     fn read(&mut self, buffer: &mut [u8]) -> Result<usize, ReadFailed>
         ensures bound { ReadsAtMost result buffer.new }
         ensures ok { IfOk result (λ n. Arrive (arrived self.old) (arrived self.new)
             (arrival_of (take n buffer.new) ∷ [])) }
-        ensures err { OnErr result (Arrive (arrived self.old) (arrived self.new) []) };
+        ensures err { OnErr result (Arrive (arrived self.old) (arrived self.new) []) }
+        ensures bytes { ReadConsumes (remaining self.old) (remaining self.new) result buffer.new }
+        ensures unlooked { contents self.new ≡ contents self.old };
 
     /// Lines that the file holds now after those of the looks before, in order. There are none
     /// where no file has been there yet. A last line without its line feed waits, and so may what
@@ -34,7 +44,11 @@ pub trait Arrivals {
         ensures few { IfOk result (λ gained. length gained.items < 4294967295) }
         ensures ok { IfOk result (λ gained. Arrive (arrived self.old) (arrived self.new)
             (Gained gained.items ∷ [])) }
-        ensures err { OnErr result (Arrive (arrived self.old) (arrived self.new) []) };
+        ensures err { OnErr result (Arrive (arrived self.old) (arrived self.new) []) }
+        ensures gained { IfOk result
+            (λ gained. Appends (contents self.old) (contents self.new) gained.items) }
+        ensures ungained { OnErr result (contents self.new ≡ contents self.old) }
+        ensures unread { remaining self.new ≡ remaining self.old };
 }
 
 /// A source of request lines, and a file of a folder. In which order they come is not known.
@@ -55,6 +69,10 @@ impl<'a, R: Source, F: FollowedFile> Arrivals for Feed<'a, R, F> {
     ghost use Rattle.std.specs.Prelude.{None};
 
     ghost arrived = { λ _. None };
+
+    ghost remaining = { λ feed. R.remaining feed.requests.now };
+
+    ghost contents = { λ feed. F.contents feed.file };
 
     fn read(&mut self, buffer: &mut [u8]) -> Result<usize, ReadFailed> {
         self.requests.read(buffer)
