@@ -25,7 +25,7 @@ use Rattle.osn_live.specs.declared.faults.OpenFault.{OpenFault}
 use Rattle.osn_live.specs.declared.faults.OpenFault.TheVariants as Open
 use Rattle.osn_live.specs.declared.faults.DeskFault.{DeskFault}
 use Rattle.osn_live.specs.Faults.{IsBadCount, IsDeskFault, IsOfGate}
-use Rattle.osn_live.specs.InsideDesk.{AreStarted, IsFaultAt, IsFaultOf}
+use Rattle.osn_live.specs.InsideDesk.{AreStarted, IsStarted, IsFaultAt, IsFaultOf}
 use Rattle.osn_live.specs.InsideFaults.{by_ask, by_work, by_open}
 use Rattle.osn_live.specs.InsideWork.{IsOfPassing}
 
@@ -94,6 +94,14 @@ module _ {G : Type 0} where
   started_rest o hs more ls next h l e f a =
       (subst (λ (x : List (Vec Query Global)). AreStarted o (h ∷ more) x) f
       (subst (λ (x : List (PromisedHandle Worked (Works G))). AreStarted o x ls) e a)).1
+
+  pub started_first : (o : Origin) (hs more : List (PromisedHandle Worked (Works G)))
+      (ls next : List (Vec Query Global)) (h : PromisedHandle Worked (Works G))
+      (l : Vec Query Global) →
+      hs ≡ h ∷ more → ls ≡ l ∷ next → AreStarted o hs ls → IsStarted o h l
+  started_first o hs more ls next h l e f a =
+      (subst (λ (x : List (Vec Query Global)). AreStarted o (h ∷ more) x) f
+      (subst (λ (x : List (PromisedHandle Worked (Works G))). AreStarted o x ls) e a)).0
 
   pub started_count : (o : Origin) (hs : List (PromisedHandle Worked (Works G)))
       (ls : List (Vec Query Global)) → AreStarted o hs ls → length hs ≡ length ls

@@ -3,3 +3,4 @@ pub mod Adding
 pub mod OneRule
 pub mod Answered
 pub mod AtWork
+pub mod Hears

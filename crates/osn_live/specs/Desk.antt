@@ -1,5 +1,5 @@
 -- What readers at work are told, each of its own list of questions.
-use Rattle.std.specs.Prelude.{◌≡◌, ℕ, ◌≤◌, List, [], ◌∷◌, length, take, Vec}
+use Rattle.std.specs.Prelude.{◌≡◌, ℕ, ◌+◌, ◌<◌, ◌≤◌, List, [], ◌∷◌, length, take, Vec}
 use Rattle.std.specs.declared.alloc.Global.{Global}
 use Rattle.osn_days.specs.Profile.{Profile}
 use Rattle.osn_register.specs.declared.limits.Limits.{Limits}
@@ -30,3 +30,23 @@ AreAll p limits batches (qs ∷ lists) (rs ∷ all) =
     AreReplies p limits batches 0 qs.items rs.items × AreAll p limits batches lists all
 AreAll p limits batches [] (rs ∷ all) = ⊥
 AreAll p limits batches (qs ∷ lists) [] = ⊥
+
+-- a gate let each item of a list of this many pass, and saw the end of each, in this one's name
+pub record HearsOf {G : Type 0} (let_pass saw_end : G → ℕ → ℕ → Type 0) (gate : G) (who items : ℕ)
+    : Type 0 where
+  pub let_each_pass : (place : ℕ) → place < items → let_pass gate who place
+  pub saw_each_end : (place : ℕ) → place < items → saw_end gate who place
+
+-- the items of each list of questions, whose readers are numbered from this number
+abbrev pub HearsOfLists : {G : Type 0} → (G → ℕ → ℕ → Type 0) → (G → ℕ → ℕ → Type 0) → G → ℕ
+    → List (Vec Query Global) → Type 0
+HearsOfLists let_pass saw_end gate who [] = Unit {0}
+HearsOfLists let_pass saw_end gate who (list ∷ lists) =
+    HearsOf let_pass saw_end gate who (length list.items)
+    × HearsOfLists let_pass saw_end gate (who + 1) lists
+
+-- the items of all lists: the editor's, who is 0, and those of the readers, who are 1 upward
+pub record HearsOfAll {G : Type 0} (let_pass saw_end : G → ℕ → ℕ → Type 0) (gate : G)
+    (commands : ℕ) (lists : List (Vec Query Global)) : Type 0 where
+  pub editor : HearsOf let_pass saw_end gate 0 commands
+  pub readers : HearsOfLists let_pass saw_end gate 1 lists

@@ -1,5 +1,6 @@
 -- What readers at work give back, and what was started.
-use Rattle.std.specs.Prelude.{◌≡◌, ◌⊎◌, ℕ, ◌<◌, ◌≤◌, Bool, List, [], ◌∷◌, Vec, Result, Err}
+use Rattle.std.specs.Prelude.{◌≡◌, ◌⊎◌, ℕ, ◌+◌, ◌<◌, ◌≤◌, Bool, List, [], ◌∷◌, ◌++◌, length, Vec}
+use Rattle.std.specs.Prelude.{Result, Err}
 use Rattle.std.specs.List.{All}
 use Rattle.std.specs.declared.alloc.Global.{Global}
 use Rattle.core.specs.declared.thread.PromisedHandle.{PromisedHandle}
@@ -8,6 +9,7 @@ use Rattle.osn_core.specs.declared.step.Reply.{Reply}
 use Rattle.osn_live.specs.declared.faults.DeskFault.{DeskFault}
 use Rattle.osn_live.specs.declared.faults.DeskFault.TheVariants as Desk
 use Rattle.osn_live.specs.declared.protocol.Origin.{Origin}
+use Rattle.osn_live.specs.Desk.{HearsOfLists}
 use Rattle.osn_live.specs.Faults.{IsOfGate}
 use Rattle.osn_live.specs.InsideFaults.{by_work}
 use Rattle.osn_live.specs.declared.work.Worked.{Worked}
@@ -52,3 +54,36 @@ AreAt gate handles = All (λ h. h.promise.2.value ≡ gate) handles
 pub record IsOfTheirGate {G : Type 0} (is_open : G → Bool)
     (handles : List (PromisedHandle Worked (Works G))) (f : DeskFault) : Type 0 where
   pub of : (gate : G) → AreAt gate handles → IsOfGate (is_open gate) f
+
+-- they are numbered from this number, in their order
+abbrev pub AreNumbered : {G : Type 0} → ℕ → List (PromisedHandle Worked (Works G)) → Type 0
+AreNumbered who [] = Unit {0}
+AreNumbered who (h ∷ hs) = (h.promise.3 ≡ who) × AreNumbered (who + 1) hs
+
+-- what works at one gate told it of the items of each list
+pub record TellTheirGate {G : Type 0} (let_pass saw_end : G → ℕ → ℕ → Type 0)
+    (handles : List (PromisedHandle Worked (Works G))) (lists : List (Vec Query Global)) : Type 0
+  where
+    pub of : (gate : G) → AreAt gate handles → HearsOfLists let_pass saw_end gate 1 lists
+
+-- the reader of this number, counted from 1, brought back work whose last edition is this
+pub record HasSeen {G : Type 0} (Kept : Works G → Worked → Type 0)
+    (handles : List (PromisedHandle Worked (Works G))) (reader last : ℕ) : Type 0 where
+  pub before : List (PromisedHandle Worked (Works G))
+  pub handle : PromisedHandle Worked (Works G)
+  pub after : List (PromisedHandle Worked (Works G))
+  pub place : handles ≡ before ++ handle ∷ after
+  pub number : reader ≡ length before + 1
+  pub work : Worked
+  pub kept : Kept handle.promise work
+  pub seen : length work.reader.seen ≡ last
+
+-- so did the reader that a broken history names
+abbrev pub NamesReader : {G : Type 0} → (Works G → Worked → Type 0)
+    → List (PromisedHandle Worked (Works G)) → DeskFault → Type 0
+NamesReader Kept handles Desk.NoMemory = Unit {0}
+NamesReader Kept handles (Desk.HistoryBroken reader last editions) =
+    HasSeen Kept handles reader last
+NamesReader Kept handles Desk.BadCount = Unit {0}
+NamesReader Kept handles Desk.NoPlace = Unit {0}
+NamesReader Kept handles Desk.GateClosed = Unit {0}

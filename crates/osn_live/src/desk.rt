@@ -1,14 +1,15 @@
 //! Readers and one editor at work at once, each in a thread of its own.
-ghost use Rattle.std.specs.Prelude.{◌≡◌, ◌≤◌, length, vec_len, IfOk, IfErr, OnOk, Err};
+ghost use Rattle.std.specs.Prelude.{◌≡◌, ◌≤◌, length, vec_len, IfOk, IfErr, OnOk, Ok, Err};
 ghost use Rattle.std.specs.List.{All};
 ghost use Rattle.osn_days.specs.Profile.{newest_rules};
 ghost use Rattle.osn_core.specs.Script.{script_after, editions_of};
 ghost use Rattle.osn_live.specs.declared.protocol.Origin.{Origin};
-ghost use Rattle.osn_live.specs.Desk.{AreReplies, AreAll};
+ghost use Rattle.osn_live.specs.Desk.{AreReplies, AreAll, HearsOfAll};
 ghost use Rattle.osn_live.specs.Faults.{IsBadCount, IsDeskFault, IsOfGate};
 ghost use Rattle.osn_live.specs.InsideDesk.{IsFaultAt, IsFaultOf, IsOfTheirGate, AreStarted, AreAt};
+ghost use Rattle.osn_live.specs.InsideDesk.{AreNumbered, NamesReader, TellTheirGate};
 ghost use Rattle.osn_live.specs.InsideTurns.{HasTold};
-ghost use Rattle.osn_live.specs.InsideWork.{IsOfPassing};
+ghost use Rattle.osn_live.specs.InsideWork.{IsOfPassing, IsWork};
 ghost use Rattle.osn_live.specs.Running.{IsNew};
 
 use crate::editor::Editor;
@@ -42,13 +43,14 @@ fn start_all<'s, E, G: Gate + Sync>(
     ensures started { IfOk result (λ hs. (o : Origin) → All (λ r. r.origin ≡ o) readers.items →
         AreStarted o hs.items lists.now) }
     ensures at { IfOk result (λ hs. AreAt gate.now hs.items) }
+    ensures numbers { IfOk result (λ hs. AreNumbered 1 hs.items) }
     ensures gate { IfErr result (IsOfPassing (G.is_open gate.now)) }
 {
     let mut handles = Vec::new(alloc);
     let mut who = 0u32;
     for (list, reader) in lists.iter().zip(readers) {
         who += 1;
-        let promise = Works::of(&reader, list, gate);
+        let promise = Works::of(&reader, list, gate, who);
         let Ok(handle) = scope.spawn_with(promise, move || {
             work(alloc, gate, who, reader, list.as_slice())
         }) else {
@@ -61,6 +63,7 @@ fn start_all<'s, E, G: Gate + Sync>(
 
 /// The editor at work, each command between the two calls of its turn. What is refused is passed
 /// over.
+#[tactic(auto, using(crate::proofs::Hears::hears_more))]
 fn edit_all<R: Wait, G: Gate>(
     rt: &R,
     turns: &mut Turns<'_, G>,
@@ -69,7 +72,8 @@ fn edit_all<R: Wait, G: Gate>(
 ) -> Result<(), WorkFault>
     requires begun { turns.old.begun ≡ 0 }
     requires ended { turns.old.ended ≡ 0 }
-    ensures tells { OnOk result (HasTold turns.old turns.new (length commands.now)) }
+    ensures tells { OnOk result
+        (HasTold G.let_pass G.saw_end turns.old turns.new (length commands.now)) }
     ensures origin { editor.new.origin ≡ editor.old.origin }
     ensures ok { OnOk result
         (editor.new.object ≡ script_after newest_rules editor.old.object commands.now) }
@@ -95,6 +99,7 @@ fn check_against_note(
         worked.reader.seen 0 questions.now rs.items) }
     ensures replies { IfOk result (λ rs.
         AreReplies newest_rules note.origin.limits note.batches 0 questions.now rs.items) }
+    ensures same { IfOk result (λ rs. worked.replies ≡ Ok rs) }
     ensures fault { IfErr result
         (IsFaultOf who (length worked.reader.seen) (length note.batches) worked.replies) }
 {
@@ -122,10 +127,15 @@ fn collect<R: Threads, G: Gate>(
 ) -> Result<Vec<Vec<Reply>>, DeskFault>
     requires few { length lists.now ≤ 64 }
     requires started { AreStarted editor.now.origin handles.items lists.now }
+    requires numbers { AreNumbered 1 handles.items }
+    ensures tell { OnOk result
+        (TellTheirGate G.let_pass G.saw_end handles.items lists.now) }
     ensures replies { IfOk result (λ all. AreAll newest_rules editor.now.origin.limits
         editor.now.object.batches lists.now all.items) }
     ensures fault { IfErr result
         (IsFaultAt (length lists.now) (length editor.now.object.batches)) }
+    ensures names { IfErr result (NamesReader (λ p w. IsWork G.is_open G.let_pass G.saw_end
+        p.2.value p.3 p.0.value p.1.value.items w) handles.items) }
     ensures gate { IfErr result (IsOfTheirGate G.is_open handles.items) }
 {
     let mut all = Vec::new(alloc);
@@ -154,6 +164,8 @@ fn at_desk<'s, E, R: Threads + Wait, G: Gate + Sync>(
     requires few { length lists.now ≤ 64 }
     requires count { vec_len readers ≡ length lists.now }
     requires new { All (λ r. IsNew editor.old r) readers.items }
+    ensures hears { OnOk result
+        (HearsOfAll G.let_pass G.saw_end gate.now (length commands.now) lists.now) }
     ensures replies { IfOk result (λ all. AreAll newest_rules editor.old.origin.limits
         (script_after newest_rules editor.old.object commands.now).batches lists.now all.items) }
     ensures fault { IfErr result (IsFaultAt (length lists.now)
@@ -169,7 +181,8 @@ fn at_desk<'s, E, R: Threads + Wait, G: Gate + Sync>(
 /// each in its own thread, with calls of a gate around each item. Refused commands are passed over.
 ///
 /// Each question has exactly one reply, in its place: the definition's under the first editions of
-/// the script, as many as the reply names. For one reader their number never falls.
+/// the script, as many as the reply names. For one reader their number never falls. The gate let
+/// each item pass, and saw its end.
 ///
 /// # Errors
 ///
@@ -186,6 +199,8 @@ pub fn run_desk<R: Threads + Wait, G: Gate + Sync>(
     lists: &[Vec<Query>],
 ) -> Result<Vec<Vec<Reply>>, DeskFault>
     ensures bad_count { IsBadCount (length lists.now) → result ≡ Err DeskFault.BadCount }
+    ensures hears { OnOk result
+        (HearsOfAll G.let_pass G.saw_end gate.now (length commands.now) lists.now) }
     ensures replies { IfOk result (λ all.
         AreAll newest_rules limits
         (editions_of newest_rules limits commands.now) lists.now all.items) }
@@ -205,6 +220,8 @@ pub fn run_desk<R: Threads + Wait, G: Gate + Sync>(
             requires few { length lists.now ≤ 64 }
             requires count { vec_len readers ≡ length lists.now }
             requires new { All (λ r. IsNew held.now r) readers.items }
+            ensures hears { OnOk result (HearsOfAll G.let_pass G.saw_end gate.entry.now
+                (length commands.entry.now) lists.entry.now) }
             ensures replies { IfOk result (λ all. AreAll newest_rules held.entry.now.origin.limits
                 (script_after newest_rules held.entry.now.object commands.entry.now).batches
                 lists.entry.now all.items) }

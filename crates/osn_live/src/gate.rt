@@ -1,5 +1,5 @@
 //! What the threads of a desk call around each item.
-ghost use Rattle.std.specs.Prelude.{◌≡◌, Bool, true, false};
+ghost use Rattle.std.specs.Prelude.{◌≡◌, ℕ, Bool, true, false, ⊤};
 
 /// What the threads of a desk call around each item. `who` is 0 for the editor and 1 upward for the
 /// readers, and `index` the item's place in its list, from 0.
@@ -7,12 +7,20 @@ pub trait Gate {
     // Whether it is known to let every item pass.
     ghost is_open: { Self → Bool } = { λ _. false };
 
+    // What is known of it once it let the item at this place in the list of this one pass.
+    ghost let_pass: { Self → ℕ → ℕ → Type 0 } = { λ _ _ _. ⊤ };
+
+    // What is known of it once it was told that this item has ended.
+    ghost saw_end: { Self → ℕ → ℕ → Type 0 } = { λ _ _ _. ⊤ };
+
     /// Called before an item. If it answers false, the desk ends.
     fn before(&self, who: u32, index: usize) -> bool
-        ensures { is_open self.now ≡ true → result ≡ true };
+        ensures open { is_open self.now ≡ true → result ≡ true }
+        ensures told { result ≡ true → let_pass self.now who index };
 
     /// Called after an item.
-    fn after(&self, who: u32, index: usize);
+    fn after(&self, who: u32, index: usize)
+        ensures told { saw_end self.now who index };
 }
 
 /// The gate that lets everything pass.

@@ -37,6 +37,8 @@ impl<'a, G: Gate> Turns<'a, G> {
         requires few { self.old.begun + 1 < 2 ^ 64 }
         ensures ok { OnOk result
             (self.new ≡ record self.old { begun = self.old.begun + 1 }) }
+        ensures told { OnOk result
+            (G.let_pass self.old.gate.now self.old.who self.old.begun) }
         ensures gate { IfErr result (IsOfPassing (G.is_open self.old.gate.now)) }
     {
         if !self.gate.before(self.who, self.begun) {
@@ -49,7 +51,8 @@ impl<'a, G: Gate> Turns<'a, G> {
     /// Tells the gate of the item that was begun, after it.
     pub fn end(&mut self)
         requires { self.old.begun ≡ self.old.ended + 1 }
-        ensures { self.new ≡ record self.old { ended = self.old.ended + 1 } }
+        ensures counts { self.new ≡ record self.old { ended = self.old.ended + 1 } }
+        ensures told { G.saw_end self.old.gate.now self.old.who self.old.ended }
     {
         let _most = self.begun;
         self.gate.after(self.who, self.ended);

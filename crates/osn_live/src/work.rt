@@ -24,24 +24,27 @@ pub struct Worked {
 
 /// What a reader is started with, in proofs alone: what it gives back is its work on that.
 #[derive(Drop)]
-pub struct Works<G>(Snapshot<Reader>, Snapshot<Vec<Query>>, Snapshot<G>);
+pub struct Works<G>(Snapshot<Reader>, Snapshot<Vec<Query>>, Snapshot<G>, u32);
 
 impl<G: Gate> Promise<Worked> for Works<G> {
     ghost use Rattle.osn_live.specs.InsideWork.{IsWork};
 
-    ghost kept_by = { λ p w. IsWork (G.is_open p.2.value) p.0.value p.1.value.items w };
+    ghost kept_by = { λ p w. IsWork G.is_open G.let_pass G.saw_end p.2.value p.3 p.0.value
+        p.1.value.items w };
 }
 
 impl<G> Works<G> {
-    pub fn of(reader: &Reader, questions: &Vec<Query>, gate: &G) -> Works<G>
+    pub fn of(reader: &Reader, questions: &Vec<Query>, gate: &G, who: u32) -> Works<G>
         ensures reader { result.0.value ≡ reader.now }
         ensures questions { result.1.value ≡ questions.now }
         ensures gate { result.2.value ≡ gate.now }
+        ensures who { result.3 ≡ who }
     {
         Works(
             Snapshot::of(reader),
             Snapshot::of(questions),
             Snapshot::of(gate),
+            who,
         )
     }
 }
@@ -55,7 +58,8 @@ fn answer_all<G: Gate>(
 ) -> Result<Vec<Reply>, WorkFault>
     requires begun { turns.old.begun ≡ 0 }
     requires ended { turns.old.ended ≡ 0 }
-    ensures tells { OnOk result (HasTold turns.old turns.new (length questions.now)) }
+    ensures tells { OnOk result
+        (HasTold G.let_pass G.saw_end turns.old turns.new (length questions.now)) }
     ensures origin { reader.new.origin ≡ reader.old.origin }
     ensures replies { IfOk result (λ rs.
         AreReplies newest_rules reader.old.origin.limits reader.new.seen 0 questions.now rs.items) }
@@ -79,7 +83,7 @@ pub fn work<G: Gate>(
     reader: Reader,
     questions: &[Query],
 ) -> Worked
-    ensures { IsWork (G.is_open gate.now) reader questions.now result }
+    ensures { IsWork G.is_open G.let_pass G.saw_end gate.now who reader questions.now result }
 {
     let mut reader = reader;
     let mut turns = Turns::new(gate, who);

@@ -1,19 +1,35 @@
-use Rattle.std.proofs.Common.{◌≡◌, length, rules, arith, subst, IfErr}
+use Rattle.std.proofs.Common.{◌≡◌, ◌∙◌, ◌+◌, ◌++◌, [], ◌∷◌, length, rules, arith, subst, sym, ap}
+use Rattle.std.proofs.Common.{refl, IfErr, OnOk, append_assoc}
+use Rattle.std.proofs.lemmas.List.{length-append}
+use Rattle.std.proofs.lemmas.Result.{err_from_is_err_and}
+use Rattle.std.specs.Iterator.Adapters.{zip_second}
+use Rattle.std.specs.Vec.Iter.{into_iter_items}
 use Rattle.std.proofs.lemmas.List.Elements.{All-head, All-tail}
 use Rattle.osn_live.specs.InsideWork.{IsOfPassing}
 use Rattle.osn_live.specs.InsideDesk.{AreAt, IsOfTheirGate}
 use Rattle.osn_days.specs.Profile.{newest_rules}
-use Rattle.osn_live.specs.Desk.{AreReplies, AreAll}
+use Rattle.osn_live.specs.Desk.{AreReplies, AreAll, HearsOf, HearsOfLists}
 use Rattle.osn_live.proofs.AtWork.{next_pair, no_pair, few_left, count_left, one_done, all_done}
 use Rattle.osn_live.proofs.AtWork.{started_rest, started_count, lists_left, is_one_of}
-use Rattle.osn_live.proofs.AtWork.{fault_at, gate_at}
+use Rattle.osn_live.proofs.AtWork.{started_first, fault_at, gate_at}
+use Rattle.osn_live.proofs.Hears.{hears_at, if_err_at, names_at, numbers_rest}
 use Rattle.osn_live.proofs.desk.collect.Goals as goal
 
 pub loop-list-init : goal.loop-list-init
 loop-list-init g c =
     let count = started_count c.args.editor.now.origin c.args.handles.items c.args.lists.now
     c.requires.started in
-    search (rules, count)
+    record {
+      few = search (rules, count);
+      count = search (rules, count);
+      lists = search (rules, count);
+      gates = search (rules, count);
+      place = ([], search rules, refl);
+      numbers = search rules;
+      tell = search rules;
+      started = search (rules, count);
+      replies = search (rules, count);
+    }
 
 pub loop-list-preserved : goal.loop-list-preserved
 loop-list-preserved g c =
@@ -27,7 +43,28 @@ loop-list-preserved g c =
     let one : AreReplies newest_rules origin.limits batches 0 list.now.items told.items =
     rw (c.note.ensures.batches, c.note.ensures.origin, c.as_slice.ensures.value)
     at c.in_ok-replies.ensures.replies in
+    let handle = c.in-Some.handle in
+    let place = loop.invariant.place in
+    let numbers = numbers_rest _ _ _ handle step.1 loop.invariant.numbers in
     record {
+      place = (
+        place.0 ++ handle ∷ [],
+        place.1 ∙ ap (λ x. place.0 ++ x) step.1 ∙ sym (append_assoc place.0 (handle ∷ []) _),
+        omega (arith, place.2, length-append place.0 (handle ∷ [])),
+      );
+      numbers = numbers.1;
+      tell = λ gate all rest.
+          let at = All-head (λ h. h.promise.2.value ≡ gate) handle _
+          (subst (AreAt gate) step.1 (loop.invariant.gates gate all)) in
+          let hears = subst (λ r. OnOk r (HearsOf g.G.Gate.let_pass g.G.Gate.saw_end
+          handle.promise.2.value handle.promise.3 (length handle.promise.1.value.items)))
+          c.in_ok-replies.ensures.same c.join-worked.ensures.hears in
+          let one = hears_at g.G.Gate.let_pass g.G.Gate.saw_end handle.promise gate _ list.now at
+          numbers.0 (started_first origin _ _ _ _ handle list.now step.1 step.0
+          loop.invariant.started).list_is hears in
+          loop.invariant.tell gate all
+          (subst (HearsOfLists g.G.Gate.let_pass g.G.Gate.saw_end gate (loop.who + 1)) (sym step.0)
+          (one, rest));
       few = few_left loop.who _ list.now _ step.0 loop.invariant.few;
       count = count_left _ _ _ list.now _ step.0 step.2 loop.invariant.count;
       lists = lists_left loop.who _ list.now _ _ step.0 loop.invariant.lists;
@@ -75,3 +112,34 @@ returns-in_err-replies-clause-gate g c =
           c.join-worked.ensures.gate) c.in_err-replies.ensures.fault;
     } in
     search (rules, told)
+
+pub returns-clause-tell : goal.returns-clause-tell
+returns-clause-tell g c =
+    let loop = c.loop-list in
+    let none = no_pair loop.list-iterator c.next.new.self _ c.in-None.is c.next.ensures.steps
+    loop.invariant.count in
+    record {
+      of = λ gate all. loop.invariant.tell gate all
+          (subst (HearsOfLists g.G.Gate.let_pass g.G.Gate.saw_end gate (loop.who + 1)) (sym none)
+          tt);
+    }
+
+pub returns-in_err-replies-clause-names : goal.returns-in_err-replies-clause-names
+returns-in_err-replies-clause-names g c =
+    let loop = c.loop-list in
+    let handle = c.in-Some.handle in
+    let place = loop.invariant.place in
+    let step = next_pair loop.list-iterator c.next.new.self _ (c.in-Some.list, handle)
+    c.in-Some.is c.next.ensures.steps in
+    let err = err_from_is_err_and c.from_residual.result c.from_residual.ensures.1 in
+    if_err_at _ c.from_residual.result err.0 _ err.1 err.2
+    (names_at _ c.args.handles.items _ _ _ _ c.in_err-replies.field-0.0 (record {
+      before = place.0;
+      handle = handle;
+      after = into_iter_items (zip_second c.next.new.self);
+      place = place.1 ∙ ap (λ x. place.0 ++ x) step.1;
+      number = omega (arith, place.2);
+      work = c.join-worked.result;
+      kept = c.join-worked.ensures;
+      seen = refl;
+    }) c.in_err-replies.ensures.fault)

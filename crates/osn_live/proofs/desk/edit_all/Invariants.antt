@@ -1,6 +1,7 @@
 use Rattle.std.proofs.Common.{◌≡◌, take}
 use Rattle.osn_days.specs.Profile.{newest_rules}
 use Rattle.osn_core.specs.Script.{script_after}
+use Rattle.osn_live.specs.Desk.{HearsOf}
 use Rattle.osn_live.proofs.desk.edit_all.Given as goal
 
 abbrev pub invariant-loop-command : goal.invariant-loop-command
@@ -12,4 +13,6 @@ invariant-loop-command g l = record {
   who : l.turns.who ≡ l.fn.turns.who;
   begun : l.turns.begun ≡ l.command-index;
   ended : l.turns.ended ≡ l.command-index;
+  hears : HearsOf g.G.Gate.let_pass g.G.Gate.saw_end l.fn.turns.gate.now l.fn.turns.who
+      l.command-index;
 }

@@ -1,10 +1,12 @@
-use Rattle.std.proofs.Common.{◌≡◌, ◌∙◌, ◌∷◌, ap, subst}
+use Rattle.std.proofs.Common.{◌≡◌, ◌∙◌, ◌∷◌, [], ap, subst, arith, rules}
+use Rattle.std.proofs.lemmas.List.{length-append}
 use Rattle.std.specs.List.{All}
 use Rattle.std.proofs.lemmas.List.Elements.{All-head, All-tail, All-push}
 use Rattle.osn_live.specs.declared.work.Works.{Works}
 use Rattle.osn_live.specs.Running.{ReaderState}
 use Rattle.osn_live.specs.InsideDesk.{IsStarted, AreStarted}
 use Rattle.osn_live.proofs.AtWork.{next_pair, no_pair, few_left, count_left, one_done, all_done}
+use Rattle.osn_live.proofs.Hears.{numbers_more}
 use Rattle.osn_live.proofs.desk.start_all.Goals as goal
 
 pub loop-list-preserved : goal.loop-list-preserved
@@ -37,6 +39,10 @@ loop-list-preserved g c =
           loop.handles.items c.in-Ok.handle loop.invariant.gates
           (ap (λ (p : Works g.row.G.Denot). p.2.value) c.in-Ok.ensures.ok
           ∙ c.of-promise.ensures.gate));
+      numbers = rw c.in_ok-push.ensures.items (numbers_more 1 loop.handles.items c.in-Ok.handle
+          loop.invariant.numbers (ap (λ (p : Works g.row.G.Denot). p.3) c.in-Ok.ensures.ok
+          ∙ c.of-promise.ensures.who ∙ omega (arith, loop.invariant.made)));
+      made = search (rules, length-append loop.handles.items (c.in-Ok.handle ∷ []));
     }
 
 pub returns-clause-started : goal.returns-clause-started

@@ -7,7 +7,7 @@ use Rattle.core.specs.declared.thread.PromisedHandle.{PromisedHandle}
 use Rattle.osn_live.specs.declared.protocol.Origin.{Origin}
 use Rattle.osn_live.specs.declared.work.Worked.{Worked}
 use Rattle.osn_live.specs.declared.work.Works.{Works}
-use Rattle.osn_live.specs.InsideDesk.{AreStarted, AreAt}
+use Rattle.osn_live.specs.InsideDesk.{AreStarted, AreAt, AreNumbered}
 use Rattle.osn_live.proofs.desk.start_all.Given as goal
 
 -- those that are started, and after them those for the lists that are left
@@ -22,4 +22,6 @@ invariant-loop-list g l = record {
       AreStarted o hs (iter_rest (zip_first l.list-iterator)) →
       AreStarted o (l.handles.items ++ hs) l.lists);
   gates : AreAt l.fn.gate l.handles.items;
+  numbers : AreNumbered 1 l.handles.items;
+  made : length l.handles.items ≡ l.who;
 }

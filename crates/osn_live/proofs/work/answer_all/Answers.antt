@@ -10,6 +10,7 @@ use Rattle.osn_live.specs.Desk.{AreReplies}
 use Rattle.osn_live.specs.declared.protocol.Origin.{Origin}
 use Rattle.osn_live.proofs.Answered.{replies_later, replies_more}
 use Rattle.osn_live.proofs.AtWork.{ask_at}
+use Rattle.osn_live.proofs.Hears.{hears_more}
 use Rattle.osn_live.proofs.work.answer_all.Goals as goal
 
 pub loop-question-preserved : goal.loop-question-preserved
@@ -40,6 +41,7 @@ loop-question-preserved g c =
       who = search rules;
       begun = search rules;
       ended = search rules;
+      hears = hears_more _ _ _ _ _ loop.invariant.hears (search rules) (search rules);
     }
 
 pub returns-in_err-reply-clause-gate : goal.returns-in_err-reply-clause-gate

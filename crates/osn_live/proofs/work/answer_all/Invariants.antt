@@ -1,6 +1,6 @@
 use Rattle.std.proofs.Common.{◌≡◌, take}
 use Rattle.osn_days.specs.Profile.{newest_rules}
-use Rattle.osn_live.specs.Desk.{AreReplies}
+use Rattle.osn_live.specs.Desk.{AreReplies, HearsOf}
 use Rattle.osn_live.proofs.work.answer_all.Given as goal
 
 abbrev pub invariant-loop-question : goal.invariant-loop-question
@@ -12,4 +12,6 @@ invariant-loop-question g l = record {
   who : l.turns.who ≡ l.fn.turns.who;
   begun : l.turns.begun ≡ l.question-index;
   ended : l.turns.ended ≡ l.question-index;
+  hears : HearsOf g.G.Gate.let_pass g.G.Gate.saw_end l.fn.turns.gate.now l.fn.turns.who
+      l.question-index;
 }
