@@ -3,6 +3,8 @@
 #![tactic(auto)]
 
 #[cfg(test)]
+mod causes;
+#[cfg(test)]
 mod commands;
 #[cfg(test)]
 mod compare;
@@ -24,6 +26,8 @@ mod openings;
 mod printed;
 #[cfg(test)]
 mod taken_words;
+#[cfg(test)]
+mod terminal;
 #[cfg(test)]
 mod word_refusals;
 #[cfg(test)]

@@ -126,7 +126,7 @@ impl<R: Abort + AllocGlobal> Folder for MemoryFolder<'_, R> {
         self.note(path);
         match text {
             Some(text) => Ok(Plain::new(Cursor::new(text))),
-            None => Err(OpenFailed::NotFound),
+            None => Err(cause_at(path)),
         }
     }
 
@@ -215,6 +215,18 @@ impl<R: Abort + AllocGlobal> Folder for MemoryFolder<'_, R> {
 
     fn remove(&mut self, path: &str) {
         self.leave(path, None);
+    }
+}
+
+/// Why nothing is opened at a path without a file. In the folder `private` nothing may be read, and
+/// in the folder `broken` the system fails.
+fn cause_at(path: &str) -> OpenFailed {
+    if path.starts_with("private/") {
+        OpenFailed::PermissionDenied
+    } else if path.starts_with("broken/") {
+        OpenFailed::Other
+    } else {
+        OpenFailed::NotFound
     }
 }
 

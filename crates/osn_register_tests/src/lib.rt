@@ -12,6 +12,8 @@ mod compare;
 #[cfg(test)]
 mod desks;
 #[cfg(test)]
+mod fault_words;
+#[cfg(test)]
 mod gates;
 #[cfg(test)]
 mod live;
