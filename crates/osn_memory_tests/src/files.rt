@@ -14,7 +14,8 @@ use std::alloc::Global;
 use std::test::Fail;
 
 /// Questions of two readers.
-pub const QUESTIONS: &str = r#"{"op":"read","reader":1,"code":"GB","year":1731,"month":2,"day":11}
+pub(crate) const QUESTIONS: &str =
+    r#"{"op":"read","reader":1,"code":"GB","year":1731,"month":2,"day":11}
 {"op":"day","reader":2,"code":"GB","day":639797}
 {"op":"lands","reader":1}
 {"op":"periods","reader":2,"code":"GB"}
@@ -22,7 +23,7 @@ pub const QUESTIONS: &str = r#"{"op":"read","reader":1,"code":"GB","year":1731,"
 "#;
 
 /// What a call answered, or nothing where that is want of memory.
-pub fn known<T>(answer: Result<T, FileFault>) -> Option<Result<T, FileFault>> {
+pub(crate) fn known<T>(answer: Result<T, FileFault>) -> Option<Result<T, FileFault>> {
     match answer {
         Err(FileFault::NoMemory) => None,
         answer => Some(answer),

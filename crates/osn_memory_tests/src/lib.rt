@@ -6,6 +6,8 @@
 #[cfg(test)]
 mod files;
 #[cfg(test)]
+mod followers;
+#[cfg(test)]
 mod lines;
 #[cfg(test)]
 mod live;

@@ -10,7 +10,7 @@ use std::alloc::Global;
 use std::test::Fail;
 
 /// A published edition: a territory with changes, an exception and sources, and one with none.
-pub const JOURNAL: &str = r#"{"journal":4}
+pub(crate) const JOURNAL: &str = r#"{"journal":4}
 {"op":"add_land","code":"GB","name":"Great Britain","calendar":"julian","style":"annunciation",
   "rule":"julian"}
 {"op":"add_change","code":"GB","day":639551,"calendar":"julian","style":"january",
@@ -24,7 +24,7 @@ pub const JOURNAL: &str = r#"{"journal":4}
 
 /// An edit of each kind, of which each may follow those before it. The last two drop something, and
 /// are applied without memory.
-pub const EDITS: [&str; 6] = [
+pub(crate) const EDITS: [&str; 6] = [
     r#"{"op":"add_land","code":"RM","name":"Rome","calendar":"julian","style":"january",
   "rule":"julian"}"#,
     r#"{"op":"add_change","code":"FR","day":577736,"calendar":"gregorian","style":"january",
@@ -37,7 +37,7 @@ pub const EDITS: [&str; 6] = [
 ];
 
 /// A query of each kind whose answer takes memory.
-pub const QUERIES: [&str; 8] = [
+pub(crate) const QUERIES: [&str; 8] = [
     r#"{"op":"read","reader":1,"code":"GB","year":1731,"month":2,"day":11}"#,
     r#"{"op":"read","reader":1,"code":"FR","year":1543,"month":4,"day":1}"#,
     r#"{"op":"read","reader":1,"code":"GB","year":1752,"month":9,"day":3}"#,
@@ -58,7 +58,7 @@ const TELLING: [&str; 5] = [
 ];
 
 /// The edit of a line.
-pub fn edit_of(alloc: Global, line: &str) -> Result<Edit, Fail> {
+pub(crate) fn edit_of(alloc: Global, line: &str) -> Result<Edit, Fail> {
     let line = joined(alloc, line)?;
     match read_request(alloc, 1, line.as_bytes())? {
         Request::Stage(edit) => Ok(edit),
@@ -67,7 +67,7 @@ pub fn edit_of(alloc: Global, line: &str) -> Result<Edit, Fail> {
 }
 
 /// The query of a line.
-pub fn query_of(alloc: Global, line: &str) -> Result<Query, Fail> {
+pub(crate) fn query_of(alloc: Global, line: &str) -> Result<Query, Fail> {
     match read_request(alloc, 1, line.as_bytes())? {
         Request::Ask { query, .. } => Ok(query),
         _ => Err(Fail::new("no query")),
@@ -75,14 +75,14 @@ pub fn query_of(alloc: Global, line: &str) -> Result<Query, Fail> {
 }
 
 /// An object with the published edition.
-pub fn begun_object(alloc: Global) -> Result<Object, Fail> {
+pub(crate) fn begun_object(alloc: Global) -> Result<Object, Fail> {
     let text = joined(alloc, JOURNAL)?;
     let mut source = Plain::new(text.as_bytes());
     Ok(load_journal(alloc, Limits::standard(), &mut source)?)
 }
 
 /// A register of the published edition.
-pub fn begun_register(alloc: Global) -> Result<Register, Fail> {
+pub(crate) fn begun_register(alloc: Global) -> Result<Register, Fail> {
     let object = begun_object(alloc)?;
     Ok(object.register().copy()?)
 }
@@ -100,7 +100,7 @@ fn push_answer(
 }
 
 /// What tells how a register stands.
-pub fn register_text(alloc: Global, register: &Register) -> Result<String, Fail> {
+pub(crate) fn register_text(alloc: Global, register: &Register) -> Result<String, Fail> {
     let mut text = String::new(alloc);
     for line in TELLING {
         push_answer(alloc, register, line, &mut text)?;
@@ -109,7 +109,7 @@ pub fn register_text(alloc: Global, register: &Register) -> Result<String, Fail>
 }
 
 /// What tells how an object stands.
-pub fn object_text(alloc: Global, object: &Object) -> Result<String, Fail> {
+pub(crate) fn object_text(alloc: Global, object: &Object) -> Result<String, Fail> {
     let mut text = journal_text(alloc, object)?;
     text.push_str(register_text(alloc, object.register())?.as_str())?;
     Ok(text)

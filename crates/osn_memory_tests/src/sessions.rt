@@ -41,15 +41,15 @@ no request
 
 /// The replies that a service has written, and to how many lines.
 #[derive(Drop)]
-struct Told {
-    replies: Vec<u8>,
-    lines: u64,
+pub(crate) struct Told {
+    pub(crate) replies: Vec<u8>,
+    pub(crate) lines: u64,
 }
 
 type Served = Result<u64, Interrupted<ServeFault>>;
 
 /// No replies, and room for some.
-fn nothing_told(alloc: Global) -> Result<Told, Fail> {
+pub(crate) fn nothing_told(alloc: Global) -> Result<Told, Fail> {
     Ok(Told {
         replies: Vec::with_capacity(alloc, ROOM)?,
         lines: 0,
@@ -79,7 +79,7 @@ impl Told {
 
     /// Checks that the replies are those to as many lines as were counted, whole, and the first of
     /// these ones.
-    fn are_first(&self, all: &str) -> Result<(), Fail> {
+    pub(crate) fn are_first(&self, all: &str) -> Result<(), Fail> {
         let replies = str::from_utf8(&self.replies)?;
         let is_whole = replies.is_empty() || replies.ends_with('\n');
         if !is_whole || !all.starts_with(replies) {

@@ -10,7 +10,7 @@ use std::alloc::Global;
 use std::test::Fail;
 
 /// A schedule of one reader.
-pub const STEPS: &str = r#"{"step":"stage","op":"add_land","code":"RM","name":"Rome",
+pub(crate) const STEPS: &str = r#"{"step":"stage","op":"add_land","code":"RM","name":"Rome",
   "calendar":"julian","style":"january","rule":"julian"}
 {"step":"publish"}
 {"step":"look","op":"periods","reader":1,"code":"RM"}
