@@ -64,7 +64,7 @@ pub enum LettersFault {
     },
     /// The input failed, or gave no end within 4,294,967,295 reads.
     ReadFault,
-    /// The output failed, or did not take a text within 4,294,967,295 writes.
+    /// The output failed, or did not take a text within 4,294,967,295 calls.
     WriteFault,
     /// Memory ran out.
     NoMemory,

@@ -18,7 +18,7 @@ pub trait LineTaker {
     // line, or between two lines where no line is given. It is `now`, and has this reason.
     ghost stopped: { Self → List (List ℕ) → Option (List ℕ) → Self → Self.Stop → Type 0 };
 
-    // Whether more input may be long in coming.
+    // Whether it is ready for a wait.
     ghost is_ready: { Self → Type 0 } = { λ _. ⊤ };
 
     /// Takes a line.

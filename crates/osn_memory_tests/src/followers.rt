@@ -1,23 +1,17 @@
 //! A follower of a journal, which answers lines from what the file holds.
-ghost use Rattle.std.specs.Prelude.{◌<◌, IfOk, length};
-ghost use Rattle.osn_folder.specs.FollowedFile.{IsOfWholeLines};
-
 use crate::register_lines::JOURNAL;
 use crate::sessions::{Told, nothing_told};
 use osn_files::FileFault;
 use osn_folder::FollowFault;
 use osn_follower::{Arrivals, FollowerFault, follow};
-use osn_lines::{Interrupted, Plain, ReadFailed, ended_length};
+use osn_lines::{Interrupted, Plain, ReadFailed};
 use osn_register::Limits;
 use osn_scarce_memory::{Ample, Change, is_sound_change};
 use osn_service::{ServeFault, Served};
-use osn_test_texts::joined;
-use std::alloc::{AllocError, Global};
+use osn_test_texts::{joined, whole_lines};
+use std::alloc::Global;
 use std::test::Fail;
 use std::{mem, str};
-
-/// The most bytes of a file.
-const MOST: usize = 65_536;
 
 /// Requests of two readers, of which one is refused.
 const REQUESTS: &str = r#"{"op":"lands","reader":1}
@@ -31,20 +25,6 @@ const REQUESTS: &str = r#"{"op":"lands","reader":1}
 struct AtOnce<'a> {
     requests: &'a str,
     journal: &'a str,
-}
-
-/// The lines of a text that have ended.
-fn whole_lines(alloc: Global, text: &str) -> Result<Vec<u8>, AllocError>
-    ensures lines { IfOk result (λ lines. IsOfWholeLines lines.items) }
-    ensures few { IfOk result (λ lines. length lines.items < 4294967295) }
-{
-    let bytes = text.as_bytes();
-    let bytes = &bytes[..bytes.len().min(MOST)];
-    let mut lines = Vec::new(alloc);
-    lines.extend_from_slice(bytes)?;
-    let ended = ended_length(&lines);
-    lines.truncate(ended);
-    Ok(lines)
 }
 
 impl Arrivals for AtOnce<'_> {

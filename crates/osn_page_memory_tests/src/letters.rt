@@ -15,13 +15,13 @@ use std::{mem, str};
 /// Bytes that a table takes with no growth of memory.
 const ROOM: usize = 8_192;
 
-/// A place of a territory, and one of a code that is none.
+/// A place of a territory, and one of an unknown code.
 const PLACES: &str = "note;place;code
 capital; London ;GB
 ;Nowhere;XX
 ";
 
-/// Letters by a code and by a place, with a weekday and with none, and of a code that is none.
+/// Letters by a code and by a place, with a weekday and with none, and of an unknown code.
 const LETTERS: &str = "id,place,date,weekday,text
 1, GB,11 February 1731,friday ,\"Dear Sir, I\"
 2,London,1752-09-05,,\"said \"\"no\"\"\"

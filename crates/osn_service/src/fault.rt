@@ -13,7 +13,7 @@ pub enum ServeFault {
     /// answered.
     #[error("the input failed; no further line is answered")]
     ReadFault,
-    /// The sink failed, or did not take a text within 4,294,967,295 writes. The reply to the next
+    /// The sink failed, or did not take a text within 4,294,967,295 calls. The reply to the next
     /// line may be written in part. That line may have changed the object, and no line after it
     /// has.
     #[error("the output failed; the next line may have been applied")]

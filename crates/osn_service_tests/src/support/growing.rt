@@ -1,17 +1,12 @@
 //! Request lines in memory, and a file that grows between any two reads of them.
-ghost use Rattle.std.specs.Prelude.{◌<◌, ◌≤◌, IfOk, length};
-ghost use Rattle.osn_folder.specs.FollowedFile.{IsOfWholeLines};
-
 use osn_folder::FollowFault;
 use osn_follower::Arrivals;
-use osn_lines::{ReadFailed, ended_length};
-use std::alloc::{AllocError, Global};
+use osn_lines::ReadFailed;
+use osn_test_texts::whole_lines;
+use std::alloc::Global;
 
 /// Bytes that a read gives, and the lines that the file has then after those before.
 pub type Round = (&'static str, &'static str);
-
-/// The most bytes of a round's lines.
-const MOST: usize = 65_536;
 
 /// Rounds in turn. After the last one reads give nothing, or a look fails.
 #[derive(Drop)]
@@ -19,20 +14,6 @@ pub struct Growing<'a> {
     pub rounds: &'a [Round],
     pub place: usize,
     pub fault: Option<FollowFault>,
-}
-
-/// The lines of a text that have ended.
-fn whole_lines(alloc: Global, text: &str) -> Result<Vec<u8>, AllocError>
-    ensures lines { IfOk result (λ lines. IsOfWholeLines lines.items) }
-    ensures few { IfOk result (λ lines. length lines.items < 4294967295) }
-{
-    let bytes = text.as_bytes();
-    let bytes = &bytes[..bytes.len().min(MOST)];
-    let mut lines = Vec::new(alloc);
-    lines.extend_from_slice(bytes)?;
-    let ended = ended_length(&lines);
-    lines.truncate(ended);
-    Ok(lines)
 }
 
 impl Arrivals for Growing<'_> {

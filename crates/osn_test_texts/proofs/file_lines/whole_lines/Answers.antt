@@ -1,7 +1,7 @@
 use Rattle.std.proofs.Common.{◌∙◌, ap}
 use Rattle.osn_lines.specs.Ended.{ended_length}
 use Rattle.osn_folder.proofs.WholeLemmas.{cut-whole}
-use Rattle.osn_memory_tests.proofs.followers.whole_lines.Goals as goal
+use Rattle.osn_test_texts.proofs.file_lines.whole_lines.Goals as goal
 
 pub returns-clause-lines : goal.returns-clause-lines
 returns-clause-lines c =
