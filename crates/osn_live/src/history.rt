@@ -162,7 +162,7 @@ impl Certificate {
         requires { later.book ≡ self.old.book }
         ensures { MatchBool result
             (Begins self.old.batches later.batches × (self.new ≡ later))
-            (self.new ≡ self.old) }
+            ((self.new ≡ self.old) × (length later.batches < length self.old.batches)) }
     {
         if later.count < self.count {
             return false;

@@ -1,6 +1,7 @@
 //! The calls of a gate around the items of one list.
 ghost use Rattle.std.specs.Prelude.{◌≡◌, ◌+◌, ◌^◌, ◌<◌, IfErr, OnOk};
 ghost use Rattle.osn_live.specs.InsideWork.{IsOfPassing};
+ghost use Rattle.osn_live.specs.declared.work_fault.WorkFault.{WorkFault};
 
 use crate::gate::Gate;
 use crate::work_fault::WorkFault;
@@ -40,6 +41,7 @@ impl<'a, G: Gate> Turns<'a, G> {
         ensures told { OnOk result
             (G.let_pass self.old.gate.now self.old.who self.old.begun) }
         ensures gate { IfErr result (IsOfPassing (G.is_open self.old.gate.now)) }
+        ensures closed { IfErr result (λ why. why ≡ WorkFault.GateClosed) }
     {
         if !self.gate.before(self.who, self.begun) {
             return Err(WorkFault::GateClosed);
