@@ -69,12 +69,14 @@ def date_of(text):
 
 
 def front_of(text, last):
-    """The first date of a range: what it lacks it gets from the last one."""
+    """The first date of a range: one of the kind of the last one gets from it what it lacks."""
     if not (parts := matched(FRONTS, text)):
         return date_of(text)
     month = month_of(parts) or last.month
     day = int(parts["day"]) if "day" in parts else None
-    if day is not None and (last.day is None or not 1 <= day <= 31):
+    if last.month is None or (day is None) != (last.day is None):
+        raise Unread(text)
+    if day is not None and not 1 <= day <= 31:
         raise Unread(text)
     return last._replace(month=month, day=day)
 

@@ -209,7 +209,7 @@ fn months_and_years(rt: HostRuntime) -> Result<(), Fail> {
     are_read(&rt, rt.alloc(), DateOrder::Unknown, &MONTHS_AND_YEARS)
 }
 
-const RANGES: [(&str, &str); 42] = [
+const RANGES: [(&str, &str); 45] = [
     ("3-10 May 1640", "1640 5 3 to 1640 5 10"),
     ("3–10 May 1640", "1640 5 3 to 1640 5 10"),
     ("3 to 10 May 1640", "1640 5 3 to 1640 5 10"),
@@ -234,6 +234,9 @@ const RANGES: [(&str, &str); 42] = [
     ("by 3 May 1640", "not after 1640 5 3"),
     ("../1640-05-03", "not after 1640 5 3"),
     ("1640/..", "not before 1640"),
+    ("February - 3 March 1640", "Malformed"),
+    ("3 May to June 1640", "Malformed"),
+    ("March to 1640", "Malformed"),
     ("3 and 10 May 1640", "Malformed"),
     ("1731/2-1735", "1731+ to 1735"),
     ("1731/2-02-1735", "1731+ 2 to 1735"),
