@@ -27,7 +27,8 @@ FORMS = ["11 Feb. 1731/32", "le 1er avril 1640", "1731 February 11", "11. 2. 173
          "11 February 1731 N.S.", "11 February 1731 O.S.", "3 May 1640 (?)", "n.d.", "11/2/1731",
          "11/22 February 1731", "Easter 1640", "xi February 1731", "1731/3", "1731-13-11",
          "11 February 31", "no text of a date", "--strict", "-5", "a <b>&amp;\"'", "ä 1640 é",
-         "1-10 March 1731", "February 1731/2", "10 to 3 May 1640", "Friday 11 February 1731"]
+         "1-10 March 1731", "February 1731/2", "10 to 3 May 1640", "Friday 11 February 1731",
+         "[1543-04-11,1544-04-11]", "[1731-04-05..1731-04-11,1732-04-12?]"]
 
 
 def hold_dates(page, program, journal, dates):

@@ -8,7 +8,7 @@ HINT = ("As it stands in the document: 11 February 1731, 11 Feb. 1731/32, March 
 FLAGS = [("approximate", "approximate"), ("uncertain", "in doubt"),
          ("supplied", "supplied by an editor")]
 KINDS = {"month": "a month", "year": "a year", "range": "a range", "before": "a bound",
-         "after": "a bound"}
+         "after": "a bound", "set": "one of these days"}
 
 
 def question(links, lands, asked):
@@ -57,7 +57,7 @@ def cited(found):
         end = found.written["runs"][-1]["last"] if kind == "before" else \
             found.written["runs"][0]["first"]
         texts = [f"{'to' if kind == 'before' else 'from'} {full(end)}"]
-    return f"{what}: {', and '.join(texts)}"
+    return f"{what}: {(', or ' if kind == 'set' else ', and ').join(texts)}"
 
 
 def cited_day(found):
@@ -123,7 +123,7 @@ def day_facts(links, code, day, weekday=None):
 
 
 def runs(links, found):
-    """The days of a month, a year, a range or a bound, from the first to the last."""
+    """The days of a month, a year, a range, a bound or a set, from the first to the last."""
     kind = found.written["kind"]
     parts = [element("h2", f"The date is {KINDS[kind]}")]
     counts = iter(found.counts)
