@@ -6,8 +6,9 @@ published into is written as the same text. A run ends with a status that docs/T
 names, within a minute, and tells a fault in one line that has no control character.
 
 What a text says, or its first fault, is by territory_texts.py, where Python's own reader of TOML
-reads the text. Readers differ in whole numbers of more than 64 bits, and in how deep they go.
+reads the text. Readers differ in numbers that 64 bits don't hold, and in how deep they go.
 """
+import math
 import os
 import re
 import tomllib
@@ -114,8 +115,11 @@ def depth_of(value):
 
 
 def has_long_number(value):
+    """Whether a number is more than 64 bits hold."""
     if isinstance(value, (dict, list)):
         return any(map(has_long_number, value.values() if isinstance(value, dict) else value))
+    if isinstance(value, float):
+        return math.isinf(value)
     return isinstance(value, int) and not -(2**63) <= value < 2**63
 
 
