@@ -1,0 +1,240 @@
+#!/usr/bin/env python3
+"""Checks that the mutants still apply, or tries those that the gate leaves out.
+
+mutants/README.md says what a mutant is. `check` proves nothing and takes a second. It reports each
+mutant, of the gate and of mutants/, whose old text is not exactly once in its file, that does not
+say what it breaks, or that repeats another.
+
+`try` clones what is committed, puts the mutants of mutants/CRATE.edits in the place of the gate's,
+and runs `rt must-fail`: a proof of each crate, and some 15 seconds for each mutant. A mutant that is
+proved is reported, unless mutants/survivors.txt gives the reason. If all of a crate went as they
+should, the first line of its file gets the commit and the date. With --part K/N only each Nth
+crate is tried, from the Kth on.
+"""
+import argparse
+import datetime
+import glob
+import os
+import re
+import shutil
+import subprocess
+import sys
+from collections import Counter
+from dataclasses import dataclass
+
+HERE = os.path.dirname(os.path.abspath(__file__))
+sys.path.append(os.path.join(HERE, "..", "tools"))
+
+from clone import cloned
+from command_line import TOP, CommandLine, end, need
+
+DATA = os.path.join(HERE, "mutants")
+SAYS = "# "
+TRIED = "tried: "
+VERDICT = re.compile(r"(?:rt: )?must-fail (\S+?)/(\S+\.edit): (.*)")
+
+
+@dataclass(frozen=True)
+class Mutant:
+    """A mutant of a crate, the place that it is written at, and its lines."""
+
+    crate: str
+    place: str
+    lines: tuple
+
+    @property
+    def breaks(self):
+        """What it breaks, which is its name in survivors.txt."""
+        return f"{self.crate}: {self.lines[0].removeprefix(SAYS)}"
+
+    @property
+    def edit(self):
+        """The name of the file that `rt must-fail` reads it from: the line that it begins at."""
+        return f"line_{self.place.rpartition(':')[2]}.edit"
+
+
+def read(path):
+    with open(path, encoding="utf-8") as file:
+        return file.read()
+
+
+def data_file(crate):
+    return os.path.join(DATA, f"{crate}.edits")
+
+
+def further(crate):
+    """The mutants of a crate that the gate leaves out."""
+    path, begin, block = data_file(crate), 1, []
+    lines = read(path).splitlines() if os.path.isfile(path) else []
+    for number, line in enumerate([*lines, ""], 1):
+        if line:
+            block.append(line)
+            continue
+        if block and not block[0].startswith(TRIED):
+            yield Mutant(crate, f"{os.path.relpath(path, TOP)}:{begin}", tuple(block))
+        begin, block = number + 1, []
+
+
+def of_the_gate(crate):
+    folder = os.path.join(TOP, "crates", crate, "must-fail")
+    for path in sorted(glob.glob(os.path.join(glob.escape(folder), "*.edit"))):
+        yield Mutant(crate, os.path.relpath(path, TOP), tuple(read(path).splitlines() or [""]))
+
+
+def survivors():
+    """The mutants that may be proved, by what they break."""
+    lines = read(os.path.join(DATA, "survivors.txt")).splitlines()
+    return {line for line in lines if line and not line.startswith((SAYS, " "))}
+
+
+def faults(mutant):
+    """What keeps a mutant from being applied, if its texts are exchanged one after the other."""
+    if not mutant.lines[0].startswith(SAYS):
+        yield "its first line does not say what it breaks"
+    texts, file, old, is_edit = {}, None, None, False
+    for line in mutant.lines[1:]:
+        mark, _, rest = line.partition(": ")
+        if mark == "file":
+            file = os.path.join(TOP, "crates", mutant.crate, rest)
+            if not os.path.isfile(file):
+                yield f"{mutant.crate} has no file {rest}"
+                return
+            texts.setdefault(file, read(file))
+        elif mark == "old":
+            old = rest
+        elif line.startswith("new:") and file and old:
+            if (times := texts[file].count(old)) != 1:
+                yield f"its old text is {times} times in its file: {old}"
+            texts[file] = texts[file].replace(old, line.removeprefix("new:").removeprefix(" "))
+            is_edit = True
+        else:
+            yield f"this line is no file, old or new in turn: {line}"
+    if not is_edit:
+        yield "it has no lines file, old and new"
+
+
+def check(crates):
+    """Reports what can't be applied, and answers whether something can't."""
+    count, bad, texts, names = 0, 0, {}, Counter()
+    for crate in crates:
+        for mutant in (*of_the_gate(crate), *further(crate)):
+            found = list(faults(mutant))
+            first = texts.setdefault((crate, mutant.lines[1:]), mutant.place)
+            if first != mutant.place:
+                found.append(f"it repeats {first}")
+            for fault in found:
+                print(f"{mutant.place}: {fault}")
+            names[mutant.breaks] += 1
+            count, bad = count + 1, bad + bool(found)
+    listed = {name for name in survivors() if name.partition(": ")[0] in crates}
+    unclear = sorted(name for name in listed if names[name] != 1)
+    for name in unclear:
+        print(f"verify/mutants/survivors.txt: {names[name]} mutants are: {name}")
+    print(f"{count} mutants, {bad} can't be applied or repeat another")
+    return bool(bad or unclear)
+
+
+def put_in_place(clone, crate):
+    folder = os.path.join(clone, "crates", crate, "must-fail")
+    shutil.rmtree(folder, ignore_errors=True)
+    os.mkdir(folder)
+    for mutant in further(crate):
+        with open(os.path.join(folder, mutant.edit), "w", encoding="utf-8") as file:
+            file.writelines(line + "\n" for line in mutant.lines)
+
+
+def verdicts_in(clone, crates):
+    """The verdict on each mutant, by its crate and the name of its edit."""
+    verdicts = {}
+    command = ["rt", "must-fail", *crates]
+    with subprocess.Popen(
+        command, cwd=clone, stdout=subprocess.PIPE, stderr=subprocess.STDOUT, text=True
+    ) as run:
+        for line in run.stdout:
+            print(line, end="", flush=True)
+            if found := VERDICT.match(line):
+                verdicts[found[1], found[2]] = found[3]
+    return verdicts
+
+
+def report(crate, verdicts, listed):
+    """Prints what came of a crate's mutants. Answers how many there are, and how many of them went
+    otherwise than listed."""
+    count, for_a_name, bad = Counter(), 0, 0
+    for mutant in further(crate):
+        verdict = verdicts.get((crate, mutant.edit), "no verdict")
+        is_listed = mutant.breaks in listed
+        if verdict.startswith("refused"):
+            came = "refused"
+            for_a_name += "only because a proof file names" in verdict
+            if is_listed:
+                print(f"  {mutant.place}: refused now, take it out of survivors.txt")
+        elif verdict.startswith("NOT REFUSED"):
+            came = "proved"
+            bad += not is_listed
+            print(f"  {mutant.place}: proved, {'as listed' if is_listed else 'NOT LISTED'}")
+        else:
+            came = "not tried"
+            bad += 1
+            print(f"  {mutant.place}: not tried: {verdict[:200]}")
+        count[came] += 1
+    print(f"{crate}: {count['refused']} refused ({for_a_name} of them for a name alone), "
+          f"{count['proved']} proved, {count['not tried']} not tried")
+    return count.total(), bad
+
+
+def note_commit(crate, commit):
+    """Writes into the first line of a crate's file when it was tried."""
+    path = data_file(crate)
+    blocks = [block for block in read(path).split("\n\n") if not block.startswith(TRIED)]
+    with open(path, "w", encoding="utf-8") as file:
+        file.write("\n\n".join([f"{TRIED}{commit}, {datetime.date.today()}", *blocks]))
+
+
+def tried(crates):
+    """Tries the mutants that the gate leaves out, and answers whether one went otherwise."""
+    need("rt", "the Rattle kit that KIT names")
+    commit = subprocess.run(["git", "rev-parse", "--short", "HEAD"], cwd=TOP, check=True,
+                            capture_output=True, text=True).stdout.strip()
+    with cloned() as clone:
+        for crate in crates:
+            put_in_place(clone, crate)
+        verdicts = verdicts_in(clone, crates)
+    listed, count, failed = survivors(), 0, 0
+    for crate in crates:
+        total, bad = report(crate, verdicts, listed)
+        count, failed = count + total, failed + bad
+        if not bad:
+            note_commit(crate, commit)
+    print(f"{count} mutants of {len(crates)} crates, {failed} proved unlisted or not tried")
+    return failed > 0
+
+
+def part(text):
+    """The numbers K and N of a text K/N, of which K is from 1 to N."""
+    found = re.fullmatch(r"([0-9]+)/([0-9]+)", text)
+    if not found or not 1 <= int(found[1]) <= int(found[2]):
+        raise argparse.ArgumentTypeError(f"{text} is no part K/N: name one as 3/7")
+    return int(found[1]), int(found[2])
+
+
+def main():
+    line = CommandLine(__doc__)
+    line.add_argument("action", choices=["check", "try"])
+    line.add_argument("crates", nargs="*", metavar="CRATE", help="a crate; all if none is named")
+    line.add_argument("--part", type=part, default=(1, 1), metavar="K/N",
+                      help="of the crates, each Nth from the Kth on")
+    options = line.parse_args()
+    data = sorted(os.path.basename(path)[:-6] for path in glob.glob(os.path.join(DATA, "*.edits")))
+    gate = {path.split(os.sep)[-2] for path in glob.glob(os.path.join(TOP, "crates/*/must-fail"))}
+    known = data if options.action == "try" else sorted({*data, *gate})
+    for crate in options.crates:
+        if crate not in known:
+            line.error(f"{crate} has no mutants: the crates that have some are {', '.join(known)}")
+    first, step = options.part
+    crates = (options.crates or known)[first - 1::step]
+    return int(check(crates) if options.action == "check" else tried(crates))
+
+
+if __name__ == "__main__":
+    end(main)
