@@ -8,7 +8,7 @@ Easter by the anonymous algorithm of *Nature* (1876) for the Gregorian rule and 
 import datetime
 import json
 
-from common import CommandLine, end, replies
+from lib.common import CommandLine, end, replies
 
 YEARS = range(1, 10_000)
 

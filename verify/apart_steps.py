@@ -11,7 +11,7 @@ import random
 import sys
 import tempfile
 
-from common import JULIAN, CommandLine, compact, end, run
+from lib.common import JULIAN, CommandLine, compact, end, run
 from reference import Fault, Service, refuse, request_of
 
 EDITIONS = 5_000

@@ -15,7 +15,7 @@ import subprocess
 import sys
 import tempfile
 
-from common import JULIAN, SCRIPT, CommandLine, compact, end, run
+from lib.common import JULIAN, SCRIPT, CommandLine, compact, end, run
 
 CODES = ["RM", "GB", "FR", "DE"]
 AGREE = b" replies agree\n"

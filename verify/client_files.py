@@ -6,7 +6,7 @@ import shutil
 import subprocess
 import sys
 
-from common import TOP
+from lib.common import TOP
 
 CLIENTS = os.path.join(TOP, "clients")
 SAMPLES = os.path.join(CLIENTS, "samples")

@@ -21,7 +21,7 @@ import tempfile
 import threading
 import time
 
-from common import TOP, CommandLine, compact, end, file_at, run
+from lib.common import TOP, CommandLine, compact, end, file_at, run
 
 sys.path.append(os.path.join(TOP, "clients", "python", "src"))
 

@@ -21,10 +21,10 @@ import shutil
 import tempfile
 from typing import NamedTuple
 
-from common import CommandLine, end, need, run
-from keeping import HEAD, HEAD_4, PUBLISH, hold, verdict
-from sessions import LANDS, bytes_at, journal, last_edition, session, told_lines
-from traces import traced
+from lib.common import CommandLine, end, need, run
+from lib.keeper import HEAD, HEAD_4, PUBLISH, hold, verdict
+from lib.session_draws import LANDS, bytes_at, journal, last_edition, session, told_lines
+from lib.strace_lines import traced
 
 FRONTS = 6
 SECOND = "serve --keep a"

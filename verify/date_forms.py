@@ -8,7 +8,7 @@ text that is told otherwise, and ends with status 1 where one is.
 import os
 import re
 
-from common import TOP, CommandLine, end, run
+from lib.common import TOP, CommandLine, end, run
 
 DAY = r"\d+ [A-Z][a-z]+ \d+(?:/\d)?"
 NOT_ONE_DAY = "a month, a year or a range is not one day"

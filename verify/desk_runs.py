@@ -13,7 +13,7 @@ import random
 import sys
 import tempfile
 
-from common import GREGORIAN, JULIAN, SCRIPT, CommandLine, compact, end, run
+from lib.common import GREGORIAN, JULIAN, SCRIPT, CommandLine, compact, end, run
 
 READERS, EDITIONS, LANDS = 64, 40, 12
 STYLES = ["january", "annunciation", "nativity", "september", "pisan", "easter"]

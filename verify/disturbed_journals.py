@@ -19,8 +19,8 @@ import shutil
 import subprocess
 import tempfile
 
-from common import CommandLine, compact, end, mounted, run
-from keeping import HEAD, HELD, PUBLISH, Editor, Run, hold, journal_lines, land, verdict
+from lib.common import CommandLine, compact, end, mounted, run
+from lib.keeper import HEAD, HELD, PUBLISH, Editor, Run, hold, journal_lines, land, verdict
 
 REPLACED = ("oldstyle: another program moved, replaced or changed the journal: "
             "no more is kept in it\n")

@@ -13,7 +13,7 @@ import os
 import shlex
 import tempfile
 
-from common import TOP, CommandLine, end, file_at, run
+from lib.common import TOP, CommandLine, end, file_at, run
 
 RUN, FILE = "$ ./oldstyle ", "$ cat "
 

@@ -12,11 +12,11 @@ import os
 import random
 import tempfile
 
-from calendars import HIGH
-from common import CommandLine, end, run
-from letter_rows import COLUMNS
-from samples import journal_lines, later_digits, middle_day, write_journal
-from written import Territory, parse, weekday_of
+from lib.calendars import HIGH
+from lib.common import CommandLine, end, run
+from lib.letter_rows import COLUMNS
+from lib.date_draws import journal_lines, later_digits, middle_day, write_journal
+from lib.date_meaning import Territory, parse, weekday_of
 
 EACH = 1_000
 

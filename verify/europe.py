@@ -17,11 +17,11 @@ import subprocess
 import tempfile
 import tomllib
 
-from calendars import dates, easter
-from common import TOP, CommandLine, compact, end, need, run
-from keeping import hold, verdict
+from lib.calendars import dates, easter
+from lib.common import TOP, CommandLine, compact, end, need, run
+from lib.keeper import hold, verdict
 from reference import cited
-from territory_texts import WORDS, lands_of
+from lib.territory_texts import WORDS, lands_of
 
 EUROPE = os.path.join(TOP, "examples", "europe.toml")
 # The countries of ncal, and what the text says of them. Those of which it says other things, or

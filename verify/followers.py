@@ -28,9 +28,9 @@ import time
 from concurrent.futures import ThreadPoolExecutor
 from contextlib import contextmanager
 
-from common import CommandLine, compact, end, run
-from growing_journal import TOWNS, keep_all
-from keeping import PUBLISH, hold, journal_lines, land, verdict
+from lib.common import CommandLine, compact, end, run
+from lib.keeper_rounds import TOWNS, keep_all
+from lib.keeper import PUBLISH, hold, journal_lines, land, verdict
 
 READ_ONLY = {"fault": 45, "name": "ReadOnly"}
 REPLACED = ("oldstyle: another file, or none, stands where the journal that is followed was: "

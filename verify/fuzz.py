@@ -25,7 +25,7 @@ import sys
 import tempfile
 import time
 
-from common import CommandLine, end
+from lib.common import CommandLine, end
 
 MOST_FAULTS = 20
 # A folder in memory, where the system has one: a run that syncs a journal waits for no disk there.
@@ -33,27 +33,27 @@ MEMORY = "/dev/shm" if os.access("/dev/shm", os.W_OK) else None
 
 
 def letters():
-    from fuzz_letters import Letters
+    from lib.fuzz_letters import Letters
     return Letters
 
 
 def dates():
-    from fuzz_dates import Dates
+    from lib.fuzz_dates import Dates
     return Dates
 
 
 def web():
-    from fuzz_web import Web
+    from lib.fuzz_web import Web
     return Web
 
 
 def stamp():
-    from fuzz_stamp import Stamps
+    from lib.fuzz_stamp import Stamps
     return Stamps
 
 
 def toml():
-    from fuzz_toml import Registers
+    from lib.fuzz_toml import Registers
     return Registers
 
 

@@ -29,10 +29,11 @@ import tempfile
 from collections import namedtuple
 from concurrent.futures import ThreadPoolExecutor
 
-from asked import BEGUN, COMMANDS, EDITS, LEFT, PUBLISH, PUBLISHING, QUERIES, QUESTIONS, SCRIPT
-from asked import SESSION, SETUP, STEPS, TRANSCRIPT
-from asked import filled, held, is_refused, is_transcript, text_of
-from common import TOP, CommandLine, end, need
+from lib.command_cases import (BEGUN, COMMANDS, EDITS, LEFT, PUBLISH, PUBLISHING, QUERIES,
+                               QUESTIONS, SCRIPT)
+from lib.command_cases import SESSION, SETUP, STEPS, TRANSCRIPT
+from lib.command_cases import filled, held, is_refused, is_transcript, text_of
+from lib.common import TOP, CommandLine, end, need
 from clone import add_program, built_program, cloned
 
 PROGRAMS = os.path.join(TOP, "verify", "growths")

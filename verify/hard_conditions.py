@@ -17,9 +17,9 @@ import resource
 import signal
 import subprocess
 
-from asked import ADD_ROME, BEGUN, COMMANDS, GREGORIAN, PUBLISH, REGIME, SESSION
-from asked import filled, held, is_refused, is_transcript, text_of
-from common import CommandLine, end, mounted
+from lib.command_cases import ADD_ROME, BEGUN, COMMANDS, GREGORIAN, PUBLISH, REGIME, SESSION
+from lib.command_cases import filled, held, is_refused, is_transcript, text_of
+from lib.common import CommandLine, end, mounted
 
 LINE = CommandLine(__doc__)
 LINE.add_program()

@@ -17,10 +17,10 @@ import subprocess
 import tempfile
 import time
 
-from common import JULIAN, CommandLine, compact, end, mounted, run
-from keeping import HEAD, HEAD_4, PUBLISH, hold, land, verdict
-from text_draws import journal_lines
-from territory_texts import lands_of
+from lib.common import JULIAN, CommandLine, compact, end, mounted, run
+from lib.keeper import HEAD, HEAD_4, PUBLISH, hold, land, verdict
+from lib.text_draws import journal_lines
+from lib.territory_texts import lands_of
 
 WRITE_FAULT = (3, "oldstyle: write fault\n")
 ADDRESSES = 6_000_000

@@ -15,7 +15,7 @@ sent to both, and they have to write the same bytes.
 import random
 import subprocess
 
-from common import CommandLine, end
+from lib.common import CommandLine, end
 
 LINE = CommandLine(__doc__)
 LINE.add_program()

@@ -27,8 +27,8 @@ import tempfile
 import threading
 from contextlib import contextmanager
 
-from common import CommandLine, compact, end, mounted, run
-from keeping import HEAD, HELD, PUBLISH, Editor, Run, hold, journal_lines, land, verdict
+from lib.common import CommandLine, compact, end, mounted, run
+from lib.keeper import HEAD, HELD, PUBLISH, Editor, Run, hold, journal_lines, land, verdict
 
 
 def lines_of(text):

@@ -13,12 +13,12 @@ import random
 import subprocess
 import tempfile
 
-from calendars import WEEKDAYS
-from common import CommandLine, end
-from letter_rows import COLUMNS, letter_fields
-from samples import (MALFORMED, any_case, date_text, journal_lines, label_near, middle_day,
-                     write_journal)
-from written import Territory
+from lib.calendars import WEEKDAYS
+from lib.common import CommandLine, end
+from lib.letter_rows import COLUMNS, letter_fields
+from lib.date_draws import (MALFORMED, any_case, date_text, journal_lines, label_near, middle_day,
+                            write_journal)
+from lib.date_meaning import Territory
 
 SEPARATORS = {"comma": ",", "semicolon": ";", "tab": "\t"}
 READ = ["place", "date", "weekday"]

@@ -12,7 +12,7 @@ import subprocess
 import sys
 import tempfile
 
-from common import TOP, CommandLine, end, need, run
+from lib.common import TOP, CommandLine, end, need, run
 
 OTHERS = [(1_100, 2), (1_700, 2), (2_000, 2)]
 

@@ -6,9 +6,9 @@ mutant, of the gate and of mutants/, whose old text is not exactly once in its f
 say what it breaks, or that repeats another.
 
 `try` clones what is committed, puts the mutants of mutants/CRATE.edits in the place of the gate's,
-and runs `rt must-fail`: a proof of each crate, and some 15 seconds for each mutant. A mutant that is
-proved is reported, unless mutants/survivors.txt gives the reason. If all of a crate went as they
-should, the first line of its file gets the commit and the date. With --part K/N only each Nth
+and runs `rt must-fail`: a proof of each crate, and some 15 seconds for each mutant. A mutant that
+is proved is reported, unless mutants/survivors.txt gives the reason. If all of a crate went as
+they should, the first line of its file gets the commit and the date. With --part K/N only each Nth
 crate is tried, from the Kth on.
 """
 import argparse

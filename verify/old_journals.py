@@ -20,7 +20,7 @@ import random
 import subprocess
 import tempfile
 
-from common import JULIAN, CommandLine, compact, end, run
+from lib.common import JULIAN, CommandLine, compact, end, run
 
 # The last day and year by the older program's rules, and what is off the line by those of both.
 HIGH, LAST_YEAR = 1_095_362, 2_999

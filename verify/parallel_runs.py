@@ -13,7 +13,7 @@ import subprocess
 import tempfile
 import time
 
-from common import GREGORIAN, JULIAN, CommandLine, compact, end, need
+from lib.common import GREGORIAN, JULIAN, CommandLine, compact, end, need
 
 PORTS = {"first": 42_201, "second": 42_202}
 

@@ -15,7 +15,7 @@ import random
 import sys
 from array import array
 
-from common import CommandLine, end, replies
+from lib.common import CommandLine, end, replies
 
 LANDS, READINGS = 30, 100
 HIGH, LAST_YEAR, LAST_LABEL_YEAR = 3_652_059, 9_999, 10_000

@@ -19,16 +19,16 @@ import re
 import tempfile
 import tomllib
 
-from common import CommandLine, compact, end
-from keeping import HEAD_4, PUBLISH, hold, verdict
+from lib.common import CommandLine, compact, end
+from lib.keeper import HEAD_4, PUBLISH, hold, verdict
 from reference import NEWEST, cited
-from territory_texts import WORDS, TextFault, after, differences, lands_of, shown
-from text_draws import Draws, beginnings, journal_lines, version_for
-from text_faults import spoiled_text
-from text_files import LAND, Files, bytes_of, lines_of, published, refused
-from text_journals import ANEW, try_all_journals
-from text_pages import (absent_lines, edit_line, fault_words, plan_end, publish_end,
-                        register_lines, texts_of)
+from lib.territory_texts import WORDS, TextFault, after, differences, lands_of, shown
+from lib.text_draws import Draws, beginnings, journal_lines, version_for
+from lib.text_faults import spoiled_text
+from lib.text_files import LAND, Files, bytes_of, lines_of, published, refused
+from lib.text_journals import ANEW, try_all_journals
+from lib.text_pages import (absent_lines, edit_line, fault_words, plan_end, publish_end,
+                            register_lines, texts_of)
 
 # ---- texts there and back
 

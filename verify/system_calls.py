@@ -21,11 +21,11 @@ import subprocess
 import tempfile
 import time
 
-from call_rules import RULES, Trace, Way, is_unfinished, kind_of
-from common import CommandLine, end, need, run
-from keeping import HEAD, HELD, PUBLISH, hold, verdict
-from sessions import LANDS, Session, bytes_at, journal, session, told_lines
-from traces import traced
+from lib.call_rules import RULES, Trace, Way, is_unfinished, kind_of
+from lib.common import CommandLine, end, need, run
+from lib.keeper import HEAD, HELD, PUBLISH, hold, verdict
+from lib.session_draws import LANDS, Session, bytes_at, journal, session, told_lines
+from lib.strace_lines import traced
 
 MODE = 0o640
 # How long a call is delayed, in microseconds, and how many seconds the others wait for it to begin.

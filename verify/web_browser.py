@@ -15,8 +15,8 @@ import tempfile
 import time
 from urllib.parse import parse_qs, urlencode, urlsplit
 
-from common import TOP, CommandLine, end
-from keeping import verdict
+from lib.common import TOP, CommandLine, end
+from lib.keeper import verdict
 from web_answers import differences
 from web_browsing import SIZES, Browser, By, Keys, Select
 from web_runs import SAMPLES, Page, hold

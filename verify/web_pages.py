@@ -12,12 +12,13 @@ import subprocess
 import tempfile
 import time
 
-from common import TOP, CommandLine, end
-from keeping import verdict
-from samples import MALFORMED, date_text, journal_lines, label_near, middle_day, write_journal
+from lib.common import TOP, CommandLine, end
+from lib.keeper import verdict
+from lib.date_draws import (MALFORMED, date_text, journal_lines, label_near, middle_day,
+                            write_journal)
 from web_answers import differences
 from web_runs import SAMPLES, Page, form_of, hold, written
-from written import Territory
+from lib.date_meaning import Territory
 
 FORMS = ["11 Feb. 1731/32", "le 1er avril 1640", "1731 February 11", "11. 2. 1731", "25/12/1640",
          "11 February 1752/3", "11 May 1731/2", "Monday 11 February 1731/2", "1752-09-05",

@@ -20,7 +20,7 @@ import threading
 import time
 from urllib.parse import urlencode
 
-from common import CommandLine, compact, end, need
+from lib.common import CommandLine, compact, end, need
 from web_runs import SAMPLES, Page, below, left_after, process_table
 
 DATES = ["11 February 1731", "5 September 1752", "3 September 1752", "1731-02-11", "14 March 1731",

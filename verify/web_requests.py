@@ -20,8 +20,8 @@ import threading
 import time
 from urllib.parse import urlencode
 
-from common import TOP, CommandLine, end
-from keeping import verdict
+from lib.common import TOP, CommandLine, end
+from lib.keeper import verdict
 from web_runs import SAMPLES, Page, first_line, free_port, hold
 
 MEBIBYTE = 1024 * 1024

@@ -10,8 +10,8 @@ import sys
 import time
 from urllib.parse import urlencode
 
-import keeping
-from common import TOP, compact
+from lib import keeper as keeping
+from lib.common import TOP, compact
 
 SAMPLES = os.path.join(TOP, "examples", "samples.journal")
 SERVES = re.compile(r"http://([0-9.]+):(\d+)/")

@@ -2,8 +2,9 @@
 
 Written from docs/PAGES.md alone, for letters.py and dual_dates.py.
 """
-from calendars import dates, written
-from written import Malformed, has_weekday, is_not_counted_double, parse, weekday_named, weekday_of
+from lib.calendars import dates, written
+from lib.date_meaning import (Malformed, has_weekday, is_not_counted_double, parse, weekday_named,
+                              weekday_of)
 
 COLUMNS = ["days", "gregorian", "julian", "dual", "weekday_found", "jdn", "earliest", "latest",
            "kind", "edtf", "edition", "remark"]

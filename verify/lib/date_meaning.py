@@ -9,7 +9,7 @@ from array import array
 from collections import defaultdict
 from typing import NamedTuple, Optional
 
-from calendars import HIGH, MONTHS, WEEKDAYS, dates, dual_text, easter, style_year
+from lib.calendars import HIGH, MONTHS, WEEKDAYS, dates, dual_text, easter, style_year
 
 # Dates as people write them.
 

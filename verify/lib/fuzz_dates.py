@@ -10,12 +10,12 @@ import json
 import os
 import re
 
-from common import TOP, compact
-from fuzz_letters import JOURNAL, SPACES, register, walk_calendars
-from mutations import Run, mutated
+from lib.common import TOP, compact
+from lib.fuzz_letters import JOURNAL, SPACES, register, walk_calendars
+from lib.mutations import Run, mutated
 from reference import written_answer
-from samples import MALFORMED
-from span_texts import Unread
+from lib.date_draws import MALFORMED
+from lib.span_texts import Unread
 
 AT_ONCE = 400
 READ = 2

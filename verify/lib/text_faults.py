@@ -4,10 +4,10 @@ import copy
 import datetime
 import json
 
-from calendars import HIGH
+from lib.calendars import HIGH
 from random_lands import CALENDARS
 from reference import cited
-from territory_texts import WORDS, date_on
+from lib.territory_texts import WORDS, date_on
 
 DAY = datetime.date(1752, 9, 14)
 VALUES = [1, -1, 1.5, True, "", "text", [], [1], ["text"], [{}, 1], {}, {"day": 1}, DAY,

@@ -3,8 +3,8 @@ import json
 import os
 from typing import NamedTuple
 
-from common import compact
-from keeping import HEAD, PUBLISH, Editor
+from lib.common import compact
+from lib.keeper import HEAD, PUBLISH, Editor
 
 LANDS = '{"op":"lands","reader":1}'
 PERIODS = '{"op":"periods","reader":1,"code":"T0"}'

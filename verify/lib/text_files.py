@@ -1,10 +1,10 @@
 """A folder with journals and texts of registers, and runs over them, for register_text.py."""
 import os
 
-from common import compact, run
-from keeping import hold
+from lib.common import compact, run
+from lib.keeper import hold
 from reference import Service, version_of
-from text_draws import journal_lines
+from lib.text_draws import journal_lines
 
 # A territory, whose code is put in.
 LAND = '[{}]\nname = "n"\ncalendar = "julian"\nstyle = "january"\nrule = "julian"\n'

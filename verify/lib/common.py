@@ -5,7 +5,7 @@ import subprocess
 import sys
 from contextlib import contextmanager
 
-TOP = os.path.dirname(os.path.dirname(os.path.abspath(__file__)))
+TOP = os.path.abspath(os.path.join(os.path.dirname(__file__), "..", ".."))
 sys.path.append(os.path.join(TOP, "tools"))
 
 from command_line import SCRIPT, CommandLine, end, file_at, need

@@ -13,11 +13,11 @@ import os
 import re
 import tomllib
 
-from common import TOP
-from keeping import HEAD_4
-from mutations import Run, mutated
-from territory_texts import TextFault, lands_of, shown
-from text_pages import fault_words
+from lib.common import TOP
+from lib.keeper import HEAD_4
+from lib.mutations import Run, mutated
+from lib.territory_texts import TextFault, lands_of, shown
+from lib.text_pages import fault_words
 
 NOTHING = b"nothing to change\n"
 CONTROL = re.compile(rb"[\0-\x1f\x7f]")

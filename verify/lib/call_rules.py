@@ -4,9 +4,9 @@ system_calls.py.
 import os
 from typing import NamedTuple
 
-from keeping import PUBLISH
-from sessions import Session, journal, told_lines
-from traces import CHANGES
+from lib.keeper import PUBLISH
+from lib.session_draws import Session, journal, told_lines
+from lib.strace_lines import CHANGES
 
 # The kinds of calls that the rules speak of.
 KNOWN = {"open", "lock", "unlock", "read", "write", "sync", "cut", "rights", "move", "link",

@@ -6,9 +6,9 @@ about their years.
 """
 from typing import NamedTuple, Optional
 
-from calendars import HIGH, MONTHS
-from page_texts import day_line, why_lines, years_written
-from written import Territory, Written, weekday_of, years_about
+from lib.calendars import HIGH, MONTHS
+from lib.page_texts import day_line, why_lines, years_written
+from lib.date_meaning import Territory, Written, weekday_of, years_about
 
 NAMES = [MONTHS]
 NAMES += [line.split() for line in (

@@ -5,11 +5,11 @@ import json
 import os
 import subprocess
 
-from common import JULIAN, compact
-from keeping import HEAD, HELD, PUBLISH, Run, hold
+from lib.common import JULIAN, compact
+from lib.keeper import HEAD, HELD, PUBLISH, Run, hold
 from reference import NEWEST
-from territory_texts import lands_of
-from text_files import LAND, bytes_of, published, refused
+from lib.territory_texts import lands_of
+from lib.text_files import LAND, bytes_of, published, refused
 
 AT_ONCE = 8
 CHANGED = "oldstyle: the file has changed meanwhile and is left as it is: the journal is in "

@@ -4,7 +4,7 @@ What is said beside a date stands at the ends of the text. Each other text is Un
 """
 import re
 
-from spans import NAMES, Simple, Span
+from lib.spans import NAMES, Simple, Span
 
 MONTHS = {name.lower(): month for names in NAMES for month, name in enumerate(names, 1)}
 

@@ -8,13 +8,13 @@ import functools
 import os
 import re
 
-from common import TOP
-from letter_rows import COLUMNS, letter_fields
+from lib.common import TOP
+from lib.letter_rows import COLUMNS, letter_fields
 from letters import (IS_THERE, LACKS, LONGEST, OPEN_QUOTE, OTHER_NUMBER, SEPARATORS, TEXT_AFTER,
                      TOO_LONG, line_ends)
-from mutations import Run, mutated
+from lib.mutations import Run, mutated
 from reference import REGIME, Service
-from written import Malformed, Territory, days_by_month_and_day, parse, weekday_named
+from lib.date_meaning import Malformed, Territory, days_by_month_and_day, parse, weekday_named
 
 JOURNAL = os.path.join(TOP, "examples", "samples.journal")
 SPACES = " \t\n\r\f"

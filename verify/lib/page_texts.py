@@ -4,8 +4,8 @@ Written from docs/PAGES.md alone, for pages.py.
 """
 from typing import NamedTuple
 
-from calendars import HIGH, MONTHS, dates
-from written import Territory, is_not_counted_double, weekday_of
+from lib.calendars import HIGH, MONTHS, dates
+from lib.date_meaning import Territory, is_not_counted_double, weekday_of
 
 YEARS = {"january": "1 January", "annunciation": "25 March", "nativity": "25 December"}
 YEARS |= {"september": "1 September", "pisan": "the 25 March before", "easter": "Easter"}

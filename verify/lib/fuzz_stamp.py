@@ -11,7 +11,7 @@ import shutil
 import subprocess
 from typing import NamedTuple
 
-from common import TOP
+from lib.common import TOP
 
 STAMP = os.path.join(TOP, "tools", "launcher", "stamp.bash")
 # Prints the sum of each folder that is named, with a line for each.

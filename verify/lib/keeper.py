@@ -5,7 +5,7 @@ import subprocess
 import threading
 import time
 
-from common import JULIAN, compact
+from lib.common import JULIAN, compact
 
 HEAD, PUBLISH = compact({"journal": 2}), compact({"op": "publish"})
 HEAD_4 = compact({"journal": 4})

@@ -11,10 +11,10 @@ import re
 import socket
 from urllib.parse import quote, urlencode
 
-from common import compact
-from fuzz_dates import CODES, SAMPLES as DATES, WEEKDAYS, WORDS as DATE_WORDS
-from fuzz_letters import JOURNAL, SAMPLES as TABLES
-from mutations import Run, mutated
+from lib.common import compact
+from lib.fuzz_dates import CODES, SAMPLES as DATES, WEEKDAYS, WORDS as DATE_WORDS
+from lib.fuzz_letters import JOURNAL, SAMPLES as TABLES
+from lib.mutations import Run, mutated
 from web_runs import Page
 
 AT_ONCE = 40

@@ -1,8 +1,8 @@
 """Random journals, and dates to ask of them, for pages.py, letters.py and dual_dates.py."""
 
 
-from calendars import HIGH, MONTHS, WEEKDAYS, dates, style_year
-from common import compact
+from lib.calendars import HIGH, MONTHS, WEEKDAYS, dates, style_year
+from lib.common import compact
 from reference import NEWEST, Service
 
 STYLES = ["january", "annunciation", "nativity", "september", "pisan", "easter"]

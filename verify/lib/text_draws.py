@@ -2,11 +2,11 @@
 import json
 import random
 
-from calendars import HIGH, LAST_YEAR, Land, cite
+from lib.calendars import HIGH, LAST_YEAR, Land, cite
 from random_lands import (CALENDARS, RULES, chain, days_that_begin, easter_days, random_exceptions,
                           random_regime, random_starts)
 from reference import cited
-from territory_texts import WORDS, date_on
+from lib.territory_texts import WORDS, date_on
 
 NAMES = ["Rome", "Great Britain", "\u00c5ngermanland", "\u0420\u0438\u043c", "a \"quoted\" name",
          "it's", "C:\\path\\to", "# no comment", "[table]", "  ", "x = 1", "\U0001f5d3 days",

@@ -4,8 +4,8 @@ import random
 import threading
 import time
 
-from common import GREGORIAN, JULIAN, compact
-from keeping import PUBLISH, Run, hold, journal_lines, land
+from lib.common import GREGORIAN, JULIAN, compact
+from lib.keeper import PUBLISH, Run, hold, journal_lines, land
 
 TOWNS = 40
 

@@ -1,0 +1,1 @@
+"""What the programs of verify/ share."""
