@@ -21,8 +21,9 @@ import shutil
 import tempfile
 from typing import NamedTuple
 
+from lib.checks import hold, verdict
 from lib.common import CommandLine, end, need, run
-from lib.keeper import HEAD, HEAD_4, PUBLISH, hold, verdict
+from lib.keeper import HEAD, HEAD_4, PUBLISH
 from lib.session_draws import LANDS, bytes_at, journal, last_edition, session, told_lines
 from lib.strace_lines import traced
 

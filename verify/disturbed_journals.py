@@ -19,11 +19,10 @@ import shutil
 import subprocess
 import tempfile
 
+from lib.checks import hold, verdict
 from lib.common import CommandLine, compact, end, mounted, run
-from lib.keeper import HEAD, HELD, PUBLISH, Editor, Run, hold, journal_lines, land, verdict
+from lib.keeper import HEAD, HELD, PUBLISH, REPLACED, Editor, Run, journal_lines, land
 
-REPLACED = ("oldstyle: another program moved, replaced or changed the journal: "
-            "no more is kept in it\n")
 
 
 def is_refused(what, done):

@@ -14,9 +14,9 @@ import tempfile
 
 from lib.calendars import HIGH
 from lib.common import CommandLine, end, run
-from lib.letter_rows import COLUMNS
 from lib.date_draws import journal_lines, later_digits, middle_day, write_journal
 from lib.date_meaning import Territory, parse, weekday_of
+from lib.letter_rows import COLUMNS
 
 EACH = 1_000
 

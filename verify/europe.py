@@ -1,35 +1,26 @@
 #!/usr/bin/env python3
-"""Holds examples/europe.toml against what can be computed, and against the list of ncal.
+"""Holds examples/europe.toml against what can be computed.
 
 The text is read by `territory_texts.py`, without the program. Each change has a source. Of each
 one that brings another calendar or beginning of the year the note says which day was followed by
 which: both dates and both weekdays are those of the days by `calendars.py`. A listed Easter is a
-Sunday a week from the rule's. Where `ncal -p` knows a country, the last day of its Julian calendar
-is that of the text. It wants the Debian package ncal.
+Sunday a week from the rule's.
 
 Then the program publishes the text into a new journal, and has to tell the same periods and listed
 Easters, with their sources. `--text-alone` leaves that out, and needs no program.
 """
 import json
 import os
-import re
-import subprocess
 import tempfile
 import tomllib
 
-from lib.calendars import dates, easter
-from lib.common import TOP, CommandLine, compact, end, need, run
-from lib.keeper import hold, verdict
+from lib.calendars import easter
+from lib.checks import hold, verdict
+from lib.common import TOP, CommandLine, compact, end, run
 from reference import cited
 from lib.territory_texts import WORDS, lands_of
 
 EUROPE = os.path.join(TOP, "examples", "europe.toml")
-# The countries of ncal, and what the text says of them. Those of which it says other things, or
-# nothing, are left out.
-OF_NCAL = {"DE": ["DE"], "DK": ["DK"], "ES": ["ES"], "FR": ["FR"], "GB": ["GBENG", "GBSCT"],
-           "HU": ["HU"], "IT": ["FLORENCE", "PISA"], "NL": ["NLZE"], "NO": ["DK"], "PL": ["PL"],
-           "PT": ["PT"], "RU": ["RU"], "SE": ["SE"]}
-COUNTRY = re.compile(r"\b([A-Z]{2}) \S.*? *(\d{4})-(\d\d)-(\d\d)")
 
 
 def words_of(found):
@@ -54,25 +45,6 @@ def hold_easters(code, land):
     for year, day in land.exceptions.items():
         by_rule = easter(land.period(day)[2][2], year)
         hold(f"{code}: {year} has day {day}, the rule {by_rule}", abs(day - by_rule) == 7)
-
-
-def last_julian_days(land):
-    """The Julian dates of the days before the territory took the Gregorian calendar."""
-    periods = zip(land.periods(), land.periods()[1:])
-    return ["%04d-%02d-%02d" % dates("julian")[last] for (_, last, old), (_, _, new) in periods
-            if old[0] != "gregorian" and new[0] == "gregorian"]
-
-
-def hold_ncal(lands):
-    """Answers which countries of ncal were held."""
-    listed = subprocess.run(["ncal", "-p"], capture_output=True, text=True, check=True).stdout
-    held = []
-    for country, *date in COUNTRY.findall(listed):
-        for code in OF_NCAL.get(country, []):
-            found, wanted = last_julian_days(lands[code]), ["-".join(date)]
-            hold(f"{code}: {found}, and ncal has {wanted}", found == wanted)
-            held.append(country)
-    return sorted(set(held))
 
 
 def hold_program(program, lands):
@@ -102,19 +74,16 @@ def main():
     options = line.parse_args()
     if not options.text_alone:
         line.find_programs(options)
-    need("ncal", "the Debian package ncal")
     with open(EUROPE, encoding="utf-8") as file:
         text = file.read()
     lands, tables = lands_of(text), tomllib.loads(text)
     for code, land in lands.items():
         hold_notes(code, land, tables[code].get("changes", []))
         hold_easters(code, land)
-    held = hold_ncal(lands)
     if not options.text_alone:
         hold_program(options.program, lands)
     changes = sum(len(land.starts) - 1 for land in lands.values())
-    return verdict(f"{len(lands)} territories with {changes} changes, and of ncal's countries "
-                   f"{' '.join(held)}, are as computed")
+    return verdict(f"{len(lands)} territories with {changes} changes are as computed")
 
 
 if __name__ == "__main__":

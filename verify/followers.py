@@ -28,13 +28,12 @@ import time
 from concurrent.futures import ThreadPoolExecutor
 from contextlib import contextmanager
 
+from lib.checks import hold, verdict
 from lib.common import CommandLine, compact, end, run
+from lib.keeper import FOLLOWED_REPLACED, PUBLISH, journal_lines, land
 from lib.keeper_rounds import TOWNS, keep_all
-from lib.keeper import PUBLISH, hold, journal_lines, land, verdict
 
 READ_ONLY = {"fault": 45, "name": "ReadOnly"}
-REPLACED = ("oldstyle: another file, or none, stands where the journal that is followed was: "
-            "no further line is answered\n")
 # What the server and its followers say where a client has gone.
 GONE = re.compile(r"(oldstyle: (read|write) fault\n|.* socat\[\d+\] [EWN] .*\n)*")
 
@@ -209,7 +208,7 @@ class Connection:
     def is_replaced(self, told):
         """Whether a follower says that its copy was made anew, and it was."""
         with self.file.lock:
-            return told == (1, REPLACED) and self.file.times_made > self.times_made
+            return told == (1, FOLLOWED_REPLACED) and self.file.times_made > self.times_made
 
     def gave_up(self):
         """Holds why a follower answers no more: its copy was made anew."""

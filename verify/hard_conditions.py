@@ -13,22 +13,21 @@ condition. What went otherwise is told above the rows; what could not be tried i
 A disk that is full is one in memory, which only root may mount.
 """
 import os
-import resource
 import signal
 import subprocess
 
+from lib.checks import hold
 from lib.command_cases import ADD_ROME, BEGUN, COMMANDS, GREGORIAN, PUBLISH, REGIME, SESSION
 from lib.command_cases import filled, held, is_refused, is_transcript, text_of
 from lib.common import CommandLine, end, mounted
+from lib.conditions import WRITE_FAULT, closed_pipe, fill, full, limited, short_of_addresses
 
 LINE = CommandLine(__doc__)
 LINE.add_program()
 PROGRAM = LINE.read().program
 
-ADDRESSES = 6_000_000
 READ_FAULT = (3, "", "oldstyle: read fault\n")
 FOR_PEOPLE = ("read", "day", "month", "territory", "letters", "text")
-WRITE_FAULT = (3, "oldstyle: write fault\n")
 SAVING = "serve --journal a.journal --save saved.journal"
 GIVEN = text_of(SESSION[:-1])
 
@@ -42,12 +41,11 @@ def not_read(words):
     return READ_FAULT
 
 
-def hold(condition, words, got, wanted):
-    """Counts a run under its condition, and tells where it went otherwise than wanted."""
+def compare(condition, words, got, wanted):
+    """Counts a run under its condition, and holds what came of it."""
     tried, right = counts.get(condition, (0, 0))
     counts[condition] = (tried + 1, right + (got == wanted))
-    if got != wanted:
-        print(f"{condition}: oldstyle {words}\n  wanted {wanted}\n  got    {got}", flush=True)
+    hold(f"{condition}: oldstyle {words}", got == wanted, f"\n  wanted {wanted}\n  got    {got}")
 
 
 def run(folder, words, given="", **streams):
@@ -62,24 +60,13 @@ def run(folder, words, given="", **streams):
 # ---- standard streams
 
 
-def closed_pipe():
-    """The end for writing of a pipe that nobody reads."""
-    near, far = os.pipe()
-    os.close(near)
-    return far
-
-
-def full():
-    return os.open("/dev/full", os.O_RDWR)
-
-
 def try_output(condition, words, lines, **streams):
     """A command whose output goes nowhere: nothing is saved."""
     with filled() as folder:
         before = held(folder)
         status, _, errors = run(folder, words, text_of(lines), **streams)
         told = (status, errors or WRITE_FAULT[1], held(folder))
-        hold(condition, words, told, (*WRITE_FAULT, before))
+        compare(condition, words, told, (*WRITE_FAULT, before))
 
 
 def try_outputs():
@@ -105,14 +92,14 @@ def try_input():
             before = held(folder)
             input_folder = os.open(folder, os.O_RDONLY)
             told = run(folder, words, stdin=input_folder)
-            hold("input a folder", words, (told, held(folder)), (READ_FAULT, before))
+            compare("input a folder", words, (told, held(folder)), (READ_FAULT, before))
             os.close(input_folder)
     with filled() as folder:
         before = held(folder)
         told = run(folder, "", stdin=None, preexec_fn=lambda: os.close(0))
-        hold("input closed", "", (told, held(folder)), (READ_FAULT, before))
+        compare("input closed", "", (told, held(folder)), (READ_FAULT, before))
         told = run(folder, SAVING, stdin=None, preexec_fn=lambda: os.close(0))
-        hold("input closed", SAVING, (told, held(folder)), (READ_FAULT, before))
+        compare("input closed", SAVING, (told, held(folder)), (READ_FAULT, before))
 
 
 # ---- files
@@ -139,13 +126,13 @@ def try_folders():
                     before = held(folder)
                     changed = words.replace(name, place)
                     told = run(folder, changed, GIVEN)
-                    hold(condition, changed, (told, held(folder)), (not_read(changed), before))
+                    compare(condition, changed, (told, held(folder)), (not_read(changed), before))
     for condition, place in [("a folder to save in", "a.folder"), ("no folder", "none/saved")]:
         with filled() as folder:
             before, words = held(folder), f"serve --save {place}"
             status, told, errors = run(folder, words, GIVEN)
             got = (status, errors, told, held(folder))
-            hold(condition, words, got, (*WRITE_FAULT, run(folder, "", GIVEN)[1], before))
+            compare(condition, words, got, (*WRITE_FAULT, run(folder, "", GIVEN)[1], before))
 
 
 def padded(line):
@@ -238,23 +225,13 @@ def try_shortened(words, name, size_of):
         with filled(LONG_FILES) as folder:
             os.truncate(os.path.join(folder, name), read)
             wanted = run(folder, words, ASKED + "\n")
-            hold("a file that grows shorter", words, (told, left, length),
-                 (wanted, others(folder, name)[0], size))
+            compare("a file that grows shorter", words, (told, left, length),
+                    (wanted, others(folder, name)[0], size))
         return
     untried.append(f"a file that grows shorter: oldstyle {words}")
 
 
 # ---- the disk
-
-
-def fill(path):
-    """Writes a file until the disk is full."""
-    try:
-        with open(path, "wb", buffering=0) as file:
-            while file.write(b"a" * 4_096):
-                pass
-    except OSError:
-        pass
 
 
 def try_full_disk():
@@ -271,15 +248,9 @@ def try_full_disk():
         status, replies, errors = run(folder, words, GIVEN)
         texts = {name: text for name, (_, text) in held(disk).items() if name != "other"}
         wanted = (*WRITE_FAULT, told, {"saved.journal": old})
-        hold("a full disk", words, (status, errors, replies, texts), wanted)
+        compare("a full disk", words, (status, errors, replies, texts), wanted)
         os.remove(os.path.join(disk, "other"))
-        hold("a full disk", words, run(folder, words, GIVEN), (0, told, ""))
-
-
-def limited(length):
-    """Limits the length of the files that a process writes; a write past it fails."""
-    signal.signal(signal.SIGXFSZ, signal.SIG_IGN)
-    resource.setrlimit(resource.RLIMIT_FSIZE, (length, length))
+        compare("a full disk", words, run(folder, words, GIVEN), (0, told, ""))
 
 
 def try_long_files():
@@ -292,14 +263,10 @@ def try_long_files():
             before = held(folder)
             status, replies, errors = run(folder, SAVING, GIVEN, preexec_fn=lambda: limited(length))
             got = (status, errors, replies, held(folder))
-            hold("a limit on the length of files", SAVING, got, (*WRITE_FAULT, told, before))
+            compare("a limit on the length of files", SAVING, got, (*WRITE_FAULT, told, before))
 
 
 # ---- memory
-
-
-def short_of_addresses():
-    resource.setrlimit(resource.RLIMIT_AS, (ADDRESSES, ADDRESSES))
 
 
 LARGE = [
@@ -333,7 +300,7 @@ def try_addresses(words, given, files):
     if is_desk and got[0] == 0 and is_transcript(PROGRAM, got[1]):
         ample = got
     condition = "6 MB of addresses, which are too few" if is_short else "6 MB of addresses"
-    hold(condition, words, (got, left), (ample, after))
+    compare(condition, words, (got, left), (ample, after))
 
 
 def try_all_addresses():

@@ -11,19 +11,17 @@ published. A disk that is full is one in memory, which only root may mount.
 """
 import os
 import random
-import resource
-import signal
 import subprocess
 import tempfile
 import time
 
+from lib.checks import hold, verdict
 from lib.common import JULIAN, CommandLine, compact, end, mounted, run
-from lib.keeper import HEAD, HEAD_4, PUBLISH, hold, land, verdict
-from lib.text_draws import journal_lines
+from lib.conditions import WRITE_FAULT, closed_pipe, fill, full, limited, short_of_addresses
+from lib.keeper import HEAD, HEAD_4, PUBLISH, land
 from lib.territory_texts import lands_of
+from lib.text_draws import journal_lines
 
-WRITE_FAULT = (3, "oldstyle: write fault\n")
-ADDRESSES = 6_000_000
 KEYS = "".join(f'{word} = "{value}"\n' for word, value in JULIAN.items())
 SOURCE = ', source = "24 Geo. II c. 23"'
 
@@ -85,15 +83,8 @@ class Trial:
         self.hold_whole(f"after {what}", self.publish(), (0, ""), True)
 
 
-def closed_pipe():
-    near, far = os.pipe()
-    os.close(near)
-    return far
-
-
 def try_outputs(trial):
-    for what, opened in (("output full", lambda: os.open("/dev/full", os.O_RDWR)),
-                         ("output a closed pipe", closed_pipe)):
+    for what, opened in (("output full", full), ("output a closed pipe", closed_pipe)):
         trial.begin()
         output = opened()
         trial.hold_whole(what, trial.publish(stdout=output), WRITE_FAULT, True)
@@ -117,11 +108,6 @@ def try_files(trial, folder):
     hold("a folder was made", not os.path.exists(none))
 
 
-def limited(length):
-    signal.signal(signal.SIGXFSZ, signal.SIG_IGN)
-    resource.setrlimit(resource.RLIMIT_FSIZE, (length, length))
-
-
 def try_lengths(trial):
     """A limit on the length of files, anywhere within the edition."""
     first, last = len(trial.before.encode()), len(trial.after.encode())
@@ -138,12 +124,7 @@ def try_full_disk(program, folder, source):
             print("not tried: a full disk, which only root may mount")
             return
         trial, other = Trial(program, disk, (40, 10), source), os.path.join(disk, "other")
-        try:
-            with open(other, "wb", buffering=0) as file:
-                while file.write(b"a" * 4_096):
-                    pass
-        except OSError:
-            pass
+        fill(other)
         trial.hold_whole("a full disk", trial.publish(), WRITE_FAULT, False)
         os.remove(other)
         trial.hold_next("a full disk")
@@ -152,8 +133,7 @@ def try_full_disk(program, folder, source):
 def try_addresses(trial):
     """Few addresses: it is published, or memory is refused and nothing changes."""
     trial.begin()
-    told = trial.publish(preexec_fn=lambda: resource.setrlimit(
-        resource.RLIMIT_AS, (ADDRESSES, ADDRESSES)))
+    told = trial.publish(preexec_fn=short_of_addresses)
     is_refused = told == (4, "oldstyle: no memory\n")
     trial.hold_whole("6 MB of addresses", told, told if is_refused else (0, ""), not is_refused)
     trial.hold_next("few addresses")

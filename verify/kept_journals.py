@@ -20,15 +20,15 @@ import json
 import os
 import random
 import re
-import resource
-import signal
 import subprocess
 import tempfile
 import threading
 from contextlib import contextmanager
 
+from lib.checks import hold, verdict
 from lib.common import CommandLine, compact, end, mounted, run
-from lib.keeper import HEAD, HELD, PUBLISH, Editor, Run, hold, journal_lines, land, verdict
+from lib.conditions import limited
+from lib.keeper import HEAD, HELD, PUBLISH, Editor, Run, editor_after, journal_lines, land
 
 
 def lines_of(text):
@@ -51,7 +51,7 @@ def try_stop(program, path, chance, number, before):
     """One run that is stopped. `before` has the journal's lines before it, and what stands after
     them. Answers the same after the run, and how many replies were told."""
     known, rest = before
-    editor = editor_of(known, chance.random())
+    editor = editor_after(chance.random(), known[1:])
     running = Run(program, path)
     timer = threading.Timer(chance.uniform(0.003, 0.12), running.process.kill)
     timer.start()
@@ -67,17 +67,6 @@ def try_stop(program, path, chance, number, before):
     hold(f"stop {number}: {rest!r} is not told", errors != "" or not rest or not replies)
     lines = held_after(program, path, number, before, accepted, told)
     return cut_anywhere(path, chance, lines), len(replies)
-
-
-def editor_of(known, seed):
-    """An editor who goes on after these lines."""
-    editor = Editor(seed)
-    for line in known[1:]:
-        kind = json.loads(line)["op"]
-        editor.towns += kind == "add_land"
-        editor.year += kind == "add_exception"
-        editor.pending = 0 if kind == "publish" else editor.pending + 1
-    return editor
 
 
 def held_after(program, path, number, before, accepted, told):
@@ -255,12 +244,9 @@ def try_full_disk(program, folder):
 
 
 def try_long_file(program, folder):
-    def limited():
-        signal.signal(signal.SIGXFSZ, signal.SIG_IGN)
-        resource.setrlimit(resource.RLIMIT_FSIZE, (10_000, 10_000))
-
     path = os.path.join(folder, "long.journal")
-    lines = is_stopped_by(program, "a limit on the length of files", path, limited)
+    lines = is_stopped_by(program, "a limit on the length of files", path,
+                          lambda: limited(10_000))
     goes_on(program, "a limit on the length of files", path, lines)
     print(f"a limit on the length of files: {len(lines) - 1} changes kept, and the next run goes "
           "on", flush=True)

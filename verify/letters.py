@@ -15,10 +15,10 @@ import tempfile
 
 from lib.calendars import WEEKDAYS
 from lib.common import CommandLine, end
-from lib.letter_rows import COLUMNS, letter_fields
 from lib.date_draws import (MALFORMED, any_case, date_text, journal_lines, label_near, middle_day,
                             write_journal)
 from lib.date_meaning import Territory
+from lib.letter_rows import COLUMNS, letter_fields
 
 SEPARATORS = {"comma": ",", "semicolon": ";", "tab": "\t"}
 READ = ["place", "date", "weekday"]

@@ -15,12 +15,12 @@ import tempfile
 
 from lib.calendars import MONTHS, WEEKDAYS, dates, written
 from lib.common import CommandLine, compact, end, run
-from lib.page_texts import (Place, conversion_page, day_page, list_page, month_page, pending_lines,
-                            reading_page, territory_page)
 from lib.date_draws import (MALFORMED, NAMES, any_case, date_text, day_near, journal_lines,
                             label_near, middle_day, write_journal)
-from lib.spans import span_answer, span_near, span_page, text_of
 from lib.date_meaning import Malformed, Territory, days_by_month_and_day, parse
+from lib.page_texts import (Place, conversion_page, day_page, list_page, month_page, pending_lines,
+                            reading_page, territory_page)
+from lib.spans import span_answer, span_near, span_page, text_of
 
 EACH = 40
 CALENDARS = ["gregorian", "julian", "swedish"]

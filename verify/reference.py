@@ -14,9 +14,9 @@ import sys
 
 from lib.calendars import HIGH, LAST_LABEL_YEAR, LAST_YEAR, WEEKDAYS, Land, figures, key_of
 from lib.common import SCRIPT, CommandLine, compact, end
+from lib.date_meaning import Malformed, Territory, has_weekday, parse
 from lib.span_texts import Unread, span_of, why_none
 from lib.spans import none_answer, runs_of, span_answer
-from lib.date_meaning import Malformed, Territory, has_weekday, parse
 
 LONGEST_LINE = 65_536
 DEEPEST = 128

@@ -19,8 +19,9 @@ import re
 import tempfile
 import tomllib
 
+from lib.checks import hold, verdict
 from lib.common import CommandLine, compact, end
-from lib.keeper import HEAD_4, PUBLISH, hold, verdict
+from lib.keeper import HEAD_4, PUBLISH
 from reference import NEWEST, cited
 from lib.territory_texts import WORDS, TextFault, after, differences, lands_of, shown
 from lib.text_draws import Draws, beginnings, journal_lines, version_for

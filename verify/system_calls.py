@@ -22,8 +22,9 @@ import tempfile
 import time
 
 from lib.call_rules import RULES, Trace, Way, is_unfinished, kind_of
+from lib.checks import hold, verdict
 from lib.common import CommandLine, end, need, run
-from lib.keeper import HEAD, HELD, PUBLISH, hold, verdict
+from lib.keeper import HEAD, HELD, PUBLISH, REPLACED
 from lib.session_draws import LANDS, Session, bytes_at, journal, session, told_lines
 from lib.strace_lines import traced
 
@@ -32,8 +33,6 @@ MODE = 0o640
 DELAY, WAIT = 3_000_000, 60
 CHANGED = "oldstyle: the file has changed meanwhile and is left as it is: the journal is in "
 NOT_SYNCED = "oldstyle: the journal is saved, and the disk may not have it yet\n"
-REPLACED = ("oldstyle: another program moved, replaced or changed the journal: "
-            "no more is kept in it\n")
 FAULTS = ["oldstyle: read fault\n", "oldstyle: write fault\n"]
 # The errors that a call may meet.
 ERRORS = {

@@ -15,11 +15,11 @@ import tempfile
 import time
 from urllib.parse import parse_qs, urlencode, urlsplit
 
+from lib.checks import hold, verdict
 from lib.common import TOP, CommandLine, end
-from lib.keeper import verdict
 from web_answers import differences
 from web_browsing import SIZES, Browser, By, Keys, Select
-from web_runs import SAMPLES, Page, hold
+from web_runs import SAMPLES, Page
 
 TYPED = [("GB", "11 February 1731", "Friday"), ("GB", "5 September 1752", ""),
          ("GB", "11 Feb. 1731/32", ""), ("SE", "30 February 1712", "Friday"),

@@ -12,12 +12,12 @@ import subprocess
 import tempfile
 import time
 
+from lib.checks import hold, verdict
 from lib.common import TOP, CommandLine, end
-from lib.keeper import verdict
 from lib.date_draws import (MALFORMED, date_text, journal_lines, label_near, middle_day,
                             write_journal)
 from web_answers import differences
-from web_runs import SAMPLES, Page, form_of, hold, written
+from web_runs import SAMPLES, Page, form_of, written
 from lib.date_meaning import Territory
 
 FORMS = ["11 Feb. 1731/32", "le 1er avril 1640", "1731 February 11", "11. 2. 1731", "25/12/1640",

@@ -20,9 +20,9 @@ import threading
 import time
 from urllib.parse import urlencode
 
+from lib.checks import hold, verdict
 from lib.common import TOP, CommandLine, end
-from lib.keeper import verdict
-from web_runs import SAMPLES, Page, first_line, free_port, hold
+from web_runs import SAMPLES, Page, first_line, free_port
 
 MEBIBYTE = 1024 * 1024
 

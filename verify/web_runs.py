@@ -10,17 +10,11 @@ import sys
 import time
 from urllib.parse import urlencode
 
-from lib import keeper as keeping
 from lib.common import TOP, compact
 
 SAMPLES = os.path.join(TOP, "examples", "samples.journal")
 SERVES = re.compile(r"http://([0-9.]+):(\d+)/")
 WAIT = 20
-
-
-def hold(what, holds, *why):
-    """Tells what does not hold, and what is there instead."""
-    keeping.hold(" ".join([what, *map(str, why)]), holds)
 
 
 def free_port():

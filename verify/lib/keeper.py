@@ -1,4 +1,4 @@
-"""A service that keeps its journal, and an editor: kept_journals.py and disturbed_journals.py."""
+"""A service that keeps its journal, and an editor who sends it requests."""
 import json
 import random
 import subprocess
@@ -10,20 +10,11 @@ from lib.common import JULIAN, compact
 HEAD, PUBLISH = compact({"journal": 2}), compact({"op": "publish"})
 HEAD_4 = compact({"journal": 4})
 HELD = (3, "", "oldstyle: another run of the program keeps that journal\n")
-faults = []
-
-
-def hold(what, holds):
-    """Tells what does not hold."""
-    if not holds:
-        faults.append(what)
-        print(f"not so: {what}", flush=True)
-
-
-def verdict(what):
-    """Tells what held, or how much did not; answers the status of the script."""
-    print(f"{len(faults)} things are not so" if faults else what)
-    return 1 if faults else 0
+REPLACED = ("oldstyle: another program moved, replaced or changed the journal: "
+            "no more is kept in it\n")
+# The same of a journal that is followed.
+FOLLOWED_REPLACED = ("oldstyle: another file, or none, stands where the journal that is followed "
+                     "was: no further line is answered\n")
 
 
 def land(number):
@@ -51,6 +42,17 @@ class Editor:
         self.year += 1
         return {"op": "add_exception", "code": f"T{self.year % 400}",
                 "year": 1 + self.year // 400, "day": 500_000}, True
+
+
+def editor_after(seed, lines):
+    """An editor who goes on after these lines of a journal, without its head."""
+    editor = Editor(seed)
+    for line in lines:
+        kind = json.loads(line)["op"]
+        editor.towns += kind == "add_land"
+        editor.year += kind == "add_exception"
+        editor.pending = 0 if kind == "publish" else editor.pending + 1
+    return editor
 
 
 def journal_lines(path):

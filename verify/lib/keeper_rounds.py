@@ -4,8 +4,9 @@ import random
 import threading
 import time
 
+from lib.checks import hold
 from lib.common import GREGORIAN, JULIAN, compact
-from lib.keeper import PUBLISH, Run, hold, journal_lines, land
+from lib.keeper import PUBLISH, Run, journal_lines, land
 
 TOWNS = 40
 

@@ -4,7 +4,7 @@ import os
 from typing import NamedTuple
 
 from lib.common import compact
-from lib.keeper import HEAD, PUBLISH, Editor
+from lib.keeper import HEAD, editor_after
 
 LANDS = '{"op":"lands","reader":1}'
 PERIODS = '{"op":"periods","reader":1,"code":"T0"}'
@@ -22,7 +22,7 @@ class Session(NamedTuple):
 def session(chance, count, begun=()):
     """A session of an editor who goes on after these lines of a journal, without its head. One
     line in ten is refused or is no request, and one in ten asks."""
-    editor, sent, taken = editor_after(chance, begun), [], []
+    editor, sent, taken = editor_after(chance.random(), begun), [], []
     while len(taken) < count:
         if chance.random() < 0.1:
             sent.append(chance.choice([LANDS, PERIODS, "no request", "[]"]))
@@ -31,17 +31,6 @@ def session(chance, count, begun=()):
         if is_taken:
             taken.append(sent[-1])
     return Session(sent, taken)
-
-
-def editor_after(chance, begun):
-    """An editor who goes on after these lines."""
-    editor = Editor(chance.random())
-    for line in begun:
-        kind = json.loads(line)["op"]
-        editor.towns += kind == "add_land"
-        editor.year += kind == "add_exception"
-        editor.pending = 0 if line == PUBLISH else editor.pending + 1
-    return editor
 
 
 def journal(lines, head=HEAD):

@@ -7,8 +7,8 @@ about their years.
 from typing import NamedTuple, Optional
 
 from lib.calendars import HIGH, MONTHS
-from lib.page_texts import day_line, why_lines, years_written
 from lib.date_meaning import Territory, Written, weekday_of, years_about
+from lib.page_texts import day_line, why_lines, years_written
 
 NAMES = [MONTHS]
 NAMES += [line.split() for line in (

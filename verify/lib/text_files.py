@@ -1,8 +1,8 @@
 """A folder with journals and texts of registers, and runs over them, for register_text.py."""
 import os
 
+from lib.checks import hold
 from lib.common import compact, run
-from lib.keeper import hold
 from reference import Service, version_of
 from lib.text_draws import journal_lines
 

@@ -5,8 +5,9 @@ import json
 import os
 import subprocess
 
+from lib.checks import hold
 from lib.common import JULIAN, compact
-from lib.keeper import HEAD, HELD, PUBLISH, Run, hold
+from lib.keeper import FOLLOWED_REPLACED, HEAD, HELD, PUBLISH, Run
 from reference import NEWEST
 from lib.territory_texts import lands_of
 from lib.text_files import LAND, bytes_of, published, refused
@@ -66,8 +67,6 @@ CITED = '[GB]\nname = "n"\ncalendar = "julian"\nstyle = "january"\nrule = "julia
 OPENING = {"op": "add_land", "code": "GB", "name": "n", **JULIAN, "source": "a bull"}
 NEEDS_4 = '{"fault":46,"name":"NeedsUpgrade"}'
 REFUSED = "oldstyle: line 1 is refused, and no line after it was answered\n"
-REPLACED = ("oldstyle: another file, or none, stands where the journal that is followed was: no "
-            "further line is answered\n")
 
 
 def journal_of(version, *lines):
@@ -245,7 +244,7 @@ def try_follower(files):
         files.printed("sources", "publish", journal, files.write("text", CITED))
         _, told = follower.communicate((compact(lands) + "\n").encode())
         hold(f"a follower of a file that is saved anew is told {told}",
-             (follower.returncode, told.decode()) == (1, REPLACED))
+             (follower.returncode, told.decode()) == (1, FOLLOWED_REPLACED))
 
 
 def try_all_journals(files):

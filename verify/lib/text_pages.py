@@ -4,9 +4,9 @@ Written from docs/TERRITORIES.md alone, for register_text.py.
 """
 import re
 
+from lib.date_meaning import Territory
 from lib.page_texts import YEARS, numbered
 from lib.territory_texts import WORDS, date_on
-from lib.date_meaning import Territory
 
 DAY = ('write { gregorian = "1752-09-14" }, with julian or swedish in its place, '
        "or { day = 639797 }")
