@@ -1,6 +1,7 @@
 """A temporary clone of what is committed, for programs and edits that are no part of the gate."""
 import contextlib
 import os
+import re
 import shutil
 import subprocess
 import sys
@@ -28,14 +29,20 @@ def cloned():
         yield clone
 
 
-def add_program(clone, source, libraries):
+def libraries_of(source):
+    """The libraries that a program of one source file names in its first comment."""
+    with open(source, encoding="utf-8") as file:
+        return " ".join(re.findall(r"^//! Libraries: (.*)$", file.read(), re.M))
+
+
+def add_program(clone, source):
     """Adds a program of one source file to a clone, and answers the folder of its crate."""
     name = os.path.splitext(os.path.basename(source))[0]
     folder = os.path.join(clone, "crates", name)
     os.makedirs(os.path.join(folder, "src"))
     shutil.copy(source, os.path.join(folder, "src", "main.rt"))
     with open(os.path.join(clone, "crates.txt"), "a", encoding="utf-8") as crates:
-        crates.write(f"{name}: {' '.join(libraries)}\n")
+        crates.write(f"{name}: {libraries_of(source)}\n")
     return folder
 
 

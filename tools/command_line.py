@@ -10,8 +10,8 @@ import sys
 TOP = os.path.dirname(os.path.dirname(os.path.abspath(__file__)))
 BUILT = os.path.join(TOP, "crates", "oldstyle", "out", "oldstyle")
 SCRIPT = os.path.basename(sys.argv[0])
-# Crates that the program does not stand on.
-NO_PART = re.compile(r"_tests?[_/]|osn_wire/|/out/")
+# The status of a script that requires what is not there.
+MISSING = 3
 
 
 class CommandLine(argparse.ArgumentParser):
@@ -86,20 +86,34 @@ def file_at(path):
     return path
 
 
+def program_crates():
+    """The crates that the program is built from, as crates.txt names them, lowest first."""
+    with open(os.path.join(TOP, "crates.txt"), encoding="utf-8") as file:
+        below = dict(re.findall(r"^(\w+):(.*)$", file.read(), re.M))
+    found, more = set(), ["oldstyle"]
+    while more:
+        if (name := more.pop()) not in found:
+            found.add(name)
+            more += below.get(name, "").split()
+    return [name for name in below if name in found]
+
+
 def newer_source():
     """A source that was changed after this tree's program was built, if there is one."""
     built = os.path.getmtime(BUILT)
-    for folder, _, names in os.walk(os.path.join(TOP, "crates")):
-        for path in (os.path.join(folder, name) for name in names if name.endswith(".rt")):
-            if not NO_PART.search(path) and os.path.getmtime(path) > built:
-                return os.path.relpath(path)
+    for crate in program_crates():
+        for folder, _, names in os.walk(os.path.join(TOP, "crates", crate, "src")):
+            for path in (os.path.join(folder, name) for name in names if name.endswith(".rt")):
+                if os.path.getmtime(path) > built:
+                    return os.path.relpath(path)
     return None
 
 
 def need(command, package):
-    """Ends the script where a command that it runs is missing."""
+    """Ends the script if a command that it runs is missing."""
     if shutil.which(command) is None:
-        sys.exit(f"{SCRIPT}: the command {command} is missing: install {package}")
+        print(f"{SCRIPT}: the command {command} is missing: install {package}", file=sys.stderr)
+        sys.exit(MISSING)
 
 
 def end(main):

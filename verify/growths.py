@@ -39,14 +39,6 @@ from clone import add_program, built_program, cloned
 PROGRAMS = os.path.join(TOP, "verify", "growths")
 COMPILER = os.environ.get("CC", "cc")
 
-LIBRARIES = {
-    "requests": ["osn_core", "osn_live", "osn_register", "osn_request", "anyhow"],
-    "steps": ["osn_core", "osn_files", "osn_lines", "osn_register", "anyhow"],
-    "streams": ["osn_almanac", "osn_audit", "osn_core", "osn_files", "osn_lines", "osn_live",
-                "osn_register", "osn_reply", "osn_service", "anyhow"],
-    "editions": ["osn_days", "osn_computus", "osn_lands", "osn_register", "osn_core", "osn_live"],
-}
-
 # The words with which each is run once it is built.
 WORDS = {"requests": ("register", "1"), "steps": ("1",), "streams": ("serve", ""), "editions": ()}
 AT_ONCE = 2
@@ -280,9 +272,9 @@ def main():
     build_library()
     with cloned() as clone:
         built = {}
-        for name, libraries in LIBRARIES.items():
+        for name, words in WORDS.items():
             source = os.path.join(PROGRAMS, f"{name}.rattle")
-            built[name] = built_program(add_program(clone, source, libraries), WORDS[name])
+            built[name] = built_program(add_program(clone, source), words)
         rows = joined(all_rows(program, built))
     print("| Call | Growths | Refused | The same | Right when made again |")
     print("|---|---|---|---|---|")

@@ -1,0 +1,31 @@
+#!/usr/bin/env python3
+"""Holds that the Rattle programs compile that the gate doesn't see, since they end in .rattle.
+
+They are those of bench/ and of verify/growths/. What is committed is cloned, each is added to it,
+and `rt try` runs it there without a proof, with no words and no input.
+"""
+import glob
+import os
+import subprocess
+
+from lib.checks import hold, verdict
+from lib.common import TOP, CommandLine, end, need
+from clone import add_program, cloned
+
+
+def main():
+    CommandLine(__doc__).parse_args()
+    need("rt", "the Rattle kit that KIT names")
+    sources = sorted(glob.glob(os.path.join(TOP, "bench", "*.rattle"))
+                     + glob.glob(os.path.join(TOP, "verify", "growths", "*.rattle")))
+    with cloned() as clone:
+        for source in sources:
+            tried = subprocess.run(["rt", "try"], cwd=add_program(clone, source), text=True,
+                                   stdin=subprocess.DEVNULL, capture_output=True, check=False)
+            said = tried.stdout + tried.stderr
+            hold(f"{os.path.relpath(source, TOP)} compiles", "run=ended" in said, said[-2_000:])
+    return verdict(f"{len(sources)} programs outside of the gate compile")
+
+
+if __name__ == "__main__":
+    end(main)
