@@ -12,8 +12,8 @@ says what is tried:
 
 No run may end by a signal, with another status than 0 to 4, or with a fault that isn't told. Each
 line has one reply. Where a program that was written apart knows the answer, it has to be that one:
-reference.py, written.py, letter_rows.py, territory_texts.py, and a reader of CSV. An input at which
-something is wrong is kept in a file, which is named, and 20 of them end the run.
+reference.py, date_meaning.py, letter_rows.py and territory_texts.py of lib/, and a reader of CSV.
+An input at which something is wrong is kept in a file, which is named, and 20 of them end the run.
 
 All that is tried follows from the seed: the rounds of a long run are those of a short one and more.
 """

@@ -1,4 +1,4 @@
-"""The twelve fields that letters puts after a row, over written.py: of dates that are one day.
+"""The twelve fields that letters puts after a row, over date_meaning.py: of dates that are one day.
 
 Written from docs/PAGES.md alone, for letters.py and dual_dates.py.
 """

@@ -1,4 +1,4 @@
-"""The pages of read, day, month, territory and convert, line by line, over written.py.
+"""The pages of read, day, month, territory and convert, line by line, over date_meaning.py.
 
 Written from docs/PAGES.md alone, for pages.py.
 """

@@ -1,6 +1,6 @@
 """Months, years, ranges, bounds and sets as people write them, and the days that they may mean.
 
-Written from docs/DATES.md and docs/PAGES.md alone, over written.py, for pages.py and
+Written from docs/DATES.md and docs/PAGES.md alone, over date_meaning.py, for pages.py and
 reference.py. Texts are drawn in random forms; their days are found by a search through every day
 about their years.
 """

@@ -11,7 +11,7 @@ import functools
 import re
 import tomllib
 
-from random_lands import CALENDARS, chain, key
+from lib.territory_draws import CALENDARS, chain, key
 from reference import REGIME, Fault, Service, cited, is_source
 
 TERRITORY = ["name", "calendar", "style", "rule", "source", "note", "changes", "easters"]

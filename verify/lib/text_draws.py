@@ -3,8 +3,8 @@ import json
 import random
 
 from lib.calendars import HIGH, LAST_YEAR, Land, cite
-from random_lands import (CALENDARS, RULES, chain, days_that_begin, easter_days, random_exceptions,
-                          random_regime, random_starts)
+from lib.territory_draws import (CALENDARS, RULES, chain, days_that_begin, easter_days,
+                                 random_exceptions, random_regime, random_starts)
 from reference import cited
 from lib.territory_texts import WORDS, date_on
 

@@ -5,7 +5,7 @@ import datetime
 import json
 
 from lib.calendars import HIGH
-from random_lands import CALENDARS
+from lib.territory_draws import CALENDARS
 from reference import cited
 from lib.territory_texts import WORDS, date_on
 
