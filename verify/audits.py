@@ -12,10 +12,10 @@ import pty
 import random
 import re
 import subprocess
-import sys
 import tempfile
 
-from lib.common import JULIAN, SCRIPT, CommandLine, compact, end, run
+from lib.checks import hold, verdict
+from lib.common import JULIAN, CommandLine, compact, end, run
 
 CODES = ["RM", "GB", "FR", "DE"]
 AGREE = b" replies agree\n"
@@ -80,12 +80,6 @@ def spoilt(chance, line):
     return line[:place] + digit + line[place + 1:]
 
 
-def hold(told, wanted, of=""):
-    """Ends the script where an audit tells another thing than is wanted."""
-    if told != wanted:
-        sys.exit(f"{SCRIPT}: told {told}, and not {wanted} {of}")
-
-
 def long_audit(oldstyle, journal, transcript, line):
     """What an audit of over 128 MiB says on standard error that is a terminal, and elsewhere."""
     text = (line + "\n").encode()
@@ -99,20 +93,21 @@ def long_audit(oldstyle, journal, transcript, line):
     told = os.read(terminal, 4096)
     os.close(terminal)
     unseen = subprocess.run(command, capture_output=True, check=True)
-    hold(shown, unseen.stdout)
-    hold(shown[-len(AGREE):], AGREE)
+    hold("a terminal is sent other output", shown == unseen.stdout)
+    hold("the audit does not agree", shown.endswith(AGREE))
     return told.decode().splitlines(), unseen.stderr.decode().splitlines()
 
 
 def try_transcript(oldstyle, chance, journal, transcript, lines):
     """A transcript as it is, and with a reply changed where it has one."""
     found = audited(oldstyle, journal, transcript, lines)
-    hold(found, (0, f"audit: {len(lines)} replies agree\n"), lines)
+    hold(f"{found} of", found == (0, f"audit: {len(lines)} replies agree\n"), lines)
     if lines:
         bad = chance.randrange(len(lines))
         changed = lines[:bad] + [spoilt(chance, lines[bad])] + lines[bad + 1:]
         found = audited(oldstyle, journal, transcript, changed)
-        hold(found, (1, f"oldstyle: transcript line {bad + 1}: 42 WrongReply\n"), changed[bad])
+        wanted = (1, f"oldstyle: transcript line {bad + 1}: 42 WrongReply\n")
+        hold(f"{found} of", found == wanted, changed[bad])
 
 
 def main():
@@ -133,9 +128,10 @@ def main():
             agreed, refused = agreed + len(lines), refused + bool(lines)
         one = at_desk(oldstyle, chance, journal, questions)[0]
         told = long_audit(oldstyle, journal, transcript, one)
-        hold(told, ([f"oldstyle: {place} MiB of the transcript read" for place in (64, 128)], []))
-    print(f"{options.count} transcripts: {agreed} replies agreed to, {refused} changed ones "
-          "refused")
+        wanted = [f"oldstyle: {place} MiB of the transcript read" for place in (64, 128)]
+        hold(f"standard error has {told}", told == (wanted, []))
+    return verdict(f"{options.count} transcripts: {agreed} replies agreed to, {refused} changed "
+                   "ones refused")
 
 
 if __name__ == "__main__":

@@ -10,10 +10,10 @@ is looked up there. Run it on a busy machine too: that moves the threads about.
 import json
 import os
 import random
-import sys
 import tempfile
 
-from lib.common import GREGORIAN, JULIAN, SCRIPT, CommandLine, compact, end, run
+from lib.checks import hold, verdict
+from lib.common import GREGORIAN, JULIAN, CommandLine, compact, end, run
 
 READERS, EDITIONS, LANDS = 64, 40, 12
 STYLES = ["january", "annunciation", "nativity", "september", "pisan", "easter"]
@@ -66,24 +66,18 @@ def told_by_service(oldstyle, batches, asked):
     return {(reply["edition"], compact(query)): reply for reply, query in pairs}
 
 
-def hold(holds, otherwise):
-    """Ends the script where something does not hold."""
-    if not holds:
-        sys.exit(f"{SCRIPT}: {otherwise}")
-
-
 def check(transcript, questions, told):
     """Holds the lines of a transcript against what the service told; answers the editions that
     were met."""
-    hold(len(transcript) == len(questions), f"{len(transcript)} replies to {len(questions)}")
+    hold(f"{len(transcript)} replies to {len(questions)}", len(transcript) == len(questions))
     last, met = {}, set()
     for line, (reader, query) in zip(transcript, questions):
         value = json.loads(line)
         edition = value["reply"]["edition"]
         reply = {**told[edition, compact(query)], "reader": reader}
         wanted = {"ask": {**query, "reader": reader}, "reply": reply}
-        hold(line == compact(wanted), f"{line}\nand not\n{compact(wanted)}")
-        hold(edition >= last.get(reader, 0), f"reader {reader} went back to edition {edition}")
+        hold(f"{line} in place of", line == compact(wanted), compact(wanted))
+        hold(f"reader {reader} goes back to edition {edition}", edition >= last.get(reader, 0))
         last[reader] = edition
         met.add(edition)
     return met
@@ -114,8 +108,9 @@ def main():
             by_reader = sorted(questions, key=lambda question: question[0])
             transcript = run(oldstyle, ["desk", *paths]).stdout.splitlines()
             met |= check(transcript, by_reader, told)
-    print(f"{options.count} desks of {READERS} readers and {options.questions} questions: "
-          f"every reply as the service gives it, {len(met)} of {EDITIONS + 1} editions met")
+    return verdict(f"{options.count} desks of {READERS} readers and {options.questions} questions: "
+                   f"every reply as the service gives it, {len(met)} of {EDITIONS + 1} editions "
+                   "met")
 
 
 if __name__ == "__main__":
