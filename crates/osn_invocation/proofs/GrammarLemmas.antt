@@ -1,41 +1,18 @@
 -- The grammar of a command that is built argument by argument.
-use Rattle.std.proofs.Common.{◌≡◌, ◌∙◌, ◌||◌, Bool, true, Option, ap, ap₂, refl}
-use Rattle.std.specs.Borrow.{Bor}
-use Rattle.clap.specs.Words.{AddsArg, AddsSubcommand, App, Rule, Text, is_simple}
-use Rattle.clap.specs.Words.{is_simple_and_free, rule_of, with_rule, with_subcommand}
-use Rattle.clap.specs.Simple.{app_of_fields}
+use Rattle.std.proofs.Common.{◌≡◌, ◌∙◌, ◌||◌, ◌<◌, ◌+◌, ℕ, List, [], ◌∷◌, true, ap, ap₂, refl}
+use Rattle.std.proofs.Common.{length, map, take, get_or}
+use Rattle.std.proofs.lemmas.List.{map-append, take_more}
+use Rattle.std.proofs.lemmas.List.Sums.{fold_more, fold-append}
+use Rattle.clap.specs.Words.{AddsArg, AddsSubcommand, App, Rule, app_of, is_simple}
+use Rattle.clap.specs.Words.{is_simple_and_free, with_rule, with_subcommand}
 use Rattle.clap.specs.declared.builder.arg.Arg.{Arg}
 use Rattle.clap.specs.declared.builder.command.Command.{Command}
-use Rattle.clap.specs.declared.builder.command.Command.TheViews.{out-Command}
-use Rattle.clap.specs.declared.builder.command.Command.TheOpen.{Command-F}
 use Rattle.clap.proofs.OnLiterals.{clap_on_literals}
-use Rattle.osn_invocation.specs.Grammar.{IsCommand, IsArg, command_line}
-
--- an argument with a text of help
-pub helped : (old new : Arg) (text : Option (Bor Text)) (rule : Rule)
-    → new ≡ record old { help = text } → IsArg rule old → IsArg rule new
-helped old new text rule e word = (ap rule_of e ∙ word.0, ap (λ (a : Arg). a.global) e ∙ word.1)
-
--- an argument that has to stand
-pub standing : (old new : Arg) (rule : Rule) → new ≡ record old { required = true }
-    → IsArg rule old → IsArg (record rule { required = true }) new
-standing old new rule e word = (
-  ap rule_of e ∙ ap (λ (r : Rule). record r { required = true }) word.0,
-  ap (λ (a : Arg). a.global) e ∙ word.1,
-)
-
-abbrev has_globals : Command-F Command → Bool
-has_globals f = f.has_globals
-
--- a command with its two texts of help
-pub explained : (old mid new : Command) (above below : Option (Bor Text)) (grammar : App)
-    → IsCommand grammar old
-    → out-Command mid ≡ record (out-Command old) { about = above }
-    → out-Command new ≡ record (out-Command mid) { after_help = below } → IsCommand grammar new
-explained old mid new above below grammar is up down = (
-  ap app_of_fields down ∙ (ap app_of_fields up ∙ is.0),
-  ap has_globals down ∙ (ap has_globals up ∙ is.1),
-)
+use Rattle.osn_invocation.specs.declared.argument.Argument.{Argument}
+use Rattle.osn_invocation.specs.declared.commands.CommandRow.{CommandRow}
+use Rattle.osn_invocation.specs.Grammar.{HasArguments, HasCommands, IsArg, IsCommand, command_line}
+use Rattle.osn_invocation.specs.Grammar.{command_of_row, rule_of_argument, with_argument}
+use Rattle.osn_invocation.specs.Grammar.{with_command}
 
 -- a command with one more argument
 pub one_more_arg : (old new : Command) (arg : Arg) (grammar : App) (rule : Rule)
@@ -54,6 +31,28 @@ one_more_command old new sub grammar below added is under = (
   added.shape under.1 ∙ ap₂ with_subcommand is.0 (ap (λ (a : App). a.top) under.0),
   added.globals ∙ ap₂ (λ a b. a || b) is.1 under.1,
 )
+
+-- and with one more of a list of arguments
+pub next_argument : (first old new : Command) (arg : Arg) (arguments : List Argument) (i : ℕ)
+    (d : Argument) → i < length arguments → AddsArg old arg new
+    → IsArg (rule_of_argument (get_or arguments i d)) arg
+    → HasArguments first (take i arguments) old → HasArguments first (take (i + 1) arguments) new
+next_argument first old new arg arguments i d lt added is has free =
+    rw (fold_more with_argument (app_of first) arguments i d lt)
+    (one_more_arg old new arg _ _ added (has free) is)
+
+-- and a program with one more of the commands of a list of rows
+pub next_command : (first old new command : Command) (rows : List CommandRow) (i : ℕ)
+    (d : CommandRow) → i < length rows → AddsSubcommand old command new
+    → IsCommand (command_of_row (get_or rows i d)) command
+    → HasCommands first (map command_of_row (take i rows)) old
+    → HasCommands first (map command_of_row (take (i + 1) rows)) new
+next_command first old new command rows i d lt added is has free =
+    rw (
+      take_more rows i d lt,
+      map-append command_of_row (take i rows) (get_or rows i d ∷ []),
+      fold-append with_command (app_of first) (map command_of_row (take i rows)) _,
+    ) (one_more_command old new command _ _ added (has free) is)
 
 -- of this command line the matches are known
 pub is_exact : is_simple command_line ≡ true

@@ -1,5 +1,5 @@
 -- The grammar of the command line, and what it finds in the arguments.
-use Rattle.std.specs.Prelude.{◌≡◌, true, false, List, Some, codes, pos}
+use Rattle.std.specs.Prelude.{◌≡◌, true, false, List, [], ◌∷◌, Some, codes, fold, pos}
 use Rattle.clap.specs.Words.{App, Rule, Text, app_of, found_of, matches_of, new_app, new_rule}
 use Rattle.clap.specs.Words.{rows_of, rule_of, subcommand_of, subcommand_rows_of, with_rule}
 use Rattle.clap.specs.Words.{with_subcommand}
@@ -10,6 +10,13 @@ use Rattle.clap.specs.declared.builder.command.Command.{Command}
 use Rattle.clap.specs.declared.builder.command.Command.TheViews.{out-Command}
 use Rattle.clap.specs.declared.builder.value_parser.ValueParser.TheVariants.{Signed}
 use Rattle.clap.specs.declared.parser.matches.ArgMatches.{ArgMatches}
+use Rattle.osn_invocation.specs.declared.argument.Argument.{Argument}
+use Rattle.osn_invocation.specs.declared.argument.Argument.TheVariants.{Required, Optional, Year}
+use Rattle.osn_invocation.specs.declared.argument.Argument.TheVariants.{Valued, Flag, Readers}
+use Rattle.osn_invocation.specs.declared.argument.Argument.TheVariants.{RequiredReaders}
+use Rattle.osn_invocation.specs.declared.commands.CommandRow.{CommandRow}
+
+-- ---- an argument
 
 -- an option with a value, `--journal FILE`
 abbrev pub value_option : Text → Rule
@@ -27,11 +34,11 @@ readers_option = record (new_rule (codes "readers")) {
   parser = Some (Signed (pos 1) (pos 64));
 }
 
--- an argument that has to stand
+-- an argument that is required
 abbrev pub required_arg : Text → Rule
 required_arg name = record (new_rule name) { value_names = 1; required = true }
 
--- an argument that may stand
+-- an argument that may be left out
 abbrev pub optional_arg : Text → Rule
 optional_arg name = record (new_rule name) { value_names = 1 }
 
@@ -40,128 +47,155 @@ abbrev pub year_arg : Rule
 year_arg =
     record (required_arg (codes "year")) { parser = Some (Signed (pos 0) (pos 4294967295)) }
 
--- `serve [--journal FILE] [--save FILE] [--keep FILE] [--upgrade] [--follow FILE] [--readers N]
--- [--read-only] [--stop-at-refusal]`
-abbrev pub serve_grammar : App
-serve_grammar = with_rule (with_rule (with_rule (with_rule (with_rule (with_rule (with_rule
-    (with_rule (new_app (codes "serve")) (value_option (codes "journal")))
-    (value_option (codes "save"))) (value_option (codes "keep"))) (flag_option (codes "upgrade")))
-    (value_option (codes "follow"))) readers_option) (flag_option (codes "read-only")))
-    (flag_option (codes "stop-at-refusal"))
+-- the rule of an argument of the table of commands
+abbrev pub rule_of_argument : Argument → Rule
+rule_of_argument (Required id shown help) = required_arg id.now
+rule_of_argument (Optional id shown help) = optional_arg id.now
+rule_of_argument (Year help) = year_arg
+rule_of_argument (Valued id shown help) = value_option id.now
+rule_of_argument (Flag id help) = flag_option id.now
+rule_of_argument (Readers help) = readers_option
+rule_of_argument (RequiredReaders help) = record readers_option { required = true }
 
--- `replay --readers N SCHEDULE`
-abbrev pub replay_grammar : App
-replay_grammar = with_rule
-    (with_rule (new_app (codes "replay")) (record readers_option { required = true }))
-    (required_arg (codes "schedule"))
+-- ---- the commands
 
--- `desk SCRIPT QUESTIONS`
-abbrev pub desk_grammar : App
-desk_grammar = with_rule
-    (with_rule (new_app (codes "desk")) (required_arg (codes "script")))
-    (required_arg (codes "questions"))
+-- a command with these arguments
+abbrev pub command_with : Text → List Rule → App
+command_with name rules = fold with_rule (new_app name) rules
 
--- `almanac JOURNAL CODE YEAR`
-abbrev pub almanac_grammar : App
-almanac_grammar = with_rule (with_rule
-    (with_rule (new_app (codes "almanac")) (required_arg (codes "journal")))
-    (required_arg (codes "code"))) year_arg
+-- the option `--limits LIMITS`
+abbrev pub limits_option : Rule
+limits_option = value_option (codes "limits")
 
--- `read JOURNAL CODE DATE [--weekday DAY] [--order ORDER] [--strict]`
+-- the argument JOURNAL
+abbrev pub journal_arg : Rule
+journal_arg = required_arg (codes "journal")
+
+-- `read JOURNAL CODE DATE [--weekday DAY] [--order ORDER] [--strict] [--limits LIMITS]`
 abbrev pub read_grammar : App
-read_grammar = with_rule (with_rule (with_rule (with_rule (with_rule
-    (with_rule (new_app (codes "read")) (required_arg (codes "journal")))
-    (required_arg (codes "code"))) (required_arg (codes "date"))) (value_option (codes "weekday")))
-    (value_option (codes "order"))) (flag_option (codes "strict"))
+read_grammar = command_with (codes "read") (journal_arg ∷ required_arg (codes "code")
+    ∷ required_arg (codes "date") ∷ value_option (codes "weekday") ∷ value_option (codes "order")
+    ∷ flag_option (codes "strict") ∷ limits_option ∷ [])
 
 -- `convert CALENDAR DATE`
 abbrev pub convert_grammar : App
-convert_grammar = with_rule
-    (with_rule (new_app (codes "convert")) (required_arg (codes "calendar")))
-    (required_arg (codes "date"))
+convert_grammar = command_with (codes "convert")
+    (required_arg (codes "calendar") ∷ required_arg (codes "date") ∷ [])
 
--- `day JOURNAL CODE DATE`
+-- `day JOURNAL CODE DATE [--limits LIMITS]`
 abbrev pub day_grammar : App
-day_grammar = with_rule (with_rule
-    (with_rule (new_app (codes "day")) (required_arg (codes "journal")))
-    (required_arg (codes "code"))) (required_arg (codes "date"))
+day_grammar = command_with (codes "day") (journal_arg ∷ required_arg (codes "code")
+    ∷ required_arg (codes "date") ∷ limits_option ∷ [])
 
--- `month JOURNAL CODE YEAR MONTH`
+-- `month JOURNAL CODE YEAR MONTH [--limits LIMITS]`
 abbrev pub month_grammar : App
-month_grammar = with_rule (with_rule (with_rule
-    (with_rule (new_app (codes "month")) (required_arg (codes "journal")))
-    (required_arg (codes "code"))) (required_arg (codes "year"))) (required_arg (codes "month"))
+month_grammar = command_with (codes "month") (journal_arg ∷ required_arg (codes "code")
+    ∷ required_arg (codes "year") ∷ required_arg (codes "month") ∷ limits_option ∷ [])
 
--- `territory JOURNAL [CODE]`
+-- `territory JOURNAL [CODE] [--limits LIMITS]`
 abbrev pub territory_grammar : App
-territory_grammar = with_rule
-    (with_rule (new_app (codes "territory")) (required_arg (codes "journal")))
-    (optional_arg (codes "code"))
+territory_grammar = command_with (codes "territory")
+    (journal_arg ∷ optional_arg (codes "code") ∷ limits_option ∷ [])
 
--- a command with the options that name the columns of a table after what it has: `[--place NAME]
--- [--date NAME] [--year NAME] [--month NAME] [--day NAME] [--weekday NAME]`
-abbrev pub with_columns : App → App
-with_columns grammar = with_rule (with_rule (with_rule (with_rule (with_rule
-    (with_rule grammar (value_option (codes "place"))) (value_option (codes "date")))
-    (value_option (codes "year"))) (value_option (codes "month"))) (value_option (codes "day")))
-    (value_option (codes "weekday"))
-
--- `letters JOURNAL [columns] [--places FILE] [--separator NAME] [--order ORDER] [--strict]
--- [--summary]`
+-- `letters JOURNAL [--place NAME] [--date NAME] [--year NAME] [--month NAME] [--day NAME]
+-- [--weekday NAME] [--places FILE] [--separator NAME] [--order ORDER] [--strict] [--summary]
+-- [--limits LIMITS]`
 abbrev pub letters_grammar : App
-letters_grammar = with_rule (with_rule (with_rule (with_rule (with_rule (with_columns
-    (with_rule (new_app (codes "letters")) (required_arg (codes "journal"))))
-    (value_option (codes "places"))) (value_option (codes "separator")))
-    (value_option (codes "order"))) (flag_option (codes "strict"))) (flag_option (codes "summary"))
+letters_grammar = command_with (codes "letters") (journal_arg ∷ value_option (codes "place")
+    ∷ value_option (codes "date") ∷ value_option (codes "year") ∷ value_option (codes "month")
+    ∷ value_option (codes "day") ∷ value_option (codes "weekday") ∷ value_option (codes "places")
+    ∷ value_option (codes "separator") ∷ value_option (codes "order")
+    ∷ flag_option (codes "strict") ∷ flag_option (codes "summary") ∷ limits_option ∷ [])
 
--- `audit JOURNAL TRANSCRIPT`
-abbrev pub audit_grammar : App
-audit_grammar = with_rule
-    (with_rule (new_app (codes "audit")) (required_arg (codes "journal")))
-    (required_arg (codes "transcript"))
+-- `serve [--journal FILE] [--save FILE] [--keep FILE] [--upgrade] [--follow FILE] [--readers N]
+-- [--read-only] [--stop-at-refusal] [--limits LIMITS]`
+abbrev pub serve_grammar : App
+serve_grammar = command_with (codes "serve") (value_option (codes "journal")
+    ∷ value_option (codes "save") ∷ value_option (codes "keep") ∷ flag_option (codes "upgrade")
+    ∷ value_option (codes "follow") ∷ readers_option ∷ flag_option (codes "read-only")
+    ∷ flag_option (codes "stop-at-refusal") ∷ limits_option ∷ [])
 
--- `text JOURNAL [CODE]`
+-- `text JOURNAL [CODE] [--limits LIMITS]`
 abbrev pub text_grammar : App
-text_grammar = with_rule
-    (with_rule (new_app (codes "text")) (required_arg (codes "journal")))
-    (optional_arg (codes "code"))
+text_grammar = command_with (codes "text")
+    (journal_arg ∷ optional_arg (codes "code") ∷ limits_option ∷ [])
 
--- `plan JOURNAL TEXT`
+-- `plan JOURNAL TEXT [--limits LIMITS]`
 abbrev pub plan_grammar : App
-plan_grammar = with_rule
-    (with_rule (new_app (codes "plan")) (required_arg (codes "journal")))
-    (required_arg (codes "text"))
+plan_grammar = command_with (codes "plan")
+    (journal_arg ∷ required_arg (codes "text") ∷ limits_option ∷ [])
 
--- `publish JOURNAL TEXT`
+-- `publish JOURNAL TEXT [--limits LIMITS]`
 abbrev pub publish_grammar : App
-publish_grammar = with_rule
-    (with_rule (new_app (codes "publish")) (required_arg (codes "journal")))
-    (required_arg (codes "text"))
+publish_grammar = command_with (codes "publish")
+    (journal_arg ∷ required_arg (codes "text") ∷ limits_option ∷ [])
+
+-- `replay --readers N SCHEDULE [--limits LIMITS]`
+abbrev pub replay_grammar : App
+replay_grammar = command_with (codes "replay") (record readers_option { required = true }
+    ∷ required_arg (codes "schedule") ∷ limits_option ∷ [])
+
+-- `desk SCRIPT QUESTIONS [--limits LIMITS]`
+abbrev pub desk_grammar : App
+desk_grammar = command_with (codes "desk") (required_arg (codes "script")
+    ∷ required_arg (codes "questions") ∷ limits_option ∷ [])
+
+-- `almanac JOURNAL CODE YEAR [--limits LIMITS]`
+abbrev pub almanac_grammar : App
+almanac_grammar = command_with (codes "almanac")
+    (journal_arg ∷ required_arg (codes "code") ∷ year_arg ∷ limits_option ∷ [])
+
+-- `audit JOURNAL TRANSCRIPT [--limits LIMITS]`
+abbrev pub audit_grammar : App
+audit_grammar = command_with (codes "audit")
+    (journal_arg ∷ required_arg (codes "transcript") ∷ limits_option ∷ [])
 
 -- `completions SHELL`
 abbrev pub completions_grammar : App
-completions_grammar =
-    with_rule (new_app (codes "completions")) (required_arg (codes "shell"))
+completions_grammar = command_with (codes "completions") (required_arg (codes "shell") ∷ [])
 
--- a command with the option `--limits LIMITS` after what it has
-abbrev pub limited : App → App
-limited grammar = with_rule grammar (value_option (codes "limits"))
+-- a command with one more argument of the table of commands
+abbrev pub with_argument : App → Argument → App
+with_argument command argument = with_rule command (rule_of_argument argument)
+
+-- the command of a row of that table
+abbrev pub command_of_row : CommandRow → App
+command_of_row row = fold with_argument (new_app row.name.now) row.arguments.now
+
+-- ---- the command line
 
 -- the program, which has `--version`
 abbrev pub program_grammar : App
 program_grammar = on_top (λ s. record s { has_version = true }) (new_app (codes "oldstyle"))
 
--- the command line: the program with its commands, which have limits but for `convert` and
--- `completions`, and what each grammar has by itself, `--help` and `help COMMAND`
+-- a program with one more command
+abbrev pub with_command : App → App → App
+with_command program command = with_subcommand program command.top
+
+-- the commands that say what a date means
+abbrev pub date_commands : List App
+date_commands =
+    read_grammar ∷ convert_grammar ∷ day_grammar ∷ month_grammar ∷ territory_grammar ∷ []
+
+-- those for tables, the service and the register as a text
+abbrev pub table_commands : List App
+table_commands =
+    letters_grammar ∷ serve_grammar ∷ text_grammar ∷ plan_grammar ∷ publish_grammar ∷ []
+
+-- the others
+abbrev pub other_commands : List App
+other_commands =
+    replay_grammar ∷ desk_grammar ∷ almanac_grammar ∷ audit_grammar ∷ completions_grammar ∷ []
+
+-- a program with these commands after what it has
+abbrev pub with_all : App → List App → App
+with_all program commands = fold with_command program commands
+
+-- the command line: the program with its commands, and what each grammar has by itself, `--help`
+-- and `help COMMAND`
 abbrev pub command_line : App
-command_line = with_subcommand (with_subcommand (with_subcommand (with_subcommand (with_subcommand
-    (with_subcommand (with_subcommand (with_subcommand (with_subcommand (with_subcommand
-    (with_subcommand (with_subcommand (with_subcommand (with_subcommand (with_subcommand
-    program_grammar (limited read_grammar).top) convert_grammar.top) (limited day_grammar).top)
-    (limited month_grammar).top) (limited territory_grammar).top) (limited letters_grammar).top)
-    (limited serve_grammar).top) (limited text_grammar).top) (limited plan_grammar).top)
-    (limited publish_grammar).top) (limited replay_grammar).top) (limited desk_grammar).top)
-    (limited almanac_grammar).top) (limited audit_grammar).top) completions_grammar.top
+command_line =
+    with_all (with_all (with_all program_grammar date_commands) table_commands) other_commands
 
 -- the argument has this rule, at its own command alone
 abbrev pub IsArg : Rule → Arg → Type 0
@@ -171,6 +205,16 @@ IsArg rule arg = (rule_of arg ≡ rule) × (arg.global ≡ false)
 abbrev pub IsCommand : App → Command → Type 0
 IsCommand grammar command =
     (app_of command ≡ grammar) × ((out-Command command).has_globals ≡ false)
+
+-- the new command is the old one with these arguments after what it has
+abbrev pub HasArguments : Command → List Argument → Command → Type 0
+HasArguments old arguments new = (out-Command old).has_globals ≡ false
+    → IsCommand (fold with_argument (app_of old) arguments) new
+
+-- the new program is the old one with these commands after what it has
+abbrev pub HasCommands : Command → List App → Command → Type 0
+HasCommands old commands new = (out-Command old).has_globals ≡ false
+    → IsCommand (with_all (app_of old) commands) new
 
 -- what was found in the arguments is what the grammar finds
 abbrev pub HasMatches : List Text → ArgMatches → Type 0

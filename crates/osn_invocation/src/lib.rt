@@ -4,13 +4,13 @@
 //! `command_line` builds that very grammar.
 #![tactic(auto)]
 
+mod argument;
+mod commands;
 mod given;
 mod grammar;
 mod invocation;
 mod letters;
-mod letters_grammar;
 mod register_text;
-mod register_text_grammar;
 
 pub use grammar::command_line;
 pub use invocation::{CommandWords, Invocation, PageWords, ServeOptions, parse_args};

@@ -1,0 +1,65 @@
+//! An argument of a command, as it is typed and as help shows it.
+
+ghost use Rattle.osn_invocation.specs.Grammar.{IsArg, readers_option, required_arg};
+ghost use Rattle.osn_invocation.specs.Grammar.{rule_of_argument};
+
+use clap::{Arg, ArgAction, value_parser};
+use std::alloc::Global;
+
+/// An argument of a command: its name, how help shows its value, and what help says of it.
+#[derive(Clone, Copy, Debug)]
+pub(crate) enum Argument {
+    /// A word that is required, such as JOURNAL.
+    Required(&'static str, &'static str, &'static str),
+    /// A word that may be left out, such as CODE.
+    Optional(&'static str, &'static str, &'static str),
+    /// The required word YEAR, 0 to 4294967295.
+    Year(&'static str),
+    /// An option with a value, such as `--journal FILE`.
+    Valued(&'static str, &'static str, &'static str),
+    /// An option without a value, such as `--strict`.
+    Flag(&'static str, &'static str),
+    /// The option `--readers N`, 1 to 64.
+    Readers(&'static str),
+    /// The same, but required.
+    RequiredReaders(&'static str),
+}
+
+/// The option `--readers`.
+fn readers_of<'a>(alloc: Global) -> Arg<'a>
+    ensures { IsArg readers_option result }
+{
+    Arg::new(alloc, "readers")
+        .long("readers")
+        .value_name("N")
+        .value_parser(value_parser!(u32).range(1..65))
+}
+
+/// A word that is required.
+fn required_of<'a>(alloc: Global, id: &'a str, shown: &'a str) -> Arg<'a>
+    ensures { IsArg (required_arg id.now) result }
+{
+    Arg::new(alloc, id).value_name(shown).required(true)
+}
+
+/// An argument as `clap` has it.
+pub(crate) fn arg_of<'a>(alloc: Global, argument: Argument) -> Arg<'a>
+    ensures { IsArg (rule_of_argument argument) result }
+{
+    match argument {
+        Argument::Required(id, shown, help) => required_of(alloc, id, shown).help(help),
+        Argument::Optional(id, shown, help) => Arg::new(alloc, id).value_name(shown).help(help),
+        Argument::Year(help) => required_of(alloc, "year", "YEAR")
+            .value_parser(value_parser!(u32))
+            .help(help),
+        Argument::Valued(id, shown, help) => {
+            Arg::new(alloc, id).long(id).value_name(shown).help(help)
+        }
+        Argument::Flag(id, help) => Arg::new(alloc, id)
+            .long(id)
+            .action(ArgAction::Count)
+            .help(help),
+        Argument::Readers(help) => readers_of(alloc).help(help),
+        Argument::RequiredReaders(help) => readers_of(alloc).required(true).help(help),
+    }
+}

@@ -1,0 +1,353 @@
+//! The commands of the program with their arguments, as they are typed and as help shows them.
+
+use crate::argument::Argument::{
+    self, Flag, Optional, Readers, Required, RequiredReaders, Valued, Year,
+};
+
+/// A command: its name, what help says of it before and after its arguments, and these.
+#[derive(Clone, Copy, Debug)]
+pub(crate) struct CommandRow {
+    /// The name of the command.
+    pub(crate) name: &'static str,
+    /// What it does, in one line.
+    pub(crate) about: &'static str,
+    /// Examples, and what else is to be known.
+    pub(crate) examples: &'static str,
+    /// Its arguments, in order.
+    pub(crate) arguments: &'static [Argument],
+}
+
+const JOURNAL: Argument = Required("journal", "JOURNAL", "The file of the journal");
+
+const CODE: Argument = Required("code", "CODE", "The code of the territory");
+
+const TEXT: Argument = Required("text", "TEXT", "The file of the text");
+
+const ORDER: Argument = Valued(
+    "order",
+    "ORDER",
+    "How a date of three numbers, as 11/2/1731, is read: dmy or mdy",
+);
+
+const LIMITS: Argument = Valued(
+    "limits",
+    "LIMITS",
+    "The most that the register holds, as lands=5000,changes=200",
+);
+
+/// The commands that say what a date means, in the order in which help lists them.
+pub(crate) const DATES: [CommandRow; 5] = [
+    CommandRow {
+        name: "read",
+        about: "Says which day a written date means in a territory, or why it means none",
+        examples: "Examples:
+  ./oldstyle read examples/samples.journal GB \"11 February 1731/2\" --weekday Friday
+  ./oldstyle read examples/samples.journal GB 1752-09-05
+
+A date is written 1731-02-11, \"11 February 1731\" or \"11 February 1731/2\", with a weekday before
+it or without, or in another form, as \"11 Feb. 1731/32\". Its year is the one that the document
+has, or both years are given. It may be a month, a year, a range or a bound, as \"March 1731\",
+\"3-10 May 1640\" or \"before 1640\", and say more, as \"[about 1640?]\" or \"11 February 1731 \
+N.S.\".
+Where a date means several days, those of the weekday come first.",
+        arguments: &[
+            JOURNAL,
+            CODE,
+            Required("date", "DATE", "The date as the document has it"),
+            Valued(
+                "weekday",
+                "DAY",
+                "The weekday that the document names, as Friday",
+            ),
+            ORDER,
+            Flag("strict", "Ends with status 1 where the date means no day"),
+            LIMITS,
+        ],
+    },
+    CommandRow {
+        name: "convert",
+        about: "Prints the day of a calendar's date by every calendar and by its numbers",
+        examples: "Examples:
+  ./oldstyle convert julian \"2 September 1752\"
+  ./oldstyle convert gregorian 1752-09-14
+  ./oldstyle convert day 639797
+
+The day number is what an editor writes into a change.",
+        arguments: &[
+            Required(
+                "calendar",
+                "CALENDAR",
+                "The date's calendar, which is gregorian, julian or swedish, or the word day",
+            ),
+            Required(
+                "date",
+                "DATE",
+                "The date, its year counted from 1 January; after the word day, a day number",
+            ),
+        ],
+    },
+    CommandRow {
+        name: "day",
+        about: "Says how a territory dated a day, and in which of its periods the day is",
+        examples: "Examples:
+  ./oldstyle day examples/samples.journal GB 1732-02-22
+  ./oldstyle day examples/samples.journal GB 639797",
+        arguments: &[
+            JOURNAL,
+            CODE,
+            Required("date", "DATE", "A Gregorian date, or a day number"),
+            LIMITS,
+        ],
+    },
+    CommandRow {
+        name: "month",
+        about: "Prints a month as a territory dated its days",
+        examples: "Example:
+  ./oldstyle month examples/samples.journal GB 1752 September
+
+A month that the year has at its beginning and at its end is printed twice.",
+        arguments: &[
+            JOURNAL,
+            CODE,
+            Required(
+                "year",
+                "YEAR",
+                "The year as the territory counted it, 0 to 10000",
+            ),
+            Required("month", "MONTH", "The month, 1 to 12 or its English name"),
+            LIMITS,
+        ],
+    },
+    CommandRow {
+        name: "territory",
+        about: "Lists the territories, or the periods of one",
+        examples: "Examples:
+  ./oldstyle territory examples/samples.journal
+  ./oldstyle territory examples/samples.journal GB",
+        arguments: &[
+            JOURNAL,
+            Optional(
+                "code",
+                "CODE",
+                "The code of the territory whose periods are listed",
+            ),
+            LIMITS,
+        ],
+    },
+];
+
+/// The commands for tables, the service and the register as a text.
+pub(crate) const TABLES: [CommandRow; 5] = [
+    CommandRow {
+        name: "letters",
+        about: "Says of each letter of a table on standard input which day its date means",
+        examples: "Examples:
+  ./oldstyle letters examples/samples.journal < examples/letters.csv
+  ./oldstyle letters examples/samples.journal --places examples/places.csv --summary \\
+    < examples/transcribed.csv
+
+The table is CSV with a header. It is written to standard output as it came, and twelve
+columns follow its own: days, gregorian, julian, dual, weekday_found, jdn, earliest, latest, kind,
+edtf, edition and remark.",
+        arguments: &[
+            JOURNAL,
+            Valued(
+                "place",
+                "NAME",
+                "The name of the column of places, which are codes or names [default: place]",
+            ),
+            Valued(
+                "date",
+                "NAME",
+                "The name of the column of dates [default: date]",
+            ),
+            Valued(
+                "year",
+                "NAME",
+                "In place of --date, the name of the column of years alone",
+            ),
+            Valued(
+                "month",
+                "NAME",
+                "Beside --year, the name of the column of months",
+            ),
+            Valued(
+                "day",
+                "NAME",
+                "Beside --month, the name of the column of days",
+            ),
+            Valued(
+                "weekday",
+                "NAME",
+                "The name of the column of weekdays [default: weekday, which the table may lack]",
+            ),
+            Valued(
+                "places",
+                "FILE",
+                "A table in CSV that says by its columns place and code which code a place has",
+            ),
+            Valued(
+                "separator",
+                "NAME",
+                "What stands between two fields: comma, semicolon or tab [default: by the header]",
+            ),
+            ORDER,
+            Flag("strict", "Ends with status 1 where a row has a remark"),
+            Flag(
+                "summary",
+                "Tells standard error at the end how many rows have each remark",
+            ),
+            LIMITS,
+        ],
+    },
+    CommandRow {
+        name: "serve",
+        about: "Answers request lines on standard input, as the program does without a command",
+        examples: "Example:
+  ./oldstyle serve --journal examples/samples.journal --save new.journal < examples/added.jsonl
+
+Requests and replies are JSON lines. With --save, the journal is saved only if all lines were
+answered. With --keep, each change is in the journal before its reply is written. A journal of an
+earlier version than 4 takes no source of an edit: --upgrade saves it anew as version 4, whole or
+not at all. With --follow, edits are refused, and FILE need not be there yet. With
+--stop-at-refusal, a batch of edits is published whole or not at all.",
+        arguments: &[
+            Valued(
+                "journal",
+                "FILE",
+                "The journal to begin with; without it there are no territories",
+            ),
+            Valued(
+                "save",
+                "FILE",
+                "Where the journal is saved at the end of the input, unless a fault ended the run",
+            ),
+            Valued(
+                "keep",
+                "FILE",
+                "The journal to begin with, to which each change is appended while the service runs",
+            ),
+            Flag(
+                "upgrade",
+                "Saves the journal of --keep as version 4 first, where it is of an earlier one",
+            ),
+            Valued(
+                "follow",
+                "FILE",
+                "The journal that another run keeps: each line is answered from its newest edition",
+            ),
+            Readers("How many readers ask, 1 to 64 [default: 8]"),
+            Flag(
+                "read-only",
+                "Refuses each edit and each publish by 45 ReadOnly",
+            ),
+            Flag(
+                "stop-at-refusal",
+                "Ends after the first line that is refused, and saves nothing then",
+            ),
+            LIMITS,
+        ],
+    },
+    CommandRow {
+        name: "text",
+        about: "Prints the territories that a journal published as a text in TOML, to be edited",
+        examples: "Examples:
+  ./oldstyle text examples/samples.journal > territories.toml
+  ./oldstyle text examples/samples.journal GB
+
+A text that was not changed plans no edit.",
+        arguments: &[
+            JOURNAL,
+            Optional(
+                "code",
+                "CODE",
+                "The code of the one territory that is printed",
+            ),
+            LIMITS,
+        ],
+    },
+    CommandRow {
+        name: "plan",
+        about: "Prints the edits that change what a journal published into what a text says",
+        examples: "Example:
+  ./oldstyle plan examples/samples.journal territories.toml
+
+TEXT has the form that the command text prints. Each edit is a line, with its day as the territory
+dates it. A territory that TEXT does not name stays as it is. The journal is only read.",
+        arguments: &[JOURNAL, TEXT, LIMITS],
+    },
+    CommandRow {
+        name: "publish",
+        about: "Publishes the edits that the command plan prints, as one edition of the journal",
+        examples: "Example:
+  ./oldstyle publish new.journal territories.toml
+
+All edits are in the journal as one edition, or none is. A text with a fault changes nothing.",
+        arguments: &[JOURNAL, TEXT, LIMITS],
+    },
+];
+
+/// The other commands.
+pub(crate) const OTHERS: [CommandRow; 5] = [
+    CommandRow {
+        name: "replay",
+        about: "Takes the steps of one editor and of readers, and prints what each gives",
+        examples: "Example:
+  ./oldstyle replay --readers 2 examples/two_readers.schedule
+
+A step is a JSON line. All steps are taken before anything is printed.",
+        arguments: &[
+            RequiredReaders("How many readers there are, 1 to 64"),
+            Required("schedule", "SCHEDULE", "The file of the steps"),
+            LIMITS,
+        ],
+    },
+    CommandRow {
+        name: "desk",
+        about: "Lets readers ask while an editor works, each in a thread of its own",
+        examples: "Example:
+  ./oldstyle desk examples/rome.script examples/rome.questions
+
+A question is a JSON line. Questions and replies are printed by reader and then by place. The
+editions of the replies may differ from run to run.",
+        arguments: &[
+            Required(
+                "script",
+                "SCRIPT",
+                "The file of what the editor does, in the form of a journal",
+            ),
+            Required("questions", "QUESTIONS", "The file of what the readers ask"),
+            LIMITS,
+        ],
+    },
+    CommandRow {
+        name: "almanac",
+        about: "Prints the almanac of a territory and year, as a journal published the territory",
+        examples: "Example:
+  ./oldstyle almanac examples/samples.journal GB 1752",
+        arguments: &[JOURNAL, CODE, Year("The year, 1 to 9999"), LIMITS],
+    },
+    CommandRow {
+        name: "audit",
+        about: "Says whether each reply of a transcript is the one that a journal gives",
+        examples: "Example:
+  ./oldstyle desk examples/rome.script examples/rome.questions > rome.transcript
+  ./oldstyle audit examples/rome.script rome.transcript",
+        arguments: &[
+            JOURNAL,
+            Required(
+                "transcript",
+                "TRANSCRIPT",
+                "The file of what readers asked and were told",
+            ),
+            LIMITS,
+        ],
+    },
+    CommandRow {
+        name: "completions",
+        about: "Prints the text by which a shell completes the program's words",
+        examples: "Example:
+  source <(./oldstyle completions bash)",
+        arguments: &[Required("shell", "SHELL", "The shell: bash, zsh or fish")],
+    },
+];
