@@ -9,10 +9,11 @@ try:
     from selenium.webdriver.common.by import By
     from selenium.webdriver.common.keys import Keys
     from selenium.webdriver.support.ui import Select
+    from selenium.common.exceptions import NoAlertPresentException
 except ImportError:
-    webdriver = By = Keys = Select = None
+    webdriver = By = Keys = Select = NoAlertPresentException = None
 
-__all__ = ["Keys", "By", "Select"]
+__all__ = ["Keys", "By", "NoAlertPresentException", "Select"]
 SIZES = {"telephone": (390, 844), "screen": (1280, 800), "large": (3840, 2160)}
 WAIT = 10
 # The least contrast of a text to what is below it, in the whole page.

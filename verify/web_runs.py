@@ -7,6 +7,7 @@ import re
 import socket
 import subprocess
 import sys
+import tempfile
 import time
 from urllib.parse import urlencode
 
@@ -14,6 +15,7 @@ from lib.common import TOP, compact
 
 SAMPLES = os.path.join(TOP, "examples", "samples.journal")
 SERVES = re.compile(r"http://([0-9.]+):(\d+)/")
+ACCESS = re.compile(r"[0-9a-f.:]+ - - \[.*\] \".*\" \d{3} \S+")
 WAIT = 20
 
 
@@ -75,8 +77,9 @@ class Page:
             words = ["gunicorn", "--bind", f"{self.host}:{self.port}", "--worker-class", "gthread",
                      "--workers", str(workers), "--threads", str(threads), "--log-level",
                      "warning", *options, "web.wsgi:application"]
-        self.process = subprocess.Popen(words, cwd=TOP, env=variables, text=True,
-                                        stdout=subprocess.PIPE, stderr=subprocess.PIPE)
+        self.errors = tempfile.TemporaryFile("w+")
+        self.process = subprocess.Popen(words, cwd=TOP, env=variables, stdout=subprocess.DEVNULL,
+                                        stderr=self.errors)
         self.wait_until_it_answers()
 
     def wait_until_it_answers(self):
@@ -88,7 +91,19 @@ class Page:
             except OSError:
                 time.sleep(0.05)
         self.process.kill()
-        sys.exit(f"the page doesn't answer: {self.process.stderr.read()}")
+        sys.exit(f"the page doesn't answer: {self.told()}")
+
+    def logged(self):
+        """The lines of its log of requests."""
+        return [line for line in self.lines() if ACCESS.fullmatch(line)]
+
+    def told(self):
+        """What it told on standard error beside that log."""
+        return "\n".join(line for line in self.lines() if not ACCESS.fullmatch(line))
+
+    def lines(self):
+        self.errors.seek(0)
+        return self.errors.read().splitlines()
 
     def get(self, path, **headers):
         return self.ask("GET", path, None, headers)
@@ -122,11 +137,11 @@ class Page:
         found = self.children()
         self.process.send_signal(signal)
         try:
-            told = self.process.communicate(timeout=seconds)[1]
+            self.process.wait(timeout=seconds)
         except subprocess.TimeoutExpired:
             self.process.kill()
-            told = "it didn't end in time"
-        return left_after(found), told
+            return left_after(found), "it didn't end in time"
+        return left_after(found), self.told()
 
 
 def first_line(connection):

@@ -31,7 +31,7 @@ def words():
     line.add_argument("journal", metavar="JOURNAL", help="the journal that keeps the register")
     line.add_argument("--program", metavar="PATH",
                       help="the program; this tree's, or oldstyle on the PATH, where none is given")
-    line.add_argument("--address", default="127.0.0.1", metavar="ADDRESS",
+    line.add_argument("--address", type=address, default="127.0.0.1", metavar="ADDRESS",
                       help="the address that is listened at; 127.0.0.1 where none is given")
     line.add_argument("--limits", default="", metavar="LIMITS",
                       help="what the register holds at most, as oldstyle --limits takes it")
@@ -43,6 +43,13 @@ def words():
         line.add_argument(name, type=whole(least, most), default=default, metavar="N",
                           help=f"{what}; {default} where none is given")
     return line.parse_args()
+
+
+def address(text):
+    """An address that is named: an empty one would be all addresses."""
+    if not text:
+        raise argparse.ArgumentTypeError("name an address, such as 127.0.0.1, or 0.0.0.0 for all")
+    return text
 
 
 def whole(least, most):
@@ -62,7 +69,7 @@ def settings_of(options):
 
 def try_journal(settings):
     """Ends the command where the program doesn't load the journal."""
-    pool = Pool(settings.serving_words(), 1, settings.question_seconds)
+    pool = Pool(settings, settings.serving_words(), 1)
     try:
         pool.started().stop()
     except Ended as why:
@@ -90,17 +97,23 @@ def stop(*_):
 
 def main():
     """Serves until it is interrupted."""
-    options = words()
+    signal.signal(signal.SIGTERM, stop)
     try:
-        settings = settings_of(options)
-        try_journal(settings)
-        application = Application(settings)
-        server = server_of(options, application)
+        serve(words())
+    except KeyboardInterrupt:
+        return 130
     except (Fault, Problem, OSError) as why:
         sys.exit(f"{NAME}: {why}")
-    signal.signal(signal.SIGTERM, stop)
-    host, port = server.server_address[:2]
-    print(f"{NAME}: http://{host}:{port}/ answers from {settings.journal_name}; Ctrl-C ends it",
+    return 0
+
+
+def serve(options):
+    """Loads the journal, and answers requests until it is interrupted."""
+    settings = settings_of(options)
+    try_journal(settings)
+    application = Application(settings)
+    server = server_of(options, application)
+    print(f"{NAME}: http://{server.host}/ answers from {settings.journal_name}; Ctrl-C ends it",
           flush=True)
     try:
         server.serve_forever()
@@ -111,7 +124,6 @@ def main():
             signal.signal(name, signal.SIG_IGN)
         server.server_close()
         application.close()
-    return 0
 
 
 if __name__ == "__main__":

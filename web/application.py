@@ -12,13 +12,13 @@ from .problems import Problem, busy
 from .register import Register
 from .requests import Request, Response
 from .tables import Tables
-from .uploads import received
+from .uploads import Upload, receive
 from .views import VIEWS, answer_json
 
 FOLDER = os.path.dirname(os.path.abspath(__file__))
 KINDS = {".css": "text/css; charset=utf-8", ".js": "text/javascript; charset=utf-8",
          ".svg": "image/svg+xml"}
-UPLOADS_AT_ONCE = 8
+TABLES_AT_ONCE = 32
 YEAR = "public, max-age=31536000, immutable"
 
 
@@ -31,7 +31,7 @@ class Application:
         self.tables = Tables(settings)
         self.files = dict(static_files())
         self.version = version_of(self.files)
-        self.uploads = threading.BoundedSemaphore(UPLOADS_AT_ONCE)
+        self.uploads = threading.BoundedSemaphore(TABLES_AT_ONCE)
 
     def __call__(self, environ, start_response):
         request = Request(environ)
@@ -97,20 +97,13 @@ class Application:
             return self.tagged(request, 0, page.encode(), Response.kind)
         if not self.uploads.acquire(blocking=False):
             raise busy("Other tables are being sent just now.")
+        upload = Upload(self.uploads.release)
         try:
-            upload = received(request.environ, self.settings.max_upload)
-        finally:
-            self.uploads.release()
-        try:
+            receive(upload, request.environ, self.settings.max_upload)
             upload.fields.update(request.query)
             rows = self.tables.start(upload)
         except BaseException:
             upload.close()
-            raise
-        try:
-            rows.hold_first()
-        except Problem:
-            rows.close()
             raise
         name = found_name(upload.names.get("table", ""))
         return Response(rows, kind="text/csv; charset=utf-8", headers=[

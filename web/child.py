@@ -5,7 +5,7 @@ import select
 import subprocess
 import time
 
-from .problems import busy, unavailable
+from .problems import busy, reason_of, unavailable
 
 HELLO = b'{"op":"lands","reader":1}\n'
 AT_ONCE = 32 * 1024
@@ -40,19 +40,26 @@ class Child:
         return replies
 
     def exchange(self, lines, deadline):
-        """Writes lines that fit into the pipe, and reads a reply to each."""
+        """The replies to lines that fit into the pipe. Any exception ends the process, so that no
+        reply is left unread for the next request."""
         try:
-            self.process.stdin.write(b"".join(lines))
-        except OSError as why:
+            return self.replies(lines, deadline)
+        except (OSError, EOFError) as why:
             raise Ended(self.stop()) from why
+        except BaseException:
+            self.stop()
+            raise
+
+    def replies(self, lines, deadline):
+        """Writes lines, and reads a reply to each."""
+        self.process.stdin.write(b"".join(lines))
         held = bytearray()
         while held.count(b"\n") < len(lines):
             left = deadline - time.monotonic()
             if left <= 0 or not self.poll.poll(left * 1000):
-                self.stop()
                 raise Ended("no answer in time")
             if not (block := os.read(self.out, 65536)):
-                raise Ended(self.stop())
+                raise EOFError
             held += block
         return bytes(held).splitlines()
 
@@ -81,8 +88,9 @@ class Child:
 class Pool:
     """Children of one kind, each lent to one request at a time and started when it is wanted."""
 
-    def __init__(self, words, count, seconds, stamp=lambda: None):
-        self.words, self.seconds, self.stamp = words, seconds, stamp
+    def __init__(self, settings, words, count, stamp=lambda: None):
+        self.settings, self.words, self.stamp = settings, words, stamp
+        self.seconds = settings.question_seconds
         self.idle = queue.LifoQueue()
         for _ in range(count):
             self.idle.put(None)
@@ -102,8 +110,10 @@ class Pool:
             except Ended:
                 child = self.started()
                 return child.ask(lines, time.monotonic() + self.seconds)
-        except (Ended, OSError) as why:
-            raise unavailable(str(why)) from None
+        except Ended as why:
+            raise unavailable(self.settings.shown(str(why))) from None
+        except OSError as why:
+            raise unavailable(reason_of(why)) from None
         finally:
             self.idle.put(child)
 

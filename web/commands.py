@@ -3,7 +3,8 @@ import subprocess
 import threading
 import time
 
-from .problems import busy, no_place, unavailable
+from .problems import busy, no_place, reason_of, unavailable
+from .settings import in_bytes
 
 NO_LAND = "no territory has the code"
 
@@ -21,13 +22,14 @@ class Commands:
             raise busy("Many questions are asked at once.")
         try:
             command, *others = words
-            done = subprocess.run([self.settings.program, command, *self.settings.limit_words(),
-                                   *others], stdin=subprocess.DEVNULL, capture_output=True,
-                                  check=False, timeout=self.settings.question_seconds)
+            done = subprocess.run(
+                in_bytes([self.settings.program, command, *self.settings.limit_words(), *others]),
+                stdin=subprocess.DEVNULL, capture_output=True, check=False,
+                timeout=self.settings.question_seconds)
         except subprocess.TimeoutExpired:
             raise busy("The program took too long for that question.") from None
         except OSError as why:
-            raise unavailable(str(why)) from None
+            raise unavailable(reason_of(why)) from None
         finally:
             self.places.release()
         return done.returncode, done.stdout.decode(), done.stderr.decode(errors="replace")
@@ -41,7 +43,7 @@ class Commands:
                 break
             time.sleep(0.03)
         if status in (0, 2):
-            return out.splitlines(), told.strip()
+            return out.split("\n")[:-1], told.strip()
         if NO_LAND in told:
             raise no_place(words[2])
         raise unavailable(self.settings.shown(told))

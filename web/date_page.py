@@ -1,5 +1,6 @@
 """One date: the question, and its answer as a fragment that is the same with and without script."""
-from .layout import (ask_button, choice_field, citation, facts, place_field, text_field)
+from .layout import (TITLE, ask_button, choice_field, citation, facts, place_field, sources_text,
+                     text_field)
 from .markup import element
 from .words import ORDERS, SENTENCES, WEEKDAYS, full, in_words, regime_text
 
@@ -24,10 +25,11 @@ def question(links, lands, asked):
     return element("form", element("div", *fields, class_="fields"),
                    element("p", HINT, class_="hint", id="hint"), action=links.to(""), method="get",
                    class_="question", id="question", role="search",
-                   aria_label="Ask for one date", data_answer=links.to("answer.json"))
+                   aria_label="Ask for one date", data_answer=links.to("answer.json"),
+                   data_title=TITLE)
 
 
-def answer(links, edition, found, journal, told=None):
+def answer(links, edition, found, journal):
     """The answer to a question."""
     address = links.to("", code=found.code, date=found.date, weekday=found.weekday,
                        order=found.order, edition=edition)
@@ -40,7 +42,7 @@ def answer(links, edition, found, journal, told=None):
     else:
         parts.append(runs(links, found))
     parts.append(remarks(found))
-    return [*parts, citation(links, cited(found), edition, journal, address, told)]
+    return [*parts, citation(links, cited(found), edition, journal, address, found.sources)]
 
 
 def cited(found):
@@ -68,7 +70,8 @@ def cited_day(found):
 def no_day(links, found):
     """Why a date means no day."""
     reason = found.written["reason"]
-    head = "This is no date that can be read" if found.written["kind"] == "none" else \
+    head = "This date can be read in two ways" if found.is_open else \
+        "This is no date that can be read" if found.written["kind"] == "none" else \
         "No day there has this date"
     parts = [element("h2", head, class_="none")]
     if not any(note.startswith(reason) for note in found.notes):
@@ -113,7 +116,7 @@ def day_facts(links, code, day, weekday=None):
         ("Swedish", swedish), ("Julian day number", found["jdn"]),
         ("Day number", element("a", found["day"],
                                         href=links.to("day", code=code, day=found["day"]))),
-        ("In force that day", regime_text(day.regime)),
+        ("In force that day", regime_text(day.regime)), ("Source", day.source),
         ("See", [element("a", "the month as it was lived",
                          href=links.to("month", code=code, year=int(year), month=int(month))),
                  ", ", element("a", "the place’s line of time",
@@ -141,6 +144,8 @@ def runs(links, found):
         if kind not in ("before", "after") and (count := next(counts, None)):
             lines.append(("Days", count))
         parts.append(facts(*lines))
+    if found.sources:
+        parts.append(element("p", sources_text(found.sources)))
     return element("div", *parts)
 
 
@@ -172,4 +177,5 @@ def day_page(links, edition, found, name, code, journal):
     what = f"Day {found.found['day']} in {name} ({code}): {cited_day(found.found)}"
     address = links.to("day", code=code, day=found.found["day"], edition=edition)
     return [element("h1", f"{full(found.found)} in {name}"), day_facts(links, code, found),
-            citation(links, what, edition, journal, address)]
+            citation(links, what, edition, journal, address, [found.source] if found.source
+                     else [])]

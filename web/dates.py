@@ -2,11 +2,13 @@
 import re
 from dataclasses import dataclass, field
 
+from .months import sources_of
 from .words import WEEKDAYS
 
 DAY_LINE = re.compile(r"JDN \d+( ok| not \w+)?$")
 COUNT = re.compile(r"(\d+) days?$")
 WAITING = re.compile(r"\d+ edits? (is|are) not published yet$")
+SOURCE = re.compile(r"\(source: (.+)\)")
 FLAGS = {"approximate", "in doubt", "supplied by an editor"}
 OPEN_ENDS = {"from any earlier day", "to   any later day"}
 OTHER_ORDER = ", or say --order dmy or mdy"
@@ -15,13 +17,15 @@ MOST_DAYS = 40
 
 @dataclass
 class DateFound:
-    """A date in a territory: what was written, what it means, and what the program told of it."""
+    """A date in a territory: what was written, what it means, what the program told of it, and the
+    sources of the periods that it meets."""
     code: str
     name: str
     date: str
     weekday: str
     order: str
     written: dict
+    sources: list
     read_as: str = ""
     days: list = field(default_factory=list)
     notes: list = field(default_factory=list)
@@ -32,11 +36,11 @@ class DateFound:
 
 @dataclass
 class DayFound:
-    """A day in a territory, with its period's ends, and its date by the Swedish calendar."""
+    """A day in a territory, with the regime and the source of its period, if it has one, and its
+    date by the Swedish calendar."""
     found: dict
     regime: dict
-    first: int
-    last: int
+    source: str | None
     swedish: str
 
 
@@ -53,7 +57,7 @@ def days_found(register, asking, code, numbers):
     """The days with these numbers, as the territory dated them."""
     answers = asking.lines(*({"op": "day", "code": code, "day": number} for number in numbers))
     swedish = register.swedish_text(numbers) if numbers else []
-    return [DayFound(answer["found"], answer["regime"], answer["first"], answer["last"], text)
+    return [DayFound(answer["found"], answer["regime"], answer.get("source"), text)
             for answer, text in zip(answers, swedish)]
 
 
@@ -61,8 +65,10 @@ def date_found(register, asking, code, name, date, weekday, order):
     """What a written date means in a territory."""
     page, told = read_page(asking, code, date, weekday, order) if order else ([], "")
     question = {"op": "written", "code": code, "date": heading(page, name, code) if page else date}
-    written, = asking.lines({**question, "weekday": weekday} if weekday else question)
-    found = DateFound(code, name, date, weekday, order, written)
+    written, of_code = asking.lines({**question, "weekday": weekday} if weekday else question,
+                                    {"op": "periods", "code": code})
+    found = DateFound(code, name, date, weekday, order, written,
+                      sources_of(of_code["periods"], shown_runs(written)))
     if written["kind"] == "day":
         numbers = [run["first"]["day"] for run in written["runs"]][:MOST_DAYS]
         found.days = days_found(register, asking, code, numbers)
@@ -70,6 +76,15 @@ def date_found(register, asking, code, name, date, weekday, order):
         page, told = read_page(asking, code, date, weekday, order)
     take_page(found, page, told)
     return found
+
+
+def shown_runs(written):
+    """The runs of a date; of a bound the day at its end alone."""
+    runs = written["runs"]
+    if not runs or written["kind"] not in ("before", "after"):
+        return runs
+    end = runs[-1]["last"] if written["kind"] == "before" else runs[0]["first"]
+    return [{"first": end, "last": end}]
 
 
 def needs_page(written, date):
@@ -105,6 +120,9 @@ def take_page(found, page, told):
             found.agreeing[number] = (day[1] or "").strip()
         elif count := COUNT.fullmatch(line):
             found.counts.append(int(count[1]))
+        elif found.notes and (source := SOURCE.fullmatch(line)):
+            found.notes[-1] += f" {line}"
+            found.sources.append(source[1])
         elif not FLAGS.issuperset(line.split("; ")):
             found.notes.append(line)
     order = list(found.agreeing)

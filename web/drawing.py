@@ -4,6 +4,8 @@ from .words import full, regime_text
 
 WIDTH, MARGIN = 1000, 10
 ROW, LABEL = 34, 70
+# Half the width of a year below the periods.
+TICK = 24
 # Where the periods begin, and where the texts of changes above them stand, with so much room each.
 TOP, LEVELS, ROOM = 72, [18, 40, 62], 190
 
@@ -26,7 +28,8 @@ def line_of_time(found):
     for year, day in found.marks:
         parts.append(element("line", x1=place(day), x2=place(day), y1=TOP + 54, y2=TOP + 64,
                              class_="tick"))
-        parts.append(element("text", year, x=place(day), y=TOP + 84, class_="tick-text"))
+        middle = min(max(place(day), TICK), WIDTH - TICK)
+        parts.append(element("text", year, x=middle, y=TOP + 84, class_="tick-text"))
     return element("svg", *parts, viewBox=f"0 0 {WIDTH} {TOP + 94}", role="img", class_="drawing",
                    aria_labelledby="line-title line-text")
 
@@ -57,7 +60,9 @@ def change_marks(changes, place):
     marks, ends = [], [-ROOM] * len(LEVELS)
     for change in changes:
         at = place(change.found["day"])
-        level = next((level for level, end in enumerate(ends) if at - end >= ROOM), None)
+        # (its line goes down from there, and is to cross no text)
+        level = next((level for level in range(len(ends))
+                      if all(at - end >= ROOM for end in ends[level:])), None)
         parts = [element("title", change.sentence())]
         top = TOP if level is None else LEVELS[level] - 14
         parts.append(element("line", x1=at, x2=at, y1=top, y2=TOP + 56, class_="change"))

@@ -102,13 +102,26 @@ def table(caption, headings, rows, **attributes):
                    class_="wide", tabindex="0", role="region", aria_label=caption)
 
 
-def citation(links, what, edition, journal, address, told=None):
-    """The line of citation and the link, both of which name the edition."""
-    text = f"{what}, by the calendar change register, edition {edition} of {journal}."
+def sources_text(sources):
+    """Sources in a sentence of their own, or nothing."""
+    kept = list(dict.fromkeys(sources))
+    text = "; ".join(kept).removesuffix(".")
+    return f"Source{'s' if len(kept) > 1 else ''}: {text}." if kept else ""
+
+
+def other_edition(named, edition):
+    """The note that a link names another edition than the one that answered, or None."""
+    if named in (None, edition):
+        return None
+    return element("p", f"This link was created from edition {named}; the answer shown comes from "
+                        f"edition {edition}.", class_="warning")
+
+
+def citation(links, what, edition, journal, address, sources=()):
+    """The line of citation, with its sources, and the link, both of which name the edition."""
+    text = f"{what}, by the calendar change register, edition {edition} of {journal}. " \
+           f"{sources_text(sources)}".rstrip()
     parts = [element("h3", "To cite it"), element("p", text, class_="citation", id="citation")]
-    if told is not None and told != edition:
-        parts.append(element("p", f"This link was made of edition {told}. What stands here is told "
-                                  f"by edition {edition}.", class_="warning"))
     parts.append(element("p", element("a", "Link to this page", href=address, id="link",
                                       rel="bookmark"), class_="link"))
     return element("section", *parts, class_="cite", aria_label="Citation", aria_live="off")

@@ -2,10 +2,18 @@
 from html import escape
 
 VOID = {"input", "link", "meta"}
+# Control characters, and those that turn the direction of the text around them.
+HIDDEN = [*range(0x20), *range(0x7f, 0xa0), *range(0x202a, 0x202f), *range(0x2066, 0x206a)]
+SHOWN = {sign: f"<U+{sign:04X}>" for sign in HIDDEN}
 
 
 class Markup(str):
     """A text that is HTML already."""
+
+
+def visible(text):
+    """A text with its characters that are not printed as their numbers."""
+    return text.translate(SHOWN)
 
 
 def element(tag, *children, **attributes):
@@ -21,7 +29,7 @@ def attribute(name, value):
     if value is None or value is False:
         return ""
     name = name.rstrip("_").replace("_", "-")
-    return f" {name}" if value is True else f' {name}="{escape(str(value))}"'
+    return f" {name}" if value is True else f' {name}="{escape(visible(str(value)))}"'
 
 
 def joined(children):
@@ -33,5 +41,5 @@ def joined(children):
         elif isinstance(child, (list, tuple)):
             parts.append(joined(child))
         elif child is not None:
-            parts.append(escape(str(child)))
+            parts.append(escape(visible(str(child))))
     return Markup("".join(parts))

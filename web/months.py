@@ -8,12 +8,13 @@ MOST_DAYS = 100
 
 @dataclass
 class MonthFound:
-    """A month of a territory: runs of weeks, each week seven days or gaps, and its changes."""
+    """A month of a territory: runs of weeks, each week seven days or gaps, its changes, and the
+    sources of its periods."""
     year: int
     month: int
     runs: list
     changes: list
-    reason: str
+    sources: list
     marked: set = field(default_factory=set)
 
 
@@ -29,7 +30,22 @@ class Change:
         return f"{full(self.before)} was followed by {full(self.found)}."
 
     def difference(self):
-        return f"Until then: {regime_text(self.old)}. From then on: {regime_text(self.new)}."
+        source = f" Source: {self.new['source'].removesuffix('.')}." if "source" in self.new else ""
+        return (f"Until then: {regime_text(self.old)}. From then on: {regime_text(self.new)}."
+                f"{source}")
+
+
+def periods_of(asking, code):
+    """The periods of a territory."""
+    return asking.lines({"op": "periods", "code": code})[0]["periods"]
+
+
+def sources_of(periods, runs):
+    """The sources of the periods that have days of these runs, in their order."""
+    return list(dict.fromkeys(
+        period["source"] for period in periods if "source" in period and any(
+            run["first"]["day"] <= period["last"] and period["first"] <= run["last"]["day"]
+            for run in runs)))
 
 
 def changes_of(asking, code, periods):
@@ -51,11 +67,12 @@ def month_found(asking, code, year, month):
         numbers = range(first, last + 1)[:MOST_DAYS]
         answers = asking.lines(*({"op": "day", "code": code, "day": day} for day in numbers))
         runs.append([answer["found"] for answer in answers])
-    periods = asking.lines({"op": "periods", "code": code})[0]["periods"]
+    periods = periods_of(asking, code)
     held = {found["day"] for run in runs for found in run}
     met = [change for change in changes_of(asking, code, periods)
            if held & {change.before["day"], change.found["day"]}]
-    found = MonthFound(year, month, [weeks_of(run) for run in runs], met, written["reason"])
+    found = MonthFound(year, month, [weeks_of(run) for run in runs], met,
+                       sources_of(periods, written["runs"]))
     found.marked = {change.found["day"] for change in met}
     return found
 

@@ -1,8 +1,9 @@
 """The pages of a month, a place and a year."""
 from .drawing import line_of_time, row_text, years_of
-from .layout import ask_button, choice_field, citation, place_field, table, text_field
+from .layout import (ask_button, choice_field, citation, place_field, sources_text, table,
+                     text_field)
 from .markup import element
-from .words import MONTHS, WEEKDAYS, full, in_words, regime_text
+from .words import BEGINNINGS, MONTHS, WEEKDAYS, full, in_words
 
 
 def month_form(links, lands, code, year, month):
@@ -25,7 +26,7 @@ def shown_number(number):
 
 def month_page(links, edition, found, name, code, journal):
     """The weeks of a month, its changes, and the other months of its year."""
-    title = f"{MONTHS[found.month - 1]} {found.year} in {name} ({code})"
+    title = f"{month_title(found.year, found.month, name)} ({code})"
     parts = [element("h2", title)]
     if not found.runs:
         parts.append(element("p", "No such month: the place dated no day so.", class_="reason"))
@@ -35,12 +36,18 @@ def month_page(links, edition, found, name, code, journal):
                              "month was lived in parts, at different times.", class_="hint"))
     parts += [element("p", element("strong", change.sentence()), " ", change.difference(),
                       class_="gap-note") for change in found.changes]
+    if found.sources:
+        parts.append(element("p", sources_text(found.sources)))
     parts.append(month_links(links, code, found))
     days = [day for weeks in found.runs for week in weeks for day in week if day]
     what = title + (f": {full(days[0])} to {full(days[-1])}, {len(days)} days" if days else
                     ": no such month")
     address = links.to("month", code=code, year=found.year, month=found.month, edition=edition)
-    return [*parts, citation(links, what, edition, journal, address)]
+    return [*parts, citation(links, what, edition, journal, address, found.sources)]
+
+
+def month_title(year, month, name):
+    return f"{MONTHS[month - 1]} {year} in {name}"
 
 
 def weeks_table(links, code, weeks, marked):
@@ -112,7 +119,8 @@ def place_page(links, edition, found, journal):
                   element("ul", *(element("li", line) for line in found.listed))]
     what = f"The periods of {found.name} ({found.code})"
     address = links.to("place", code=found.code, edition=edition)
-    return [*parts, citation(links, what, edition, journal, address)]
+    sources = [period["source"] for period in found.periods if "source" in period]
+    return [*parts, citation(links, what, edition, journal, address, sources)]
 
 
 def figure(drawing, caption, name):
@@ -138,14 +146,11 @@ def periods_table(links, found):
     starts = ["always" if not found.changes else "the beginning"] + [
         day_link(links, found.code, change.found) for change in found.changes]
     ends = [day_link(links, found.code, change.before) for change in found.changes] + ["the end"]
-    rows = [(number, start, end, period["calendar"].capitalize(), beginning(period),
-             period["rule"].capitalize())
+    rows = [(number, start, end, period["calendar"].capitalize(), BEGINNINGS[period["style"]],
+             period["rule"].capitalize(), period.get("source", ""))
             for number, (period, start, end) in enumerate(zip(found.periods, starts, ends), 1)]
-    return table("Periods", ["", "From", "Until", "Calendar", "Years from", "Easter rule"], rows)
-
-
-def beginning(period):
-    return regime_text(period).split("years from ")[1].split(",")[0]
+    return table("Periods", ["Number", "From", "Until", "Calendar", "Years from", "Easter rule",
+                             "Source"], rows)
 
 
 def day_link(links, code, found):
@@ -163,7 +168,8 @@ def year_page(links, edition, found, name, code, journal):
     """The Easters, the feasts, the figures and the months of a year."""
     parts = [element("h2", f"The year {found.year} in {name} ({code})"),
              easters(links, code, found)]
-    parts += [element("p", line, class_="gap-note") for line in found.changes]
+    parts += [element("p", element("strong", change.sentence()), " ", change.difference(),
+                      class_="gap-note") for change in found.changes]
     feasts = [(line.name, f"{line.weekday} {line.text}".strip(), number_link(links, code, line))
               for line in found.feasts]
     if feasts:
@@ -171,15 +177,17 @@ def year_page(links, edition, found, name, code, journal):
     parts.append(figures(found.figures))
     months = [(element("a", line.name, href=links.to("month", code=code, year=found.year,
                                                      month=MONTHS.index(line.name) + 1)),
-               line.weekday or line.text, in_words(line.text) if line.weekday else "",
+               line.weekday, in_words(line.text) if line.weekday else line.text,
                number_link(links, code, line)) for line in found.months]
     parts.append(table("The first days of its months, as the place counted the year",
                        ["Month", "Weekday", "Gregorian date", "Day number"], months))
     parts += [element("p", f"The year {found.year} of the place went from {full(run['first'])} to "
                            f"{full(run['last'])}.") for run in found.runs]
+    if found.sources:
+        parts.append(element("p", sources_text(found.sources)))
     what = f"Almanac of {name} ({code}) for {found.year}"
     address = links.to("year", code=code, year=found.year, edition=edition)
-    return [*parts, citation(links, what, edition, journal, address)]
+    return [*parts, citation(links, what, edition, journal, address, found.sources)]
 
 
 def number_link(links, code, line):
@@ -205,4 +213,4 @@ def figures(told):
             ("Indiction", told["indiction"], told["indiction"]),
             ("Epact", told["julian"]["epact"], told["gregorian"]["epact"]),
             ("Sunday letter", told["julian"]["letters"], told["gregorian"]["letters"])]
-    return table("Figures", ["", "Julian", "Gregorian"], rows)
+    return table("Figures", ["Figure", "Julian", "Gregorian"], rows)

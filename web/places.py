@@ -1,9 +1,9 @@
 """A place's line of time: its periods and changes, and the years about each change."""
 from dataclasses import dataclass, field
 
-from .months import Change, changes_of
+from .months import Change, changes_of, periods_of
+from .words import LAST_DAY
 
-LAST_DAY = 3_652_059
 STEPS = [10, 20, 25, 50, 100, 200, 500, 1000, 2000]
 MOST_MARKS = 9
 LISTED = "listed Easter of "
@@ -39,15 +39,24 @@ class Detail:
 
 def place_found(asking, code, name):
     """What the program tells of a territory."""
-    periods = asking.lines({"op": "periods", "code": code})[0]["periods"]
+    periods = periods_of(asking, code)
     changes = changes_of(asking, code, periods)
-    page, _ = asking.page("territory", code)
-    listed = [line for line in page if line.startswith(LISTED)]
-    found = PlaceFound(code, name, periods, changes, listed)
+    found = PlaceFound(code, name, periods, changes, listed_in(asking.page("territory", code)[0]))
     found.window = window_of(periods)
     found.marks = marks_in(asking, code, *found.window)
     found.details = [Detail(group, rows_about(asking, code, group)) for group in groups(changes)]
     return found
+
+
+def listed_in(page):
+    """The lines of listed Easters, each with the source that may follow it."""
+    listed = []
+    for line in page:
+        if line.startswith(LISTED):
+            listed.append(line)
+        elif listed and line.startswith("(source: "):
+            listed[-1] += f" {line}"
+    return listed
 
 
 def window_of(periods):

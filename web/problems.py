@@ -30,5 +30,12 @@ def unavailable(told):
                    Retry_After="2")
 
 
+def reason_of(why):
+    """What the system says of an error, without the paths that it met."""
+    if isinstance(why, FileNotFoundError):
+        return "no such file"
+    return (why.strerror or str(why)).lower()
+
+
 class Fault(Exception):
     """What keeps the page from being started, told in one line."""

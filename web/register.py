@@ -36,9 +36,8 @@ class Register:
             if self.process != os.getpid():
                 settings = self.settings
                 stamp = (lambda: None) if settings.follows() else self.stamp
-                self.pool = Pool(settings.serving_words(), settings.processes,
-                                 settings.question_seconds, stamp)
-                self.swedish = Pool([settings.program, "serve"], 1, settings.question_seconds)
+                self.pool = Pool(settings, settings.serving_words(), settings.processes, stamp)
+                self.swedish = Pool(settings, [settings.program, "serve"], 1)
                 self.process = os.getpid()
 
     def stamp(self):
@@ -121,8 +120,13 @@ class Asking:
 
     def held(self, *key):
         """A page that is kept of the edition that was told, or None."""
-        found = (self.register.kept.get((edition, key)) for edition in self.editions)
-        return next((page for page in found if page is not None), None)
+        kept = self.register.kept
+        with self.register.lock:
+            for edition in self.editions:
+                if (edition, key) in kept:
+                    kept.move_to_end((edition, key))
+                    return kept[edition, key]
+        return None
 
     def told(self, command, *words):
         """The page as the program tells it now."""
@@ -138,6 +142,7 @@ class Asking:
         with register.lock:
             for key, page in self.pages.items():
                 register.kept[(*self.editions, key)] = page
+                register.kept.move_to_end((*self.editions, key))
             while len(register.kept) > KEPT:
                 register.kept.popitem(last=False)
 

@@ -4,6 +4,7 @@ from http import HTTPStatus
 from urllib.parse import parse_qsl
 
 from .problems import Problem
+from .words import number_of
 
 LONGEST_QUERY = 4096
 MOST_MEMBERS = 20
@@ -23,20 +24,22 @@ class Request:
         self.method = environ["REQUEST_METHOD"]
         self.base = environ.get("SCRIPT_NAME", "").rstrip("/")
         self.path = environ.get("PATH_INFO", "").removeprefix("/")
-        self.query = {}
+        self.query, self.edition = {}, None
 
     def read_query(self):
-        """Reads the members after the question mark; of one that is given twice the last counts."""
+        """Reads the members after the question mark; of one that is given twice the last counts.
+        Its bytes come as characters of Latin-1 (PEP 3333)."""
         text = self.environ.get("QUERY_STRING", "")
         if len(text) > LONGEST_QUERY:
             raise Problem(414, f"The address has more than {LONGEST_QUERY} characters.")
         try:
-            members = parse_qsl(text, keep_blank_values=True, errors="strict",
-                                max_num_fields=MOST_MEMBERS)
+            members = parse_qsl(text.encode("latin-1").decode(), keep_blank_values=True,
+                                errors="strict", max_num_fields=MOST_MEMBERS)
         except ValueError:
             raise Problem(400, "The address has what is no text in UTF-8, or too many members: "
                           "ask again by the form.") from None
         self.query = dict(members)
+        self.edition = number_of("edition", self.word("edition"), 0, 999_999_999)
 
     def word(self, name):
         return self.query.get(name, "")

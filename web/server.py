@@ -1,22 +1,23 @@
 """The server of the standard library with limits: threads, heads, and the time of slow clients."""
 import io
+import ipaddress
 import socket
 import socketserver
 import threading
 import time
 from http import HTTPStatus
+from urllib.parse import urlsplit
 from wsgiref.simple_server import ServerHandler, WSGIRequestHandler, WSGIServer
 
 LONGEST_LINE = 8192
 LONGEST_HEAD = 32768
 HEAD_SECONDS = 10
 STALL_SECONDS = 15
-SLOWEST = 8192
 LINGER_SECONDS = 2
 
 
 class Patient(io.RawIOBase):
-    """What a client sends, as long as it comes before a deadline."""
+    """What a client sends: a head before a deadline, and then no read that stalls."""
 
     def __init__(self, connection):
         super().__init__()
@@ -26,10 +27,11 @@ class Patient(io.RawIOBase):
         return True
 
     def readinto(self, buffer):
-        left = self.deadline - time.monotonic()
-        if left <= 0:
-            raise TimeoutError
-        self.connection.settimeout(min(left, STALL_SECONDS))
+        if self.deadline is not None:
+            left = self.deadline - time.monotonic()
+            if left <= 0:
+                raise TimeoutError
+            self.connection.settimeout(left)
         return self.connection.recv_into(buffer)
 
 
@@ -59,18 +61,26 @@ class Handler(WSGIRequestHandler):
     def handle(self):
         """Answers the request, or says what is wrong with its form."""
         try:
-            if self.read_head():
+            if self.read_head() and self.is_asked_here():
                 self.run()
         except TimeoutError:
             self.refuse(408, "The request came too slowly.")
         except (ConnectionError, OSError):
             pass
 
+    def is_asked_here(self):
+        """Whether the request names this server, where that is for this machine alone: a foreign
+        page may lead a name of its own here (DNS rebinding)."""
+        host = self.headers.get("host")
+        if host is None or not self.server.is_local or self.server.is_named(host):
+            return True
+        self.refuse(421, f"This page is for this machine alone: ask {self.server.host} for it, or "
+                         "localhost.")
+        return False
+
     def run(self):
         """Has the application answer, and reads what a client sends still."""
-        length = self.headers.get("content-length", "0")
-        size = int(length) if length.isascii() and length.isdigit() and len(length) < 16 else 0
-        self.patient.deadline = time.monotonic() + HEAD_SECONDS + size / SLOWEST
+        self.patient.deadline = None
         environ = self.get_environ()
         if "content-length" not in self.headers:
             environ["CONTENT_LENGTH"] = ""
@@ -79,7 +89,7 @@ class Handler(WSGIRequestHandler):
         handler.request_handler = self
         self.connection.settimeout(STALL_SECONDS)
         handler.run(self.server.get_app())
-        if size:
+        if self.headers.get("content-length", "0") != "0":
             self.linger()
 
     def read_head(self):
@@ -112,6 +122,7 @@ class Handler(WSGIRequestHandler):
         head = (f"HTTP/1.0 {status} {HTTPStatus(status).phrase}\r\n"
                 "Content-Type: text/plain; charset=utf-8\r\nConnection: close\r\n"
                 f"X-Content-Type-Options: nosniff\r\nContent-Length: {len(body)}\r\n\r\n")
+        self.log_request(status, len(body))
         try:
             self.connection.settimeout(STALL_SECONDS)
             self.wfile.write(head.encode() + body)
@@ -135,9 +146,6 @@ class Handler(WSGIRequestHandler):
     def address_string(self):
         return self.client_address[0]
 
-    def log_message(self, format, *args):
-        """A request leaves no line."""
-
 
 class Server(socketserver.ThreadingMixIn, WSGIServer):
     """Answers each connection in a thread of its own, and so many at once."""
@@ -146,6 +154,8 @@ class Server(socketserver.ThreadingMixIn, WSGIServer):
 
     def __init__(self, address, application, connections):
         self.places = threading.BoundedSemaphore(connections)
+        self.name, self.address_family = address[0], \
+            socket.AF_INET6 if ":" in address[0] else socket.AF_INET
         super().__init__(address, Handler)
         self.set_app(application)
 
@@ -155,9 +165,31 @@ class Server(socketserver.ThreadingMixIn, WSGIServer):
         self.server_name, self.server_port = self.server_address[:2]
         self.setup_environ()
 
+    @property
+    def host(self):
+        """The address and the port, as an address of a page has them."""
+        host, port = self.server_address[:2]
+        return f"[{host}]:{port}" if ":" in host else f"{host}:{port}"
+
+    @property
+    def is_local(self):
+        return is_loopback(self.server_address[0])
+
+    def is_named(self, host):
+        """Whether a header Host names this server."""
+        try:
+            name = urlsplit(f"//{host}").hostname
+        except ValueError:
+            return False
+        return name in ("localhost", self.name) or is_loopback(name)
+
     def process_request(self, request, client_address):
         if self.places.acquire(blocking=False):
-            super().process_request(request, client_address)
+            try:
+                super().process_request(request, client_address)
+            except BaseException:
+                self.places.release()
+                raise
         else:
             refuse_at_once(request)
             self.shutdown_request(request)
@@ -168,8 +200,12 @@ class Server(socketserver.ThreadingMixIn, WSGIServer):
         finally:
             self.places.release()
 
-    def handle_error(self, request, client_address):
-        """A connection that fails ends alone."""
+
+def is_loopback(name):
+    try:
+        return ipaddress.ip_address(name).is_loopback
+    except ValueError:
+        return False
 
 
 def refuse_at_once(request):
@@ -178,7 +214,7 @@ def refuse_at_once(request):
     head = (b"HTTP/1.0 503 Service Unavailable\r\nContent-Type: text/plain; charset=utf-8\r\n"
             b"Retry-After: 2\r\nConnection: close\r\nContent-Length: %d\r\n\r\n" % len(body))
     try:
-        request.settimeout(0.2)
+        request.setblocking(False)
         request.sendall(head + body)
         request.shutdown(socket.SHUT_WR)
         request.recv(65536)

@@ -4,7 +4,7 @@ import shutil
 import subprocess
 from dataclasses import dataclass
 
-from .problems import Fault
+from .problems import Fault, reason_of
 
 TOP = os.path.dirname(os.path.dirname(os.path.abspath(__file__)))
 BUILT = os.path.join(TOP, "crates", "oldstyle", "out", "oldstyle")
@@ -54,6 +54,11 @@ class Settings:
 KNOWN = {}
 
 
+def in_bytes(words):
+    """Arguments of a program in UTF-8, whatever encoding Python has for the file system."""
+    return [word.encode(errors="surrogateescape") for word in words]
+
+
 def program_at(name):
     """The path of the program: this tree's or one on the PATH, where none is named."""
     for path in [name] if name else [BUILT, "oldstyle"]:
@@ -63,13 +68,6 @@ def program_at(name):
         raise Fault(f"{name} is no program: name one that is built by --program PATH")
     raise Fault("the program is not built: build it by ./oldstyle --prove, or name another by "
                 "--program PATH")
-
-
-def reason_of(why):
-    """Why a file can't be opened, as the program has it."""
-    if isinstance(why, FileNotFoundError):
-        return "no such file"
-    return (why.strerror or str(why)).lower()
 
 
 def journal_at(path):

@@ -2,11 +2,15 @@
 import os
 import re
 import tempfile
+import time
 from contextlib import ExitStack
 
 from .problems import Problem
 
 BLOCK = 65536
+# A body has so many seconds, and one more for each so many bytes of it that came.
+BODY_SECONDS = 10
+SLOWEST = 8192
 LONGEST_HEAD = 4096
 LONGEST_FIELD = 1000
 MOST_PARTS = 20
@@ -14,6 +18,7 @@ BOUNDARY = re.compile(r'boundary="?([0-9A-Za-z\'()+_,./:=? -]{1,70}?)"?\s*(;|$)'
 NAME = re.compile(rb'[; ]name="([^"]*)"')
 FILE_NAME = re.compile(rb'filename="([^"]*)"')
 BROKEN = "The form is broken: send it anew."
+SLOW = "The table came too slowly. Send it again."
 
 
 def body_length(environ, most):
@@ -33,29 +38,35 @@ class Body:
     """The body of a request, read by blocks and to its end alone."""
 
     def __init__(self, stream, length):
-        self.stream, self.left = stream, length
+        self.read = getattr(stream, "read1", stream.read)
+        self.left, self.last = length, time.monotonic() + BODY_SECONDS
 
     def block(self):
         """The next block, or nothing at the end."""
         if not self.left:
             return b""
         try:
-            held = self.stream.read(min(BLOCK, self.left))
+            held = self.read(min(BLOCK, self.left))
         except TimeoutError:
-            raise Problem(408, "The table came too slowly. Send it again.") from None
+            raise Problem(408, SLOW) from None
         except OSError:
             held = b""
         if not held:
             raise Problem(400, "What was sent ended too early.")
         self.left -= len(held)
+        self.last += len(held) / SLOWEST
+        if self.left and time.monotonic() > self.last:
+            raise Problem(408, SLOW)
         return held
 
 
 class Upload:
-    """The fields and the files that a request sent. Closing it gives their room back."""
+    """The fields and the files that a request sent. Closing it gives their room back, and calls
+    what is given."""
 
-    def __init__(self):
+    def __init__(self, closed):
         self.fields, self.files, self.names, self.room = {}, {}, {}, ExitStack()
+        self.room.callback(closed)
 
     def new_file(self, name, file_name):
         self.files[name] = self.room.enter_context(tempfile.TemporaryFile())
@@ -66,26 +77,20 @@ class Upload:
         self.room.close()
 
 
-def received(environ, most):
-    """The upload of a request: a form with files, or one table as it is."""
-    upload = Upload()
-    try:
-        body = Body(environ["wsgi.input"], body_length(environ, most))
-        kind = environ.get("CONTENT_TYPE") or ""
-        if kind.lower().startswith("multipart/form-data"):
-            if not (boundary := BOUNDARY.search(kind)):
-                raise Problem(400, BROKEN)
-            Form(body, boundary[1].encode(), upload).read()
-        else:
-            file = upload.new_file("table", "")
-            while held := body.block():
-                file.write(held)
-        for file in upload.files.values():
-            file.seek(0, os.SEEK_SET)
-    except BaseException:
-        upload.close()
-        raise
-    return upload
+def receive(upload, environ, most):
+    """Takes what a request sends: a form with files, or one table as it is."""
+    body = Body(environ["wsgi.input"], body_length(environ, most))
+    kind = environ.get("CONTENT_TYPE") or ""
+    if kind.lower().startswith("multipart/form-data"):
+        if not (boundary := BOUNDARY.search(kind)):
+            raise Problem(400, BROKEN)
+        Form(body, boundary[1].encode(), upload).read()
+    else:
+        file = upload.new_file("table", "")
+        while held := body.block():
+            file.write(held)
+    for file in upload.files.values():
+        file.seek(0, os.SEEK_SET)
 
 
 class Form:

@@ -1,15 +1,13 @@
 """The views: each reads its words, asks for what it shows, all of one edition, and makes a page."""
 from . import date_page, other_pages
 from .dates import date_found, days_found, lands_of, name_of
-from .layout import TITLE, document
-from .markup import element, joined
+from .layout import TITLE, document, other_edition
+from .markup import element, joined, visible
 from .months import month_found
 from .places import place_found
 from .problems import Problem, no_place
-from .words import (code_of, date_of, month_of, number_of, order_of, weekday_of)
+from .words import LAST_DAY, code_of, date_of, month_of, number_of, order_of, weekday_of
 from .years import year_found
-
-LAST_DAY = 3_652_059
 
 
 class Asked:
@@ -20,7 +18,6 @@ class Asked:
         self.date = date_of(request.word("date"))
         self.weekday = weekday_of(request.word("weekday"))
         self.order = order_of(request.word("order"))
-        self.edition = number_of("edition", request.word("edition"), 0, 999_999_999)
 
 
 def known(lands, code):
@@ -49,19 +46,22 @@ def view_date(register, links, request):
     """The page of one date."""
     asked = Asked(request)
     edition, lands, found = found_date(register, asked)
-    told = date_page.answer(links, edition, found, register.settings.journal_name,
-                            asked.edition) if found else \
-        welcome(edition, len(lands), register.settings.journal_name)
+    told = date_page.answer(links, edition, found, register.settings.journal_name) if found else \
+        welcome(edition, len(lands), register.settings.journal_name, asked)
     title = f"{asked.date} in {found.name}" if found else TITLE
     body = [element("h1", "Which day does a date mean?"),
             date_page.question(links, lands, asked),
-            element("section", told, id="answer", aria_live="polite", aria_label="Answer")]
+            element("section", other_edition(request.edition, edition), told, id="answer",
+                    aria_live="polite", aria_label="Answer")]
     return edition, document(links, title, body, here="", code=asked.code, scripts=["date.js"])
 
 
-def welcome(edition, count, journal):
+def welcome(edition, count, journal, asked):
     """What stands where an answer will stand."""
     what = "territory" if count == 1 else "territories"
+    if asked.date:
+        return [element("p", "Choose the place where the document was written: the same date means "
+                        "other days elsewhere.", class_="reason")]
     return [element("p", "Choose the place where the document was written, and type its date as it "
                     "stands there. The answer comes as you type.", class_="lead"),
             element("p", f"Edition {edition} of {journal} has {count} {what}.", class_="hint")]
@@ -74,10 +74,11 @@ def answer_json(register, links, request):
     journal = register.settings.journal_name
     if not found:
         return edition, {"edition": edition, "title": TITLE,
-                         "html": joined(welcome(edition, len(lands), journal)),
-                         "address": links.to("", code=asked.code, weekday=asked.weekday)}
+                         "html": joined(welcome(edition, len(lands), journal, asked)),
+                         "address": links.to("", code=asked.code, date=asked.date,
+                                             weekday=asked.weekday, order=asked.order)}
     return edition, {
-        "edition": edition, "title": f"{asked.date} in {found.name} – {TITLE}",
+        "edition": edition, "title": visible(f"{asked.date} in {found.name} – {TITLE}"),
         "html": joined(date_page.answer(links, edition, found, journal)),
         "address": links.to("", code=asked.code, date=asked.date, weekday=asked.weekday,
                             order=asked.order),
@@ -95,7 +96,8 @@ def view_day(register, links, request):
         lands = lands_of(asking)
         return known(lands, code), days_found(register, asking, code, [day])[0]
     edition, (name, found) = register.of_one_edition(work)
-    body = date_page.day_page(links, edition, found, name, code, register.settings.journal_name)
+    body = [other_edition(request.edition, edition),
+            *date_page.day_page(links, edition, found, name, code, register.settings.journal_name)]
     return edition, document(links, f"Day {day} in {name}", body, code=code)
 
 
@@ -113,12 +115,20 @@ def view_month(register, links, request):
         return lands, name, month_found(asking, code, year, month)
     edition, (lands, name, found) = register.of_one_edition(work)
     body = [element("h1", "The month as it was lived"),
-            other_pages.month_form(links, lands, code, year, month)]
+            other_pages.month_form(links, lands, code, year, month),
+            missing(code, year), other_edition(request.edition, edition)]
     if found:
         body += other_pages.month_page(links, edition, found, name, code,
                                        register.settings.journal_name)
-    return edition, document(links, "A month", body, here="month", code=code,
-                             scripts=["month.js"])
+    title = other_pages.month_title(year, month, name) if found else "A month"
+    return edition, document(links, title, body, here="month", code=code, scripts=["month.js"])
+
+
+def missing(code, year):
+    """What a question lacks that has a place or a year alone, or None."""
+    if bool(code) == (year is not None):
+        return None
+    return element("p", "Write the year." if code else "Choose a place.", class_="reason")
 
 
 def view_place(register, links, request):
@@ -129,7 +139,8 @@ def view_place(register, links, request):
         lands = lands_of(asking)
         return lands, place_found(asking, code, known(lands, code)) if code else None
     edition, (lands, found) = register.of_one_edition(work)
-    body = [element("h1", "A place’s line of time"), other_pages.place_form(links, lands, code)]
+    body = [element("h1", "A place’s line of time"), other_pages.place_form(links, lands, code),
+            other_edition(request.edition, edition)]
     if found:
         body += other_pages.place_page(links, edition, found, register.settings.journal_name)
     else:
@@ -151,12 +162,13 @@ def view_year(register, links, request):
         return lands, name, year_found(asking, code, year)
     edition, (lands, name, found) = register.of_one_edition(work)
     body = [element("h1", "The year: Easters, feasts and figures"),
-            other_pages.year_form(links, lands, code, year)]
+            other_pages.year_form(links, lands, code, year),
+            missing(code, year), other_edition(request.edition, edition)]
     if found:
         body += other_pages.year_page(links, edition, found, name, code,
                                       register.settings.journal_name)
-    return edition, document(links, f"The year {year}" if found else "A year", body, here="year",
-                             code=code)
+    title = f"The year {year} in {name}" if found else "A year"
+    return edition, document(links, title, body, here="year", code=code)
 
 
 VIEWS = {"": view_date, "day": view_day, "month": view_month, "place": view_place,

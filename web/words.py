@@ -1,6 +1,7 @@
 """The words of a request, each held against what is allowed, and words for what comes back."""
 import re
 
+from .markup import visible
 from .problems import Problem
 
 MONTHS = ["January", "February", "March", "April", "May", "June", "July", "August", "September",
@@ -9,6 +10,7 @@ WEEKDAYS = ["Sunday", "Monday", "Tuesday", "Wednesday", "Thursday", "Friday", "S
 ORDERS = {"dmy": "day, month, year", "mdy": "month, day, year"}
 CODE = re.compile(r"[A-Z][A-Z0-9]{1,7}")
 LONGEST_DATE = 200
+LAST_DAY = 3_652_059
 BEGINNINGS = {"january": "1 January", "annunciation": "25 March", "nativity": "25 December",
               "september": "1 September", "pisan": "the 25 March before", "easter": "Easter"}
 CALENDARS = {"julian": "Julian", "gregorian": "Gregorian", "swedish": "Swedish"}
@@ -31,7 +33,7 @@ def date_of(text):
     text = text.strip()
     if len(text) > LONGEST_DATE:
         raise Problem(400, f"The date has {len(text)} characters: write {LONGEST_DATE} at most.")
-    if any(ord(sign) < 32 or ord(sign) == 127 for sign in text):
+    if text != visible(text):
         raise Problem(400, "The date has a character that is not printed: write it anew.")
     return text
 

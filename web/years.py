@@ -2,7 +2,10 @@
 import re
 from dataclasses import dataclass, field
 
-DAY_LINE = re.compile(r"(.{13}) (\w+) +(\d+) (.+)$")
+from .months import changes_of, periods_of, sources_of
+from .words import MONTHS
+
+DAY = re.compile(r"(\w+) +(\d+) (.+)")
 FEASTS = {"Septuagesima", "Ash Wednesday", "Easter", "Ascension", "Pentecost", "Trinity"}
 
 
@@ -13,7 +16,8 @@ class YearFound:
     figures: dict
     easter: dict
     runs: list
-    changes: list = field(default_factory=list)
+    changes: list
+    sources: list
     feasts: list = field(default_factory=list)
     months: list = field(default_factory=list)
 
@@ -32,7 +36,12 @@ def year_found(asking, code, year):
     figures, easter, written = asking.lines(
         {"op": "figures", "year": year}, {"op": "easter", "code": code, "year": year},
         {"op": "written", "code": code, "date": f"{year:04}"})
-    found = YearFound(year, figures, easter, written["runs"])
+    periods = periods_of(asking, code)
+    changes = [change for change in changes_of(asking, code, periods)
+               if int(change.found["gregorian"].split("-")[0]) == year]
+    sources = sources_of(periods, written["runs"])
+    sources += [easter["source"]] if "source" in easter else []
+    found = YearFound(year, figures, easter, written["runs"], changes, sources)
     for line in almanac(asking, code, year):
         take(found, line)
     return found
@@ -50,14 +59,9 @@ def almanac(asking, code, year):
 
 
 def take(found, line):
-    """Takes a line of the almanac: a change, a feast or a month."""
-    if line.startswith("From "):
-        found.changes.append(line)
-    elif day := DAY_LINE.match(line):
-        name = day[1].strip()
-        lines = found.feasts if name in FEASTS else found.months
-        lines.append(Line(name, day[2], day[3], day[4]))
-    elif line.endswith((" none", " off the line")) and not line.startswith("Easter "):
-        name = line[:13].strip()
-        lines = found.feasts if name in FEASTS else found.months
-        lines.append(Line(name, "", "", line[13:].strip()))
+    """Takes a line of the almanac that is one of a feast or a month."""
+    name, text = line[:13].strip(), line[13:].strip()
+    lines = found.feasts if name in FEASTS else found.months if name in MONTHS else None
+    if lines is not None:
+        day = DAY.fullmatch(text)
+        lines.append(Line(name, *day.groups()) if day else Line(name, "", "", text))

@@ -20,16 +20,17 @@ function chosenFirst(list) {
     return [...list.options].find((option) => option.defaultSelected)?.value ?? "";
 }
 
+// Whatever is on its way is the answer to other words than those that are typed now.
 function later() {
+    asking?.abort();
     clearTimeout(timer);
     timer = setTimeout(ask, WAIT);
 }
 
-// Asks for the answer. One that is overtaken by a later question is thrown away.
 async function ask() {
+    asking?.abort();
     const question = questionOf((field) => field.value);
     if (question === shown) return;
-    asking?.abort();
     asking = new AbortController();
     try {
         const reply = await fetch(`${form.dataset.answer}?${question}`,
@@ -38,10 +39,11 @@ async function ask() {
         if (reply.ok) {
             show(told, question);
         } else {
-            tell(told.told);
+            tell(told.told, question);
         }
     } catch (why) {
-        if (why.name !== "AbortError") tell("The page’s server doesn’t answer. Try again.");
+        if (why.name === "AbortError") return;
+        tell("The page’s server doesn’t answer. Try again.", question);
     }
 }
 
@@ -53,8 +55,10 @@ function show(told, question) {
     offerCopy();
 }
 
-function tell(sentence) {
+function tell(sentence, question) {
     shown = null;
+    document.title = form.dataset.title;
+    history.replaceState(null, "", `${form.action}?${question}`);
     const line = document.createElement("p");
     line.className = "reason";
     line.textContent = sentence;

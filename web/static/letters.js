@@ -10,7 +10,8 @@ const named = (id) => document.getElementById(id);
 const form = named("letters");
 const sheet = new Sheet(named("view"), named("head"), named("rows"), (row) => mending.begin(row));
 const mending = new Mending(sheet, form, tell, counted);
-let stopping = null;
+// The run of the table that is read, or of the one whose rows are shown.
+let run = null;
 let isSaved = true;
 
 function tell(sentence) { named("told").textContent = sentence; }
@@ -31,6 +32,8 @@ async function linesOf(file) {
     return count;
 }
 
+const isKept = () => isSaved && !sheet.editing.size;
+
 async function send(event) {
     event.preventDefault();
     const file = named("table").files[0];
@@ -40,42 +43,52 @@ async function send(event) {
         return fault(`The table has ${number(file.size)} bytes, and ${number(most)} are the most `
             + "that is taken here. Send it in parts, or use oldstyle letters.");
     }
-    begin();
-    const words = new FormData(form);
-    words.set("told", "1");
-    try {
-        named("progress").removeAttribute("value");
-        const lines = await linesOf(file);
-        const reply = await fetch(form.action, {method: "POST", body: words,
-            signal: stopping.signal, headers: {Accept: "application/json"}});
-        if (reply.ok) {
-            await take(reply.body.getReader(), Math.max(1, lines - 1));
-        } else {
-            fault(explained((await reply.json()).told));
-        }
-    } catch (why) {
-        fault(why.name === "AbortError" ? "It was stopped: the rows that came are here."
-            : "The connection ended before the table did. Send it again.");
+    if (!isKept() && !window.confirm("Rows that you mended are not saved. Throw them away?")) {
+        return null;
     }
+    const mine = begin(file.name);
+    const told = await read(file, mine);
+    if (mine !== run) return null;
     finish();
+    fault(told);
     return null;
 }
 
-function begin() {
-    stopping?.abort();
-    stopping = new AbortController();
+// Reads a table. What is told of how it ended, if it did not end well.
+async function read(file, {stopping, words}) {
+    const {signal} = stopping;
+    try {
+        named("progress").removeAttribute("value");
+        const lines = await linesOf(file);
+        const reply = await fetch(form.action, {method: "POST", body: words, signal,
+            headers: {Accept: "application/json"}});
+        if (!reply.ok) return explained((await reply.json()).told);
+        return await take(reply.body.getReader(), Math.max(1, lines - 1), signal);
+    } catch (why) {
+        if (why.name === "NotReadableError") return "The file can’t be read: choose it again.";
+        return why.name === "AbortError" ? "It was stopped: the rows that came are here."
+            : "The connection ended before the table did. Send it again.";
+    }
+}
+
+function begin(name) {
+    run?.stopping.abort();
+    const words = new FormData(form);
+    words.set("told", "1");
+    run = {name, words, stopping: new AbortController(), mark: ""};
     fault("");
     tell("The table is being sent.");
     sheet.clear();
-    mending.keep(form);
+    mending.keep(words);
     isSaved = true;
     named("running").hidden = false;
     named("result").hidden = true;
+    return run;
 }
 
 // Takes the rows as they come, and gives the browser time between them.
-async function take(reader, total) {
-    const decoder = new TextDecoder();
+async function take(reader, total, signal) {
+    const decoder = new TextDecoder("utf-8", {ignoreBOM: true});
     const records = new Records();
     let since = performance.now();
     for (let piece; !(piece = await reader.read()).done;) {
@@ -83,13 +96,14 @@ async function take(reader, total) {
         if (performance.now() - since > WORK) {
             progress(total);
             await new Promise((resume) => { setTimeout(resume); });
+            signal.throwIfAborted();
             since = performance.now();
         }
     }
     const at = records.rest.lastIndexOf(MARK);
     if (at < 0) throw new Error("the end is missing");
     const end = JSON.parse(records.rest.slice(at + 1));
-    if (end.status !== 0) fault(explained(end.told));
+    return end.status === 0 ? "" : explained(end.told);
 }
 
 function add(records) {
@@ -100,7 +114,9 @@ function add(records) {
     }
 }
 
-function beginTable(header) {
+function beginTable(first) {
+    const header = first.replace(/^\uFEFF/, "");
+    run.mark = first.slice(0, first.length - header.length);
     const separators = {comma: ",", semicolon: ";", tab: "\t"};
     const separator = separators[named("separator").value] ?? separatorOf(header);
     sheet.begin(fieldsOf(header, separator), [], separator);
@@ -165,7 +181,9 @@ function choose() {
     const has = wanted === "*" ? (remark) => remark
         : (remark) => remark.split("; ").includes(wanted);
     const chosen = [];
-    sheet.remarks.forEach((remark, row) => { if (has(remark)) chosen.push(row); });
+    sheet.remarks.forEach((remark, row) => {
+        if (has(remark) || sheet.editing.has(row)) chosen.push(row);
+    });
     return sheet.choose(chosen);
 }
 
@@ -178,13 +196,18 @@ function setColumns() {
 }
 
 function save() {
-    const parts = [`${mending.header()}\n`];
+    const [open] = sheet.editing.keys();
+    if (open !== undefined) {
+        tell(`Row ${number(open + 1)} is not asked yet: press its “Ask” or “Cancel”, then save.`);
+        return;
+    }
+    const parts = [`${run.mark}${mending.header()}\n`];
     for (let at = 0; at < sheet.records.length; at += 5000) {
         parts.push(`${sheet.records.slice(at, at + 5000).join("\n")}\n`);
     }
     const link = document.createElement("a");
     link.href = URL.createObjectURL(new Blob(parts, {type: "text/csv"}));
-    link.download = named("table").files[0].name.replace(/\.\w+$/, "") + "-found.csv";
+    link.download = `${run.name.replace(/\.\w+$/, "")}-found.csv`;
     link.click();
     setTimeout(() => URL.revokeObjectURL(link.href), 60_000);
     isSaved = true;
@@ -200,27 +223,35 @@ async function offerColumns() {
     named("columns").replaceChildren(...names.map((name) => new Option(name, name)));
 }
 
+// Whether files are dragged to the page: texts go into its fields, and a file over another field
+// of files goes there.
+function bringsTable(event) {
+    const isOther = event.target.matches?.("input[type=file]") && event.target.id !== "table";
+    return event.dataTransfer?.types.includes("Files") && !isOther;
+}
+
 function drop(event) {
-    event.preventDefault();
     named("drop").classList.remove("over");
-    if (!event.dataTransfer?.files.length) return;
+    if (!bringsTable(event)) return;
+    event.preventDefault();
+    if (event.dataTransfer.files.length !== 1) return fault("Drop one table at a time.");
     named("table").files = event.dataTransfer.files;
     offerColumns();
-    form.requestSubmit();
+    return form.requestSubmit();
 }
 
 function over(event) {
-    event.preventDefault();
-    named("drop").classList.toggle("over", event.type === "dragover");
+    if (bringsTable(event)) event.preventDefault();
+    named("drop").classList.toggle("over", event.type === "dragover" && bringsTable(event));
 }
 
 form.addEventListener("submit", send);
 named("table").addEventListener("change", offerColumns);
-named("stop").addEventListener("click", () => stopping.abort());
+named("stop").addEventListener("click", () => run.stopping.abort());
 named("remark").addEventListener("change", choose);
 named("wide").addEventListener("change", setColumns);
 named("save").addEventListener("click", save);
 document.addEventListener("dragover", over);
 document.addEventListener("dragleave", over);
 document.addEventListener("drop", drop);
-window.addEventListener("beforeunload", (event) => { if (!isSaved) event.preventDefault(); });
+window.addEventListener("beforeunload", (event) => { if (!isKept()) event.preventDefault(); });

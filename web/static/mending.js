@@ -12,9 +12,8 @@ export class Mending {
     }
 
     // Keeps the words of the form with which the table was sent.
-    keep(form) {
-        this.words = new FormData(form);
-        this.words.set("told", "1");
+    keep(words) {
+        this.words = words;
     }
 
     header() {
@@ -33,63 +32,86 @@ export class Mending {
             .filter((place) => place >= 0);
     }
 
+    // Begins to mend a row: its fields are kept apart from the row as they are typed, so that they
+    // are there still when the row is drawn anew.
     begin(row) {
-        this.sheet.editing.set(row, (drawn, fields) => this.open(row, drawn, fields));
-        const drawn = this.sheet.renew(row);
-        drawn?.querySelector("input")?.focus();
+        const {sheet} = this;
+        const fields = fieldsOf(sheet.records[row], sheet.separator).slice(0, -ADDED);
+        const typed = {fields, asking: null, open: (drawn) => this.open(row, drawn, typed)};
+        sheet.editing.set(row, typed);
+        sheet.renew(row)?.querySelector("input")?.focus();
     }
 
     // Puts fields into a row that is drawn.
-    open(row, drawn, fields) {
+    open(row, drawn, typed) {
         const cells = [...drawn.children].slice(2);
         for (const place of this.places()) {
             const cell = cells[this.sheet.shown.indexOf(place)];
-            if (!cell) continue;
-            const input = document.createElement("input");
-            input.type = "text";
-            input.value = fields[place] ?? "";
-            input.dataset.place = place;
-            input.setAttribute("aria-label", `${this.sheet.columns[place]} of row ${row + 1}`);
-            cell.replaceChildren(input);
+            if (cell) cell.replaceChildren(this.input(row, place, typed));
         }
         const button = drawn.querySelector("button");
-        const again = button.cloneNode();
-        again.textContent = "Ask";
-        again.setAttribute("aria-label", `Ask again for row ${row + 1}`);
-        again.addEventListener("click", () => this.ask(row, drawn));
-        button.replaceWith(again);
+        button.replaceWith(this.button("Ask", `Ask again for row ${row + 1}`, () => this.ask(row)),
+            this.button("Cancel", `Leave row ${row + 1} as it was`, () => this.leave(row)));
         drawn.addEventListener("keydown", (event) => {
             if (event.key === "Enter" && event.target.matches("input")) {
                 event.preventDefault();
-                this.ask(row, drawn);
+                this.ask(row);
             } else if (event.key === "Escape") {
                 this.leave(row);
             }
         });
     }
 
+    input(row, place, typed) {
+        const input = document.createElement("input");
+        input.type = "text";
+        input.value = typed.fields[place] ?? "";
+        input.setAttribute("aria-label", `${this.sheet.columns[place]} of row ${row + 1}`);
+        input.addEventListener("input", () => {
+            typed.asking?.abort();
+            typed.fields[place] = input.value;
+        });
+        return input;
+    }
+
+    button(name, label, press) {
+        const button = document.createElement("button");
+        button.type = "button";
+        button.className = "plain";
+        button.textContent = name;
+        button.setAttribute("aria-label", label);
+        button.addEventListener("click", press);
+        return button;
+    }
+
     leave(row) {
+        this.sheet.editing.get(row)?.asking?.abort();
         this.sheet.editing.delete(row);
         this.sheet.renew(row)?.querySelector("button")?.focus();
     }
 
-    // Asks for the row alone, as a table of one row.
-    async ask(row, drawn) {
-        const {separator, columns, records} = this.sheet;
-        const fields = fieldsOf(records[row], separator).slice(0, -ADDED);
-        for (const input of drawn.querySelectorAll("input[data-place]")) {
-            fields[Number(input.dataset.place)] = input.value;
-        }
+    // Asks for the row alone, as a table of one row. A reply that is overtaken, by what is typed
+    // or asked since or by another table, is thrown away.
+    async ask(row) {
+        const {separator, columns, editing} = this.sheet;
+        const typed = editing.get(row);
         const own = recordOf(columns.slice(0, -ADDED), separator);
-        this.words.set("table", new Blob([`${own}\n${recordOf(fields, separator)}\n`]), "row.csv");
+        const body = new FormData();
+        for (const [name, word] of this.words) body.append(name, word);
+        body.set("table", new Blob([`${own}\n${recordOf(typed.fields, separator)}\n`]), "row.csv");
+        typed.asking?.abort();
+        const asking = new AbortController();
+        typed.asking = asking;
+        const isOvertaken = () => asking.signal.aborted || editing.get(row) !== typed;
         try {
-            const reply = await fetch(this.form.action, {method: "POST", body: this.words,
-                headers: {Accept: "application/json"}});
+            const reply = await fetch(this.form.action, {method: "POST", body,
+                signal: asking.signal, headers: {Accept: "application/json"}});
             const text = await reply.text();
+            if (isOvertaken()) return;
             if (!reply.ok) throw new Error(JSON.parse(text).told);
             this.take(row, text.slice(0, text.lastIndexOf(MARK)));
         } catch (why) {
-            this.tell(`Row ${row + 1} was not asked: ${why.message}`);
+            if (!isOvertaken()) this.tell(`Row ${row + 1} was not asked: ${why.message}`);
         }
     }
 

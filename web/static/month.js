@@ -4,14 +4,11 @@ const STEPS = {ArrowLeft: -1, ArrowRight: 1, ArrowUp: -7, ArrowDown: 7};
 for (const grid of document.querySelectorAll("table[data-month]")) {
     const cells = [...grid.querySelectorAll("tbody td")];
     const links = cells.map((cell) => cell.querySelector("a"));
-    const days = links.filter((link) => link);
-    days.forEach((link, place) => { link.tabIndex = place === 0 ? 0 : -1; });
     grid.addEventListener("keydown", (event) => {
         const at = links.indexOf(event.target);
         const to = at < 0 ? null : target(event.key, at, links);
         if (!to) return;
         event.preventDefault();
-        days.forEach((link) => { link.tabIndex = link === to ? 0 : -1; });
         to.focus();
     });
 }

@@ -23,6 +23,7 @@ export class Sheet {
         this.remarks = [];
         this.chosen = null;
         this.mended = new Set();
+        for (const typed of this.editing.values()) typed.asking?.abort();
         this.editing.clear();
         this.columns = [];
         this.shown = [];
@@ -62,6 +63,7 @@ export class Sheet {
             if (!name) cell.append(heard("Mend"));
             return cell;
         });
+        this.head.setAttribute("aria-rowindex", 1);
         this.head.replaceChildren(...cells);
         this.setWidths(cells);
     }
@@ -73,7 +75,7 @@ export class Sheet {
             const place = this.shown[order - 2];
             const longest = Math.max(cell.textContent.length,
                 ...samples.map((fields) => (fields[place] ?? "").length));
-            const width = order < 2 ? 8 + order
+            const width = order < 2 ? 8 + 8 * order
                 : Math.min(WIDEST, Math.max(NARROWEST, longest)) + 2;
             cell.style.width = `${width}ch`;
         });
@@ -165,7 +167,7 @@ export class Sheet {
             return cell;
         });
         drawn.append(number, this.tools(row), ...cells);
-        this.editing.get(row)?.(drawn, fields);
+        this.editing.get(row)?.open(drawn);
         return drawn;
     }
 
