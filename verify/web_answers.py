@@ -54,7 +54,7 @@ def read_page(program, journal, code, date, weekday="", order=""):
     words = [program, "read", journal, code]
     words += (["--weekday", weekday] if weekday else []) + (["--order", order] if order else [])
     done = subprocess.run([*words, "--", date], capture_output=True, text=True, check=False)
-    return done.stdout.splitlines(), done.stderr.strip()
+    return done.stdout.split("\n")[:-1], done.stderr.strip()
 
 
 def days_told(lines):
@@ -92,13 +92,14 @@ def runs_told(lines):
 
 
 def notes_told(lines, told):
-    """The lines of `read` that the page has as notes."""
+    """The lines of `read` that the page has as notes, each with the source that follows it."""
     if not lines:
         text = told.removeprefix("oldstyle: ").removesuffix(ORDER)
         return [text]
-    return [line for line in lines[1:] if line not in OPEN and not (
+    notes = [line for line in lines[1:] if line not in OPEN and not (
         DAY.match(line) or COUNT.fullmatch(line) or WAITING.fullmatch(line)
         or FLAGS.issuperset(line.split("; ")))]
+    return "\n".join(notes).replace("\n(source: ", " (source: ").split("\n") if notes else []
 
 
 def bare(note):

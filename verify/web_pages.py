@@ -6,6 +6,7 @@ of a typed date, of the forms in docs/DATES.md and of random ones, is held again
 prints and what the query `written` answers; each month against `month`. Each table that is sent
 comes back as `letters` writes it, byte by byte, or with the fault that it tells.
 """
+import codecs
 import os
 import random
 import subprocess
@@ -13,7 +14,7 @@ import tempfile
 import time
 
 from lib.checks import hold, verdict
-from lib.common import TOP, CommandLine, end
+from lib.common import TOP, CommandLine, compact, end
 from lib.date_draws import (MALFORMED, date_text, journal_lines, label_near, middle_day,
                             write_journal)
 from web_answers import differences
@@ -107,6 +108,76 @@ def hold_months(page, program, journal):
     return len(asked)
 
 
+def hold_new_style(page):
+    """A date in New Style is shown as the place itself dated the day, and no other date of it."""
+    for date in ("22 February 1732 N.S.", "22 February 1731/2 N.S."):
+        status, told = page.answer(code="GB", date=date)
+        html = told.get("html", "")
+        hold(f"{date}: as dated there", status == 200
+             and "<dt>As dated there</dt><dd>11 February 1731/2</dd>" in html, html)
+        hold(f"{date}: one date of that day", "the place wrote 22 February" not in html, html)
+
+
+def journal_of(program, folder, name, lines):
+    """A journal that is made of edits."""
+    path = os.path.join(folder, name)
+    text = "".join(compact(line) + "\n" for line in lines)
+    subprocess.run([program, "serve", "--save", path], input=text, text=True, check=True,
+                   capture_output=True)
+    return path
+
+
+def paths_of(code):
+    """A path to each page that names a place."""
+    return [f"/?code={code}&date=4+October+1582", f"/?code={code}&date=10+October+1582",
+            f"/?code={code}&date=October+1582", f"/?code={code}&date=after+1600",
+            f"/day?code={code}&day=577736", f"/month?code={code}&year=1582&month=10",
+            f"/year?code={code}&year=1582", f"/place?code={code}"]
+
+
+def hold_sources(program, folder):
+    """Each page has the sources of what it says, in its citation too, and names are one line."""
+    name = "A\u2028B\x85C"
+    land = {"op": "add_land", "code": "ES", "name": name, "calendar": "julian", "style": "january",
+            "rule": "julian", "source": "The first source"}
+    journal = journal_of(program, folder, "sources.journal", [
+        land, {"op": "add_change", "code": "ES", "day": 577_736, "calendar": "gregorian",
+               "style": "january", "rule": "gregorian", "source": "Acts no 24 of 1582"},
+        {"op": "add_exception", "code": "ES", "year": 1582, "day": 577_544,
+         "source": "The source of an Easter"}, {"op": "publish"}])
+    page = Page(program, journal)
+    for path in paths_of("ES"):
+        wanted = ["The first source"] if "=4+" in path else ["Acts no 24 of 1582"] if \
+            "day=" in path or "=10+" in path or "after" in path else \
+            ["The first source", "Acts no 24 of 1582"]
+        wanted += ["The source of an Easter"] if "year?" in path else []
+        status, _, body = page.get(path)
+        before, _, cited = body.decode().partition('class="citation"')
+        cited = cited.partition("</p>")[0]
+        hold(f"the sources of {path}", status == 200 and all(
+            text in before and text in cited for text in wanted), status, cited)
+        hold(f"the name on {path}", "A\u2028B&lt;U+0085&gt;C" in before and "\x85" not in before)
+    listed = page.get("/place?code=ES")[2].decode()
+    hold("the source of a listed Easter", "(source: The source of an Easter)" in listed)
+    wrong = [line for date in ("10 October 1582", "11/2/1731", "March 1582")
+             for line in differences(page.answer(code="ES", date=date)[1]["html"], program, journal,
+                                     "ES", date)]
+    hold("dates of a name with separators", not wrong, *wrong)
+    status, told = page.answer(code="ES", date="11/2/1731", order="dmy")
+    hold("one that is open", status == 200 and "11 February 1731" in told["html"], told)
+    return page.stop()[0]
+
+
+def hold_editions(page):
+    """A link that names an edition says which one answered, on every page."""
+    for path in [*paths_of("GB"), "/place?x=1", "/?x=1", "/month?x=1", "/year?x=1"]:
+        said = "This link was created from edition 3; the answer shown comes from edition 5."
+        hold(f"{path} of edition 3", said in page.get(f"{path}&edition=3")[2].decode())
+        hold(f"{path} of edition 5", "was created from" not in
+             page.get(f"{path}&edition=5")[2].decode())
+        hold(f"{path} of no edition", page.get(f"{path}&edition=abc")[0] == 400)
+
+
 def letters_told(program, journal, table, *options):
     done = subprocess.run([program, "letters", journal, *options], input=table,
                           capture_output=True, check=False)
@@ -121,6 +192,9 @@ def hold_tables(page, program, journal):
     letters, places, typed = read("letters.csv"), read("places.csv"), read("transcribed.csv")
     status, _, body = page.ask("POST", "/letters", letters)
     hold("a table as it is", (status, body) == (200, letters_told(program, journal, letters)[0]))
+    status, _, body = page.ask("POST", "/letters", codecs.BOM_UTF8 + letters)
+    hold("a byte order mark is kept", (status, body) == (200, codecs.BOM_UTF8 + letters_told(
+        program, journal, letters)[0]))
     form, headers = form_of({"order": "dmy"}, {"table": ("t.csv", typed),
                                                "places": ("places.csv", places)})
     status, told, body = page.ask("POST", "/letters", form, headers)
@@ -145,8 +219,12 @@ def hold_tables(page, program, journal):
 
 def hold_bad_tables(page, program, journal):
     """Tables that have a fault: the status and the program's own words, but for its options."""
-    bad = [(b"\x00\x01\x02\xff" * 20, 422), (b"a,b\n1,2\n", 422), (b"", 422),
-           (b"place,date\n\"GB,1731\n", 200)]
+    for table in ("letter,place,date\nü,GB,1731\n".encode("cp1252"), b"\x00\x01\x02\xff" * 20,
+                  "place,date\nGB,1731\n".encode("utf-16"), b"PK\3\4\0"):
+        status, _, body = page.ask("POST", "/letters", table)
+        hold(f"the table {table[:10]!r}", status == 422 and body.decode() ==
+             "The table is not UTF-8: save the table as CSV UTF-8.\n", status, body)
+    bad = [(b"a,b\n1,2\n", 422), (b"", 422), (b"place,date\n\"GB,1731\n", 200)]
     for table, wanted in bad:
         status, _, body = page.ask("POST", "/letters", table)
         told = letters_told(program, journal, table)[1].removeprefix("oldstyle: ").strip()
@@ -173,8 +251,11 @@ def main():
     months = hold_months(page, program, SAMPLES)
     took = hold_tables(page, program, SAMPLES)
     hold_bad_tables(page, program, SAMPLES)
+    hold_new_style(page)
+    hold_editions(page)
     left = page.stop()[0]
     with tempfile.TemporaryDirectory() as folder:
+        left += hold_sources(program, folder)
         for _ in range(3):
             journal, more = random_dates(program, folder, chance, options.count // 3)
             page = Page(program, journal)

@@ -40,7 +40,8 @@ def hold_statuses(page):
              ("/?date=%ff", 400), ("/?date=%00&code=GB", 400), ("/?" + "x" * 5000, 414),
              ("/month?code=GB&year=99999&month=1", 400), ("/month?code=GB&year=1&month=13", 400),
              ("/year?code=GB&year=0", 400), ("/day?code=GB&day=0", 400), ("/day?code=GB", 400),
-             ("/day?code=GB&day=3652060", 400), ("/place?code=ZZ", 404), ("/?" + "&a=1" * 40, 400)]
+             ("/day?code=GB&day=3652060", 400), ("/place?code=ZZ", 404), ("/?" + "&a=1" * 40, 400),
+             ("/place?edition=abc", 400), ("/?code=GB&date=1+May%E2%80%AE+1700", 400)]
     for path, wanted in wrong:
         status = page.get(path)[0]
         hold(f"{path[:40]} has status {wanted}", status == wanted, status)
@@ -51,6 +52,8 @@ def hold_statuses(page):
            (b"GET /" + b"x" * 10_000 + b" HTTP/1.1\r\n\r\n", 414),
            (b"GET / HTTP/1.1\r\n" + b"X: " + b"y" * 40_000 + b"\r\n\r\n", 431),
            (b"GET / HTTP/1.1\r\n" + b"X: y\r\n" * 200 + b"\r\n", 431),
+           (b"GET / HTTP/1.1\r\nHost: example.org\r\n\r\n", 421),
+           ("GET /?code=GB&date=11+février+1650 HTTP/1.1\r\n\r\n".encode(), 200),
            (b"POST /letters HTTP/1.1\r\nTransfer-Encoding: chunked\r\n\r\n0\r\n\r\n", 411),
            (b"POST /letters HTTP/1.1\r\nContent-Length: many\r\n\r\n", 400),
            (b"POST /letters HTTP/1.1\r\nContent-Length: 99999999999\r\n\r\n", 413),
@@ -72,9 +75,10 @@ def hold_large(page, most):
 
 def hold_slow(page):
     """A client that sends a byte now and then is told 408, and others are answered meanwhile."""
-    def drip(text, told):
+    def drip(head, text, told):
         with socket.create_connection((page.host, page.port), 60) as connection:
             try:
+                connection.sendall(head)
                 for sign in text:
                     connection.sendall(bytes([sign]))
                     time.sleep(0.4)
@@ -82,13 +86,16 @@ def hold_slow(page):
                 pass
             told.append(first_line(connection))
     told = []
-    texts = [b"GET / HTTP/1.1\r\n" + b"X: y\r\n" * 20] * 20
-    slow = [threading.Thread(target=drip, args=(text, told)) for text in texts]
+    post = b"POST /letters HTTP/1.1\r\nContent-Length: 8000000\r\n\r\n"
+    texts = [(b"GET / HTTP/1.1\r\n", b"X: y\r\n" * 20)] * 20 + [(post, b"x" * 120)] * 12
+    slow = [threading.Thread(target=drip, args=(*text, told)) for text in texts]
     for thread in slow:
         thread.start()
     began = time.monotonic()
     hold("a reader beside slow ones", page.get("/?code=GB&date=1731-02-11")[0] == 200)
     hold("it waits for none of them", time.monotonic() - began < 2)
+    table = page.ask("POST", "/letters", b"place,date\nGB,1731\n")[0]
+    hold("a table beside slow ones", table == 200, table)
     for thread in slow:
         thread.join()
     hold("slow requests have status 408 or are cut off",
@@ -176,6 +183,7 @@ def hold_words(program, folder):
                  ([SAMPLES, "--port", "70000"], "--port: 70000 is no whole number"),
                  ([SAMPLES, "--program", "/none"], "/none is no program"),
                  ([SAMPLES, "--max-upload", "0"], "--max-upload: 0 is no whole number"),
+                 ([SAMPLES, "--address", ""], "--address: name an address"),
                  ([SAMPLES, "--address", "256.1.1.1"], "256.1.1.1")]
         for words, wanted in tried:
             given = words if "--program" in words else [*words, "--program", program]

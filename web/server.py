@@ -89,6 +89,9 @@ class Handler(WSGIRequestHandler):
         handler.request_handler = self
         self.connection.settimeout(STALL_SECONDS)
         handler.run(self.server.get_app())
+        if handler.status:
+            # (the client went away before the end, so that the reply was not logged yet)
+            self.log_request(handler.status.split()[0], handler.bytes_sent)
         if self.headers.get("content-length", "0") != "0":
             self.linger()
 

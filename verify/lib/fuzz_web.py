@@ -6,7 +6,6 @@ its head says. The page tells no fault of its own, and the next good request is 
 answers to a date is what the query `written` answers.
 """
 import json
-import os
 import re
 import socket
 from urllib.parse import quote, urlencode
@@ -22,7 +21,7 @@ SECONDS = 40
 HEAD = re.compile(rb"HTTP/1\.[01] (\d{3}) [^\r\n]*\r\n(.*?)\r\n\r\n", re.S)
 LENGTH = re.compile(rb"^content-length: (\d+)\r?$", re.I | re.M)
 # Those of docs/SERVING.md, and what the standard library replies to what is no HTTP.
-STATUSES = {200, 304, 400, 404, 405, 408, 411, 413, 414, 422, 431, 501, 503, 505}
+STATUSES = {200, 304, 400, 404, 405, 408, 411, 413, 414, 421, 422, 431, 501, 503, 505}
 PATHS = ["", "answer.json", "month", "year", "day", "place", "letters", "static/page.css",
          "nowhere"]
 MEMBERS = {"code": [*CODES, "ZZ", "gb", ""], "date": None, "weekday": [*WEEKDAYS, "", "Fryday"],
@@ -32,11 +31,12 @@ MEMBERS = {"code": [*CODES, "ZZ", "gb", ""], "date": None, "weekday": [*WEEKDAYS
 
 
 def get(address, *headers):
-    return "\r\n".join([f"GET {address} HTTP/1.1", "Host: a", *headers, "", ""]).encode()
+    return "\r\n".join([f"GET {address} HTTP/1.1", "Host: localhost", *headers, "", ""]).encode()
 
 
 def post(address, body, *headers):
-    head = [f"POST {address} HTTP/1.1", "Host: a", f"Content-Length: {len(body)}", *headers, "", ""]
+    head = [f"POST {address} HTTP/1.1", "Host: localhost", f"Content-Length: {len(body)}",
+            *headers, "", ""]
     return "\r\n".join(head).encode() + body
 
 
@@ -96,7 +96,6 @@ class Web:
 
     def __init__(self, program, _folder):
         self.program, self.page = program, Page(program, JOURNAL)
-        os.set_blocking(self.page.process.stderr.fileno(), False)
 
     def close(self):
         self.page.stop()
@@ -149,11 +148,7 @@ class Web:
 
     def why_broken(self):
         """What the page told of itself, or that it answers no more."""
-        try:
-            told = os.read(self.page.process.stderr.fileno(), 65_536)
-        except BlockingIOError:
-            told = b""
-        if told or self.page.process.poll() is not None:
+        if (told := self.page.told()) or self.page.process.poll() is not None:
             return f"it told {told!r}, status {self.page.process.poll()}"
         status = self.page.get("/")[0]
         return "" if status == 200 else f"a good request is answered by {status}"
