@@ -84,8 +84,8 @@ class Letters:
         fields = self.browser.all(f"[data-row='{row - 1}'] input")
         return fields[1] if fields else None
 
-    def typed(self):
-        field = self.field()
+    def typed(self, row=1):
+        field = self.field(row)
         return field and field.get_attribute("value")
 
     def type(self, text, *keys):
@@ -178,6 +178,14 @@ def hold_late(letters):
     browser.run(RELEASE)
     browser.run("return new Promise((resume) => setTimeout(resume, 500))")
     hold("what is typed after asking stays", letters.typed() == "4 April 1702", letters.row())
+    browser.run(HOLD)
+    letters.type(TYPED, Keys.ENTER)
+    letters.mend(2).send_keys(" and")
+    browser.run(RELEASE)
+    letters.wait("Row 1: ")
+    browser.press(" more")
+    hold("a late reply leaves the focus in another row", letters.typed(2) == "2 May 1700 and more",
+         letters.typed(2))
 
 
 def hold_other_tables(letters):

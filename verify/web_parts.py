@@ -8,6 +8,8 @@ encodings, and lines of the program with sources: each part has to do what the p
 import contextlib
 import io
 import os
+import random
+import re
 import signal
 import socket
 import subprocess
@@ -23,8 +25,8 @@ from web_runs import first_line, free_port, hold
 
 sys.path.insert(0, TOP)
 
-from web import child, commands, dates, markup, places, problems, register, requests, server
-from web import settings, tables, uploads, words, years
+from web import child, commands, dates, drawing, markup, places, problems, register, requests
+from web import server, settings, tables, uploads, words, years
 
 SAMPLES = os.path.join(TOP, "examples", "samples.journal")
 
@@ -162,6 +164,22 @@ def hold_lines():
                                      (*year.feasts, *year.months)] == [
         ["Easter", "639639", "29 March 1752"], ["Trinity", "", "off the line"],
         ["January", "639551", "1752-01-12"], ["February", "", "none"]], year)
+
+
+def hold_drawing():
+    """No text of a change is crossed by the line of another one."""
+    chance = random.Random(1)
+    for _ in range(500):
+        days = sorted(chance.sample(range(980), chance.randint(2, 9)))
+        changes = [types.SimpleNamespace(found={"day": day, "dual": "1 January 1700"},
+                                         sentence=lambda: "") for day in days]
+        marks = [(float(re.search(r'x1="([0-9.]+)"', mark)[1]),
+                  float(re.search(r'y1="([0-9.]+)"', mark)[1]),
+                  re.search(r'<text x="[0-9.]+" y="(\d+)"', mark))
+                 for mark in drawing.change_marks(changes, lambda day: day)]
+        crossed = [(at, other) for at, _, text in marks if text for other, top, _ in marks
+                   if at < other < at + drawing.ROOM and top < float(text[1]) - 13]
+        hold(f"the texts of changes on {days}", not crossed, crossed)
 
 
 def hold_encoding():
@@ -379,8 +397,8 @@ def hold_start():
 
 def main():
     CommandLine(__doc__).parse_args()
-    parts = [hold_bodies, hold_texts, hold_queries, hold_lines, hold_encoding, hold_processes,
-             hold_kept, hold_hosts, hold_connections, hold_log, hold_late_body, hold_start,
+    parts = [hold_bodies, hold_texts, hold_queries, hold_lines, hold_drawing, hold_encoding,
+             hold_processes, hold_kept, hold_hosts, hold_connections, hold_log, hold_late_body, hold_start,
              hold_tables]
     for part in parts:
         with contextlib.redirect_stderr(io.StringIO()):

@@ -85,9 +85,12 @@ export class Mending {
     }
 
     leave(row) {
-        this.sheet.editing.get(row)?.asking?.abort();
-        this.sheet.editing.delete(row);
-        this.sheet.renew(row)?.querySelector("button")?.focus();
+        const {sheet} = this;
+        sheet.editing.get(row)?.asking?.abort();
+        sheet.editing.delete(row);
+        const isHere = sheet.drawn.get(row)?.contains(document.activeElement);
+        const drawn = sheet.renew(row);
+        if (isHere) drawn?.querySelector("button").focus();
     }
 
     // Asks for the row alone, as a table of one row. A reply that is overtaken, by what is typed
