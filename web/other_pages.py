@@ -105,6 +105,8 @@ def place_page(links, edition, found, journal):
     parts = [element("h2", f"{found.name} ({found.code})"),
              figure(line_of_time(found), legend(), "The line of time"),
              periods_table(links, found)]
+    if sources := [period["source"] for period in found.periods if "source" in period]:
+        parts.append(element("p", sources_text(sources)))
     for number, detail in enumerate(found.details, 1):
         parts.append(element("h3", detail_title(detail)))
         parts += [element("p", element("strong", change.sentence()), " ", change.difference(),
@@ -119,7 +121,6 @@ def place_page(links, edition, found, journal):
                   element("ul", *(element("li", line) for line in found.listed))]
     what = f"The periods of {found.name} ({found.code})"
     address = links.to("place", code=found.code, edition=edition)
-    sources = [period["source"] for period in found.periods if "source" in period]
     return [*parts, citation(links, what, edition, journal, address, sources)]
 
 
@@ -147,10 +148,10 @@ def periods_table(links, found):
         day_link(links, found.code, change.found) for change in found.changes]
     ends = [day_link(links, found.code, change.before) for change in found.changes] + ["the end"]
     rows = [(number, start, end, period["calendar"].capitalize(), BEGINNINGS[period["style"]],
-             period["rule"].capitalize(), period.get("source", ""))
+             period["rule"].capitalize())
             for number, (period, start, end) in enumerate(zip(found.periods, starts, ends), 1)]
-    return table("Periods", ["Number", "From", "Until", "Calendar", "Years from", "Easter rule",
-                             "Source"], rows)
+    return table("Periods", ["Number", "From", "Until", "Calendar", "Years from", "Easter rule"],
+                 rows)
 
 
 def day_link(links, code, found):
