@@ -312,6 +312,10 @@ def hold_hosts():
         told = one.ask("" if host is None else f"Host: {host}\r\n")
         hold(f"the host {host}", f" {status} " in f"{told} ", told)
     one.close()
+    one = Served("0.0.0.0")
+    told = one.ask("Host: example.org\r\n")
+    hold("a page for all is told to each host", " 200 " in told, told)
+    one.close()
     try:
         one = Served("::1")
     except OSError:
