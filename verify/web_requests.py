@@ -45,6 +45,11 @@ def hold_statuses(page):
     for path, wanted in wrong:
         status = page.get(path)[0]
         hold(f"{path[:40]} has status {wanted}", status == wanted, status)
+    for path, word in (("/month?code=GB&year=abc&month=9", 'value="abc"'),
+                       ("/year?code=GB&year=0", 'value="0"'),
+                       ("/?code=ZZ&date=11+May+1700", 'value="11 May 1700"')):
+        body = page.get(path, Accept="text/html")[2].decode()
+        hold(f"{path} has its form again", word in body and 'class="question"' in body, body)
     for method, path, wanted in (("PUT", "/", 405), ("POST", "/", 405), ("DELETE", "/letters", 405),
                                  ("HEAD", "/", 200), ("BREW", "/", 405)):
         hold(f"{method} {path} has status {wanted}", page.ask(method, path)[0] == wanted)

@@ -13,7 +13,7 @@ from .register import Register
 from .requests import Request, Response
 from .tables import Tables
 from .uploads import Upload, receive
-from .views import VIEWS, answer_json
+from .views import VIEWS, answer_json, form_again
 
 FOLDER = os.path.dirname(os.path.abspath(__file__))
 KINDS = {".css": "text/css; charset=utf-8", ".js": "text/javascript; charset=utf-8",
@@ -122,10 +122,18 @@ class Application:
             return Response(body, problem.status, "text/plain; charset=utf-8", headers=headers)
         links = self.links(request)
         body = [element("h1", "This can’t be answered"),
-                element("p", problem.sentence, class_="reason"),
-                element("p", element("a", "Ask for one date", href=links.to("")))]
+                element("p", problem.sentence, class_="reason"), self.next_step(request, problem)]
         page = document(links, TITLE, body)
         return Response(page.encode(), problem.status, headers=headers)
+
+    def next_step(self, request, problem):
+        """The form again where its words were wrong, else a link."""
+        if request.path in VIEWS and problem.status in (400, 404):
+            try:
+                return form_again(self.register, self.links(request), request)
+            except Problem:
+                pass
+        return element("p", element("a", "Ask for one date", href=self.links(request).to("")))
 
     def close(self):
         """Ends the processes."""

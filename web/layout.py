@@ -75,7 +75,7 @@ def text_field(name, label, value, **attributes):
 
 def choice_field(name, label, choices, chosen):
     """A list of words to choose from: pairs of a value and what stands for it."""
-    options = [element("option", text, value=value, selected=value == chosen)
+    options = [element("option", text, value=value, selected=str(value) == str(chosen))
                for value, text in choices]
     return element("div", element("label", label, for_=name),
                    element("select", *options, id=name, name=name), class_="field")

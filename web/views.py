@@ -1,4 +1,6 @@
 """The views: each reads its words, asks for what it shows, all of one edition, and makes a page."""
+from types import SimpleNamespace
+
 from . import date_page, other_pages
 from .dates import date_found, days_found, lands_of, name_of
 from .layout import TITLE, document, other_edition
@@ -169,6 +171,21 @@ def view_year(register, links, request):
                                       register.settings.journal_name)
     title = f"The year {year} in {name}" if found else "A year"
     return edition, document(links, title, body, here="year", code=code)
+
+
+def form_again(register, links, request):
+    """The form of a page that was asked for with wrong words, with what was typed into it."""
+    _, lands = register.of_one_edition(lands_of)
+    code, year, month = (request.word(name) for name in ("code", "year", "month"))
+    if request.path == "month":
+        return other_pages.month_form(links, lands, code, year, month)
+    if request.path == "year":
+        return other_pages.year_form(links, lands, code, year)
+    if request.path == "place":
+        return other_pages.place_form(links, lands, code)
+    return date_page.question(links, lands, SimpleNamespace(
+        code=code, date=request.word("date"), weekday=request.word("weekday"),
+        order=request.word("order")))
 
 
 VIEWS = {"": view_date, "day": view_day, "month": view_month, "place": view_place,
