@@ -94,7 +94,8 @@ def hold_links(browser, page):
     browser.driver.get(link)
     hold("the link answers the same", browser.one("#answer").text == answer)
     browser.driver.get(link.replace("edition=5", "edition=4"))
-    hold("a link of another edition says so", "created from edition 4" in browser.one("#answer").text)
+    hold("a link of another edition says so",
+         "created from edition 4" in browser.one("#answer").text)
     browser.driver.get(page.address + "/?code=GB&date=11+February+1731")
     field = browser.one("#date")
     field.clear()

@@ -40,6 +40,7 @@ return event.defaultPrevented;
 TABLE = "letter,place,date\n" + "".join(f"{row},GB,{1 + row % 28} May 1700\n" for row in range(200))
 OTHER = "letter,place,date\n" + "".join(f"x{row},SE,1 June 1650\n" for row in range(3))
 TYPED = "3 March 1699"
+PAUSE = "return new Promise((resume) => setTimeout(resume, 500))"
 
 
 class Letters:
@@ -143,7 +144,7 @@ def hold_drawn(letters):
 
 
 def hold_late(letters):
-    """Late replies: to a row of another table, and to one that was asked anew."""
+    """A reply that is later than another table."""
     browser = letters.browser
     letters.read()
     browser.run(HOLD)
@@ -155,11 +156,15 @@ def hold_late(letters):
     letters.accept(True)
     letters.wait("3 rows")
     browser.run(RELEASE)
-    browser.wait("the late reply", lambda: True)
-    browser.run("return new Promise((resume) => setTimeout(resume, 500))")
+    browser.run(PAUSE)
     name, held = letters.save()
     hold("a late reply comes into no other table", "x0,SE,1 June 1650" in held and TYPED not in held
          and name == "two-found.csv", name, held)
+
+
+def hold_overtaken(letters):
+    """Replies to words that were typed or asked anew since, or while another row is in edit."""
+    browser = letters.browser
     letters.read()
     browser.run(HOLD)
     letters.mend()
@@ -168,7 +173,7 @@ def hold_late(letters):
     browser.run("window.held[1]()")
     letters.wait("Row 1: ")
     browser.run(RELEASE)
-    browser.run("return new Promise((resume) => setTimeout(resume, 500))")
+    browser.run(PAUSE)
     hold("of two replies that of the later words counts", "2 June 1701" in letters.row(),
          letters.row())
     browser.run(HOLD)
@@ -176,7 +181,7 @@ def hold_late(letters):
     letters.type(TYPED, Keys.ENTER)
     letters.type("4 April 1702")
     browser.run(RELEASE)
-    browser.run("return new Promise((resume) => setTimeout(resume, 500))")
+    browser.run(PAUSE)
     hold("what is typed after asking stays", letters.typed() == "4 April 1702", letters.row())
     browser.run(HOLD)
     letters.type(TYPED, Keys.ENTER)
@@ -231,7 +236,7 @@ def hold_overtaken_table(letters):
     letters.press("#letters button[type=submit]")
     browser.wait("the second table", lambda: browser.run("return window.held.length") == 2)
     browser.run("window.held[0]()")
-    browser.run("return new Promise((resume) => setTimeout(resume, 500))")
+    browser.run(PAUSE)
     hold("a table that is overtaken tells nothing", not browser.one("#fault").text
          and browser.one("#progress").is_displayed(), browser.one("#fault").text)
     browser.run(RELEASE)
@@ -268,9 +273,9 @@ def hold_typed(browser, page):
     field.send_keys(Keys.BACKSPACE, "2")
     browser.wait("the second question", lambda: browser.run("return window.held.length"))
     field.send_keys(Keys.BACKSPACE, "1")
-    browser.run("return new Promise((resume) => setTimeout(resume, 400))")
+    browser.run(PAUSE)
     browser.run(RELEASE)
-    browser.run("return new Promise((resume) => setTimeout(resume, 400))")
+    browser.run(PAUSE)
     shown = browser.driver.title, browser.one("#citation").text, browser.driver.current_url
     hold("the answer is that of the fields", field.get_attribute("value") == first
          and not any(second[-4:] in text for text in (shown[0], shown[2]))
@@ -291,6 +296,7 @@ def main():
         hold_typed(browser, page)
         hold_drawn(letters)
         hold_late(letters)
+        hold_overtaken(letters)
         hold_other_tables(letters)
         hold_overtaken_table(letters)
         hold_encodings(letters)

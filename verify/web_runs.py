@@ -25,6 +25,15 @@ def free_port():
         return taken.getsockname()[1]
 
 
+def script(folder, text):
+    """A stand-in of the program, which is a script of the shell."""
+    path = os.path.join(folder, "program")
+    with open(path, "w", encoding="utf-8") as file:
+        file.write(f"#!/bin/sh\n{text}\n")
+    os.chmod(path, 0o755)
+    return path
+
+
 def process_table():
     """The parent and the time of start of each process."""
     table = {}
