@@ -1,0 +1,79 @@
+//! Where what a command left differs from what is expected of it.
+ghost use Rattle.std.specs.Prelude.{◌≡◌, IfNone};
+
+use crate::actual::Actual;
+use crate::escapes::shown;
+use crate::expected::{Expected, Stream};
+use crate::section::Step;
+use std::alloc::{AllocError, Global};
+
+/// The first difference: the number of its line in the file, and the texts there.
+#[derive(Drop)]
+pub(crate) struct Difference {
+    pub line: usize,
+    pub expected: String,
+    pub actual: String,
+}
+
+/// The line of some bytes at this place, as a case shows it, after what a case has before it.
+fn line_at(alloc: Global, bytes: &[u8], place: usize, mark: &str) -> Result<String, AllocError> {
+    match bytes.split_inclusive(|byte| *byte == b'\n').nth(place) {
+        Some(line) => format!(in alloc; "{mark}{}", shown(alloc, line)?),
+        None => String::from_str(alloc, "(nothing)"),
+    }
+}
+
+/// How many whole lines some bytes begin with that others begin with too.
+fn same_lines(left: &[u8], right: &[u8]) -> usize {
+    let same = left
+        .iter()
+        .zip(right.iter())
+        .take_while(|(left, right)| left == right);
+    same.filter(|(byte, _)| **byte == b'\n').count()
+}
+
+/// The first line of a stream that differs, if one does.
+fn stream_difference(
+    alloc: Global,
+    step: &Step,
+    expected: &Stream,
+    actual: &[u8],
+    mark: &str,
+) -> Result<Option<Difference>, AllocError> {
+    if expected.bytes.as_slice() == actual {
+        return Ok(None);
+    }
+    let place = same_lines(&expected.bytes, actual);
+    Ok(Some(Difference {
+        line: expected.lines.get(place).copied().unwrap_or(step.line),
+        expected: line_at(alloc, &expected.bytes, place, mark)?,
+        actual: line_at(alloc, actual, place, mark)?,
+    }))
+}
+
+/// The first difference of what a command left, if there is one: in its text on standard error, its
+/// output or its status.
+///
+/// # Errors
+///
+/// Out of memory.
+pub(crate) fn difference_of(
+    alloc: Global,
+    step: &Step,
+    actual: &Actual,
+) -> Result<Option<Difference>, AllocError> {
+    let expected = &step.expected;
+    let of_errors = stream_difference(alloc, step, &expected.errors, &actual.errors, "! ")?;
+    if of_errors.is_some() {
+        return Ok(of_errors);
+    }
+    let of_output = stream_difference(alloc, step, &expected.output, &actual.output, "")?;
+    if of_output.is_some() || expected.status == actual.status {
+        return Ok(of_output);
+    }
+    Ok(Some(Difference {
+        line: step.line,
+        expected: format!(in alloc; "[{}]", expected.status)?,
+        actual: format!(in alloc; "[{}]", actual.status)?,
+    }))
+}

@@ -1,0 +1,80 @@
+//! A file in memory that is kept.
+ghost use Rattle.std.specs.Prelude.{◌≡◌, IfOk, None};
+
+use osn_folder::{ChangeFailed, KeptFile, KeptFileFault};
+use std::alloc::{AllocError, Global};
+
+/// A file in memory that is kept.
+#[derive(Drop)]
+pub(crate) struct MemoryFile {
+    alloc: Global,
+    contents: Vec<u8>,
+    synced: Vec<u8>,
+    fault: Option<KeptFileFault>,
+}
+
+impl MemoryFile {
+    /// One that holds these bytes, and the bytes.
+    pub(crate) fn of(alloc: Global, bytes: &[u8]) -> Result<(MemoryFile, Vec<u8>), AllocError>
+        ensures { IfOk result (λ both. (both.0.contents.items ≡ both.1.items)
+            × (both.0.synced.items ≡ both.1.items) × (both.0.fault ≡ None)) }
+    {
+        let kept = MemoryFile {
+            alloc,
+            contents: Vec::from_slice(alloc, bytes)?,
+            synced: Vec::from_slice(alloc, bytes)?,
+            fault: None,
+        };
+        Ok((kept, Vec::from_slice(alloc, bytes)?))
+    }
+
+    /// What it holds.
+    pub(crate) fn contents(&self) -> &[u8] {
+        &self.contents
+    }
+
+    /// Notes that a change failed for want of memory.
+    fn fail(&mut self) -> KeptFileFault {
+        self.fault = Some(KeptFileFault::ChangeFailed);
+        KeptFileFault::ChangeFailed
+    }
+}
+
+impl KeptFile for MemoryFile {
+    ghost use Rattle.std.specs.Prelude.{Some, false};
+
+    ghost contents = { λ f. Some f.contents.items };
+
+    ghost synced = { λ f. Some f.synced.items };
+
+    ghost fault = { λ f. f.fault };
+
+    ghost cut_back_may_fail = { λ _. false };
+
+    fn append(&mut self, bytes: &[u8]) -> Result<(), KeptFileFault> {
+        match self.contents.extend_from_slice(bytes) {
+            Ok(()) => Ok(()),
+            Err(_) => Err(self.fail()),
+        }
+    }
+
+    fn cut(&mut self, length: u64) -> Result<(), KeptFileFault> {
+        self.contents.truncate(length as usize);
+        Ok(())
+    }
+
+    fn cut_back(&mut self, length: u64) -> Result<(), ChangeFailed> {
+        self.contents.truncate(length as usize);
+        Ok(())
+    }
+
+    fn sync(&mut self) -> Result<(), KeptFileFault> {
+        match Vec::from_slice(self.alloc, &self.contents) {
+            Ok(synced) => {
+                self.synced = synced;
+                Ok(())
+            }
+            Err(_) => Err(self.fail()),
+        }
+    }
+}

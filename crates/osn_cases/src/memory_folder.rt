@@ -1,0 +1,193 @@
+//! A folder in memory, in which each case runs.
+use crate::kept_file::MemoryFile;
+use osn_folder::{
+    ChangeFailed, Folder, FollowFault, FollowedFile, KeepFault, MoveFault, OpenFailed, SaveFault,
+};
+use osn_lines::{Plain, ended_length};
+use std::alloc::{AllocError, Global};
+use std::collections::BTreeMap;
+use std::io::Cursor;
+
+/// Files by their names. It has no folders: a path with a `/` leads nowhere.
+#[derive(Drop)]
+pub(crate) struct MemoryFolder {
+    alloc: Global,
+    files: BTreeMap<String, Vec<u8>>,
+}
+
+/// The lock of a file in memory, which no one else has.
+#[derive(Drop)]
+pub(crate) struct MemoryLock;
+
+/// Lines that another run appended to a file before this run began.
+#[derive(Drop)]
+pub(crate) struct MemoryFollowed {
+    lines: Vec<u8>,
+}
+
+impl MemoryFolder {
+    /// One with no files.
+    pub(crate) fn new(alloc: Global) -> MemoryFolder {
+        MemoryFolder {
+            alloc,
+            files: BTreeMap::new(alloc),
+        }
+    }
+
+    /// What the file of this name holds, if it is there.
+    pub(crate) fn contents(&self, name: &str) -> Option<&[u8]> {
+        self.files.get(name).map(|contents| contents.as_slice())
+    }
+
+    /// The names of the files, in order.
+    pub(crate) fn names(&self) -> Result<Vec<u8>, AllocError> {
+        let mut names = Vec::new(self.alloc);
+        for (name, _) in self.files.iter() {
+            names.extend_from_slice(name.as_bytes())?;
+            names.push(b'\n')?;
+        }
+        Ok(names)
+    }
+
+    /// Makes a file of this name, which replaces one that is there.
+    pub(crate) fn put(&mut self, name: &str, contents: &[u8]) -> Result<(), AllocError> {
+        let name = String::from_str(self.alloc, name)?;
+        let contents = Vec::from_slice(self.alloc, contents)?;
+        self.files.insert(name, contents)?;
+        Ok(())
+    }
+
+    /// The same at a path that a run names.
+    fn write(&mut self, path: &str, contents: &[u8]) -> Result<(), ChangeFailed> {
+        if path.contains('/') {
+            return Err(ChangeFailed);
+        }
+        self.put(path, contents).map_err(|_| ChangeFailed)
+    }
+}
+
+impl FollowedFile for MemoryFollowed {
+    ghost use Rattle.std.specs.Prelude.{None};
+
+    ghost contents = { λ _. None };
+
+    fn look(&mut self, alloc: Global) -> Result<Vec<u8>, FollowFault> {
+        let ended = &self.lines[..ended_length(&self.lines)];
+        if ended.len() > 1_073_741_824 {
+            return Err(FollowFault::NotRead);
+        }
+        let gained = Vec::from_slice(alloc, ended)?;
+        self.lines.clear();
+        Ok(gained)
+    }
+}
+
+impl Folder for MemoryFolder {
+    type File = Plain<Cursor<Vec<u8>>>;
+
+    type Keeper = MemoryFile;
+
+    type Lock = MemoryLock;
+
+    type Followed = MemoryFollowed;
+
+    ghost use Rattle.std.specs.Prelude.{None};
+
+    ghost known = { λ _. None };
+
+    fn open(&mut self, path: &str) -> Result<Plain<Cursor<Vec<u8>>>, OpenFailed> {
+        let contents = self.contents(path).ok_or(cause_at(path))?;
+        match Vec::from_slice(self.alloc, contents) {
+            Ok(contents) => Ok(Plain::new(Cursor::new(contents))),
+            Err(_) => Err(OpenFailed::Other),
+        }
+    }
+
+    fn keep(&mut self, path: &str) -> Result<(MemoryFile, Plain<Cursor<Vec<u8>>>), KeepFault> {
+        let Ok((kept, contents)) = MemoryFile::of(self.alloc, self.contents(path).unwrap_or(b""))
+        else {
+            return Err(KeepFault::NotOpened);
+        };
+        match self.write(path, &contents) {
+            Ok(()) => Ok((kept, Plain::new(Cursor::new(contents)))),
+            Err(_) => Err(KeepFault::NotOpened),
+        }
+    }
+
+    fn release(&mut self, path: &str, kept: MemoryFile) {
+        let _ = self.write(path, kept.contents());
+    }
+
+    fn follow(&mut self, alloc: Global, path: &str) -> Result<MemoryFollowed, AllocError> {
+        let contents = self.contents(path).unwrap_or(b"");
+        Ok(MemoryFollowed {
+            lines: Vec::from_slice(alloc, contents)?,
+        })
+    }
+
+    fn lock_to_save(&mut self, path: &str) -> Result<MemoryLock, KeepFault> {
+        if path.contains('/') {
+            return Err(KeepFault::NotOpened);
+        }
+        Ok(MemoryLock)
+    }
+
+    fn place(&mut self, alloc: Global, path: &str) -> Result<String, SaveFault> {
+        Ok(String::from_str(alloc, path)?)
+    }
+
+    fn is_stream(&self, _path: &str) -> bool {
+        false
+    }
+
+    fn write_stream(&mut self, path: &str, text: &str) -> Result<(), ChangeFailed> {
+        self.write(path, text.as_bytes())
+    }
+
+    fn write_beside(
+        &mut self,
+        alloc: Global,
+        place: &str,
+        text: &str,
+    ) -> Result<String, SaveFault> {
+        let path = format!(in alloc; "{place}.unfinished")?;
+        self.write(path.as_str(), text.as_bytes())?;
+        Ok(path)
+    }
+
+    fn holds(
+        &mut self,
+        _lock: &MemoryLock,
+        place: &str,
+        bytes: &[u8],
+    ) -> Result<bool, ChangeFailed> {
+        Ok(self.contents(place) == Some(bytes))
+    }
+
+    fn replace(&mut self, _lock: MemoryLock, from: &str, place: &str) -> Result<(), MoveFault> {
+        match self.files.remove(from) {
+            Some(contents) => Ok(self.write(place, &contents)?),
+            None => Err(MoveFault::Failed),
+        }
+    }
+
+    fn sync_name(&mut self, _path: &str) -> Result<(), ChangeFailed> {
+        Ok(())
+    }
+
+    fn remove(&mut self, path: &str) {
+        self.files.remove(path);
+    }
+}
+
+/// Why nothing is opened at a path without a file. In the folder `private` nothing may be read, and
+/// in the folder `broken` the system fails.
+fn cause_at(path: &str) -> OpenFailed {
+    if path.starts_with("private/") {
+        OpenFailed::PermissionDenied
+    } else if path.starts_with("broken/") {
+        OpenFailed::Other
+    } else {
+        OpenFailed::NotFound
+    }
+}
