@@ -30,8 +30,6 @@ mod named;
 #[cfg(test)]
 mod runs;
 #[cfg(test)]
-mod search;
-#[cfg(test)]
 mod spans;
 #[cfg(test)]
 mod tables;

@@ -1,11 +1,10 @@
-//! The slow program of the calendars, a walk along the chain of dates from day 1, and the quick
-//! calls beside it.
+//! The slow program of the Swedish calendar, a walk along the chain of dates from day 1, and the
+//! quick calls beside it.
 ghost use Rattle.osn_days.specs.Profile.{newest_rules};
 ghost use Rattle.osn_days.specs.Line.{IsDay};
 
 use crate::compare::same;
-use osn_days::{Calendar, Date, Day, HIGH};
-use std::process::Abort;
+use osn_days::{Calendar, Date, Day, HIGH, date_of, day_of};
 
 /// The day of a number of the line.
 pub fn day_at(number: u32) -> Day
@@ -14,31 +13,16 @@ pub fn day_at(number: u32) -> Day
     Day::on_line(i64::from(number))
 }
 
-fn is_leap(calendar: Calendar, year: i32) -> bool {
-    let year = year.unsigned_abs();
-    match calendar {
-        Calendar::Julian | Calendar::Swedish => year % 4 == 0,
-        Calendar::Gregorian => year % 4 == 0 && (year % 100 != 0 || year % 400 == 0),
-    }
-}
-
-fn month_length(calendar: Calendar, year: i32, month: u8) -> u8 {
+fn month_length(year: i32, month: u8) -> u8 {
     match month {
-        2 => { if is_leap(calendar, year) { 29 } else { 28 } }
+        2 => { if year.unsigned_abs() % 4 == 0 { 29 } else { 28 } }
         4 | 6 | 9 | 11 => 30,
         _ => 31,
     }
 }
 
 /// The date after a date.
-pub fn next(calendar: Calendar, date: Date) -> Date {
-    match calendar {
-        Calendar::Julian | Calendar::Gregorian => next_by_months(calendar, date),
-        Calendar::Swedish => next_in_sweden(date),
-    }
-}
-
-fn next_in_sweden(date: Date) -> Date {
+fn next(date: Date) -> Date {
     if date == february(1700, 28) {
         march_1(1700)
     } else if date == february(1712, 29) {
@@ -46,7 +30,7 @@ fn next_in_sweden(date: Date) -> Date {
     } else if date == february(1712, 30) {
         march_1(1712)
     } else {
-        next_by_months(Calendar::Julian, date)
+        next_by_months(date)
     }
 }
 
@@ -66,8 +50,8 @@ fn march_1(year: u16) -> Date {
     }
 }
 
-fn next_by_months(calendar: Calendar, date: Date) -> Date {
-    if date.day < month_length(calendar, date.year, date.month) {
+fn next_by_months(date: Date) -> Date {
+    if date.day < month_length(date.year, date.month) {
         return Date {
             year: date.year,
             month: date.month,
@@ -88,83 +72,25 @@ fn next_by_months(calendar: Calendar, date: Date) -> Date {
     }
 }
 
-/// The date of day 1.
-pub fn first_date(calendar: Calendar) -> Date {
-    let day = match calendar {
-        Calendar::Julian | Calendar::Swedish => 3,
-        Calendar::Gregorian => 1,
-    };
-    Date {
+/// Each day of the line has the date that the walk comes to, and is the day of that date.
+#[test]
+fn the_whole_line(rt: HostRuntime) {
+    let mut date = Date {
         year: 1,
         month: 1,
-        day,
-    }
-}
-
-/// The date of a day.
-pub fn date_of(calendar: Calendar, day: Day) -> Date {
-    let mut date = first_date(calendar);
-    for _ in 1..day.number() {
-        date = next(calendar, date);
-    }
-    date
-}
-
-/// The one day that has the date, or `None` where no day of the line has it.
-pub fn day_of(calendar: Calendar, date: Date) -> Option<Day> {
-    let mut here = first_date(calendar);
-    for number in 1..HIGH + 1 {
-        if here == date {
-            return Some(day_at(number));
-        }
-        here = next(calendar, here);
-    }
-    None
-}
-
-/// Checks that each day of the line has the date that the walk comes to, and is the day of that
-/// date.
-fn are_walked(rt: &impl Abort, calendar: Calendar) {
-    let mut date = first_date(calendar);
+        day: 3,
+    };
     for number in 1..HIGH + 1 {
         let day = day_at(number);
-        same(rt, osn_days::date_of(calendar, day), date);
-        same(rt, osn_days::day_of(calendar, date), Some(day));
-        date = next(calendar, date);
-    }
-}
-
-#[test]
-fn the_whole_line_in_the_julian_calendar(rt: HostRuntime) {
-    are_walked(&rt, Calendar::Julian);
-}
-
-#[test]
-fn the_whole_line_in_the_gregorian_calendar(rt: HostRuntime) {
-    are_walked(&rt, Calendar::Gregorian);
-}
-
-#[test]
-fn the_whole_line_in_the_swedish_calendar(rt: HostRuntime) {
-    are_walked(&rt, Calendar::Swedish);
-}
-
-/// The searches themselves, at a few days.
-#[test]
-fn searches_agree(rt: HostRuntime) {
-    for number in [1, 2, 1_155, 145_791, 620_607, 620_617, 625_000, HIGH] {
-        let day = day_at(number);
-        for calendar in [Calendar::Julian, Calendar::Gregorian, Calendar::Swedish] {
-            let date = date_of(calendar, day);
-            same(&rt, osn_days::date_of(calendar, day), date);
-            same(&rt, day_of(calendar, date), Some(day));
-        }
+        same(&rt, date_of(Calendar::Swedish, day), date);
+        same(&rt, day_of(Calendar::Swedish, date), Some(day));
+        date = next(date);
     }
 }
 
 /// Dates that a calendar lacks, or that come before day 1 or after the last day.
 #[test]
-fn searches_find_no_day(rt: HostRuntime) {
+fn other_dates_have_no_day(rt: HostRuntime) {
     for (calendar, year, month, day) in [
         (Calendar::Julian, 0, 1, 1),
         (Calendar::Swedish, i32::MIN, 255, 255),
@@ -173,8 +99,6 @@ fn searches_find_no_day(rt: HostRuntime) {
         (Calendar::Gregorian, 1701, 2, 29),
         (Calendar::Swedish, 1704, 2, 30),
     ] {
-        let date = Date { year, month, day };
-        same(&rt, osn_days::day_of(calendar, date), None);
-        same(&rt, day_of(calendar, date), None);
+        same(&rt, day_of(calendar, Date { year, month, day }), None);
     }
 }

@@ -1,15 +1,13 @@
-//! The commands of the program over memory: the status, the output and the text on standard error.
+//! Commands over streams that fail, completions, and words that are no text.
 use crate::compare::same;
-use crate::memory::MemoryFolder;
 use osn_commands::{run, tell_no_words};
+use osn_folder::Disk;
 use osn_lines::Plain;
 use osn_register::Limits;
 use osn_report::Status;
-use osn_serve_commands::{ServeResult, serve_command};
+use osn_serve_commands::serve_command;
 use osn_service::ServeRules;
-use osn_test_runs::{Left, RunRow, Wanted, are_run, is_left, is_outcome, left_by, left_over, sink};
-use osn_test_texts::joined;
-use std::alloc::Global;
+use osn_test_runs::{is_outcome, left_by, left_over, sink};
 use std::io::{ErrorKind, Read, Write};
 use std::process::Abort;
 use std::rt::Files;
@@ -18,132 +16,7 @@ use std::test::Fail;
 use std::thread::Threads;
 use std::{fs, io};
 
-const RM: &str = r#"{"journal":1}
-{"op":"add_land","code":"RM","name":"Rome","calendar":"julian","style":"january","rule":"julian"}
-{"op":"publish"}
-"#;
-
-const RM_PENDING: &str = r#"{"journal":1}
-{"op":"add_land","code":"RM","name":"Rome","calendar":"julian","style":"january","rule":"julian"}"#;
-
-/// A journal or none, request lines, the outcome that is wanted, and the journal that is saved, if
-/// any.
-type Row = (
-    Option<&'static str>,
-    &'static str,
-    Wanted,
-    Option<&'static str>,
-);
-
-const EMPTY_JOURNAL: &str = "{\"journal\":2}\n";
-
-const RM_SAVED: &str = r#"{"journal":2}
-{"calendar":"julian","code":"RM","name":"Rome","op":"add_land","rule":"julian","style":"january"}
-"#;
-
 const LANDS: &str = "{\"op\":\"lands\",\"reader\":1}\n";
-
-const ROME: &str = "{\"answer\":{\"lands\":[{\"code\":\"RM\",\"name\":\"Rome\"}]},\"edition\":1,
-  \"reader\":1}\n";
-
-const SERVED: [Row; 6] = [
-    (None, "", (0, "", ""), Some(EMPTY_JOURNAL)),
-    (
-        Some(RM),
-        LANDS,
-        (0, ROME, ""),
-        Some(
-            "{\"journal\":2}
-{\"calendar\":\"julian\",\"code\":\"RM\",\"name\":\"Rome\",\"op\":\"add_land\",\"rule\":\"julian\",
-  \"style\":\"january\"}
-{\"op\":\"publish\"}
-",
-        ),
-    ),
-    (Some(RM_PENDING), "", (0, "", ""), Some(RM_SAVED)),
-    (
-        Some(RM_PENDING),
-        "{\"op\":\"publish\"}\n",
-        (0, "{\"edition\":1,\"ok\":\"published\"}\n", ""),
-        Some(
-            "{\"journal\":2}
-{\"calendar\":\"julian\",\"code\":\"RM\",\"name\":\"Rome\",\"op\":\"add_land\",\"rule\":\"julian\",
-  \"style\":\"january\"}
-{\"op\":\"publish\"}
-",
-        ),
-    ),
-    (
-        Some("{\"journal\":3}\n"),
-        LANDS,
-        (1, "", "oldstyle: journal line 1: 37 BadHead\n"),
-        None,
-    ),
-    (
-        Some("{\"journal\":1}\n[]\n"),
-        LANDS,
-        (1, "", "oldstyle: journal line 2: 33 NotObject\n"),
-        None,
-    ),
-];
-
-/// The outcome of the service for request lines after a journal, and the journal that it leaves.
-fn served(alloc: Global, journal: Option<&str>, requests: &str) -> (Left, Option<String>) {
-    let (mut output, mut errors) = (sink(alloc), sink(alloc));
-    let mut input = Plain::new(requests.as_bytes());
-    let mut source = journal.map(|text| Plain::new(text.as_bytes()));
-    let ServeResult {
-        status,
-        journal,
-        ..
-    } = serve_command(
-        alloc,
-        Limits::standard(),
-        &mut source,
-        ServeRules::editing(8),
-        true,
-        &mut input,
-        &mut output,
-        &mut errors,
-    );
-    (left_by(status, output, errors), journal)
-}
-
-/// Checks that the journal that is left is this one.
-fn is_journal(rt: &impl Abort, alloc: Global, text: &str, wanted: &str) -> Result<(), Fail> {
-    same(rt, text, joined(alloc, wanted)?.as_str());
-    Ok(())
-}
-
-/// Checks that this journal is left, or none.
-fn is_saved(
-    rt: &impl Abort,
-    alloc: Global,
-    journal: Option<String>,
-    wanted: Option<&str>,
-) -> Result<(), Fail> {
-    match (journal, wanted) {
-        (Some(text), Some(wanted)) => is_journal(rt, alloc, text.as_str(), wanted),
-        (journal, wanted) => {
-            same(rt, journal.is_some(), wanted.is_some());
-            Ok(())
-        }
-    }
-}
-
-fn are_served(rt: &impl Abort, alloc: Global, rows: &[Row]) -> Result<(), Fail> {
-    for (journal, requests, wanted, saved) in rows {
-        let (left, journal) = served(alloc, *journal, requests);
-        is_left(alloc, left, wanted)?;
-        is_saved(rt, alloc, journal, *saved)?;
-    }
-    Ok(())
-}
-
-#[test]
-fn journals_are_loaded_and_left(rt: HostRuntime) -> Result<(), Fail> {
-    are_served(&rt, rt.alloc(), &SERVED)
-}
 
 /// What fails at each call.
 #[derive(Drop)]
@@ -216,7 +89,7 @@ fn a_follower_whose_input_fails(rt: HostRuntime) -> Result<(), Fail> {
     let (mut output, mut errors) = (sink(alloc), sink(alloc));
     let status = run(
         &rt,
-        &mut MemoryFolder::new(&rt),
+        &mut Disk::new(&rt),
         &["oldstyle", "serve", "--follow", "a.journal"],
         &mut Plain::new(Failing),
         &mut output,
@@ -227,84 +100,24 @@ fn a_follower_whose_input_fails(rt: HostRuntime) -> Result<(), Fail> {
     is_outcome(&left_by(status, output, errors), told)
 }
 
-/// Command lines, and the number of the status of each.
-const LINES: [(&str, u8); 6] = [
-    ("oldstyle", 0),
-    ("oldstyle serve --readers 64", 0),
-    ("oldstyle completions zsh", 0),
-    ("oldstyle completions fish", 0),
-    ("oldstyle replay --readers 0 none", 2),
-    ("oldstyle replay --readers 65 none", 2),
-];
-
-/// Checks that standard error is told something where the status is not 0, and nothing else.
-fn have_status<R: Files<File = fs::File> + Threads + Wait + AllocGlobal + Abort>(
+/// Checks that the completions of these shells are printed.
+fn are_printed<R: Files<File = fs::File> + Threads + Wait + AllocGlobal + Abort>(
     rt: &R,
-    rows: &[(&str, u8)],
+    shells: &[&str],
 ) -> Result<(), Fail> {
-    for (line, status) in rows {
-        let left = left_over(rt, line, "")?;
-        let (code, is_quiet) = (left.status.code(), left.errors.is_empty());
-        same(rt, (line, code, is_quiet), (line, *status, *status == 0));
+    for shell in shells {
+        let line = format!(in rt.alloc(); "oldstyle completions {shell}")?;
+        let left = left_over(rt, line.as_str(), "")?;
+        let ended = (left.status.code(), left.errors.is_empty(), left.written.is_empty());
+        same(rt, (shell, ended), (shell, (0, true, false)));
     }
     Ok(())
 }
 
+/// Those of bash are a case.
 #[test]
-fn words_and_statuses(rt: HostRuntime) -> Result<(), Fail> {
-    have_status(&rt, &LINES)
-}
-
-const FAULTS: [RunRow; 8] = [
-    (
-        "oldstyle read /nowhere/none GB 1752-09-14",
-        "",
-        (3, "", "oldstyle: /nowhere/none: no such file\n"),
-    ),
-    (
-        "oldstyle letters /nowhere/none",
-        "",
-        (3, "", "oldstyle: /nowhere/none: no such file\n"),
-    ),
-    (
-        "oldstyle almanac /nowhere/none GB 1752",
-        "",
-        (3, "", "oldstyle: read fault\n"),
-    ),
-    (
-        "oldstyle replay --readers 1 /nowhere/none",
-        "",
-        (3, "", "oldstyle: read fault\n"),
-    ),
-    (
-        "oldstyle desk /nowhere/none /nowhere/none",
-        "",
-        (3, "", "oldstyle: read fault\n"),
-    ),
-    (
-        "oldstyle audit /nowhere/none /nowhere/none",
-        "",
-        (3, "", "oldstyle: read fault\n"),
-    ),
-    (
-        "oldstyle serve --journal /nowhere/none",
-        "{}\n",
-        (3, "", "oldstyle: read fault\n"),
-    ),
-    (
-        "oldstyle serve --save /nowhere/none",
-        "{\"op\":\"publish\"}\n",
-        (
-            3,
-            "{\"fault\":15,\"name\":\"NothingPending\"}\n",
-            "oldstyle: write fault\n",
-        ),
-    ),
-];
-
-#[test]
-fn faults_of_files(rt: HostRuntime) -> Result<(), Fail> {
-    are_run(&rt, &FAULTS)
+fn words_are_completed(rt: HostRuntime) -> Result<(), Fail> {
+    are_printed(&rt, &["zsh", "fish"])
 }
 
 #[test]

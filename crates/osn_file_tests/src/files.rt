@@ -1,9 +1,8 @@
-//! Runs of the program over real files: it opens those that the words name, in their order, and
-//! what it saves is loaded again. Each test works in a folder of its own.
+//! Runs of the program over real files: what it saves is loaded again, and what a desk answers is
+//! audited. Each test works in a folder of its own.
 use crate::compare::same;
 use osn_test_runs::{
-    ADDED, File, NAMED, NOTED, PUBLISHED, RUNS, RunRow, SAVED, are_run, entered, has_text,
-    left_over,
+    ADDED, File, NOTED, PUBLISHED, RunRow, SAVED, are_run, entered, has_text, left_over,
 };
 use std::fs;
 use std::process::Abort;
@@ -11,14 +10,6 @@ use std::rt::Files;
 use std::sync::Wait;
 use std::test::Fail;
 use std::thread::Threads;
-
-#[test]
-fn the_files_that_the_words_name(rt: HostRuntime) -> Result<(), Fail> {
-    let folder = entered(&rt, "named", &NAMED)?;
-    are_run(&rt, &RUNS)?;
-    fs::remove_dir_all(&rt, folder.as_path())?;
-    Ok(())
-}
 
 const LANDS: &str = "{\"op\":\"lands\",\"reader\":1}\n";
 
@@ -35,9 +26,10 @@ const LISTED: &str = r#"{"answer":{"days":[{"day":577736,"dual":"5 October 1582"
   "weekday":"Friday"}],"listed":true},"edition":2,"reader":1}
 "#;
 
-/// What was added is found where it was saved, and not where it was loaded from. A run that is
-/// refused saves nothing.
-const KEPT: [RunRow; 5] = [
+const HELD: [File; 1] = [("a.journal", PUBLISHED)];
+
+/// What was added is found where it was saved, and not where it was loaded from.
+const KEPT: [RunRow; 4] = [
     (
         "oldstyle serve --journal a.journal --save b.journal",
         ADDED,
@@ -50,11 +42,6 @@ const KEPT: [RunRow; 5] = [
     ),
     ("oldstyle serve --journal a.journal", LANDS, (0, ROME, "")),
     (
-        "oldstyle serve --journal a.questions --save b.journal",
-        LANDS,
-        (1, "", "oldstyle: journal line 1: 37 BadHead\n"),
-    ),
-    (
         "oldstyle serve --journal b.journal --save b.journal",
         LANDS,
         (0, LATER, ""),
@@ -63,7 +50,7 @@ const KEPT: [RunRow; 5] = [
 
 #[test]
 fn what_was_saved_is_loaded(rt: HostRuntime) -> Result<(), Fail> {
-    let folder = entered(&rt, "saved", &NAMED)?;
+    let folder = entered(&rt, "saved", &HELD)?;
     are_run(&rt, &KEPT)?;
     has_text(&rt, "b.journal", SAVED)?;
     fs::remove_dir_all(&rt, folder.as_path())?;

@@ -1,125 +1,23 @@
 //! Runs of the service that follow a journal which another run keeps.
 use crate::compare::same;
 use osn_folder::{Disk, Folder, FollowFault, FollowedFile};
-use osn_test_runs::{File, RunRow, are_run, entered};
+use osn_test_runs::{RunRow, are_run, entered};
 use std::fs;
 use std::test::Fail;
 
 const LANDS: &str = "{\"op\":\"lands\",\"reader\":1}\n";
 
-const NO_LANDS: &str = "{\"answer\":{\"lands\":[]},\"edition\":0,\"reader\":1}\n";
-
-const ROME: &str = r#"{"journal":2}
-{"calendar":"julian","code":"RM","name":"Rome","op":"add_land","rule":"julian","style":"january"}
-{"op":"publish"}
-"#;
-
-const READ: &str = "{\"answer\":{\"lands\":[{\"code\":\"RM\",\"name\":\"Rome\"}]},\"edition\":1,
-  \"reader\":1}\n";
-
-/// Journals whose last edits are not published, or whose publish lacks its line feed.
-const PENDING: &str = r#"{"journal":2}
-{"calendar":"julian","code":"RM","name":"Rome","op":"add_land","rule":"julian","style":"january"}
-"#;
-
-const UNENDED: &str = r#"{"journal":2}
-{"calendar":"julian","code":"RM","name":"Rome","op":"add_land","rule":"julian","style":"january"}
-{"op":"publish"}"#;
-
-const FILES: [File; 5] = [
-    ("rome.journal", ROME),
-    ("pending.journal", PENDING),
-    ("unended.journal", UNENDED),
-    ("headless.journal", "{\"jour"),
-    ("broken.journal", "{\"journal\":2}\n[]\n"),
-];
-
-/// What a file shows, and what no line may change.
-const FOLLOWED: [RunRow; 6] = [
-    ("oldstyle serve --follow rome.journal", LANDS, (0, READ, "")),
-    (
-        "oldstyle serve --follow pending.journal",
-        LANDS,
-        (0, NO_LANDS, ""),
-    ),
-    (
-        "oldstyle serve --follow unended.journal",
-        LANDS,
-        (0, NO_LANDS, ""),
-    ),
-    (
-        "oldstyle serve --follow headless.journal",
-        LANDS,
-        (0, NO_LANDS, ""),
-    ),
-    (
-        "oldstyle serve --follow absent.journal --readers 1",
-        LANDS,
-        (0, NO_LANDS, ""),
-    ),
-    (
-        "oldstyle serve --follow pending.journal",
-        "{\"op\":\"publish\"}\n",
-        (0, "{\"fault\":45,\"name\":\"ReadOnly\"}\n", ""),
-    ),
-];
-
-/// Files and words that end a follower.
-const ENDED: [RunRow; 6] = [
-    (
-        "oldstyle serve --follow broken.journal",
-        LANDS,
-        (1, "", "oldstyle: journal line 2: 33 NotObject\n"),
-    ),
-    (
-        "oldstyle serve --follow rome.journal --limits lands=0",
-        LANDS,
-        (
-            1,
-            "",
-            "oldstyle: journal line 2: 12 TooManyLands (--limits lands=N allows more)\n",
-        ),
-    ),
-    (
-        "oldstyle serve --follow folder",
-        LANDS,
-        (3, "", "oldstyle: read fault\n"),
-    ),
-    (
-        "oldstyle serve --follow rome.journal --stop-at-refusal",
-        "[]\n{\"op\":\"lands\",\"reader\":1}\n",
-        (
-            1,
-            "{\"fault\":33,\"name\":\"NotObject\"}\n",
-            "oldstyle: line 1 is refused, and no line after it was answered\n",
-        ),
-    ),
-    (
-        "oldstyle serve --follow rome.journal --keep a.journal",
-        LANDS,
-        (
-            2,
-            "",
-            "oldstyle: --follow goes with none of --journal, --save and --keep\n",
-        ),
-    ),
-    (
-        "oldstyle serve --follow rome.journal --journal rome.journal",
-        LANDS,
-        (
-            2,
-            "",
-            "oldstyle: --follow goes with none of --journal, --save and --keep\n",
-        ),
-    ),
-];
+const NOTHING: [RunRow; 1] = [(
+    "oldstyle serve --follow folder",
+    LANDS,
+    (3, "", "oldstyle: read fault\n"),
+)];
 
 #[test]
-fn a_follower_answers_from_what_is_published(rt: HostRuntime) -> Result<(), Fail> {
-    let folder = entered(&rt, "followed", &FILES)?;
+fn a_folder_is_not_followed(rt: HostRuntime) -> Result<(), Fail> {
+    let folder = entered(&rt, "followed", &[])?;
     fs::create_dir(&rt, "folder")?;
-    are_run(&rt, &FOLLOWED)?;
-    are_run(&rt, &ENDED)?;
+    are_run(&rt, &NOTHING)?;
     fs::remove_dir_all(&rt, folder.as_path())?;
     Ok(())
 }

@@ -26,8 +26,6 @@ const ADDED: &str = r#"{"op":"lands","reader":1}
 
 const STAGED: &str = "{\"ok\":\"staged\",\"pending\":1}\n{\"edition\":1,\"ok\":\"published\"}\n";
 
-const PUBLISHED: &str = "{\"edition\":1,\"ok\":\"published\"}\n";
-
 const NOTED: &str = r#"{"answer":{"lands":[{"code":"RM","name":"Rome"}]},"edition":1,"reader":1}
 {"ok":"staged","pending":1}
 {"edition":2,"ok":"published"}
@@ -41,38 +39,12 @@ const KEPT: &str = r#"{"journal":2}
 {"op":"publish"}
 "#;
 
-/// A journal whose last line has no line feed.
-const UNENDED: &str = r#"{"journal":2}
-{"calendar":"julian","code":"RM","name":"Rome","op":"add_land","rule":"julian","style":"january"}"#;
-
-/// One whose last line was not finished.
-const TORN: &str = r#"{"journal":2}
-{"calendar":"julian","code":"RM","name":"Rome","op":"add_land","rule":"julian","style":"january"}
-{"op":"publi"#;
-
-/// One with a line that a journal can't have, before a line that was not finished.
-const BROKEN: &str = "{\"journal\":2}\n[]\n{\"op\":\"publi";
-
 const LETTER: &str = "Honoured Sir";
 
-const OLDER: &str = "{\"journal\":1}\n";
+const FILES: [File; 1] = [("rome.journal", KEPT)];
 
-const LATER: &str = "{\"journal\":3}\n";
-
-const FILES: [File; 8] = [
-    ("unended.journal", UNENDED),
-    ("torn.journal", TORN),
-    ("headless.journal", "{\"jour"),
-    ("broken.journal", BROKEN),
-    ("letter.txt", LETTER),
-    ("older.journal", OLDER),
-    ("later.journal", LATER),
-    ("rome.journal", KEPT),
-];
-
-/// A new file, in which each run finds what those before it did. Then a run that is refused a
-/// change, and files whose last line lacks its line feed.
-const KEEPING: [Row; 7] = [
+/// A new file, in which each run finds what those before it did.
+const KEEPING: [Row; 4] = [
     (
         ("oldstyle serve --keep a.journal", LANDS, (0, NO_LANDS, "")),
         "a.journal",
@@ -96,125 +68,6 @@ const KEEPING: [Row; 7] = [
         ),
         "a.journal",
         SAVED,
-    ),
-    (
-        (
-            "oldstyle serve --keep unended.journal",
-            "{\"op\":\"publish\"}\n",
-            (0, PUBLISHED, ""),
-        ),
-        "unended.journal",
-        KEPT,
-    ),
-    (
-        (
-            "oldstyle serve --keep torn.journal",
-            "{\"op\":\"publish\"}\n",
-            (
-                0,
-                PUBLISHED,
-                "oldstyle: journal line 3 was not finished, and is cut off\n",
-            ),
-        ),
-        "torn.journal",
-        KEPT,
-    ),
-    (
-        (
-            "oldstyle serve --keep headless.journal",
-            ROME,
-            (
-                0,
-                STAGED,
-                "oldstyle: journal line 1 was not finished, and is cut off\n",
-            ),
-        ),
-        "headless.journal",
-        KEPT,
-    ),
-];
-
-/// Files that are refused, and words that are. Each file is left as it was.
-const UNKEPT: [Row; 7] = [
-    (
-        (
-            "oldstyle serve --keep broken.journal",
-            ROME,
-            (1, "", "oldstyle: journal line 2: 33 NotObject\n"),
-        ),
-        "broken.journal",
-        BROKEN,
-    ),
-    (
-        (
-            "oldstyle serve --keep letter.txt",
-            ROME,
-            (1, "", "oldstyle: journal line 1: 32 NotJson\n"),
-        ),
-        "letter.txt",
-        LETTER,
-    ),
-    (
-        (
-            "oldstyle serve --keep older.journal",
-            ROME,
-            (
-                1,
-                "",
-                "oldstyle: a journal of version 1 is not kept: serve --keep with --upgrade saves \
-it anew as version 4\n",
-            ),
-        ),
-        "older.journal",
-        OLDER,
-    ),
-    (
-        (
-            "oldstyle serve --keep later.journal",
-            ROME,
-            (1, "", "oldstyle: journal line 1: 37 BadHead\n"),
-        ),
-        "later.journal",
-        LATER,
-    ),
-    (
-        (
-            "oldstyle serve --keep rome.journal --limits lands=0",
-            LANDS,
-            (
-                1,
-                "",
-                "oldstyle: journal line 2: 12 TooManyLands (--limits lands=N allows more)\n",
-            ),
-        ),
-        "rome.journal",
-        KEPT,
-    ),
-    (
-        (
-            "oldstyle serve --keep rome.journal --save a.journal",
-            ADDED,
-            (
-                2,
-                "",
-                "oldstyle: --keep goes with neither --journal nor --save\n",
-            ),
-        ),
-        "rome.journal",
-        KEPT,
-    ),
-    (
-        (
-            "oldstyle serve --journal torn.journal --keep torn.journal",
-            ADDED,
-            (
-                2,
-                "",
-                "oldstyle: --keep goes with neither --journal nor --save\n",
-            ),
-        ),
-        "torn.journal",
-        TORN,
     ),
 ];
 
@@ -241,10 +94,9 @@ fn each_change_is_kept(rt: HostRuntime) -> Result<(), Fail> {
 }
 
 #[test]
-fn what_is_not_kept_is_left_as_it_was(rt: HostRuntime) -> Result<(), Fail> {
+fn no_file_is_kept_in_the_place_of_a_folder(rt: HostRuntime) -> Result<(), Fail> {
     let folder = entered(&rt, "unkept", &FILES)?;
     fs::create_dir(&rt, "folder")?;
-    are_kept(&rt, &UNKEPT)?;
     are_run(&rt, &NOWHERE)?;
     same(&rt, fs::exists(&rt, "a.journal")?, false);
     fs::remove_dir_all(&rt, folder.as_path())?;

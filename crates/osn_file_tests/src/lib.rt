@@ -13,6 +13,4 @@ mod following;
 #[cfg(test)]
 mod keeping;
 #[cfg(test)]
-mod limit_words;
-#[cfg(test)]
-mod refusals;
+mod publishing;

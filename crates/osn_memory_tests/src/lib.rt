@@ -1,14 +1,11 @@
-//! The calls of the libraries below pages and texts that may answer want of memory, with growths of
-//! memory refused in turn: each answers want of memory and has changed nothing, or it answers what
-//! it does where memory is ample.
+//! The calls of a register, an object, the machine of two copies, the running register and the
+//! service that may want memory, with growths of memory refused in turn: each answers that it wants
+//! memory and has changed nothing, or it answers what it does with ample memory. All other calls
+//! are tried by `verify/growths.py`.
 #![tactic(auto)]
 
 #[cfg(test)]
 mod files;
-#[cfg(test)]
-mod followers;
-#[cfg(test)]
-mod lines;
 #[cfg(test)]
 mod live;
 #[cfg(test)]

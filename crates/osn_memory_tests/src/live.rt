@@ -3,7 +3,7 @@ use crate::register_lines::{EDITS, JOURNAL, QUERIES, edit_of, query_of};
 use osn_core::{Command, Reply};
 use osn_files::read_script;
 use osn_lines::Plain;
-use osn_live::{AskFault, Editor, OpenFault, PublishFault, Reader, open};
+use osn_live::{AskFault, Editor, PublishFault, Reader, open};
 use osn_register::{Edit, Limits, Query, Refusal};
 use osn_scarce_memory::{Change, is_sound_change};
 use osn_test_texts::joined;
@@ -84,65 +84,6 @@ fn running_text(alloc: Global, running: &mut Running) -> Result<String, Fail> {
         text.push_str(told(alloc, &mut running.reader, line)?.as_str())?;
     }
     Ok(text)
-}
-
-/// Opens a running register to where one may be.
-#[derive(Drop)]
-struct OpenLive<'a, R> {
-    rt: &'a R,
-}
-
-impl<R: Wait> Change for OpenLive<'_, R> {
-    type On = Option<(Editor, Vec<Reader>)>;
-
-    type Answer = Result<(), OpenFault>;
-
-    fn on(&self, _alloc: Global) -> Result<Option<(Editor, Vec<Reader>)>, Fail> {
-        Ok(None)
-    }
-
-    fn make(
-        &self,
-        alloc: Global,
-        on: &mut Option<(Editor, Vec<Reader>)>,
-    ) -> Option<Result<(), OpenFault>> {
-        match open(self.rt, alloc, Limits::standard(), 2) {
-            Ok(opened) => {
-                if let Some((editor, _readers)) = on.replace(opened) {
-                    editor.close(self.rt);
-                }
-                Some(Ok(()))
-            }
-            Err(OpenFault::NoMemory | OpenFault::NoPlace) => None,
-            Err(fault) => Some(Err(fault)),
-        }
-    }
-
-    fn standing(
-        &self,
-        alloc: Global,
-        on: &mut Option<(Editor, Vec<Reader>)>,
-    ) -> Result<String, Fail> {
-        match on {
-            Some((editor, readers)) => {
-                let counts = (editor.note().edition(), readers.len());
-                Ok(format!(in alloc; "{counts:?}")?)
-            }
-            None => Ok(String::new(alloc)),
-        }
-    }
-
-    fn end(&self, on: Option<(Editor, Vec<Reader>)>) {
-        if let Some((editor, _readers)) = on {
-            editor.close(self.rt);
-        }
-    }
-}
-
-#[test]
-fn a_running_register_is_opened(rt: HostRuntime) -> Result<(), Fail> {
-    let open = OpenLive { rt: &rt };
-    is_sound_change(rt.alloc(), &open)
 }
 
 #[derive(Drop)]

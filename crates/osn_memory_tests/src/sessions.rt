@@ -1,12 +1,9 @@
-//! Sessions of the service, and audits of what it told.
-use crate::files::known;
-use crate::register_lines::{JOURNAL, begun_object, object_text};
-use osn_audit::audit;
+//! Sessions of the service.
+use crate::register_lines::{begun_object, object_text};
 use osn_core::Object;
-use osn_files::FileFault;
 use osn_lines::{Interrupted, Plain};
 use osn_register::Limits;
-use osn_scarce_memory::{Ample, Change, Reading, is_sound_change, is_sound_reading};
+use osn_scarce_memory::{Ample, Change, is_sound_change};
 use osn_service::{ServeFault, serve, serve_from};
 use osn_test_texts::joined;
 use std::alloc::Global;
@@ -41,15 +38,15 @@ no request
 
 /// The replies that a service has written, and to how many lines.
 #[derive(Drop)]
-pub(crate) struct Told {
-    pub(crate) replies: Vec<u8>,
-    pub(crate) lines: u64,
+struct Told {
+    replies: Vec<u8>,
+    lines: u64,
 }
 
 type Served = Result<u64, Interrupted<ServeFault>>;
 
 /// No replies, and room for some.
-pub(crate) fn nothing_told(alloc: Global) -> Result<Told, Fail> {
+fn nothing_told(alloc: Global) -> Result<Told, Fail> {
     Ok(Told {
         replies: Vec::with_capacity(alloc, ROOM)?,
         lines: 0,
@@ -79,7 +76,7 @@ impl Told {
 
     /// Checks that the replies are those to as many lines as were counted, whole, and the first of
     /// these ones.
-    pub(crate) fn are_first(&self, all: &str) -> Result<(), Fail> {
+    fn are_first(&self, all: &str) -> Result<(), Fail> {
         let replies = str::from_utf8(&self.replies)?;
         let is_whole = replies.is_empty() || replies.ends_with('\n');
         if !is_whole || !all.starts_with(replies) {
@@ -197,42 +194,6 @@ fn a_session_goes_on(rt: HostRuntime) -> Result<(), Fail> {
         rt.alloc(),
         &ServeFrom {
             requests: &requests,
-        },
-    )
-}
-
-/// What the service told of a journal.
-const TRANSCRIPT: &str = r#"{"ask":{"op":"lands","reader":1},"reply":{"answer":{"lands":[]},
-  "edition":0,"reader":1}}
-{"ask":{"code":"ZZ","op":"periods","reader":1},"reply":{"edition":1,"fault":3,
-  "name":"UnknownLand","reader":1}}
-"#;
-
-#[derive(Drop)]
-struct Audit<'a> {
-    journal: &'a str,
-    transcript: &'a str,
-}
-
-impl Reading for Audit<'_> {
-    type Answer = Result<u64, FileFault>;
-
-    fn read(&self, alloc: Global) -> Option<Result<u64, FileFault>> {
-        let mut journal = Plain::new(self.journal.as_bytes());
-        let mut transcript = Plain::new(self.transcript.as_bytes());
-        known(audit(alloc, Limits::standard(), &mut journal, &mut transcript))
-    }
-}
-
-#[test]
-fn a_transcript_is_audited(rt: HostRuntime) -> Result<(), Fail> {
-    let journal = joined(rt.alloc(), JOURNAL)?;
-    let transcript = joined(rt.alloc(), TRANSCRIPT)?;
-    is_sound_reading(
-        rt.alloc(),
-        &Audit {
-            journal: &journal,
-            transcript: &transcript,
         },
     )
 }

@@ -1,16 +1,16 @@
-//! The steps of the machine of two copies, and a schedule of them.
+//! The steps of the machine of two copies.
 use crate::register_lines::register_text;
-use osn_core::{Core, Out, Step, replay};
+use osn_core::{Core, Out, Step};
 use osn_files::read_schedule;
 use osn_lines::Plain;
-use osn_register::{Limits, Refusal};
-use osn_scarce_memory::{Change, Reading, is_sound_change, is_sound_reading};
+use osn_register::Limits;
+use osn_scarce_memory::{Change, is_sound_change};
 use osn_test_texts::joined;
 use std::alloc::Global;
 use std::test::Fail;
 
 /// A schedule of one reader.
-pub(crate) const STEPS: &str = r#"{"step":"stage","op":"add_land","code":"RM","name":"Rome",
+const STEPS: &str = r#"{"step":"stage","op":"add_land","code":"RM","name":"Rome",
   "calendar":"julian","style":"january","rule":"julian"}
 {"step":"publish"}
 {"step":"look","op":"periods","reader":1,"code":"RM"}
@@ -91,26 +91,4 @@ fn a_step_is_taken(rt: HostRuntime) -> Result<(), Fail> {
         )?;
     }
     Ok(())
-}
-
-#[derive(Drop)]
-struct Replay<'a> {
-    steps: &'a [Step],
-}
-
-impl Reading for Replay<'_> {
-    type Answer = Result<Vec<Out>, Refusal>;
-
-    fn read(&self, alloc: Global) -> Option<Result<Vec<Out>, Refusal>> {
-        match replay(alloc, Limits::standard(), 1, self.steps) {
-            Err(Refusal::NoMemory) => None,
-            answer => Some(answer),
-        }
-    }
-}
-
-#[test]
-fn a_schedule_is_replayed(rt: HostRuntime) -> Result<(), Fail> {
-    let steps = steps(rt.alloc())?;
-    is_sound_reading(rt.alloc(), &Replay { steps: &steps })
 }

@@ -1,12 +1,8 @@
-//! Tests of the register, of the objects that hold it, of desks, almanacs and audits over their
+//! Tests of the register, of the objects that hold it, of desks and transcripts over their
 //! public calls. What a contract says is not tested again. Here stands each public call once with
 //! ample memory, and values from outside.
 #![tactic(auto)]
 
-#[cfg(test)]
-mod almanac;
-#[cfg(test)]
-mod audits;
 #[cfg(test)]
 mod compare;
 #[cfg(test)]
@@ -29,3 +25,5 @@ mod register_lines;
 mod schedules;
 #[cfg(test)]
 mod takers;
+#[cfg(test)]
+mod transcripts;

@@ -2,13 +2,48 @@
 //! passed on then, and where the object stands.
 use crate::support::compare::same;
 use crate::support::failing::{Course, FailingSink, FailingSource, reads_of};
-use crate::support::streams::{End, READ, WRITTEN, end_of};
 use osn_core::Object;
-use osn_lines::{Sink, Source};
+use osn_lines::{Interrupted, Sink, Source};
 use osn_register::Limits;
-use osn_service::{serve, serve_from};
+use osn_service::{ServeFault, serve, serve_from};
 use std::alloc::Global;
 use std::process::Abort;
+
+/// A session of Rome. Its lines end after 98, 115 and 141 bytes.
+const READ: &str = concat!(
+    r#"{"op":"add_land","code":"RM","name":"Rome","calendar":"julian","#,
+    r#""style":"january","rule":"julian"}
+{"op":"publish"}
+{"op":"lands","reader":1}
+"#
+);
+
+/// What is written for it. The replies end after 28, 59 and 133 bytes.
+const WRITTEN: &str = r#"{"ok":"staged","pending":1}
+{"edition":1,"ok":"published"}
+{"answer":{"lands":[{"code":"RM","name":"Rome"}]},"edition":1,"reader":1}
+"#;
+
+/// How the service ended, with the number of lines that it gave.
+#[derive(Clone, Copy, Debug, PartialEq, Eq)]
+enum End {
+    Answered(u64),
+    NoMemory(u64),
+    ReadFault(u64),
+    WriteFault(u64),
+}
+
+/// How what the service answered ends.
+fn end_of(answered: Result<u64, Interrupted<ServeFault>>) -> End {
+    match answered {
+        Ok(lines) => End::Answered(lines),
+        Err(Interrupted { lines, cause }) => match cause {
+            ServeFault::NoMemory => End::NoMemory(lines),
+            ServeFault::ReadFault => End::ReadFault(lines),
+            ServeFault::WriteFault => End::WriteFault(lines),
+        },
+    }
+}
 
 /// How many bytes are read, or written, at a time at most.
 const STEPS: [usize; 3] = [1, 50, usize::MAX];

@@ -9,5 +9,5 @@ mod runs;
 
 pub use folders::{File, KeptRow, are_kept, entered, has_text};
 pub use outcome::{Left, Wanted, is_left, is_outcome, left_by, sink};
-pub use rome::{ADDED, NAMED, NOTED, PUBLISHED, RUNS, SAVED};
+pub use rome::{ADDED, NOTED, PUBLISHED, SAVED};
 pub use runs::{RunRow, are_run, left_in, left_of, left_over};

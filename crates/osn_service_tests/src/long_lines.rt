@@ -1,44 +1,12 @@
-//! Lines of hostile bytes: long, not UTF-8, and without their line feed.
+//! Lines of 65,536 bytes, and longer ones.
 use crate::support::compare::same;
-use crate::support::session::served;
+use osn_lines::Plain;
 use osn_register::Limits;
+use osn_service::serve;
+use osn_wire::{FileFault, load_journal};
 use std::alloc::{AllocError, Global};
 use std::process::Abort;
 use std::test::Fail;
-
-/// Lines, the first of them after a byte order mark, the last without its line feed.
-const HOSTILE: &[u8] = b"\xef\xbb\xbf[1]\n\n\n\xff\n{\"op\":\"publish\",\"x\":\"\xc3\"}\n\
-{\"op\":\"publish\",\"x\":\"\0\"}\n\0\n[1]\r\n\
-\t{\"op\":\"lands\",\r\"reader\":8,\"x\":0}";
-
-const TOLD: &str = r#"{"fault":32,"name":"NotJson"}
-{"fault":32,"name":"NotJson"}
-{"fault":32,"name":"NotJson"}
-{"fault":32,"name":"NotJson"}
-{"fault":32,"name":"NotJson"}
-{"fault":32,"name":"NotJson"}
-{"fault":32,"name":"NotJson"}
-{"fault":33,"name":"NotObject"}
-{"answer":{"lands":[]},"edition":0,"reader":8}
-"#;
-
-/// Checks that this many lines are told this, by eight readers.
-fn are_told(
-    rt: &impl Abort,
-    alloc: Global,
-    input: &[u8],
-    told: &str,
-    count: u64,
-) -> Result<(), Fail> {
-    let (written, lines) = served(alloc, Limits::standard(), 8, input)?;
-    same(rt, (str::from_utf8(&written)?, lines), (told, count));
-    Ok(())
-}
-
-#[test]
-fn hostile_bytes(rt: HostRuntime) -> Result<(), Fail> {
-    are_told(&rt, rt.alloc(), HOSTILE, TOLD, 9)
-}
 
 /// A query for the territories, of this many bytes, with or without its line feed.
 fn line_of(alloc: Global, length: usize, feeds: bool) -> Result<Vec<u8>, AllocError> {
@@ -68,10 +36,14 @@ fn are_long(
     rows: &[(usize, &str)],
     feeds: bool,
 ) -> Result<(), Fail> {
-    for (length, want) in rows {
+    for (length, wanted) in rows {
         let line = line_of(alloc, *length, feeds)?;
         same(rt, line.trim_ascii_end().len(), *length);
-        are_told(rt, alloc, &line, want, 1)?;
+        let mut sink = Plain::new(Vec::new(alloc));
+        let mut source = Plain::new(line.as_slice());
+        let lines = serve(alloc, Limits::standard(), 8, &mut source, &mut sink)?;
+        let written = sink.into_inner();
+        same(rt, (str::from_utf8(&written)?, lines), (*wanted, 1));
     }
     Ok(())
 }
@@ -80,4 +52,22 @@ fn are_long(
 fn long_lines(rt: HostRuntime) -> Result<(), Fail> {
     are_long(&rt, rt.alloc(), &LONG, true)?;
     are_long(&rt, rt.alloc(), &LONG, false)
+}
+
+/// The line and the number of the fault of a journal with a line of 65,537 bytes after its head.
+fn fault_after(alloc: Global, head: &str) -> Result<(u64, u8), AllocError> {
+    let mut bytes = Vec::from_slice(alloc, head.as_bytes())?;
+    bytes.extend_from_slice(&vec![in alloc; b'x'; 65_537]?)?;
+    match load_journal(alloc, Limits::standard(), &mut Plain::new(bytes.as_slice())) {
+        Err(FileFault::BadLine { line, fault, .. }) => Ok((line, fault.number())),
+        _ => Ok((0, 0)),
+    }
+}
+
+#[test]
+fn long_lines_of_a_journal(rt: HostRuntime) -> Result<(), AllocError> {
+    same(&rt, fault_after(rt.alloc(), "")?, (1, 31));
+    let head = "{\"journal\":1}\n";
+    same(&rt, fault_after(rt.alloc(), head)?, (2, 31));
+    Ok(())
 }
