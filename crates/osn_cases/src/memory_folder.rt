@@ -125,10 +125,7 @@ impl Folder for MemoryFolder {
         })
     }
 
-    fn lock_to_save(&mut self, path: &str) -> Result<MemoryLock, KeepFault> {
-        if path.contains('/') {
-            return Err(KeepFault::NotOpened);
-        }
+    fn lock_to_save(&mut self, _path: &str) -> Result<MemoryLock, KeepFault> {
         Ok(MemoryLock)
     }
 

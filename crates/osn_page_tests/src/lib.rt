@@ -7,11 +7,7 @@ mod compare;
 #[cfg(test)]
 mod journals;
 #[cfg(test)]
-mod letter_dates;
-#[cfg(test)]
 mod letter_reads;
-#[cfg(test)]
-mod letter_remarks;
 #[cfg(test)]
 mod meanings;
 #[cfg(test)]
