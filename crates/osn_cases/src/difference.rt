@@ -1,5 +1,5 @@
 //! Where what a command left differs from what is expected of it.
-ghost use Rattle.std.specs.Prelude.{◌≡◌, IfNone};
+ghost use Rattle.std.specs.Prelude.{◌≡◌, IfNone, IfOk};
 
 use crate::actual::Actual;
 use crate::escapes::shown;
@@ -39,7 +39,9 @@ fn stream_difference(
     expected: &Stream,
     actual: &[u8],
     mark: &str,
-) -> Result<Option<Difference>, AllocError> {
+) -> Result<Option<Difference>, AllocError>
+    ensures { IfOk result (λ found. IfNone found (expected.now.bytes.items ≡ actual.now)) }
+{
     if expected.bytes.as_slice() == actual {
         return Ok(None);
     }
@@ -61,15 +63,25 @@ pub(crate) fn difference_of(
     alloc: Global,
     step: &Step,
     actual: &Actual,
-) -> Result<Option<Difference>, AllocError> {
+) -> Result<Option<Difference>, AllocError>
+    ensures errors { IfOk result (λ found. IfNone found
+        (step.now.expected.errors.bytes.items ≡ actual.now.errors.items)) }
+    ensures output { IfOk result (λ found. IfNone found
+        (step.now.expected.output.bytes.items ≡ actual.now.output.items)) }
+    ensures status { IfOk result (λ found. IfNone found
+        (step.now.expected.status ≡ actual.now.status)) }
+{
     let expected = &step.expected;
-    let of_errors = stream_difference(alloc, step, &expected.errors, &actual.errors, "! ")?;
-    if of_errors.is_some() {
-        return Ok(of_errors);
+    let errors = stream_difference(alloc, step, &expected.errors, &actual.errors, "! ")?;
+    if let Some(difference) = errors {
+        return Ok(Some(difference));
     }
-    let of_output = stream_difference(alloc, step, &expected.output, &actual.output, "")?;
-    if of_output.is_some() || expected.status == actual.status {
-        return Ok(of_output);
+    let output = stream_difference(alloc, step, &expected.output, &actual.output, "")?;
+    if let Some(difference) = output {
+        return Ok(Some(difference));
+    }
+    if expected.status == actual.status {
+        return Ok(None);
     }
     Ok(Some(Difference {
         line: step.line,

@@ -15,8 +15,14 @@ fn print_difference<R: Print>(rt: &R, step: &Step, difference: &Difference) -> i
         print!(rt; " {word}")?;
     }
     println!(rt; "")?;
-    println!(rt; "  line {}: expected: {}", difference.line, difference.expected)?;
-    println!(rt; "  line {}: actual:   {}", difference.line, difference.actual)
+    println!(rt;
+        "  line {}: expected: {}",
+        difference.line, difference.expected
+    )?;
+    println!(rt;
+        "  line {}: actual:   {}",
+        difference.line, difference.actual
+    )
 }
 
 /// Runs a case after the head of its file. Prints each step that differs, and returns whether none

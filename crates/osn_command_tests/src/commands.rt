@@ -1,5 +1,6 @@
 //! Commands over streams that fail, completions, and words that are no text.
-use crate::compare::same;
+use crate::support::compare::same;
+use crate::support::{is_outcome, left_by, left_over, sink};
 use osn_commands::{run, tell_no_words};
 use osn_folder::Disk;
 use osn_lines::Plain;
@@ -7,7 +8,6 @@ use osn_register::Limits;
 use osn_report::Status;
 use osn_serve_commands::serve_command;
 use osn_service::ServeRules;
-use osn_test_runs::{is_outcome, left_by, left_over, sink};
 use std::io::{ErrorKind, Read, Write};
 use std::process::Abort;
 use std::rt::Files;
@@ -108,7 +108,11 @@ fn are_printed<R: Files<File = fs::File> + Threads + Wait + AllocGlobal + Abort>
     for shell in shells {
         let line = format!(in rt.alloc(); "oldstyle completions {shell}")?;
         let left = left_over(rt, line.as_str(), "")?;
-        let ended = (left.status.code(), left.errors.is_empty(), left.written.is_empty());
+        let ended = (
+            left.status.code(),
+            left.errors.is_empty(),
+            left.written.is_empty(),
+        );
         same(rt, (shell, ended), (shell, (0, true, false)));
     }
     Ok(())

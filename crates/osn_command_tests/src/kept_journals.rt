@@ -1,7 +1,7 @@
 //! A journal that is kept while lines are served, in a file in memory.
 ghost use Rattle.std.specs.Prelude.{◌≡◌, Err, IfOk, Some, false};
 
-use crate::compare::same;
+use crate::support::compare::same;
 use osn_core::Object;
 use osn_folder::{ChangeFailed, KeptFile, KeptFileFault};
 use osn_journal::serve_kept;

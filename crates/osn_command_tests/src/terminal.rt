@@ -1,11 +1,11 @@
 //! What a terminal is told: how much was read of a long input, and how many editions were saved
 //! nowhere.
-use crate::compare::same;
+use crate::support::compare::same;
+use crate::support::{ADDED, File, Left, NOTED, PUBLISHED, entered, is_outcome, left_by, sink};
 use osn_commands::run;
 use osn_folder::Disk;
 use osn_lines::{Plain, Progress};
 use osn_report::ReadProgress;
-use osn_test_runs::{ADDED, File, Left, NOTED, PUBLISHED, entered, is_outcome, left_by, sink};
 use std::alloc::Global;
 use std::io::Read;
 use std::process::Abort;
@@ -109,7 +109,11 @@ fn a_terminal_is_told_how_far_a_table_is(rt: HostRuntime) -> Result<(), Fail> {
 
 #[test]
 fn a_terminal_is_told_how_far_a_table_with_places_is(rt: HostRuntime) -> Result<(), Fail> {
-    is_told_of_table(&rt, "places", "oldstyle letters a.journal --places places.csv")
+    is_told_of_table(
+        &rt,
+        "places",
+        "oldstyle letters a.journal --places places.csv",
+    )
 }
 
 const REFUSED: &str = "oldstyle: line 3 is refused, and no line after it was answered\n";

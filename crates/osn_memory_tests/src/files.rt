@@ -1,10 +1,10 @@
 //! The call that loads a journal.
 use crate::register_lines::{JOURNAL, object_text};
+use crate::scarce::{Change, is_sound_change};
 use osn_core::Object;
 use osn_files::{FileFault, load_journal};
 use osn_lines::Plain;
 use osn_register::Limits;
-use osn_scarce_memory::{Change, is_sound_change};
 use osn_test_texts::joined;
 use std::alloc::Global;
 use std::test::Fail;

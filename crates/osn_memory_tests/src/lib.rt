@@ -15,6 +15,8 @@ mod register_lines;
 #[cfg(test)]
 mod registers;
 #[cfg(test)]
+mod scarce;
+#[cfg(test)]
 mod sessions;
 #[cfg(test)]
 mod steps;

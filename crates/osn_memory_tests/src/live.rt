@@ -1,11 +1,11 @@
 //! The calls of the running register.
 use crate::register_lines::{EDITS, JOURNAL, QUERIES, edit_of, query_of};
+use crate::scarce::{Change, is_sound_change};
 use osn_core::{Command, Reply};
 use osn_files::read_script;
 use osn_lines::Plain;
 use osn_live::{AskFault, Editor, PublishFault, Reader, open};
 use osn_register::{Edit, Limits, Query, Refusal};
-use osn_scarce_memory::{Change, is_sound_change};
 use osn_test_texts::joined;
 use std::alloc::Global;
 use std::sync::Wait;

@@ -1,8 +1,8 @@
 //! The calls of the object that a register and its editions are in.
 use crate::register_lines::{EDITS, QUERIES, begun_object, edit_of, object_text, query_of};
+use crate::scarce::{Change, Reading, is_sound_change, is_sound_reading};
 use osn_core::{Object, Reply};
 use osn_register::{Edit, Limits, Query, Refusal};
-use osn_scarce_memory::{Change, Reading, is_sound_change, is_sound_reading};
 use std::alloc::Global;
 use std::test::Fail;
 

@@ -1,7 +1,7 @@
 //! The call that applies an edit to a register.
 use crate::register_lines::{EDITS, begun_register, edit_of, register_text};
+use crate::scarce::{Change, is_sound_change};
 use osn_register::{Edit, Refusal, Register};
-use osn_scarce_memory::{Change, is_sound_change};
 use std::alloc::Global;
 use std::test::Fail;
 

@@ -1,9 +1,9 @@
 //! Sessions of the service.
 use crate::register_lines::{begun_object, object_text};
+use crate::scarce::{Ample, Change, is_sound_change};
 use osn_core::Object;
 use osn_lines::{Interrupted, Plain};
 use osn_register::Limits;
-use osn_scarce_memory::{Ample, Change, is_sound_change};
 use osn_service::{ServeFault, serve, serve_from};
 use osn_test_texts::joined;
 use std::alloc::Global;

@@ -1,10 +1,10 @@
 //! The steps of the machine of two copies.
 use crate::register_lines::register_text;
+use crate::scarce::{Change, is_sound_change};
 use osn_core::{Core, Out, Step};
 use osn_files::read_schedule;
 use osn_lines::Plain;
 use osn_register::Limits;
-use osn_scarce_memory::{Change, is_sound_change};
 use osn_test_texts::joined;
 use std::alloc::Global;
 use std::test::Fail;

@@ -1,5 +1,5 @@
 //! Calls that go wrong where memory is scarce, each of which is found out.
-use osn_scarce_memory::{Change, is_sound_change};
+use crate::scarce::{Change, is_sound_change};
 use std::alloc::Global;
 use std::process::{Abort, ExitCode, Termination};
 use std::test::Fail;

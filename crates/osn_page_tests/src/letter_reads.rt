@@ -62,7 +62,15 @@ fn end_of(alloc: Global, table: &str) -> Result<(Result<Tally, LettersFault>, Re
     let mut reads = Reads { reads: 0, bytes: 0 };
     let register = object.register();
     let settings = BY_HEADER;
-    let ended = write_letters(alloc, register, 2, settings, &mut input, &mut output, &mut reads);
+    let ended = write_letters(
+        alloc,
+        register,
+        2,
+        settings,
+        &mut input,
+        &mut output,
+        &mut reads,
+    );
     Ok((ended, reads))
 }
 

@@ -1,5 +1,5 @@
 //! Folders of the system for tests, their files, and what these hold after a run.
-use crate::runs::{RunRow, are_run};
+use crate::support::runs::{RunRow, are_run};
 use osn_test_texts::{is_text, joined};
 use std::path::PathBuf;
 use std::rt::Files;

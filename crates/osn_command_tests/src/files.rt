@@ -1,7 +1,7 @@
 //! Runs of the program over real files: what it saves is loaded again, and what a desk answers is
 //! audited. Each test works in a folder of its own.
-use crate::compare::same;
-use osn_test_runs::{
+use crate::support::compare::same;
+use crate::support::{
     ADDED, File, NOTED, PUBLISHED, RunRow, SAVED, are_run, entered, has_text, left_over,
 };
 use std::fs;

@@ -1,8 +1,8 @@
 //! Runs of the service that keep their journal in a file: what the file holds then, and what is not
 //! kept. Each test works in a folder of its own.
-use crate::compare::same;
+use crate::support::compare::same;
+use crate::support::{File, KeptRow as Row, RunRow, SAVED, are_kept, are_run, entered};
 use osn_folder::{Disk, Folder, KeptFile, KeptFileFault, SaveFault, save_file};
-use osn_test_runs::{File, KeptRow as Row, RunRow, SAVED, are_kept, are_run, entered};
 use std::fs;
 use std::process::Abort;
 use std::rt::Files;

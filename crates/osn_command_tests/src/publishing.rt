@@ -1,6 +1,6 @@
 //! A publish of a text while another run keeps the journal.
+use crate::support::{File, PUBLISHED, RunRow, are_run, entered};
 use osn_folder::{Disk, Folder};
-use osn_test_runs::{File, PUBLISHED, RunRow, are_run, entered};
 use std::fs;
 use std::test::Fail;
 

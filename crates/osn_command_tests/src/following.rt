@@ -1,7 +1,7 @@
 //! Runs of the service that follow a journal which another run keeps.
-use crate::compare::same;
+use crate::support::compare::same;
+use crate::support::{RunRow, are_run, entered};
 use osn_folder::{Disk, Folder, FollowFault, FollowedFile};
-use osn_test_runs::{RunRow, are_run, entered};
 use std::fs;
 use std::test::Fail;
 

@@ -1,11 +1,11 @@
 //! How the program reads and writes files: what is saved where, and what stands there where it
 //! can't be. Also what a terminal is told. Each test works in a folder of its own.
-use crate::compare::same;
+use crate::support::compare::same;
+use crate::support::{File, RunRow, are_run, entered, has_text, left_by, left_over, sink};
 use osn_commands::run;
 use osn_folder::Disk;
 use osn_lines::Plain;
 use osn_report::Status;
-use osn_test_runs::{File, RunRow, are_run, entered, has_text, left_by, left_over, sink};
 use osn_test_texts::joined;
 use std::fs;
 use std::fs::Permissions;

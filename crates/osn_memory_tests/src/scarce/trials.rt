@@ -1,6 +1,6 @@
 //! Calls where memory is scarce, compared with the same calls where it is ample.
-use crate::change::Change;
-use crate::scarce_memory::ScarceMemory;
+use crate::scarce::change::Change;
+use crate::scarce::scarce_memory::ScarceMemory;
 use osn_test_texts::is_text;
 use std::alloc::Global;
 use std::test::Fail;

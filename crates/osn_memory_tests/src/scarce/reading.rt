@@ -1,6 +1,6 @@
 //! A call that changes nothing.
-use crate::change::Change;
-use crate::trials::is_sound_change;
+use crate::scarce::change::Change;
+use crate::scarce::trials::is_sound_change;
 use std::alloc::Global;
 use std::fmt::Debug;
 use std::test::Fail;

@@ -1,5 +1,5 @@
 //! A call that may change what it is made on.
-use crate::trials::Ample;
+use crate::scarce::trials::Ample;
 use osn_test_texts::is_text;
 use std::alloc::Global;
 use std::fmt::Debug;
