@@ -81,7 +81,11 @@ pub record IsDay (y m d : ℕ) : Type 0 where
   pub day_high : nat_le d 31 ≡ true
 
 abbrev day : ℕ → ℕ → ℕ → SimpleDate
-day y m d = date.Day (record { first = y; is_double = false }) m d
+day y m d = date.Day (record {
+  first = y;
+  is_double = false;
+  has_three_digits = false;
+}) m d
 
 on_read : (o : DateOrder) (y m d : ℕ) → IsDay y m d
     → extent_of o (parts_of y m d) ≡ Ok (extent.On (day y m d))
@@ -236,15 +240,15 @@ digits_law o a b approximate uncertain first last =
     let v = unsigned_abs b.year in
     record {
       day = text_read o (extent.On (day y a.month a.day))
-          (day_says y a.month a.day approximate uncertain x) refl
+          (day_says y a.month a.day approximate uncertain x) refl refl
           (on_read o y a.month a.day x.is);
       range = text_read o (extent.FromTo (day y a.month a.day) (day v b.month b.day))
-          (range_says y a.month a.day v b.month b.day approximate uncertain x z) refl
+          (range_says y a.month a.day v b.month b.day approximate uncertain x z) refl refl
           (range_read o y a.month a.day v b.month b.day x.is z.is);
       not_after = text_read o (extent.NotAfter (day v b.month b.day))
-          (not_after_says v b.month b.day approximate uncertain z) refl
+          (not_after_says v b.month b.day approximate uncertain z) refl refl
           (not_after_read o v b.month b.day z.is);
       not_before = text_read o (extent.NotBefore (day y a.month a.day))
-          (not_before_says y a.month a.day approximate uncertain x) refl
+          (not_before_says y a.month a.day approximate uncertain x) refl refl
           (not_before_read o y a.month a.day x.is);
     }

@@ -30,6 +30,7 @@ months_known = record {
   portuguese_without_accents = refl;
   genitive_with_x = refl;
   german_other = refl;
+  german_other_without_accents = refl;
   dutch = refl;
   dutch_short = refl;
   italian = refl;

@@ -1,5 +1,5 @@
 -- What the parts of a text say of a date, part by part from the last one.
-use Rattle.std.proofs.Common.{◌≡◌, ℕ, Bool, true, false, ◌||◌, cond, List, [], ◌∷◌, ◌++◌, filter}
+use Rattle.std.proofs.Common.{◌≡◌, ℕ, Bool, true, false, ◌&&◌, ◌||◌, cond, List, [], ◌∷◌, ◌++◌, filter}
 use Rattle.std.proofs.Common.{Option, Some, None, Result, Ok, Err, refl, ap, ◌∙◌, length, arith}
 use Rattle.std.proofs.lemmas.Bool.{ne_eqb}
 use Rattle.std.specs.List.{list_any}
@@ -12,12 +12,12 @@ use Rattle.osn_grammar.specs.declared.written.DateOrder.{DateOrder}
 use Rattle.osn_grammar.specs.declared.written.Extent.{Extent}
 use Rattle.osn_grammar.specs.declared.written.Reckoning.{Reckoning}
 use Rattle.osn_grammar.specs.declared.written.Written.TheVariants as say
-use Rattle.osn_grammar.specs.Extent.{extent_of}
+use Rattle.osn_grammar.specs.Extent.{extent_of, has_three_digits}
 use Rattle.osn_grammar.specs.Parts.{tells_time}
 use Rattle.osn_grammar.specs.Reading.{written, reading_of_parts, weekday_after, with_weekday}
 use Rattle.osn_grammar.specs.Reading.{reckoning_after, with_reckoning, is_about, is_doubt}
-use Rattle.osn_grammar.specs.Reading.{is_bracket, is_feast, is_roman_numeral, is_undated, members}
-use Rattle.osn_grammar.specs.Reading.{or_set}
+use Rattle.osn_grammar.specs.Reading.{is_bracket, is_feast, is_open_year, is_roman_numeral}
+use Rattle.osn_grammar.specs.Reading.{is_undated, or_set, set_in}
 use Rattle.osn_grammar.specs.Simple.{◌>>=◌}
 use Rattle.osn_grammar.proofs.TextFacts.{Scans, parts_scanned}
 
@@ -38,6 +38,7 @@ pub record Say (parts told : List Part) (w : Option Weekday) (r : Option Reckoni
   pub bracket : list_any is_bracket parts ≡ s
   pub feast : list_any is_feast parts ≡ false
   pub roman : list_any is_roman_numeral parts ≡ false
+  pub open : list_any is_open_year parts ≡ false
   pub timed : filter tells_time parts ≡ told
 
 nothing_later : {X : Type 0} (found : Option X) → Ok found ≡ with_later found None
@@ -57,6 +58,7 @@ nothing_says = record {
   bracket = refl;
   feast = refl;
   roman = refl;
+  open = refl;
   timed = refl;
 }
 
@@ -68,6 +70,7 @@ is_plain (part.Weekday w) = false
 is_plain (part.Reckoning r) = false
 is_plain part.Feast = false
 is_plain part.RomanNumeral = false
+is_plain part.OpenYear = false
 is_plain _ = true
 
 weekday_stays : (found : Option Weekday) (p : Part) → is_plain p ≡ true
@@ -92,6 +95,10 @@ no_roman : (p : Part) → is_plain p ≡ true → is_roman_numeral p ≡ false
 no_roman part.RomanNumeral plain = absurd (cc)
 no_roman p plain = refl
 
+no_open : (p : Part) → is_plain p ≡ true → is_open_year p ≡ false
+no_open part.OpenYear plain = absurd (cc)
+no_open p plain = refl
+
 pub part_adds : {ps ts : List Part} {w : Option Weekday} {r : Option Reckoning} {a u s : Bool}
     (p : Part) → is_plain p ≡ true → Say ps ts w r a u s
     → Say (p ∷ ps) (cond (tells_time p) (p ∷ ts) ts) w r (is_about p || a) (is_doubt p || u)
@@ -106,6 +113,7 @@ part_adds {ps} p plain rest_says = record {
   bracket = ap (λ b. is_bracket p || b) rest_says.bracket;
   feast = rw (no_feast p plain) rest_says.feast;
   roman = rw (no_roman p plain) rest_says.roman;
+  open = rw (no_open p plain) rest_says.open;
   timed = ap (λ ts. cond (tells_time p) (p ∷ ts) ts) rest_says.timed;
 }
 
@@ -136,6 +144,7 @@ weekday_adds {ps} v rest_says = record {
   bracket = rest_says.bracket;
   feast = rest_says.feast;
   roman = rest_says.roman;
+  open = rest_says.open;
   timed = rest_says.timed;
 }
 
@@ -156,6 +165,7 @@ reckoning_adds {ps} v rest_says = record {
   bracket = rest_says.bracket;
   feast = rest_says.feast;
   roman = rest_says.roman;
+  open = rest_says.open;
   timed = rest_says.timed;
 }
 
@@ -169,7 +179,7 @@ Adds ps =
 
 parts_read : {ts : List Part} {w : Option Weekday} {r : Option Reckoning} {a u s : Bool}
     (ps : List Part) (o : DateOrder) (e : Extent) → Say ps ts w r a u s → is_undated ts ≡ false
-    → extent_of o ts ≡ Ok e
+    → (has_three_digits e && (u || s)) ≡ false → extent_of o ts ≡ Ok e
     → reading_of_parts o ps (filter tells_time ps) ≡ Ok (say.Date (record {
       extent = e;
       weekday = w;
@@ -178,15 +188,16 @@ parts_read : {ts : List Part} {w : Option Weekday} {r : Option Reckoning} {a u s
       is_uncertain = u;
       is_supplied = s;
     }))
-parts_read {ts} [] o e read dated is =
+parts_read {ts} [] o e read dated whole is =
     let none : Err faults.Malformed ≡ Ok e = ap (extent_of o) read.timed ∙ is in absurd (cc)
-parts_read {ts} {w} {r} (p ∷ ps) o e read dated is =
+parts_read {ts} {w} {r} (p ∷ ps) o e read dated whole is =
     rw (
       ne_eqb (length (p ∷ ps)) 0 (λ none. omega (arith, none)),
       read.timed,
       dated,
       read.feast,
       read.roman,
+      read.open,
       read.weekday None,
       read.reckoning None,
       none_before w,
@@ -195,6 +206,7 @@ parts_read {ts} {w} {r} (p ∷ ps) o e read dated is =
       read.about,
       read.doubt,
       read.bracket,
+      whole,
     ) refl
 
 -- ---- a text
@@ -209,7 +221,7 @@ pub record TextSays (text : List ℕ) (timed : List Part) (w : Option Weekday) (
 -- such a text is read as the date
 pub text_read : {text : List ℕ} {ts : List Part} {w : Option Weekday} {r : Option Reckoning}
     {a u s : Bool} (o : DateOrder) (e : Extent) → TextSays text ts w r a u s → is_undated ts ≡ false
-    → extent_of o ts ≡ Ok e
+    → (has_three_digits e && (u || s)) ≡ false → extent_of o ts ≡ Ok e
     → written o text ≡ Ok (say.Date (record {
       extent = e;
       weekday = w;
@@ -218,7 +230,7 @@ pub text_read : {text : List ℕ} {ts : List Part} {w : Option Weekday} {r : Opt
       is_uncertain = u;
       is_supplied = s;
     }))
-text_read {text} o e scanned dated is =
-    ap (λ ps. or_set (members text) (reading_of_parts o ps (filter tells_time ps)))
+text_read {text} o e scanned dated whole is =
+    ap (λ ps. or_set (set_in text) (reading_of_parts o ps (filter tells_time ps)))
     (parts_scanned scanned.scans)
-    ∙ ap (or_set (members text)) (parts_read scanned.parts o e scanned.says dated is)
+    ∙ ap (or_set (set_in text)) (parts_read scanned.parts o e scanned.says dated whole is)

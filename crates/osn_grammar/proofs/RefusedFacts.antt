@@ -1,5 +1,5 @@
 -- Several days in digits are refused by every other form than that of a set.
-use Rattle.std.proofs.Common.{◌≡◌, ℕ, ◌+◌, not, true, false}
+use Rattle.std.proofs.Common.{◌≡◌, ℕ, ◌+◌, not, Bool, true, false, if◌then◌else◌}
 use Rattle.std.proofs.Common.{List, [], ◌∷◌}
 use Rattle.std.proofs.Common.{◌++◌, length, filter, unsigned_abs, Option, Some, None}
 use Rattle.std.proofs.Common.{Result, Ok, Err, is_err, refl, ap, arith}
@@ -13,16 +13,20 @@ use Rattle.osn_grammar.specs.declared.written.DateFault.{DateFault}
 use Rattle.osn_grammar.specs.declared.written.DateFault.TheVariants as faults
 use Rattle.osn_grammar.specs.declared.written.DateOrder.{DateOrder}
 use Rattle.osn_grammar.specs.declared.written.Extent.{Extent}
+use Rattle.osn_grammar.specs.declared.written.Extent.TheVariants as extent
 use Rattle.osn_grammar.specs.declared.written.Reckoning.{Reckoning}
+use Rattle.osn_grammar.specs.declared.written.SimpleDate.{SimpleDate}
 use Rattle.osn_grammar.specs.declared.written.Written.{Written}
 use Rattle.osn_grammar.specs.declared.written.Written.TheVariants as say
 use Rattle.osn_grammar.specs.declared.written.WrittenDate.{WrittenDate}
+use Rattle.osn_grammar.specs.declared.extent.Beginning.{Beginning}
 use Rattle.osn_grammar.specs.declared.extent.Joining.TheVariants as joins
-use Rattle.osn_grammar.specs.Extent.{extent_of, first_read, range, range_after}
+use Rattle.osn_grammar.specs.Extent.{beginning_of, extent_of, first_date, first_read, range}
+use Rattle.osn_grammar.specs.Extent.{range_after, range_of}
 use Rattle.osn_grammar.specs.InDigits.{sign, signed}
 use Rattle.osn_grammar.specs.Parts.{tells_time}
 use Rattle.osn_grammar.specs.Reading.{date_of, date_unless, is_undated}
-use Rattle.osn_grammar.specs.Reading.{reading_of_parts, unread}
+use Rattle.osn_grammar.specs.Reading.{or_open, reading_of_parts, unless_open, unread}
 use Rattle.osn_grammar.specs.Reading.{is_about}
 use Rattle.osn_grammar.specs.Reading.{is_doubt, is_bracket, weekday_after, reckoning_after}
 use Rattle.osn_grammar.specs.SetsInDigits.{Days}
@@ -41,6 +45,15 @@ both_err (Ok e) b first other = absurd (cc)
 both_err (Err f) (Ok e) first other = absurd (cc)
 both_err (Err faults.Malformed) (Err g) first other = refl
 both_err (Err f) (Err g) first other = refl
+
+-- a range is refused whose last date is
+range_refused : (none : Bool) (whole : Result SimpleDate DateFault) (beginning : Beginning)
+    (last : Result SimpleDate DateFault) → is_err last ≡ true
+    → is_err (if none then Err faults.Malformed else range_of whole beginning last) ≡ true
+range_refused true whole beginning last wrong = refl
+range_refused false whole beginning last wrong =
+    bind_err last (λ end. first_date whole beginning end >>= (λ start.
+    Ok (extent.FromTo start end))) wrong
 
 -- after a month and a day these parts are no date, nor a range
 record AreNoDate (more : List Part) : Type 0 where
@@ -79,10 +92,12 @@ day_refused {more} y m d none o before =
     both_err (Err faults.Malformed)
     (first_read (range o at_month (month ∷ Dash ∷ day ∷ more)) months) refl
     (both_err (range o at_month (month ∷ Dash ∷ day ∷ more)) months
-    (bind_err (simple_date o (month ∷ Dash ∷ day ∷ more)) _ (none.month o m d))
+    (range_refused _ (simple_date o at_month) (beginning_of at_month)
+    (simple_date o (month ∷ Dash ∷ day ∷ more)) (none.month o m d))
     (both_err (Err faults.Malformed) days refl
     (both_err (range o after_month (day ∷ more)) last
-    (bind_err (simple_date o (day ∷ more)) _ (none.day o d))
+    (range_refused _ (simple_date o after_month) (beginning_of after_month)
+    (simple_date o (day ∷ more)) (none.day o d))
     (both_err (Err faults.Malformed) end refl (none.range o at_end)))))
 
 -- the parts of days that tell the time, one after another
@@ -134,20 +149,27 @@ date_refused (Ok w) (Err fault) extent f wrong = refl
 date_refused (Ok w) (Ok r) (Err fault) f wrong = refl
 date_refused (Ok w) (Ok r) (Ok e) f wrong = absurd (cc)
 
+open_refused : (ts : List Part) (date : Result WrittenDate DateFault) → is_err date ≡ true
+    → is_err (or_open ts date) ≡ true
+open_refused ts (Ok w) wrong = absurd (cc)
+open_refused ts (Err faults.Malformed) wrong = refl
+open_refused ts (Err fault) wrong = refl
+
 unless_refused : (o : DateOrder) (parts ts : List Part) (fault : Option DateFault)
     → is_err (extent_of o ts) ≡ true → is_err (date_unless o parts ts fault) ≡ true
 unless_refused o parts ts (Some fault) wrong = refl
 unless_refused o parts ts None wrong =
-    bind_err (date_of o parts ts) (λ w. Ok (say.Date w))
+    bind_err (or_open ts (date_of o parts ts)) (λ w. Ok (say.Date w))
+    (open_refused ts (date_of o parts ts)
     (date_refused (weekday_after None parts) (reckoning_after None parts) (extent_of o ts)
-    (λ w r e. Ok (record {
+    (λ w r e. unless_open (record {
       extent = e;
       weekday = w;
       reckoning = r;
       is_approximate = list_any is_about parts;
       is_uncertain = list_any is_doubt parts;
       is_supplied = list_any is_bracket parts;
-    })) wrong)
+    })) wrong))
 
 pub said_refused : (o : DateOrder) (p : Part) (ps ts : List Part) → filter tells_time (p ∷ ps) ≡ ts
     → is_undated ts ≡ false → is_err (extent_of o ts) ≡ true

@@ -5,10 +5,10 @@ use Rattle.std.proofs.Common.{refl, ap, ◌∙◌, sym, arith, append_assoc, dro
 use Rattle.std.proofs.Math.Seq.{take-length}
 use Rattle.std.proofs.lemmas.List.{length-drop}
 use Rattle.osn_grammar.specs.declared.part.Part.{Part}
-use Rattle.osn_grammar.specs.Scan.{parts_after, parts_ended, word_after, first_of}
+use Rattle.osn_grammar.specs.Scan.{parts_after, parts_ended, word_after}
 
 one_before : (rest : List ℕ) (c : ℕ) (before now : List Part) (word word_now : List ℕ)
-    → now ≡ before ++ parts_ended word c rest → word_now ≡ word_after word c (first_of rest)
+    → now ≡ before ++ parts_ended word c rest → word_now ≡ word_after word c rest
     → now ++ parts_after word_now rest ≡ before ++ parts_after word (c ∷ rest)
 one_before rest c before now word word_now ended word_is =
     ap (λ p. p ++ parts_after word_now rest) ended
@@ -30,7 +30,7 @@ slice_left s j = ap (λ n. take n (drop j s)) (sym (length-drop j s)) ∙ take-l
 pub one_taken : {T E : Type 0} (r : Result T E) (s rest : List ℕ) (k c : ℕ)
     (before now : List Part) (word word_now : List ℕ) → k < length s → c ≡ get_or s k c
     → rest ≡ drop (k + 1) s → OnOk r (now ≡ before ++ parts_ended word c rest)
-    → OnOk r (word_now ≡ word_after word c (first_of rest))
+    → OnOk r (word_now ≡ word_after word c rest)
     → OnOk r (now ++ parts_after word_now (drop (k + 1) s) ≡ before ++ parts_after word (drop k s))
 one_taken (Ok x) s rest k c before now word word_now low is ahead ended word_is =
     ap (λ left. now ++ parts_after word_now left) (sym ahead)

@@ -1,9 +1,11 @@
 -- What stands inside the brackets of a set, in the words of the calls that find it.
 use Rattle.std.proofs.Common.{◌≡◌, ℕ, List, [], ◌∷◌, ◌++◌, Option, Some, None, Bor, MatchOption}
+use Rattle.std.proofs.Common.{Result, Ok, Err}
 use Rattle.std.proofs.Common.{option_map, refl, ap, ◌∙◌, sym, append_assoc}
-use Rattle.std.specs.Option.{option_and_then}
 use Rattle.std.proofs.lemmas.Bool.{ne_eqb}
+use Rattle.osn_grammar.specs.declared.written.DateFault.{DateFault}
 use Rattle.osn_grammar.specs.declared.written.WrittenDate.{WrittenDate}
+use Rattle.osn_grammar.specs.Simple.{◌>>=◌}
 use Rattle.osn_grammar.specs.Sets.{without_first, without_last}
 
 -- ---- brackets
@@ -44,10 +46,9 @@ last_stripped bs (Some x) found = sym (ap (without_last 93) found ∙ last_witho
 -- ---- members
 
 -- one member more
-pub member_added : (front : List WrittenDate) (w : WrittenDate) (found : Option WrittenDate)
-    (rest : Option (List WrittenDate)) → found ≡ Some w
-    → option_map (λ ws. front ++ ws) (option_and_then (λ v. option_map (λ ws. v ∷ ws) rest) found)
-    ≡ option_map (λ ws. (front ++ w ∷ []) ++ ws) rest
-member_added front w found None is = rw is refl
-member_added front w found (Some ws) is =
-    rw is (ap Some (sym (append_assoc front (w ∷ []) ws)))
+pub member_added : (front : List WrittenDate) (w : WrittenDate) (found : Result WrittenDate DateFault)
+    (rest : Result (List WrittenDate) DateFault) → found ≡ Ok w
+    → ((found >>= (λ v. rest >>= (λ ws. Ok (v ∷ ws)))) >>= (λ ws. Ok (front ++ ws)))
+    ≡ (rest >>= (λ ws. Ok ((front ++ w ∷ []) ++ ws)))
+member_added front w found (Err fault) is = rw is refl
+member_added front w found (Ok ws) is = rw is (ap Ok (sym (append_assoc front (w ∷ []) ws)))

@@ -1,15 +1,15 @@
 -- Sets of dates in digits are read as the sets of these dates.
-use Rattle.std.proofs.Common.{◌≡◌, ℕ, ◌+◌, ◌/◌, ◌^◌, ◌<◌, ◌≤◌, ◌&&◌, ◌==◌, not, Bool, true, false}
-use Rattle.std.proofs.Common.{List, [], ◌∷◌, if◌then◌else◌, subst₂}
+use Rattle.std.proofs.Common.{◌≡◌, ℕ, ◌+◌, ◌/◌, ◌^◌, ◌<◌, ◌≤◌, ◌==◌, not, Bool, true, false}
+use Rattle.std.proofs.Common.{List, [], ◌∷◌, subst₂}
 use Rattle.std.proofs.Common.{◌++◌, codes, filter, map, unsigned_abs, Some, None}
-use Rattle.std.proofs.Common.{option_map, Result, Ok, Err, is_err, refl, ap, ◌∙◌, sym, subst, arith}
+use Rattle.std.proofs.Common.{Result, Ok, Err, is_err, refl, ap, ◌∙◌, sym, subst, arith}
 use Rattle.std.proofs.Common.{append_assoc, append-nil}
 use Rattle.std.proofs.lemmas.Bool.{ne_eqb}
 use Rattle.std.proofs.lemmas.List.Elements.{All-nil, All-cons, All-head, All-tail, All-append}
 use Rattle.std.proofs.lemmas.List.Elements.{filter-append}
 use Rattle.std.proofs.lemmas.List.Splits.{slice_split_at, slice_split_none}
 use Rattle.std.specs.List.{All, join_by}
-use Rattle.std.specs.Option.{option_and_then, option_to_list, unwrap_or}
+use Rattle.std.specs.Option.{option_to_list, unwrap_or}
 use Rattle.std.specs.Result.{result_ok}
 use Rattle.std.specs.Str.{all_ascii_digits}
 use Rattle.std.proofs.lemmas.Str.Parse.{tells_all_ascii_digits}
@@ -28,10 +28,9 @@ use Rattle.osn_grammar.specs.declared.extent.Joining.TheVariants as joins
 use Rattle.osn_grammar.specs.Extent.{extent_of, range}
 use Rattle.osn_grammar.specs.InDigits.{HasFourDigits, sign, signed}
 use Rattle.osn_grammar.specs.Parts.{tells_time}
-use Rattle.osn_grammar.specs.Reading.{all_members, member_in}
-use Rattle.osn_grammar.specs.Reading.{member_of, members, or_set, reading_of_parts}
-use Rattle.osn_grammar.specs.Reading.{with_signs}
-use Rattle.osn_grammar.specs.Scan.{first_of, is_name, next_is, part_of_run, parts_after, parts_in}
+use Rattle.osn_grammar.specs.Reading.{all_members, member_by, member_in, member_of, or_set}
+use Rattle.osn_grammar.specs.Reading.{reading_of_parts, set_in, set_inside, with_signs}
+use Rattle.osn_grammar.specs.Scan.{first_of, next_is, part_of_run, parts_after, parts_in}
 use Rattle.osn_grammar.specs.Sets.{between_commas, days_in_digits, is_sign}
 use Rattle.osn_grammar.specs.SetsInDigits.{AreSetsRead, Days, HaveFourDigits, days_text}
 use Rattle.osn_grammar.specs.SetsInDigits.{extent_of_days, member, set_text}
@@ -49,16 +48,9 @@ use Rattle.osn_grammar.proofs.RefusedFacts.{timed}
 -- ---- the texts of days
 
 -- two full stops end the word before them
-and_false : (b : Bool) → (b && false) ≡ false
-and_false true = refl
-and_false false = refl
-
 stops_end : (s : List ℕ) → Ends (46 ∷ 46 ∷ s)
 stops_end s word =
-    let run = option_to_list (part_of_run word) in
-    ap (λ passed. (if passed then [] else run ++ Open ∷ [])
-    ++ parts_after (if passed then word else []) (46 ∷ s)) (and_false (is_name word))
-    ∙ append_assoc run (Open ∷ []) (parts_after [] (46 ∷ s))
+    append_assoc (option_to_list (part_of_run word)) (Open ∷ []) (parts_after [] (46 ∷ s))
 
 -- and are an open end before a text that begins with none
 stops_are : (s : List ℕ) → next_is (λ c. c == 46) (first_of s) ≡ false
@@ -148,13 +140,13 @@ days_parts a u (d, Some e) = signed_parts a u d ++ Open ∷ signed_parts a u e
 record IsMemberText (a u : Bool) (days : Days) : Type 0 where
   reads : Reads (days_text a u days) (days_parts a u days)
   no_comma : All (λ b. (b == 44) ≡ false) (days_text a u days)
-  is : member_of (days_parts a u days) ≡ Some (member a u days)
+  is : member_of (days_parts a u days) ≡ Ok (member a u days)
 
 abbrev IsDate : Date → Type 0
 IsDate d = IsDay (unsigned_abs d.year) d.month d.day
 
 day_is : (a u : Bool) (d : Date) → IsDate d
-    → member_of (signed_parts a u d) ≡ Some (member a u (d, None))
+    → member_of (signed_parts a u d) ≡ Ok (member a u (d, None))
 day_is false false d h = rw (h.year_high, h.month_low, h.month_high, h.day_low, h.day_high) refl
 day_is false true d h = rw (h.year_high, h.month_low, h.month_high, h.day_low, h.day_high) refl
 day_is true false d h = rw (h.year_high, h.month_low, h.month_high, h.day_low, h.day_high) refl
@@ -177,13 +169,13 @@ days_signed true false d e extent = refl
 days_signed true true d e extent = refl
 
 range_is : (a u : Bool) (d e : Date) → IsDate d → IsDate e
-    → member_of (days_parts a u (d, Some e)) ≡ Some (member a u (d, Some e))
+    → member_of (days_parts a u (d, Some e)) ≡ Ok (member a u (d, Some e))
 range_is a u d e h g =
-    ap (λ ps. option_map (with_signs (days_parts a u (d, Some e))) (result_ok (days_in_digits ps)))
+    ap (λ ps. member_by (days_parts a u (d, Some e)) (days_in_digits ps))
     (days_are a u d e)
     ∙ rw (h.year_high, h.month_low, h.month_high, h.day_low, h.day_high)
     (rw (g.year_high, g.month_low, g.month_high, g.day_low, g.day_high)
-    (ap Some (days_signed a u d e (extent_of_days (d, Some e)))))
+    (ap Ok (days_signed a u d e (extent_of_days (d, Some e)))))
 
 member_is : (a u : Bool) (days : Days) → HaveFourDigits days → IsMemberText a u days
 member_is a u (d, None) h =
@@ -262,41 +254,39 @@ parts_timed a u ((d, Some e) ∷ rest) =
     (last_timed a u (all_parts a u rest) ∙ parts_timed a u rest))
 
 text_read : {a u : Bool} {days : Days} → IsMemberText a u days
-    → member_in (days_text a u days) ≡ Some (member a u days)
+    → member_in (days_text a u days) ≡ Ok (member a u days)
 text_read text = ap member_of (parts_scanned (reads_scan text.reads)) ∙ text.is
 
 texts_read : (a u : Bool) (first : Days) (rest : List Days) → All HaveFourDigits (first ∷ rest)
     → all_members (between_commas (body a u (first ∷ rest)))
-    ≡ Some (map (member a u) (first ∷ rest))
+    ≡ Ok (map (member a u) (first ∷ rest))
 texts_read a u first [] all =
     let text = member_is a u first (All-head HaveFourDigits first [] all) in
     ap all_members (ap between_commas (append-nil (days_text a u first))
     ∙ slice_split_none (λ b. b == 44) (days_text a u first) text.no_comma)
-    ∙ ap (option_and_then (λ w. Some (w ∷ []))) (text_read text)
+    ∙ ap (λ found. found >>= (λ w. Ok (w ∷ []))) (text_read text)
 texts_read a u first (next ∷ rest) all =
     let text = member_is a u first (All-head HaveFourDigits first (next ∷ rest) all) in
     let more = all_members (between_commas (body a u (next ∷ rest))) in
     ap all_members
     (slice_split_at (λ b. b == 44) (days_text a u first) 44 (body a u (next ∷ rest)) text.no_comma
     refl)
-    ∙ ap (option_and_then (λ w. option_map (λ ws. w ∷ ws) more)) (text_read text)
-    ∙ ap (option_map (λ ws. member a u first ∷ ws))
+    ∙ ap (λ found. found >>= (λ w. more >>= (λ ws. Ok (w ∷ ws)))) (text_read text)
+    ∙ ap (λ found. found >>= (λ ws. Ok (member a u first ∷ ws)))
     (texts_read a u next rest (All-tail HaveFourDigits first (next ∷ rest) all))
 
 -- ---- the law
 
 members_are : (a u : Bool) (first : Days) (rest : List Days) → All HaveFourDigits (first ∷ rest)
-    → members (set_text a u (first ∷ rest)) ≡ map (member a u) (first ∷ rest)
-unfolding members
+    → set_in (set_text a u (first ∷ rest)) ≡ Ok (map (member a u) (first ∷ rest))
+unfolding set_in
 members_are a u first rest all =
-    ap (λ inside. unwrap_or (option_and_then (λ t. all_members (between_commas t)) inside) [])
-    (last_without (body a u (first ∷ rest)))
-    ∙ ap (λ found. unwrap_or found []) (texts_read a u first rest all)
+    ap set_inside (last_without (body a u (first ∷ rest))) ∙ texts_read a u first rest all
 
-set_said : (w : WrittenDate) (ws : List WrittenDate) (r : Result Written DateFault)
-    → is_err r ≡ true → or_set (w ∷ ws) r ≡ Ok say.Set
-set_said w ws (Ok said) wrong = absurd (cc)
-set_said w ws (Err fault) wrong = refl
+set_said : (ws : List WrittenDate) (r : Result Written DateFault) → is_err r ≡ true
+    → or_set (Ok ws) r ≡ Ok say.Set
+set_said ws (Ok said) wrong = absurd (cc)
+set_said ws (Err fault) wrong = refl
 
 pub sets_law : AreSetsRead
 unfolding AreSetsRead
@@ -304,7 +294,8 @@ sets_law o a u first next rest all =
     let days = first ∷ next ∷ rest in
     let text = set_text a u days in
     let inside = all_parts a u days ++ Bracket ∷ [] in
-    let dates : members text ≡ map (member a u) days = members_are a u first (next ∷ rest) all in
+    let dates : set_in text ≡ Ok (map (member a u) days) =
+    members_are a u first (next ∷ rest) all in
     let scans : Scans text (Bracket ∷ inside) =
     begun_scans bracket_begins
     (closed_scans (body_reads a u first (next ∷ rest) all) (mark_closes bracket nothing_closes)) in
@@ -316,7 +307,8 @@ sets_law o a u first next rest all =
     (said_refused o Bracket inside (timed days) tells (dated first (next ∷ rest))
     (extent_refused o first next rest)) in
     record {
-      is = ap (λ ws. or_set ws (reading_of_parts o (parts_in text) (filter tells_time (parts_in text)))) dates
-          ∙ set_said (member a u first) (map (member a u) (next ∷ rest)) _ wrong;
-      dates = dates;
+      is = ap (λ found. or_set found
+          (reading_of_parts o (parts_in text) (filter tells_time (parts_in text)))) dates
+          ∙ set_said (map (member a u) days) _ wrong;
+      dates = ap (λ found. unwrap_or (result_ok found) []) dates;
     }

@@ -12,6 +12,7 @@ use Rattle.std.specs.Str.Parse.{digits_value}
 use Rattle.osn_grammar.specs.declared.part.Part.{Part}
 use Rattle.osn_grammar.specs.declared.part.Part.TheVariants as part
 use Rattle.osn_grammar.specs.Scan.{parts_after, parts_in, part_of_run, is_letter, next_is, first_of}
+use Rattle.osn_grammar.specs.Scan.{is_letter_alone}
 use Rattle.osn_grammar.proofs.Digits.{value_is}
 
 -- ---- ASCII
@@ -212,6 +213,12 @@ pub record Closes (text : List ℕ) (parts : List Part) : Type 0 where
   pub ends : Ends text
   pub is : parts_after [] text ≡ parts
 
+-- so no letter stands alone in front of it
+pub no_letter_alone : {text : List ℕ} → next_is is_letter (first_of text) ≡ false
+    → is_letter_alone text ≡ false
+no_letter_alone {[]} none = refl
+no_letter_alone {c ∷ rest} none = rw none refl
+
 pub nothing_closes : Closes [] []
 nothing_closes = record {
   low = refl;
@@ -270,6 +277,7 @@ digit_joins_word c word rest low high =
     rw (
       lt-leb 65 c (omega (arith, high)),
       lt-leb 97 c (omega (arith, high)),
+      ne_eqb c 95 (λ same. omega (arith, same, high)),
       lt-leb 192 c (omega (arith, high)),
       le-ltb 127 c (omega (arith, high)),
       le-leb 48 c low,

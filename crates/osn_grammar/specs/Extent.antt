@@ -1,5 +1,5 @@
 -- From when to when a date may be: one date, a range of two, or a bound. This project's profile.
-use Rattle.std.specs.Prelude.{ℕ, Bool, true, false, if◌then◌else◌, List, [], ◌∷◌, ◌++◌}
+use Rattle.std.specs.Prelude.{ℕ, Bool, true, false, ◌||◌, if◌then◌else◌, List, [], ◌∷◌, ◌++◌}
 use Rattle.std.specs.Prelude.{Result, Ok, Err}
 use Rattle.osn_grammar.specs.declared.extent.Beginning.{Beginning}
 use Rattle.osn_grammar.specs.declared.extent.Beginning.TheVariants as begins
@@ -34,7 +34,8 @@ abbrev pub beginning_of : List Part → Beginning
 beginning_of (Number d ∷ []) = lone_day d
 beginning_of (Number d ∷ Month m ∷ []) = day_of_month m d
 beginning_of (Month m ∷ Number d ∷ []) = day_of_month m d
-beginning_of (Number d ∷ Dot ∷ Number m ∷ []) = day_of_month m.value d
+beginning_of (Number d ∷ Dot ∷ Number m ∷ []) =
+    if is_long m then begins.Whole else day_of_month m.value d
 beginning_of (Month m ∷ []) = begins.Month m
 beginning_of _ = begins.Whole
 
@@ -47,11 +48,22 @@ first_date whole (begins.DayOfMonth m d) (date.Day year month day) = day_in year
 first_date whole (begins.Month m) (date.Month year month) = month_in year m
 first_date whole beginning last = whole
 
-abbrev pub range : DateOrder → List Part → List Part → Result Extent DateFault
-range o first last = do
-  end ← simple_date o last
-  start ← first_date (simple_date o first) (beginning_of first) end
+-- there is no range where the first date has no form, by itself or as a beginning
+abbrev pub has_no_form : Result SimpleDate DateFault → Beginning → Bool
+has_no_form (Err faults.Malformed) begins.Whole = true
+has_no_form whole beginning = false
+
+abbrev pub range_of : Result SimpleDate DateFault → Beginning → Result SimpleDate DateFault
+    → Result Extent DateFault
+range_of whole beginning last = do
+  end ← last
+  start ← first_date whole beginning end
   Ok (extent.FromTo start end)
+
+abbrev pub range : DateOrder → List Part → List Part → Result Extent DateFault
+range o first last =
+    if has_no_form (simple_date o first) (beginning_of first) then Err faults.Malformed
+    else range_of (simple_date o first) (beginning_of first) (simple_date o last)
 
 abbrev pub is_open : List Part → Bool
 is_open (Open ∷ []) = true
@@ -110,13 +122,20 @@ range_after o joining before (part ∷ rest) =
 
 -- ---- one date, a range or a bound
 
+-- a reading, or else this fault
+abbrev pub or_fault : DateFault → Result Extent DateFault → Result Extent DateFault
+or_fault fault (Ok e) = Ok e
+or_fault fault (Err other) = Err fault
+
 abbrev pub range_unless : DateOrder → List Part → Result SimpleDate DateFault
     → Result Extent DateFault
 range_unless o parts (Ok d) = Ok (extent.On d)
 range_unless o parts (Err faults.Malformed) = range_after o joins.Any [] parts
+range_unless o parts (Err faults.LaterYear) =
+    or_fault faults.LaterYear (range_after o joins.Any [] parts)
 range_unless o parts (Err f) = Err f
 
--- a text that has no form of one date may be a range
+-- a text that has no form of one date may be a range, and so may 1640/1645, which is no double year
 abbrev pub date_or_range : DateOrder → List Part → Result Extent DateFault
 date_or_range o parts = range_unless o parts (simple_date o parts)
 
@@ -134,3 +153,19 @@ extent_of o (To ∷ parts) = not_after o parts
 extent_of o (Between ∷ parts) = range_after o joins.And [] parts
 extent_of o (From ∷ parts) = range_after o joins.To [] parts
 extent_of o parts = date_or_range o parts
+
+-- ---- years of three digits
+
+-- a year is written with three digits and no zero before them
+abbrev pub has_year_of_three_digits : SimpleDate → Bool
+has_year_of_three_digits (date.Day year month day) = year.has_three_digits
+has_year_of_three_digits (date.Month year month) = year.has_three_digits
+has_year_of_three_digits (date.Year year) = year.has_three_digits
+
+abbrev pub has_three_digits : Extent → Bool
+has_three_digits (extent.On d) = has_year_of_three_digits d
+has_three_digits (extent.FromTo a b) = has_year_of_three_digits a || has_year_of_three_digits b
+has_three_digits (extent.Before d) = has_year_of_three_digits d
+has_three_digits (extent.NotAfter d) = has_year_of_three_digits d
+has_three_digits (extent.After d) = has_year_of_three_digits d
+has_three_digits (extent.NotBefore d) = has_year_of_three_digits d

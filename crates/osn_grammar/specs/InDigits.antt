@@ -36,7 +36,11 @@ signed d approximate uncertain = text_of_date d ++ sign approximate uncertain
 -- the day of the date
 abbrev pub day_of_date : Date → SimpleDate
 day_of_date d =
-    date.Day (record { first = unsigned_abs d.year; is_double = false }) d.month d.day
+    date.Day (record {
+      first = unsigned_abs d.year;
+      is_double = false;
+      has_three_digits = false;
+    }) d.month d.day
 
 -- a date of which no more is said
 abbrev pub with_sign : Extent → Bool → Bool → Written

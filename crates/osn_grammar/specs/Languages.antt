@@ -65,6 +65,8 @@ pub record AreMonthsKnown : Type 0 where
   pub genitive_with_x : AreMonths
       (codes "Ianuarii Februarii Martii Aprilis Maii Iunii Iulii Augusti 7bris 8bris 9bris Xbris")
   pub german_other : AreMonths (codes "Jänner Feb Maerz Apr Mai Juni Juli Aug 7ber 8ber 9ber Xber")
+  pub german_other_without_accents : AreMonths
+      (codes "Janner Feb Marz Apr Mai Juni Juli Aug 7ber 8ber 9ber Xber")
   pub dutch : AreMonths
       (codes "januari februari maart april mei juni "
       ++ codes "juli augustus september oktober november december")
@@ -118,14 +120,14 @@ pub record AreWeekdaysKnown : Type 0 where
 
 -- further names of each weekday
 pub record AreOtherWeekdaysKnown : Type 0 where
-  pub sunday : Reads (codes "dim Son zon dom sondag sön") (times 6 (part.Weekday Sunday))
+  pub sunday : Reads (codes "dim Son zon dom sondag sön søn") (times 7 (part.Weekday Sunday))
   pub monday : Reads (codes "lun maa mån man") (times 4 (part.Weekday Monday))
   pub tuesday : Reads (codes "Tues terca tis tir") (times 4 (part.Weekday Tuesday))
-  pub wednesday : Reads (codes "woe mié mie ons") (times 4 (part.Weekday Wednesday))
+  pub wednesday : Reads (codes "woe mer mié mie ons") (times 5 (part.Weekday Wednesday))
   pub thursday : Reads (codes "Thur Thurs jeu Don gio jue tor") (times 7 (part.Weekday Thursday))
   pub friday : Reads (codes "ven vrij vie fre") (times 4 (part.Weekday Friday))
-  pub saturday : Reads (codes "Sabbato sam Sonnabend zat sab lordag lör")
-      (times 7 (part.Weekday Saturday))
+  pub saturday : Reads (codes "Sabbato sam Sonnabend zat sab sáb lordag lör lor lør")
+      (times 10 (part.Weekday Saturday))
 
 -- ---- ordinals
 

@@ -1,6 +1,6 @@
 -- The parts of a text: its numbers, its names and its marks. This project's profile.
 use Rattle.std.specs.Prelude.{ℕ, Bool, true, false, ◌&&◌, ◌||◌, nat_le, ◌==◌, if◌then◌else◌}
-use Rattle.std.specs.Prelude.{List, length, Option, Some, None, option_map}
+use Rattle.std.specs.Prelude.{List, [], ◌∷◌, length, Option, Some, None, option_map}
 use Rattle.std.specs.List.{list_all}
 use Rattle.std.specs.Str.{all_ascii_digits}
 use Rattle.std.specs.Str.Parse.{digits_value}
@@ -38,10 +38,26 @@ is_roman b =
     b == 105 || (b == 106 || (b == 118 || (b == 120 || (b == 108 || (b == 99
     || (b == 100 || b == 109))))))
 
+-- `x` or `_`, for a digit that is open
+abbrev pub is_gap : ℕ → Bool
+is_gap b = b == 120 || b == 95
+
+-- a digit, or a gap
+abbrev pub is_place : ℕ → Bool
+is_place b = all_ascii_digits (b ∷ []) || is_gap b
+
+-- a year whose last digits are open: 173x, 17xx, 173_
+abbrev pub is_open_year : List ℕ → Bool
+is_open_year (a ∷ b ∷ c ∷ d ∷ []) =
+    all_ascii_digits (a ∷ []) && (is_place b && (is_place c && is_gap d))
+is_open_year _ = false
+
 -- a word that is no number
 abbrev pub part_of_name : List ℕ → Option Part → Part
 part_of_name word (Some p) = p
-part_of_name word None = if list_all is_roman word then part.RomanNumeral else part.Unknown
+part_of_name word None =
+    if is_open_year word then part.OpenYear
+    else (if list_all is_roman word then part.RomanNumeral else part.Unknown)
 
 -- a word
 abbrev pub part_of_word : List ℕ → Option Numeral → Part

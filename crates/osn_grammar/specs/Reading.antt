@@ -1,8 +1,8 @@
 -- What a text says of a date, and why a text is no date. This project's profile.
-use Rattle.std.specs.Prelude.{ℕ, Bool, true, false, not, ◌||◌, ◌==◌, if◌then◌else◌, List, [], ◌∷◌}
-use Rattle.std.specs.Prelude.{length, filter, Option, Some, None, option_map, Result, Ok, Err}
+use Rattle.std.specs.Prelude.{ℕ, Bool, true, false, not, ◌&&◌, ◌||◌, ◌==◌, if◌then◌else◌, List, [], ◌∷◌}
+use Rattle.std.specs.Prelude.{length, filter, Option, Some, None, Result, Ok, Err}
 use Rattle.std.specs.List.{list_any}
-use Rattle.std.specs.Option.{option_and_then, unwrap_or}
+use Rattle.std.specs.Option.{unwrap_or}
 use Rattle.std.specs.Result.{result_ok}
 use Rattle.osn_days.specs.declared.weekday.Weekday.{Weekday}
 use Rattle.osn_grammar.specs.declared.part.Part.{Part}
@@ -15,11 +15,11 @@ use Rattle.osn_grammar.specs.declared.written.Reckoning.{Reckoning}
 use Rattle.osn_grammar.specs.declared.written.Written.{Written}
 use Rattle.osn_grammar.specs.declared.written.Written.TheVariants as say
 use Rattle.osn_grammar.specs.declared.written.WrittenDate.{WrittenDate}
-use Rattle.osn_grammar.specs.Extent.{extent_of}
+use Rattle.osn_grammar.specs.Extent.{extent_of, has_three_digits}
 use Rattle.osn_grammar.specs.Parts.{tells_time}
 use Rattle.osn_grammar.specs.Scan.{parts_in}
 use Rattle.osn_grammar.specs.Sets.{inside_brackets, between_commas, is_sign, days_in_digits}
-use Rattle.osn_grammar.specs.Simple.{◌>>=◌}
+use Rattle.osn_grammar.specs.Simple.{◌>>=◌, lacks_digit}
 
 -- the weekday so far, with that of one more part. No two may be named
 abbrev pub with_weekday : Option Weekday → Part → Result (Option Weekday) DateFault
@@ -67,12 +67,23 @@ abbrev pub is_roman_numeral : Part → Bool
 is_roman_numeral part.RomanNumeral = true
 is_roman_numeral _ = false
 
--- a feast and a Roman numeral are told and not read
+abbrev pub is_open_year : Part → Bool
+is_open_year part.OpenYear = true
+is_open_year _ = false
+
+-- a feast, a Roman numeral and a year with an open digit are told and not read
 abbrev pub unread : List Part → Option DateFault
 unread parts =
     if list_any is_feast parts then Some faults.Feast
     else (if list_any is_roman_numeral parts then Some faults.RomanNumeral
-    else None)
+    else (if list_any is_open_year parts then Some faults.OpenYear
+    else None))
+
+-- a year of three digits lacks its last one, perhaps, where it is in doubt or in brackets
+abbrev pub unless_open : WrittenDate → Result WrittenDate DateFault
+unless_open w =
+    if has_three_digits w.extent && (w.is_uncertain || w.is_supplied) then Err faults.OpenYear
+    else Ok w
 
 -- a date, by all parts and by those that tell its time
 abbrev pub date_of : DateOrder → List Part → List Part → Result WrittenDate DateFault
@@ -80,7 +91,7 @@ date_of o parts timed = do
   weekday ← weekday_after None parts
   reckoning ← reckoning_after None parts
   extent ← extent_of o timed
-  Ok (record {
+  unless_open (record {
     extent = extent;
     weekday = weekday;
     reckoning = reckoning;
@@ -94,12 +105,29 @@ abbrev pub is_undated : List Part → Bool
 is_undated (part.Undated ∷ []) = true
 is_undated _ = false
 
+-- a year of three digits and a dash or two full stops after it: 173-, 11 Feb. 173..
+abbrev pub is_open_end : List Part → Bool
+is_open_end (part.Number y ∷ part.Dash ∷ []) = lacks_digit y
+is_open_end (part.Number y ∷ part.Open ∷ []) = lacks_digit y
+is_open_end _ = false
+
+-- the parts end so
+abbrev pub ends_open : List Part → Bool
+ends_open [] = false
+ends_open (p ∷ rest) = is_open_end (p ∷ rest) || ends_open rest
+
+-- why parts of no form are no date
+abbrev pub or_open : List Part → Result WrittenDate DateFault → Result WrittenDate DateFault
+or_open timed (Err faults.Malformed) =
+    Err (if ends_open timed then faults.OpenYear else faults.Malformed)
+or_open timed read = read
+
 -- a date unless there is a fault
 abbrev pub date_unless : DateOrder → List Part → List Part → Option DateFault
     → Result Written DateFault
 date_unless o parts timed (Some fault) = Err fault
 date_unless o parts timed None = do
-  w ← date_of o parts timed
+  w ← or_open timed (date_of o parts timed)
   Ok (say.Date w)
 
 -- a text of no parts has no date, and neither has one that is undated
@@ -121,32 +149,48 @@ with_signs parts e = record {
   is_supplied = false;
 }
 
--- the member that parts are, if they are one
-abbrev pub member_of : List Part → Option WrittenDate
-member_of parts = option_map (with_signs parts)
-    (result_ok (days_in_digits (filter (λ p. not (is_sign p)) parts)))
+abbrev pub member_by : List Part → Result Extent DateFault → Result WrittenDate DateFault
+member_by parts days = do
+  extent ← days
+  Ok (with_signs parts extent)
 
-abbrev pub member_in : List ℕ → Option WrittenDate
+-- the member that parts are, or why they are none
+abbrev pub member_of : List Part → Result WrittenDate DateFault
+member_of parts = member_by parts (days_in_digits (filter (λ p. not (is_sign p)) parts))
+
+abbrev pub member_in : List ℕ → Result WrittenDate DateFault
 member_in text = member_of (parts_in text)
 
--- the members that texts are, if each is one
-abbrev pub all_members : List (List ℕ) → Option (List WrittenDate)
-all_members [] = Some []
-all_members (text ∷ texts) =
-    option_and_then (λ w. option_map (λ ws. w ∷ ws) (all_members texts)) (member_in text)
+-- the members that texts are, or why the first one that is none is none
+abbrev pub all_members : List (List ℕ) → Result (List WrittenDate) DateFault
+all_members [] = Ok []
+all_members (text ∷ texts) = do
+  w ← member_in text
+  ws ← all_members texts
+  Ok (w ∷ ws)
+
+-- the members of the set that a text is, or why it is no set
+abbrev pub set_inside : Option (List ℕ) → Result (List WrittenDate) DateFault
+set_inside None = Err faults.Malformed
+set_inside (Some inside) = all_members (between_commas inside)
+
+unfoldable pub set_in : List ℕ → Result (List WrittenDate) DateFault
+set_in text = set_inside (inside_brackets text)
 
 -- the members of the set that a text is: none where it is no set
-unfoldable pub members : List ℕ → List WrittenDate
-members text = unwrap_or
-    (option_and_then (λ inside. all_members (between_commas inside)) (inside_brackets text)) []
+abbrev pub members : List ℕ → List WrittenDate
+members text = unwrap_or (result_ok (set_in text)) []
 
--- a text that says nothing else of a date may be a set
-abbrev pub or_set : List WrittenDate → Result Written DateFault → Result Written DateFault
+-- a text that says nothing else of a date may be a set. Where it has the form of one, the reason is
+-- that of its first member that is no day
+abbrev pub or_set : Result (List WrittenDate) DateFault → Result Written DateFault
+    → Result Written DateFault
 or_set set (Ok w) = Ok w
-or_set [] (Err fault) = Err fault
-or_set (w ∷ ws) (Err fault) = Ok say.Set
+or_set (Ok ws) (Err fault) = Ok say.Set
+or_set (Err faults.Malformed) (Err fault) = Err fault
+or_set (Err reason) (Err fault) = Err reason
 
 -- what a text says of a date, or why it is none
 abbrev pub written : DateOrder → List ℕ → Result Written DateFault
 written o text =
-    or_set (members text) (reading_of_parts o (parts_in text) (filter tells_time (parts_in text)))
+    or_set (set_in text) (reading_of_parts o (parts_in text) (filter tells_time (parts_in text)))

@@ -17,19 +17,19 @@ is_from_to low high c = nat_le low c && nat_le c high
 abbrev pub is_digit : ℕ → Bool
 is_digit c = is_from_to 48 57 c
 
--- a dash: the hyphens - and U+2011, the dashes U+2013 and U+2014, and the minus sign U+2212
+-- a dash: the hyphens -, U+2010 and U+2011, the dashes U+2013 and U+2014, and the minus sign U+2212
 abbrev pub is_dash : ℕ → Bool
-is_dash c = c == 45 || (c == 8209 || (c == 8211 || (c == 8212 || c == 8722)))
+is_dash c = c == 45 || (is_from_to 8208 8209 c || (is_from_to 8211 8212 c || c == 8722))
 
 -- a blank: a space, a tab, and the spaces U+00A0, U+2009 and U+202F
 abbrev pub is_blank : ℕ → Bool
 is_blank c = c == 32 || (c == 9 || (c == 160 || (c == 8201 || c == 8239)))
 
--- a letter: of ASCII, or any other character beyond it but such a dash or blank
+-- a letter: of ASCII, `_`, or any other character beyond it but such a dash or blank
 abbrev pub is_letter : ℕ → Bool
 is_letter c =
     is_from_to 65 90 c
-    || (is_from_to 97 122 c || (nat_lt 127 c && not (is_dash c || is_blank c)))
+    || (is_from_to 97 122 c || (c == 95 || (nat_lt 127 c && not (is_dash c || is_blank c))))
 
 -- the small letter of a capital one of ASCII, or of U+00C0 to U+00DE
 abbrev pub small : ℕ → ℕ
@@ -88,27 +88,34 @@ mark_of word c rest =
 abbrev pub part_of_run : List ℕ → Option Part
 part_of_run word = if length word == 0 then None else Some (part_of word)
 
--- a full stop between two letters is passed over: `O.S.` is `OS`
-abbrev pub is_passed_over : List ℕ → ℕ → Option ℕ → Bool
-is_passed_over word c next = c == 46 && (is_name word && next_is is_letter next)
+-- one letter alone comes next
+abbrev pub is_letter_alone : List ℕ → Bool
+is_letter_alone [] = false
+is_letter_alone (c ∷ rest) =
+    is_letter c && not (next_is (λ d. is_letter d || is_digit d) (first_of rest))
+
+-- a full stop between two letters that stand alone is passed over: `O.S.` is `OS`
+abbrev pub is_passed_over : List ℕ → ℕ → List ℕ → Bool
+is_passed_over word c rest =
+    c == 46 && (is_letter_alone rest && (length word == 1 && is_name word))
 
 -- the word so far, after one more character
-abbrev pub word_after : List ℕ → ℕ → Option ℕ → List ℕ
-word_after word c next =
+abbrev pub word_after : List ℕ → ℕ → List ℕ → List ℕ
+word_after word c rest =
     if is_letter c || is_digit c then word ++ encode_utf8 (small c)
-    else (if is_passed_over word c next then word else [])
+    else (if is_passed_over word c rest then word else [])
 
 -- the parts that end with a character: a word, and the mark after it
 abbrev pub parts_ended : List ℕ → ℕ → List ℕ → List Part
 parts_ended word c rest =
-    if is_letter c || (is_digit c || is_passed_over word c (first_of rest)) then []
+    if is_letter c || (is_digit c || is_passed_over word c rest) then []
     else option_to_list (part_of_run word) ++ option_to_list (mark_of word c rest)
 
 -- the parts of a word so far and of the characters after it
 abbrev pub parts_after : List ℕ → List ℕ → List Part
 parts_after word [] = option_to_list (part_of_run word)
 parts_after word (c ∷ rest) =
-    parts_ended word c rest ++ parts_after (word_after word c (first_of rest)) rest
+    parts_ended word c rest ++ parts_after (word_after word c rest) rest
 
 -- the parts of a text
 abbrev pub parts_in : List ℕ → List Part

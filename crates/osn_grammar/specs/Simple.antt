@@ -34,6 +34,10 @@ two first later = record { first = first; later = Some later }
 abbrev pub is_long : Numeral → Bool
 is_long n = nat_le 3 n.digits
 
+-- a year of three digits and no zero before them may lack its last one: 173
+abbrev pub lacks_digit : Numeral → Bool
+lacks_digit n = n.digits == 3 && nat_le 100 n.value
+
 -- the last digits of the year that follows: one digit or more, and zeros may stand before all of it
 abbrev pub ends_next_year : ℕ → Numeral → Bool
 ends_next_year year later = later.value == (year + 1) % 10 ^ later.digits
@@ -51,7 +55,11 @@ year_of years =
     if not (is_long years.first) then Err faults.ShortYear
     else (if nat_lt 10000 years.first.value then Err faults.Year
     else (if not (has_its_later_year years) then Err faults.LaterYear
-    else Ok (record { first = years.first.value; is_double = is_some years.later })))
+    else Ok (record {
+      first = years.first.value;
+      is_double = is_some years.later;
+      has_three_digits = lacks_digit years.first;
+    })))
 
 -- ---- dates of numbers
 
@@ -86,12 +94,16 @@ day_of years month day = do
   year ← year_of years
   day_in year month day
 
--- a month in digits has one or two of them: a longer number is a year, and no part of the date
+-- a month and a day in digits have one or two of them: a longer number is a year, and no part of
+-- the date
+abbrev pub day_of_month : YearNumbers → ℕ → Numeral → Result SimpleDate DateFault
+day_of_month years month day =
+    if is_long day then Err faults.Malformed else day_of years month day.value
+
 abbrev pub month_in_digits : YearNumbers → Numeral → Result SimpleDate DateFault
 month_in_digits years month =
     if is_long month then Err faults.Malformed else month_of years month.value
 
--- the same of month and day
 abbrev pub day_in_digits : YearNumbers → Numeral → Numeral → Result SimpleDate DateFault
 day_in_digits years month day =
     if is_long month || is_long day then Err faults.Malformed
@@ -100,12 +112,12 @@ day_in_digits years month day =
 -- three numbers that end with the year are open between day and month, unless their order is known
 abbrev pub by_order : DateOrder → Numeral → Numeral → Numeral → Result SimpleDate DateFault
 by_order order.Unknown a b year = Err faults.DayOrMonth
-by_order order.DayMonth a b year = day_of (one year) b.value a.value
-by_order order.MonthDay a b year = day_of (one year) a.value b.value
+by_order order.DayMonth a b year = day_in_digits (one year) b a
+by_order order.MonthDay a b year = day_in_digits (one year) a b
 
--- with dashes, they end with the year where that is long and the first one is not
-abbrev pub with_dashes : DateOrder → Numeral → Numeral → Numeral → Result SimpleDate DateFault
-with_dashes order a b c =
+-- they end with the year where that is long and the first one is not
+abbrev pub in_order : DateOrder → Numeral → Numeral → Numeral → Result SimpleDate DateFault
+in_order order a b c =
     if is_long c && not (is_long a) then by_order order a b c else day_in_digits (one a) b c
 
 -- each of two numbers may be the month, and it is not the same day either way
@@ -119,9 +131,9 @@ order_of order.Unknown a b =
     else (if nat_lt 12 b then order.MonthDay else order.DayMonth)
 order_of order a b = order
 
--- with slashes or blanks they are the same, and such an order is found
+-- with dashes, slashes or blanks such an order is found
 abbrev pub three_numbers : DateOrder → Numeral → Numeral → Numeral → Result SimpleDate DateFault
-three_numbers order a b c = with_dashes (order_of order a.value b.value) a b c
+three_numbers order a b c = in_order (order_of order a.value b.value) a b c
 
 -- `11/2 1731` ends with its year, and `1731/2 11` is no date
 abbrev pub year_last : DateOrder → Numeral → Numeral → Numeral → Result SimpleDate DateFault
@@ -131,7 +143,7 @@ year_last order a b year =
 -- of two numbers with a month between them the first one is the year if it is long
 abbrev pub around_month : Numeral → ℕ → Numeral → Result SimpleDate DateFault
 around_month a month b =
-    if is_long a then day_of (one a) month b.value else day_of (one b) month a.value
+    if is_long a then day_of_month (one a) month b else day_of_month (one b) month a
 
 -- `1640-11` is a month, `1640-1645` and `1731-2` are none
 abbrev pub year_and_month : Numeral → Numeral → Result SimpleDate DateFault
@@ -146,52 +158,58 @@ year_and_name year month =
 -- `1640, 3 May` begins with its year
 abbrev pub year_and_day : Numeral → Numeral → ℕ → Result SimpleDate DateFault
 year_and_day year day month =
-    if is_long year then day_of (one year) month day.value else Err faults.Malformed
+    if is_long year then day_of_month (one year) month day else Err faults.Malformed
 
 -- `1731/2 February 11` has a double year, `11/22 February 1731` the day by both calendars
 abbrev pub double_year_or_days : Numeral → Numeral → ℕ → Numeral → Result SimpleDate DateFault
 double_year_or_days a b month c =
-    if is_long a then day_of (two a b) month c.value else Err faults.TwoDays
+    if is_long a then day_of_month (two a b) month c else Err faults.TwoDays
+
+-- `2/1731` is a month, `1731/2` a double year
+abbrev pub month_or_double_year : Numeral → Numeral → Result SimpleDate DateFault
+month_or_double_year a b =
+    if not (is_long a) && is_long b then month_of (one b) a.value else whole_year (two a b)
 
 -- ---- the forms
 
 -- a day in numbers: 1731-02-11, 1731/2-02-11, 11.2.1731, 11.2.1731/2, 11/2/1731, 11/2 1731,
 -- 11 2 1731. With full stops the day is before the month
 abbrev pub day_in_numbers : DateOrder → List Part → Result SimpleDate DateFault
-day_in_numbers o (Number a ∷ Dash ∷ Number b ∷ Dash ∷ Number c ∷ []) = with_dashes o a b c
+day_in_numbers o (Number a ∷ Dash ∷ Number b ∷ Dash ∷ Number c ∷ []) = three_numbers o a b c
 day_in_numbers o (Number a ∷ Slash ∷ Number b ∷ Slash ∷ Number c ∷ []) = three_numbers o a b c
 day_in_numbers o (Number a ∷ Number b ∷ Number c ∷ []) = three_numbers o a b c
 day_in_numbers o (Number a ∷ Dot ∷ Number b ∷ Dot ∷ Number c ∷ []) =
-    with_dashes order.DayMonth a b c
+    in_order order.DayMonth a b c
 day_in_numbers o (Number a ∷ Slash ∷ Number b ∷ Number y ∷ []) = year_last o a b y
 day_in_numbers o (Number y ∷ Slash ∷ Number l ∷ Dash ∷ Number m ∷ Dash ∷ Number d ∷ []) =
     day_in_digits (two y l) m d
 day_in_numbers o (Number d ∷ Dot ∷ Number m ∷ Dot ∷ Number y ∷ Slash ∷ Number l ∷ []) =
-    day_of (two y l) m.value d.value
+    day_in_digits (two y l) m d
 day_in_numbers o _ = Err faults.Malformed
 
--- a day with its month's name: 11 February 1731, 11-Feb-1731, 1731 February 11, 1731 11 February,
+-- a day with its month's name: 11 February 1731, 11-Feb-1731, 11/Feb/1731, 1731 February 11, 1731 11 February,
 -- February 11 1731, February 11. 1731, and with 1731/2. 24 Dec 1640/3 Jan 1641 is the day by both
 -- calendars
 abbrev pub day_in_words : List Part → Result SimpleDate DateFault
 day_in_words (Number a ∷ Month m ∷ Number b ∷ []) = around_month a m b
 day_in_words (Number a ∷ Dash ∷ Month m ∷ Dash ∷ Number b ∷ []) = around_month a m b
-day_in_words (Number d ∷ Month m ∷ Number y ∷ Slash ∷ Number l ∷ []) = day_of (two y l) m d.value
+day_in_words (Number a ∷ Slash ∷ Month m ∷ Slash ∷ Number b ∷ []) = around_month a m b
+day_in_words (Number d ∷ Month m ∷ Number y ∷ Slash ∷ Number l ∷ []) = day_of_month (two y l) m d
 day_in_words (Number a ∷ Slash ∷ Number b ∷ Month m ∷ Number c ∷ []) = double_year_or_days a b m c
 day_in_words (Number a ∷ Slash ∷ Number b ∷ Month m ∷ Number y ∷ Slash ∷ Number l ∷ []) =
     Err faults.TwoDays
 day_in_words (Number d ∷ Month m ∷ Number y ∷ Slash ∷ Number e ∷ Month n ∷ Number v ∷ []) =
     Err faults.TwoDays
 day_in_words (Number y ∷ Number d ∷ Month m ∷ []) = year_and_day y d m
-day_in_words (Month m ∷ Number d ∷ Number y ∷ []) = day_of (one y) m d.value
-day_in_words (Month m ∷ Number d ∷ Number y ∷ Slash ∷ Number l ∷ []) = day_of (two y l) m d.value
-day_in_words (Month m ∷ Number d ∷ Dot ∷ Number y ∷ []) = day_of (one y) m d.value
+day_in_words (Month m ∷ Number d ∷ Number y ∷ []) = day_of_month (one y) m d
+day_in_words (Month m ∷ Number d ∷ Number y ∷ Slash ∷ Number l ∷ []) = day_of_month (two y l) m d
+day_in_words (Month m ∷ Number d ∷ Dot ∷ Number y ∷ []) = day_of_month (one y) m d
 day_in_words (Month m ∷ Number d ∷ Dot ∷ Number y ∷ Slash ∷ Number l ∷ []) =
-    day_of (two y l) m d.value
+    day_of_month (two y l) m d
 day_in_words _ = Err faults.Malformed
 
--- a month or a year: February 1731, 1731 February, 1731-02, 1731-02-XX, 1731-XX-XX, 1731, and with
--- 1731/2
+-- a month or a year: February 1731, 1731 February, 1731-02, 2/1731, 1731-02-XX, 1731-XX-XX, 1731,
+-- and with 1731/2
 abbrev pub month_or_year : List Part → Result SimpleDate DateFault
 month_or_year (Month m ∷ Number y ∷ []) = month_of (one y) m
 month_or_year (Month m ∷ Number y ∷ Slash ∷ Number l ∷ []) = month_of (two y l) m
@@ -199,10 +217,10 @@ month_or_year (Number y ∷ Month m ∷ []) = year_and_name y m
 month_or_year (Number y ∷ Slash ∷ Number l ∷ Month m ∷ []) = month_of (two y l) m
 month_or_year (Number y ∷ Dash ∷ Number m ∷ []) = year_and_month y m
 month_or_year (Number y ∷ Slash ∷ Number l ∷ Dash ∷ Number m ∷ []) = month_in_digits (two y l) m
-month_or_year (Number y ∷ Dash ∷ Number m ∷ Dash ∷ Blank ∷ []) = month_of (one y) m.value
+month_or_year (Number y ∷ Dash ∷ Number m ∷ Dash ∷ Blank ∷ []) = month_in_digits (one y) m
 month_or_year (Number y ∷ Dash ∷ Blank ∷ Dash ∷ Blank ∷ []) = whole_year (one y)
 month_or_year (Number y ∷ []) = whole_year (one y)
-month_or_year (Number y ∷ Slash ∷ Number l ∷ []) = whole_year (two y l)
+month_or_year (Number a ∷ Slash ∷ Number b ∷ []) = month_or_double_year a b
 month_or_year _ = Err faults.Malformed
 
 -- a day, a month or a year in digits with its year first: 1731-02-11, 1731-02, 1731

@@ -63,7 +63,7 @@ fn beginning_of(parts: &[Part]) -> Beginning
         [Number(d)] => lone_day(*d),
         [Number(d), Month(m)] => day_of_month(u32::from(*m), *d),
         [Month(m), Number(d)] => day_of_month(u32::from(*m), *d),
-        [Number(d), Dot, Number(m)] => day_of_month(m.value, *d),
+        [Number(d), Dot, Number(m)] if !is_long(*m) => day_of_month(m.value, *d),
         [Month(m)] => Beginning::Month(*m),
         _ => Beginning::Whole,
     }
@@ -91,13 +91,27 @@ fn first_date(
     }
 }
 
+/// Whether the first date of a range has no form, by itself or as a beginning.
+fn has_no_form(whole: Result<SimpleDate, DateFault>, beginning: Beginning) -> bool
+    ensures { result ≡ spec.has_no_form whole beginning }
+{
+    matches!(
+        (whole, beginning),
+        (Err(DateFault::Malformed), Beginning::Whole)
+    )
+}
+
 /// The range of two dates.
 fn range(order: DateOrder, first: &[Part], last: &[Part]) -> Result<Extent, DateFault>
     ensures { result ≡ spec.range order first.now last.now }
 {
+    let whole = simple_date(order, first);
+    let beginning = beginning_of(first);
+    if has_no_form(whole, beginning) {
+        return Err(DateFault::Malformed);
+    }
     let last = simple_date(order, last)?;
-    let first = first_date(simple_date(order, first), beginning_of(first), last)?;
-    Ok(Extent::FromTo(first, last))
+    Ok(Extent::FromTo(first_date(whole, beginning, last)?, last))
 }
 
 /// Whether parts are an open end.
@@ -193,6 +207,16 @@ fn range_in(order: DateOrder, joining: Joining, parts: &[Part]) -> Result<Extent
     read
 }
 
+/// A reading, or else this fault.
+fn or_fault(fault: DateFault, read: Result<Extent, DateFault>) -> Result<Extent, DateFault>
+    ensures { result ≡ spec.or_fault fault read }
+{
+    match read {
+        Ok(extent) => Ok(extent),
+        Err(_) => Err(fault),
+    }
+}
+
 /// One date, or a range of two.
 fn date_or_range(order: DateOrder, parts: &[Part]) -> Result<Extent, DateFault>
     ensures { result ≡ spec.date_or_range order parts.now }
@@ -200,6 +224,9 @@ fn date_or_range(order: DateOrder, parts: &[Part]) -> Result<Extent, DateFault>
     match simple_date(order, parts) {
         Ok(date) => Ok(Extent::On(date)),
         Err(DateFault::Malformed) => range_in(order, Joining::Any, parts),
+        Err(DateFault::LaterYear) => {
+            or_fault(DateFault::LaterYear, range_in(order, Joining::Any, parts))
+        }
         Err(fault) => Err(fault),
     }
 }

@@ -7,7 +7,7 @@ use crate::written::Reckoning;
 use osn_days::Weekday;
 
 /// Each name with the part of a date that it is: in small letters, with accents and without.
-pub const NAMES: [(&str, Part); 477] = [
+pub const NAMES: [(&str, Part); 483] = [
     ("january", Part::Month(1)),
     ("jan", Part::Month(1)),
     ("ianuarius", Part::Month(1)),
@@ -20,6 +20,7 @@ pub const NAMES: [(&str, Part); 477] = [
     ("janv", Part::Month(1)),
     ("januar", Part::Month(1)),
     ("jänner", Part::Month(1)),
+    ("janner", Part::Month(1)),
     ("januari", Part::Month(1)),
     ("gennaio", Part::Month(1)),
     ("gen", Part::Month(1)),
@@ -197,6 +198,7 @@ pub const NAMES: [(&str, Part); 477] = [
     ("söndag", Part::Weekday(Weekday::Sunday)),
     ("sondag", Part::Weekday(Weekday::Sunday)),
     ("sön", Part::Weekday(Weekday::Sunday)),
+    ("søn", Part::Weekday(Weekday::Sunday)),
     ("søndag", Part::Weekday(Weekday::Sunday)),
     ("monday", Part::Weekday(Weekday::Monday)),
     ("mon", Part::Weekday(Weekday::Monday)),
@@ -241,6 +243,7 @@ pub const NAMES: [(&str, Part); 477] = [
     ("mercoledi", Part::Weekday(Weekday::Wednesday)),
     ("miércoles", Part::Weekday(Weekday::Wednesday)),
     ("miercoles", Part::Weekday(Weekday::Wednesday)),
+    ("mer", Part::Weekday(Weekday::Wednesday)),
     ("mié", Part::Weekday(Weekday::Wednesday)),
     ("mie", Part::Weekday(Weekday::Wednesday)),
     ("quarta", Part::Weekday(Weekday::Wednesday)),
@@ -293,11 +296,14 @@ pub const NAMES: [(&str, Part); 477] = [
     ("zat", Part::Weekday(Weekday::Saturday)),
     ("sabato", Part::Weekday(Weekday::Saturday)),
     ("sab", Part::Weekday(Weekday::Saturday)),
+    ("sáb", Part::Weekday(Weekday::Saturday)),
     ("sábado", Part::Weekday(Weekday::Saturday)),
     ("sabado", Part::Weekday(Weekday::Saturday)),
     ("lördag", Part::Weekday(Weekday::Saturday)),
     ("lordag", Part::Weekday(Weekday::Saturday)),
     ("lör", Part::Weekday(Weekday::Saturday)),
+    ("lor", Part::Weekday(Weekday::Saturday)),
+    ("lør", Part::Weekday(Weekday::Saturday)),
     ("lørdag", Part::Weekday(Weekday::Saturday)),
     ("to", Part::To),
     ("until", Part::To),

@@ -51,6 +51,8 @@ pub enum Part {
     Undated,
     Feast,
     RomanNumeral,
+    /// A year whose last digits are open, as `173x`.
+    OpenYear,
     Unknown,
 }
 
@@ -126,6 +128,30 @@ fn are_roman(word: &[u8]) -> bool
     true
 }
 
+/// Whether a byte is `x` or `_`, for a digit that is open.
+fn is_gap(byte: u8) -> bool
+    ensures { result ≡ spec.is_gap byte }
+{
+    byte == b'x' || byte == b'_'
+}
+
+/// Whether a byte is a digit, or stands for one that is open.
+fn is_place(byte: u8) -> bool
+    ensures { result ≡ spec.is_place byte }
+{
+    byte.is_ascii_digit() || is_gap(byte)
+}
+
+/// Whether a word is a year whose last digits are open.
+fn is_open_year(word: &[u8]) -> bool
+    ensures { result ≡ spec.is_open_year word.now }
+{
+    match word {
+        [a, b, c, d] => a.is_ascii_digit() && is_place(*b) && is_place(*c) && is_gap(*d),
+        _ => false,
+    }
+}
+
 /// The part that a word in small letters is.
 pub fn part_of(word: &str) -> Part
     ensures { result ≡ spec.part_of word.now }
@@ -134,6 +160,8 @@ pub fn part_of(word: &str) -> Part
         Part::Number(numeral)
     } else if let Some(part) = part_named(word) {
         part
+    } else if is_open_year(word.as_bytes()) {
+        Part::OpenYear
     } else if are_roman(word.as_bytes()) {
         Part::RomanNumeral
     } else {

@@ -11,7 +11,8 @@ ghost use Rattle.osn_grammar.specs.SetsInDigits.{AreSetsRead};
 use crate::extent::extent_of;
 use crate::part::Part;
 use crate::scan::parts_in;
-use crate::set::members_of;
+use crate::set::set_in;
+use crate::simple::lacks_digit;
 use crate::written::{DateFault, DateOrder, Reckoning, Written, WrittenDate};
 use osn_days::Weekday;
 use std::alloc::{AllocError, Global};
@@ -99,6 +100,13 @@ fn has_roman_numeral(parts: &[Part]) -> bool
     parts.iter().any(|part| matches!(part, Part::RomanNumeral))
 }
 
+/// Whether a part is a year with an open digit.
+fn has_open_year(parts: &[Part]) -> bool
+    ensures { result ≡ list_any spec.is_open_year parts.now }
+{
+    parts.iter().any(|part| matches!(part, Part::OpenYear))
+}
+
 /// The fault of a part that is told and not read, if there is one.
 fn unread(parts: &[Part]) -> Option<DateFault>
     ensures { result ≡ spec.unread parts.now }
@@ -107,8 +115,22 @@ fn unread(parts: &[Part]) -> Option<DateFault>
         Some(DateFault::Feast)
     } else if has_roman_numeral(parts) {
         Some(DateFault::RomanNumeral)
+    } else if has_open_year(parts) {
+        Some(DateFault::OpenYear)
     } else {
         None
+    }
+}
+
+/// The date, unless a year of it may lack a digit: one of three digits that is in doubt or stands
+/// in brackets.
+fn unless_open(date: WrittenDate) -> Result<WrittenDate, DateFault>
+    ensures { result ≡ spec.unless_open date }
+{
+    if date.extent.has_year_of_three_digits() && (date.is_uncertain || date.is_supplied) {
+        Err(DateFault::OpenYear)
+    } else {
+        Ok(date)
     }
 }
 
@@ -119,7 +141,7 @@ fn date_of(order: DateOrder, parts: &[Part], timed: &[Part]) -> Result<WrittenDa
     let weekday = weekday_of(parts)?;
     let reckoning = reckoning_of(parts)?;
     let extent = extent_of(order, timed)?;
-    Ok(WrittenDate {
+    unless_open(WrittenDate {
         extent,
         weekday,
         reckoning,
@@ -127,6 +149,43 @@ fn date_of(order: DateOrder, parts: &[Part], timed: &[Part]) -> Result<WrittenDa
         is_uncertain: is_uncertain(parts),
         is_supplied: is_supplied(parts),
     })
+}
+
+/// Whether parts are a year of three digits with a dash or two full stops after it.
+fn is_open_end(timed: &[Part]) -> bool
+    ensures { result ≡ spec.is_open_end timed.now }
+{
+    match timed {
+        [Part::Number(year), Part::Dash | Part::Open] => lacks_digit(*year),
+        _ => false,
+    }
+}
+
+/// Whether parts end with such a year.
+fn ends_open(timed: &[Part]) -> bool
+    ensures { result ≡ spec.ends_open timed.now }
+{
+    let mut place = 0;
+    while place < timed.len() {
+        if is_open_end(&timed[place..]) {
+            return true;
+        }
+        place += 1;
+    }
+    false
+}
+
+/// A date that was read, or why parts of no form are no date.
+fn or_open(
+    timed: &[Part],
+    read: Result<WrittenDate, DateFault>,
+) -> Result<WrittenDate, DateFault>
+    ensures { result ≡ spec.or_open timed.now read }
+{
+    match read {
+        Err(DateFault::Malformed) if ends_open(timed) => Err(DateFault::OpenYear),
+        _ => read,
+    }
 }
 
 /// Whether parts say that a text is undated, as `n.d.` does.
@@ -146,21 +205,21 @@ fn reading_of_parts(order: DateOrder, parts: &[Part], timed: &[Part]) -> Result<
     if let Some(fault) = unread(parts) {
         return Err(fault);
     }
-    Ok(Written::Date(date_of(order, parts, timed)?))
+    Ok(Written::Date(or_open(timed, date_of(order, parts, timed))?))
 }
 
-/// That a text is a set of dates, or else this fault of it.
+/// That a text is a set of dates, or else why its first wrong member is none, or this fault of it.
 fn or_set(
     alloc: Global,
     text: &str,
     fault: DateFault,
 ) -> Result<Result<Written, DateFault>, AllocError>
-    ensures { IfOk result (λ read. read ≡ spec.or_set (spec.members text.now) (Err fault)) }
+    ensures { IfOk result (λ read. read ≡ spec.or_set (spec.set_in text.now) (Err fault)) }
 {
-    if members_of(alloc, text)?.is_empty() {
-        Ok(Err(fault))
-    } else {
-        Ok(Ok(Written::Set))
+    match set_in(alloc, text)? {
+        Ok(_) => Ok(Ok(Written::Set)),
+        Err(DateFault::Malformed) => Ok(Err(fault)),
+        Err(reason) => Ok(Err(reason)),
     }
 }
 

@@ -1,5 +1,5 @@
 //! A text is cut into its parts.
-ghost use Rattle.std.specs.Prelude.{◌≡◌, ◌<◌, ◌+◌, ◌++◌, []};
+ghost use Rattle.std.specs.Prelude.{◌≡◌, ◌||◌, ◌<◌, ◌+◌, ◌++◌, []};
 ghost use Rattle.std.specs.Prelude.{IfOk, OnOk, drop, length, string_bytes};
 ghost use Rattle.std.specs.Option.{option_to_list};
 ghost use Rattle.osn_grammar.specs.Scan as spec;
@@ -18,7 +18,7 @@ fn is_digit(character: char) -> bool
 fn is_dash(character: char) -> bool
     ensures { result ≡ spec.is_dash character }
 {
-    matches!(character, '-' | '\u{2011}' | '–' | '—' | '\u{2212}')
+    matches!(character, '-' | '\u{2010}' | '\u{2011}' | '–' | '—' | '\u{2212}')
 }
 
 /// Whether a character is a blank: a space, a tab, or a space that doesn't break or is thin.
@@ -28,11 +28,11 @@ fn is_blank(character: char) -> bool
     matches!(character, ' ' | '\t' | '\u{a0}' | '\u{2009}' | '\u{202f}')
 }
 
-/// Whether a character is a letter: of ASCII, or any other beyond it but a dash or a blank.
+/// Whether a character is a letter: of ASCII, `_`, or any other beyond ASCII but a dash or a blank.
 fn is_letter(character: char) -> bool
     ensures { result ≡ spec.is_letter character }
 {
-    matches!(character, 'A'..='Z' | 'a'..='z')
+    matches!(character, 'A'..='Z' | 'a'..='z' | '_')
         || (character > '\u{7f}' && !(is_dash(character) || is_blank(character)))
 }
 
@@ -54,12 +54,12 @@ fn is_number(word: &str) -> bool
     !word.is_empty() && are_digits(word.as_bytes())
 }
 
-/// Whether the next character is a letter.
-fn is_letter_next(next: Option<char>) -> bool
-    ensures { result ≡ spec.next_is spec.is_letter next }
+/// Whether the next character belongs to a word.
+fn is_word_next(next: Option<char>) -> bool
+    ensures { result ≡ spec.next_is (λ d. spec.is_letter d || spec.is_digit d) next }
 {
     match next {
-        Some(character) => is_letter(character),
+        Some(character) => is_letter(character) || is_digit(character),
         None => false,
     }
 }
@@ -71,6 +71,16 @@ fn first_of(characters: &[char]) -> Option<char>
     match characters {
         [first, ..] => Some(*first),
         [] => None,
+    }
+}
+
+/// Whether one letter alone comes next.
+fn is_letter_alone(rest: &[char]) -> bool
+    ensures { result ≡ spec.is_letter_alone rest.now }
+{
+    match rest {
+        [first, after @ ..] => is_letter(*first) && !is_word_next(first_of(after)),
+        [] => false,
     }
 }
 
@@ -156,11 +166,14 @@ fn push_some(parts: &mut Vec<Part>, part: Option<Part>) -> Result<(), AllocError
     Ok(())
 }
 
-/// Whether a full stop between a word and the next character is passed over.
-fn is_passed_over(word: &str, character: char, next: Option<char>) -> bool
-    ensures { result ≡ spec.is_passed_over word.now character next }
+/// Whether a full stop after a word is passed over, since it stands between two single letters.
+fn is_passed_over(word: &str, character: char, rest: &[char]) -> bool
+    ensures { result ≡ spec.is_passed_over word.now character rest.now }
 {
-    character == '.' && !are_digits(word.as_bytes()) && is_letter_next(next)
+    character == '.'
+        && is_letter_alone(rest)
+        && word.len() == 1
+        && !are_digits(word.as_bytes())
 }
 
 /// Takes one more character, before the rest of the text.
@@ -175,12 +188,12 @@ fn take(
         ++ spec.parts_ended (string_bytes word.old) character rest.now) }
     ensures word { OnOk result
         (string_bytes word.new
-        ≡ spec.word_after (string_bytes word.old) character (spec.first_of rest.now)) }
+        ≡ spec.word_after (string_bytes word.old) character rest.now) }
 {
     if is_letter(character) || is_digit(character) {
         return word.push(small(character));
     }
-    if is_passed_over(word.as_str(), character, first_of(rest)) {
+    if is_passed_over(word.as_str(), character, rest) {
         return Ok(());
     }
     push_some(parts, part_of_run(word.as_str()))?;

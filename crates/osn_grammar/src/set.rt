@@ -1,6 +1,6 @@
 //! A set of dates, of which one is meant, as EDTF writes it.
-ghost use Rattle.std.specs.Prelude.{◌≡◌, filter, map, not, option_map, IfOk};
-ghost use Rattle.std.specs.Result.{result_ok};
+ghost use Rattle.std.specs.Prelude.{◌≡◌, map, option_map, IfOk};
+ghost use Rattle.std.specs.Result.{result_map_both};
 ghost use Rattle.osn_grammar.specs.Reading as reading;
 ghost use Rattle.osn_grammar.specs.Sets as spec;
 
@@ -60,13 +60,12 @@ fn days_in_digits(parts: &[Part]) -> Result<Extent, DateFault>
     }
 }
 
-/// The member of a set that parts are, of which some are no signs.
-fn member_of(parts: &[Part], unsigned: &[Part]) -> Option<WrittenDate>
-    ensures { result ≡ option_map (reading.with_signs parts.now)
-        (result_ok (spec.days_in_digits unsigned.now)) }
+/// The member of a set that parts are, of which some are no signs, or why they are none.
+fn member_of(parts: &[Part], unsigned: &[Part]) -> Result<WrittenDate, DateFault>
+    ensures { result ≡ reading.member_by parts.now (spec.days_in_digits unsigned.now) }
 {
-    let extent = days_in_digits(unsigned).ok()?;
-    Some(WrittenDate {
+    let extent = days_in_digits(unsigned)?;
+    Ok(WrittenDate {
         extent,
         weekday: None,
         reckoning: None,
@@ -76,8 +75,8 @@ fn member_of(parts: &[Part], unsigned: &[Part]) -> Option<WrittenDate>
     })
 }
 
-/// The member of a set that a text is, if it is one.
-fn member_in(alloc: Global, text: &str) -> Result<Option<WrittenDate>, AllocError>
+/// The member of a set that a text is, or why it is none.
+fn member_in(alloc: Global, text: &str) -> Result<Result<WrittenDate, DateFault>, AllocError>
     ensures { IfOk result (λ member. member ≡ reading.member_in text.now) }
 {
     let parts = parts_in(alloc, text)?;
@@ -89,19 +88,22 @@ fn member_in(alloc: Global, text: &str) -> Result<Option<WrittenDate>, AllocErro
     Ok(member_of(parts.as_slice(), unsigned.as_slice()))
 }
 
-/// The members of a set that texts are, if each is one.
-fn all_members(alloc: Global, texts: &[&str]) -> Result<Option<Vec<WrittenDate>>, AllocError>
-    ensures { IfOk result (λ members. option_map (λ members. members.items) members
+/// The members of a set, or why it is none.
+type Members = Result<Vec<WrittenDate>, DateFault>;
+
+/// The members of a set that texts are, or why the first one that is none is none.
+fn all_members(alloc: Global, texts: &[&str]) -> Result<Members, AllocError>
+    ensures { IfOk result (λ members. result_map_both (λ members. members.items) (λ fault. fault) members
         ≡ reading.all_members (map (λ text. text.now) texts.now)) }
 {
     let mut members = Vec::new(alloc);
     for text in texts {
         match member_in(alloc, text)? {
-            Some(member) => members.push(member)?,
-            None => return Ok(None),
+            Ok(member) => members.push(member)?,
+            Err(fault) => return Ok(Err(fault)),
         }
     }
-    Ok(Some(members))
+    Ok(Ok(members))
 }
 
 /// The texts between the commas of a text.
@@ -112,13 +114,25 @@ fn between_commas(alloc: Global, text: &str) -> Result<Vec<&str>, AllocError>
     text.split(',').collect(alloc)
 }
 
-/// The members of the set that stands in brackets, if it is one.
-fn members_inside(alloc: Global, inside: &str) -> Result<Option<Vec<WrittenDate>>, AllocError>
-    ensures { IfOk result (λ members. option_map (λ members. members.items) members
+/// The members of the set that stands in brackets, or why it is none.
+fn members_inside(alloc: Global, inside: &str) -> Result<Members, AllocError>
+    ensures { IfOk result (λ members. result_map_both (λ members. members.items) (λ fault. fault) members
         ≡ reading.all_members (spec.between_commas inside.now)) }
 {
     let texts = between_commas(alloc, inside)?;
     all_members(alloc, texts.as_slice())
+}
+
+/// The members of the set that a text is, or why it is none.
+#[tactic(auto, unfolding(crate::specs::Reading::set_in))]
+pub fn set_in(alloc: Global, text: &str) -> Result<Members, AllocError>
+    ensures { IfOk result (λ members. result_map_both (λ members. members.items) (λ fault. fault) members
+        ≡ reading.set_in text.now) }
+{
+    match inside_brackets(text) {
+        Some(inside) => members_inside(alloc, inside),
+        None => Ok(Err(DateFault::Malformed)),
+    }
 }
 
 /// The dates of a set of EDTF, of which one is meant, as `[1543-04-11,1544-04-11]`: those of a text
@@ -128,15 +142,11 @@ fn members_inside(alloc: Global, inside: &str) -> Result<Option<Vec<WrittenDate>
 /// # Errors
 ///
 /// Want of memory.
-#[tactic(auto, unfolding(crate::specs::Reading::members))]
 pub fn members_of(alloc: Global, text: &str) -> Result<Vec<WrittenDate>, AllocError>
     ensures { IfOk result (λ members. members.items ≡ reading.members text.now) }
 {
-    let Some(inside) = inside_brackets(text) else {
-        return Ok(Vec::new(alloc));
-    };
-    match members_inside(alloc, inside)? {
-        Some(members) => Ok(members),
-        None => Ok(Vec::new(alloc)),
+    match set_in(alloc, text)? {
+        Ok(members) => Ok(members),
+        Err(_) => Ok(Vec::new(alloc)),
     }
 }

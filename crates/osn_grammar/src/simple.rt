@@ -38,6 +38,13 @@ pub fn is_long(number: Numeral) -> bool
     number.digits >= 3
 }
 
+/// Whether a year has three digits and no zero before them, so that it may lack its last one.
+pub fn lacks_digit(year: Numeral) -> bool
+    ensures { result ≡ spec.lacks_digit year }
+{
+    year.digits == 3 && year.value >= 100
+}
+
 /// Whether `later` is the last `digits` digits of the year that follows.
 fn ends_next_year(year: u32, later: u32, digits: u32) -> bool
     requires { year ≤ 10000 }
@@ -73,6 +80,7 @@ fn year_of(years: YearNumbers) -> Result<Year, DateFault>
     Ok(Year {
         first: years.first.value as u16,
         is_double: years.later.is_some(),
+        has_three_digits: lacks_digit(years.first),
     })
 }
 
@@ -127,6 +135,17 @@ fn day_of(years: YearNumbers, month: u32, day: u32) -> Result<SimpleDate, DateFa
     day_in(year_of(years)?, month, day)
 }
 
+/// The day of a number in a month of a year, where it has one or two digits.
+fn day_of_month(years: YearNumbers, month: u8, day: Numeral) -> Result<SimpleDate, DateFault>
+    ensures { result ≡ spec.day_of_month years month day }
+{
+    if is_long(day) {
+        Err(DateFault::Malformed)
+    } else {
+        day_of(years, u32::from(month), day.value)
+    }
+}
+
 /// The month of a number in digits, where it has one or two of them.
 fn month_in_digits(years: YearNumbers, month: Numeral) -> Result<SimpleDate, DateFault>
     ensures { result ≡ spec.month_in_digits years month }
@@ -164,19 +183,19 @@ fn by_order(
 {
     match order {
         DateOrder::Unknown => Err(DateFault::DayOrMonth),
-        DateOrder::DayMonth => day_of(one(year), second.value, first.value),
-        DateOrder::MonthDay => day_of(one(year), first.value, second.value),
+        DateOrder::DayMonth => day_in_digits(one(year), second, first),
+        DateOrder::MonthDay => day_in_digits(one(year), first, second),
     }
 }
 
-/// The date of three numbers with dashes between them, which begins with its year or ends with it.
-fn with_dashes(
+/// The date of three numbers, which begins with its year or ends with it.
+fn in_order(
     order: DateOrder,
     first: Numeral,
     second: Numeral,
     third: Numeral,
 ) -> Result<SimpleDate, DateFault>
-    ensures { result ≡ spec.with_dashes order first second third }
+    ensures { result ≡ spec.in_order order first second third }
 {
     if is_long(third) && !is_long(first) {
         by_order(order, first, second, third)
@@ -185,7 +204,7 @@ fn with_dashes(
     }
 }
 
-/// The date of three numbers with slashes or blanks between them.
+/// The date of three numbers with dashes, slashes or blanks between them.
 fn three_numbers(
     order: DateOrder,
     first: Numeral,
@@ -194,7 +213,7 @@ fn three_numbers(
 ) -> Result<SimpleDate, DateFault>
     ensures { result ≡ spec.three_numbers order first second third }
 {
-    with_dashes(
+    in_order(
         order_of(order, first.value, second.value),
         first,
         second,
@@ -223,9 +242,9 @@ fn around_month(first: Numeral, month: u8, last: Numeral) -> Result<SimpleDate, 
     ensures { result ≡ spec.around_month first month last }
 {
     if is_long(first) {
-        day_of(one(first), u32::from(month), last.value)
+        day_of_month(one(first), month, last)
     } else {
-        day_of(one(last), u32::from(month), first.value)
+        day_of_month(one(last), month, first)
     }
 }
 
@@ -251,12 +270,23 @@ fn year_and_name(year: Numeral, month: u8) -> Result<SimpleDate, DateFault>
     }
 }
 
+/// The date of two numbers with a `/` between them: a month and its year, or a double year.
+fn month_or_double_year(first: Numeral, second: Numeral) -> Result<SimpleDate, DateFault>
+    ensures { result ≡ spec.month_or_double_year first second }
+{
+    if !is_long(first) && is_long(second) {
+        month_of(one(second), first.value)
+    } else {
+        whole_year(two(first, second))
+    }
+}
+
 /// The date of a year, a day and the name of a month after them.
 fn year_and_day(year: Numeral, day: Numeral, month: u8) -> Result<SimpleDate, DateFault>
     ensures { result ≡ spec.year_and_day year day month }
 {
     if is_long(year) {
-        day_of(one(year), u32::from(month), day.value)
+        day_of_month(one(year), month, day)
     } else {
         Err(DateFault::Malformed)
     }
@@ -273,7 +303,7 @@ fn double_year_or_days(
     ensures { result ≡ spec.double_year_or_days first second month day }
 {
     if is_long(first) {
-        day_of(two(first, second), u32::from(month), day.value)
+        day_of_month(two(first, second), month, day)
     } else {
         Err(DateFault::TwoDays)
     }
@@ -284,13 +314,10 @@ fn day_in_numbers(order: DateOrder, parts: &[Part]) -> Result<SimpleDate, DateFa
     ensures { result ≡ spec.day_in_numbers order parts.now }
 {
     match parts {
-        [Number(a), Dash, Number(b), Dash, Number(c)] => with_dashes(order, *a, *b, *c),
-        [Number(a), Slash, Number(b), Slash, Number(c)] | [Number(a), Number(b), Number(c)] => {
-            three_numbers(order, *a, *b, *c)
-        }
-        [Number(a), Dot, Number(b), Dot, Number(c)] => {
-            with_dashes(DateOrder::DayMonth, *a, *b, *c)
-        }
+        [Number(a), Dash, Number(b), Dash, Number(c)]
+        | [Number(a), Slash, Number(b), Slash, Number(c)]
+        | [Number(a), Number(b), Number(c)] => three_numbers(order, *a, *b, *c),
+        [Number(a), Dot, Number(b), Dot, Number(c)] => in_order(DateOrder::DayMonth, *a, *b, *c),
         [Number(a), Slash, Number(b), Number(y)] => year_last(order, *a, *b, *y),
         [
             Number(y),
@@ -302,7 +329,7 @@ fn day_in_numbers(order: DateOrder, parts: &[Part]) -> Result<SimpleDate, DateFa
             Number(d),
         ] => { day_in_digits(two(*y, *l), *m, *d) }
         [Number(d), Dot, Number(m), Dot, Number(y), Slash, Number(l)] => {
-            day_of(two(*y, *l), m.value, d.value)
+            day_in_digits(two(*y, *l), *m, *d)
         }
         _ => Err(DateFault::Malformed),
     }
@@ -313,11 +340,10 @@ fn day_in_words(parts: &[Part]) -> Result<SimpleDate, DateFault>
     ensures { result ≡ spec.day_in_words parts.now }
 {
     match parts {
-        [Number(a), Month(m), Number(b)] => around_month(*a, *m, *b),
-        [Number(a), Dash, Month(m), Dash, Number(b)] => around_month(*a, *m, *b),
-        [Number(d), Month(m), Number(y), Slash, Number(l)] => {
-            day_of(two(*y, *l), u32::from(*m), d.value)
-        }
+        [Number(a), Month(m), Number(b)]
+        | [Number(a), Dash, Month(m), Dash, Number(b)]
+        | [Number(a), Slash, Month(m), Slash, Number(b)] => around_month(*a, *m, *b),
+        [Number(d), Month(m), Number(y), Slash, Number(l)] => day_of_month(two(*y, *l), *m, *d),
         [Number(a), Slash, Number(b), Month(m), Number(c)] => {
             double_year_or_days(*a, *b, *m, *c)
         }
@@ -341,11 +367,11 @@ fn day_in_words(parts: &[Part]) -> Result<SimpleDate, DateFault>
         ] => { Err(DateFault::TwoDays) }
         [Number(y), Number(d), Month(m)] => year_and_day(*y, *d, *m),
         [Month(m), Number(d), Number(y)] | [Month(m), Number(d), Dot, Number(y)] => {
-            day_of(one(*y), u32::from(*m), d.value)
+            day_of_month(one(*y), *m, *d)
         }
         [Month(m), Number(d), Number(y), Slash, Number(l)]
         | [Month(m), Number(d), Dot, Number(y), Slash, Number(l)] => {
-            day_of(two(*y, *l), u32::from(*m), d.value)
+            day_of_month(two(*y, *l), *m, *d)
         }
         _ => Err(DateFault::Malformed),
     }
@@ -362,10 +388,10 @@ fn month_or_year(parts: &[Part]) -> Result<SimpleDate, DateFault>
         [Number(y), Slash, Number(l), Month(m)] => month_of(two(*y, *l), u32::from(*m)),
         [Number(y), Dash, Number(m)] => year_and_month(*y, *m),
         [Number(y), Slash, Number(l), Dash, Number(m)] => month_in_digits(two(*y, *l), *m),
-        [Number(y), Dash, Number(m), Dash, Blank] => month_of(one(*y), m.value),
+        [Number(y), Dash, Number(m), Dash, Blank] => month_in_digits(one(*y), *m),
         [Number(y), Dash, Blank, Dash, Blank] => whole_year(one(*y)),
         [Number(y)] => whole_year(one(*y)),
-        [Number(y), Slash, Number(l)] => whole_year(two(*y, *l)),
+        [Number(a), Slash, Number(b)] => month_or_double_year(*a, *b),
         _ => Err(DateFault::Malformed),
     }
 }

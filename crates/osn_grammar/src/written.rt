@@ -1,4 +1,7 @@
 //! What a date that people write may be.
+ghost use Rattle.std.specs.Prelude.{◌≡◌};
+ghost use Rattle.osn_grammar.specs.Extent as spec;
+
 use osn_days::Weekday;
 
 /// A year as it is written. Of a double year, as `1731/2`, it is the first one.
@@ -7,6 +10,9 @@ pub struct Year {
     pub first: u16,
     /// Whether the year that follows is written too.
     pub is_double: bool,
+    /// Whether it is written with three digits and no zero before them, as `173`, so that it may
+    /// lack its last one.
+    pub has_three_digits: bool,
 }
 
 /// A day, a month or a year. Whether a calendar has the day is not tested.
@@ -26,6 +32,36 @@ pub enum Extent {
     NotAfter(SimpleDate),
     After(SimpleDate),
     NotBefore(SimpleDate),
+}
+
+impl SimpleDate {
+    /// Whether the year is written with three digits and no zero before them.
+    fn has_year_of_three_digits(self) -> bool
+        ensures { result ≡ spec.has_year_of_three_digits self }
+    {
+        match self {
+            SimpleDate::Day { year, .. } | SimpleDate::Month { year, .. } => year.has_three_digits,
+            SimpleDate::Year(year) => year.has_three_digits,
+        }
+    }
+}
+
+impl Extent {
+    /// Whether a year of it is written with three digits and no zero before them.
+    pub fn has_year_of_three_digits(self) -> bool
+        ensures { result ≡ spec.has_three_digits self }
+    {
+        match self {
+            Extent::FromTo(first, last) => {
+                first.has_year_of_three_digits() || last.has_year_of_three_digits()
+            }
+            Extent::On(date)
+            | Extent::Before(date)
+            | Extent::NotAfter(date)
+            | Extent::After(date)
+            | Extent::NotBefore(date) => date.has_year_of_three_digits(),
+        }
+    }
 }
 
 /// By which calendar a date is written, where it says so.
@@ -85,6 +121,9 @@ pub enum DateFault {
     Day,
     /// A year of one or two digits has its zeros, as `0045`.
     ShortYear,
+    /// A digit of the year is open, as in `173-` and `173X`, or a year of three digits is in doubt
+    /// or stands in brackets, as `173?`.
+    OpenYear,
     /// `11/2/1731` may be 11 February or 2 November.
     DayOrMonth,
     /// In `11/22 February 1731` the day is that of both calendars, as in

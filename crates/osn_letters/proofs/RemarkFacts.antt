@@ -87,7 +87,7 @@ abbrev beside : Beside → List (Bool × Remark)
 beside (w, given, other, malformed) = remarks_beside w given other malformed
 
 beside_apart : (b : Beside) → AreApart (remarks_in (beside b))
-beside_apart b = (refl, (refl, (refl, (refl, tt))))
+beside_apart b = (refl, (refl, (refl, (refl, (refl, tt)))))
 
 place_apart : (applies : Bool) (b : Beside)
     → AreApart (remarks_in ((applies, remark.UnknownPlace) ∷ beside b))
@@ -130,6 +130,7 @@ date_apart a l m faults.NoDate = (refl, (refl, (refl, tt)))
 date_apart a l m faults.NotOneDay = (refl, (refl, (refl, tt)))
 date_apart a l m faults.Qualifier = (refl, (refl, (refl, tt)))
 date_apart a l m faults.ShortYear = (refl, (refl, (refl, tt)))
+date_apart a l m faults.OpenYear = (refl, (refl, (refl, tt)))
 date_apart a l m faults.DayOrMonth = (refl, (refl, (refl, tt)))
 date_apart a l m faults.TwoDays = (refl, (refl, (refl, tt)))
 date_apart a l m faults.Feast = (refl, (refl, (refl, tt)))

@@ -12,9 +12,10 @@ use Rattle.osn_letters.specs.RowFields.{trimmed}
 abbrev pub is_in_digits : List ℕ → Bool
 is_in_digits month = not (length month == 0) && list_all is_ascii_digit month
 
--- a month or a day of one digit has a zero before it
+-- a month or a day that is one digit has a zero before it
 abbrev pub two_digits : List ℕ → List ℕ
-two_digits digits = if length digits == 1 then codes "0" ++ digits else digits
+two_digits digits =
+    if length digits == 1 && list_all is_ascii_digit digits then codes "0" ++ digits else digits
 
 -- a month or a day after a hyphen, unless it is empty
 abbrev pub after_hyphen : List ℕ → List ℕ

@@ -4,6 +4,7 @@ use Rattle.std.specs.Prelude.{length, map, filter, count_by, Option, is_some, is
 use Rattle.std.specs.List.{join_by, list_any}
 use Rattle.osn_days.specs.declared.weekday.Weekday.{Weekday}
 use Rattle.osn_grammar.specs.declared.written.WrittenDate.{WrittenDate as AnyDate}
+use Rattle.osn_grammar.specs.Extent.{has_three_digits}
 use Rattle.osn_lands.specs.declared.dated.DatedDay.{DatedDay}
 use Rattle.osn_written.specs.declared.written_date.WrittenDate.{WrittenDate}
 use Rattle.osn_written.specs.Meaning.{has_weekday, is_not_counted_double}
@@ -22,6 +23,7 @@ remark_words remark.SeveralDays = codes "several days"
 remark_words remark.WeekdayDiffers = codes "weekday differs"
 remark_words remark.NotCountedDouble = codes "not counted double there"
 remark_words remark.Supplied = codes "supplied by an editor"
+remark_words remark.YearOfThreeDigits = codes "year of three digits"
 remark_words remark.ByAnotherCalendar = codes "by another calendar"
 remark_words remark.WeekdayNotLookedFor = codes "weekday not looked for"
 remark_words remark.MalformedWeekday = codes "malformed weekday"
@@ -60,6 +62,7 @@ remarks_on_days w given days =
 abbrev pub remarks_beside : AnyDate → Option Weekday → Bool → Bool → List (Bool × Remark)
 remarks_beside w given is_by_other_calendar is_malformed =
     (w.is_supplied, remark.Supplied)
+    ∷ (has_three_digits w.extent, remark.YearOfThreeDigits)
     ∷ (is_by_other_calendar, remark.ByAnotherCalendar)
     ∷ (is_none (one_day w) && is_weekday_given w.weekday given, remark.WeekdayNotLookedFor)
     ∷ (is_malformed, remark.MalformedWeekday)

@@ -44,7 +44,7 @@ fn push_after_hyphen(text: &mut Vec<u8>, digits: &[u8]) -> Result<(), AllocError
         return Ok(());
     }
     text.push(b'-')?;
-    if digits.len() == 1 {
+    if digits.len() == 1 && are_digits(digits) {
         text.push(b'0')?;
     }
     text.extend_from_slice(digits)

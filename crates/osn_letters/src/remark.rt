@@ -32,6 +32,8 @@ pub enum Remark {
     NotCountedDouble,
     /// An editor supplied its date.
     Supplied,
+    /// A year of its date has three digits and no zero before them, so that it may lack its last.
+    YearOfThreeDigits,
     /// By the calendar that its date names, it means other days than by that of its place.
     ByAnotherCalendar,
     /// A weekday is given, and its date is not one day.
@@ -54,6 +56,7 @@ impl Remark {
             Remark::WeekdayDiffers => "weekday differs",
             Remark::NotCountedDouble => "not counted double there",
             Remark::Supplied => "supplied by an editor",
+            Remark::YearOfThreeDigits => "year of three digits",
             Remark::ByAnotherCalendar => "by another calendar",
             Remark::WeekdayNotLookedFor => "weekday not looked for",
             Remark::MalformedWeekday => "malformed weekday",
@@ -173,13 +176,17 @@ pub(crate) fn remarks_beside(
     given: Option<Weekday>,
     is_by_other_calendar: bool,
     is_malformed: bool,
-) -> [PossibleRemark; 4]
+) -> [PossibleRemark; 5]
     ensures { result ≡ spec.remarks_beside date given is_by_other_calendar is_malformed }
 {
     let is_one_day = WrittenDate::of_one_day(date).is_some();
     let is_not_looked_for = !is_one_day && is_weekday_given(date.weekday, given);
     [
         (date.is_supplied, Remark::Supplied),
+        (
+            date.extent.has_year_of_three_digits(),
+            Remark::YearOfThreeDigits,
+        ),
         (is_by_other_calendar, Remark::ByAnotherCalendar),
         (is_not_looked_for, Remark::WeekdayNotLookedFor),
         (is_malformed, Remark::MalformedWeekday),

@@ -18,7 +18,7 @@ use Rattle.osn_pages.specs.Conversion.{days_of_written}
 use Rattle.osn_pages.specs.declared.page.Page.{Page}
 use Rattle.osn_pages.specs.declared.page.Page.TheVariants as pages
 use Rattle.osn_written.specs.ReadDate.{read_date}
-use Rattle.osn_written.specs.WrittenDate.{written_date, usual_date, number_of, weekday_named}
+use Rattle.osn_written.specs.WrittenDate.{written_date, number_of, weekday_named}
 use Rattle.osn_written.specs.declared.written_date.DateFault.{DateFault}
 use Rattle.osn_written.specs.declared.written_date.DateFault.TheVariants as faults
 use Rattle.osn_written.specs.declared.written_date.WrittenDate.{WrittenDate}
@@ -202,15 +202,15 @@ topic_of_words (month_words code year month) = of_land (month_page_of year month
 topic_of_words (territory_words None) = Ok Lands
 topic_of_words (territory_words (Some code)) = Ok (Land pages.Periods false)
 
--- words take memory where a date is in none of the usual forms
-abbrev pub day_takes_memory : Option ℕ → List ℕ → Bool
-day_takes_memory (Some number) text = false
-day_takes_memory None text = not (is_ok (usual_date text))
+-- words take memory where they name a date
+abbrev pub day_takes_memory : Option ℕ → Bool
+day_takes_memory (Some number) = false
+day_takes_memory None = true
 
 abbrev pub takes_memory : PageWordsModel → Bool
 takes_memory (almanac_words code year) = false
-takes_memory (reading_words code date weekday order strict) = not (is_ok (usual_date date))
-takes_memory (day_words code date) = day_takes_memory (number_of date) date
+takes_memory (reading_words code date weekday order strict) = true
+takes_memory (day_words code date) = day_takes_memory (number_of date)
 takes_memory (month_words code year month) = false
 takes_memory (territory_words code) = false
 

@@ -1,7 +1,7 @@
 //! What the words of a command line ask for, where each is what its place asks for.
-ghost use Rattle.std.specs.Prelude.{◌≡◌, false, is_ok, option_map, true, IfOk, OnErr};
+ghost use Rattle.std.specs.Prelude.{◌≡◌, option_map, true, IfOk, OnErr};
 ghost use Rattle.osn_invocation.specs.Invocation.{page_words};
-ghost use Rattle.osn_written.specs.WrittenDate.{number_of as number_in, usual_date};
+ghost use Rattle.osn_written.specs.WrittenDate.{number_of as number_in};
 ghost use Rattle.osn_page_commands.specs.PageWords as spec;
 
 use crate::order::order_of_word;
@@ -37,8 +37,7 @@ pub(crate) enum Topic {
 
 /// The date of one day that a text is.
 fn date_of_word(alloc: Global, text: &str) -> Result<Result<WrittenDate, Misuse>, AllocError>
-    ensures value { IfOk result (λ date. date ≡ spec.date_of_word text.now) }
-    ensures memory { OnErr result (is_ok (usual_date text.now) ≡ false) }
+    ensures { IfOk result (λ date. date ≡ spec.date_of_word text.now) }
 {
     match WrittenDate::parse(alloc, text)? {
         Ok(date) => Ok(Ok(date)),
@@ -127,10 +126,9 @@ fn topic_of_reading(
     order: Option<&str>,
     is_strict: bool,
 ) -> Result<Result<Topic, Misuse>, AllocError>
-    ensures value { IfOk result (λ topic. topic ≡ spec.topic_of_reading text.now
+    ensures { IfOk result (λ topic. topic ≡ spec.topic_of_reading text.now
         (option_map (λ name. name.now) weekday.entry) (option_map (λ word. word.now) order.entry)
         is_strict) }
-    ensures memory { OnErr result (is_ok (usual_date text.now) ≡ false) }
 {
     match order_of_word(order) {
         Ok(order) => {
@@ -215,7 +213,7 @@ fn page_of_number(number: u32) -> Result<Page, Misuse>
 /// The page on the day of a number, or of a Gregorian date.
 fn day_page_of(alloc: Global, text: &str) -> Result<Result<Page, Misuse>, AllocError>
     ensures value { IfOk result (λ page. page ≡ spec.day_page_of (number_in text.now) text.now) }
-    ensures memory { OnErr result (spec.day_takes_memory (number_in text.now) text.now ≡ true) }
+    ensures memory { OnErr result (spec.day_takes_memory (number_in text.now) ≡ true) }
 {
     match number_of(text) {
         Some(number) => Ok(page_of_number(number)),

@@ -1,15 +1,19 @@
 -- The words of a day by a calendar are the written date of that day.
-use Rattle.std.proofs.Common.{◌≡◌, ◌≤◌, ◌<◌, ℕ, ◌^◌, false, Ok, None, refl, ap}
+use Rattle.std.proofs.Common.{◌≡◌, ◌≤◌, ℕ, false, Ok, None, refl, ap, subst}
 use Rattle.std.proofs.Common.{◌∙◌, arith, ℤ, pos, negsuc, ◌≤ℤ◌, unsigned_abs, sym}
+use Rattle.std.proofs.lemmas.Bool.{le-leb, le-ltb}
 use Rattle.std.proofs.lemmas.Int.{ints}
 use Rattle.std.specs.Fmt.{decimal}
 use Rattle.osn_days.specs.declared.date.Date.{Date}
 use Rattle.osn_days.specs.Chain.{date_of, days_with_date}
 use Rattle.osn_days.specs.Profile.{newest_rules}
 use Rattle.osn_days.proofs.LineFacts.{date_of_line, day_of_date}
+use Rattle.osn_lands.specs.Dual.{year_text}
 use Rattle.osn_written.specs.declared.written_date.WrittenDate.{WrittenDate}
 use Rattle.osn_written.specs.WrittenDate.{written_date}
-use Rattle.osn_written.proofs.LawFacts.{words_read, date_read, year_text_read, usual_read}
+use Rattle.osn_written.specs.DateInWords.{weekday_before}
+use Rattle.osn_written.proofs.LawFacts.{words}
+use Rattle.osn_written.proofs.WordsLaw.{day_written}
 use Rattle.osn_pages.specs.Words.{words_of_date, calendar_words}
 use Rattle.osn_pages.specs.Conversion.{numbered_date}
 use Rattle.osn_pages.specs.Law.{AreCalendarWordsWritten}
@@ -30,17 +34,17 @@ record IsRead (date : Date) : Type 0 where
       ≡ Ok (single (unsigned_abs date.year) date.month date.day)
   pub numbers : numbered_date (unsigned_abs date.year) date.month date.day ≡ date
 
-numbers_read : (y : ℤ) (month day : ℕ) → pos 1 ≤ℤ y → y ≤ℤ pos 9999
+numbers_read : (y : ℤ) (month day : ℕ) → pos 100 ≤ℤ y → y ≤ℤ pos 9999
     → 1 ≤ month → month ≤ 12 → 1 ≤ day → day ≤ 31
     → IsRead (record { year = y; month = month; day = day })
+unfolding weekday_before
 numbers_read (pos n) month day low high some most first few =
-    let small : n < 10 ^ 9 = omega (arith, ints, high) in
-    let years = year_text_read n n small small false (λ e. absurd (cc)) in
+    let years : year_text (pos n) (pos n) ≡ decimal n = rw (le-ltb n n (omega arith)) refl in
     record {
-      is = usual_read (words_of_date (record { year = pos n; month = month; day = day }))
-          (single n month day) (date_read day month (decimal n) (omega (arith, few))
-          ∙ words_read day month n false (decimal n) (omega (arith, ints, high)) some most first
-          few years);
+      is = subst (λ year. written_date (words day month year) ≡ Ok (single n month day)) years
+          (day_written None n month day false (omega (arith, ints, low)) (omega (arith, ints, high))
+          (rw (le-leb 1 month some, le-leb month 12 most) refl)
+          (rw (le-leb 1 day first, le-leb day 31 few) refl));
       numbers = refl;
     }
 numbers_read (negsuc n) month day low high some most first few =
@@ -48,11 +52,11 @@ numbers_read (negsuc n) month day low high some most first few =
 
 pub calendar_words_written : AreCalendarWordsWritten newest_rules
 unfolding calendar_words AreCalendarWordsWritten
-calendar_words_written c d on =
+calendar_words_written c d on late =
     let date = date_of c d in
     let line_date = date_of_line c d on in
     let read : IsRead date = numbers_read date.year date.month date.day
-    line_date.year_low line_date.year_high line_date.month_low line_date.month_high
+    late line_date.year_high line_date.month_low line_date.month_high
     line_date.day_low line_date.day_high in
     record {
       date = single (unsigned_abs date.year) date.month date.day;

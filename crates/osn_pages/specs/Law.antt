@@ -1,8 +1,9 @@
 -- The words of a day by a calendar are read again as that day's date. The periods of a territory
 -- are those that hold its days.
-use Rattle.std.specs.Prelude.{◌≡◌, ◌≤◌, ℕ, List, [], ◌∷◌, Ok, pos}
+use Rattle.std.specs.Prelude.{◌≡◌, ◌≤◌, ◌≤ℤ◌, ℕ, List, [], ◌∷◌, Ok, pos}
 use Rattle.std.specs.List.{All}
 use Rattle.osn_days.specs.declared.calendar.Calendar.{Calendar}
+use Rattle.osn_days.specs.Chain.{date_of}
 use Rattle.osn_days.specs.Line.{IsDay}
 use Rattle.osn_days.specs.Profile.{Profile}
 use Rattle.osn_lands.specs.Territory.{Holds}
@@ -23,10 +24,11 @@ pub record IsDateOf (p : Profile) (c : Calendar) (d : ℕ) (text : List ℕ) : T
   pub is : written_date text ≡ Ok date
   pub day : days_of_written p c date ≡ d ∷ []
 
--- so are the words of each day of the line, by each calendar
+-- so are the words of each day of the line, by each calendar, from the year 100 on
 unfoldable pub AreCalendarWordsWritten : Profile → Type 0
 AreCalendarWordsWritten p =
-    (c : Calendar) (d : ℕ) → IsDay p d → IsDateOf p c d (calendar_words c d)
+    (c : Calendar) (d : ℕ) → IsDay p d → pos 100 ≤ℤ (date_of c d).year
+    → IsDateOf p c d (calendar_words c d)
 
 -- a period has a day, and to each of its days the register answers that period and its source, with
 -- the day as the period's regime dates it

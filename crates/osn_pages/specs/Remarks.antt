@@ -7,6 +7,7 @@ use Rattle.osn_days.specs.declared.weekday.Weekday.{Weekday}
 use Rattle.osn_days.specs.Profile.{Profile}
 use Rattle.osn_days.specs.Weekday.{weekday_name}
 use Rattle.osn_grammar.specs.declared.written.WrittenDate.{WrittenDate as AnyDate}
+use Rattle.osn_grammar.specs.Extent.{has_three_digits}
 use Rattle.osn_lands.specs.Territory.{TerritoryModel}
 use Rattle.osn_written.specs.declared.written_date.DateFault.{DateFault}
 use Rattle.osn_written.specs.declared.written_date.WrittenDate.{WrittenDate}
@@ -14,14 +15,16 @@ use Rattle.osn_written.specs.DateInWords.{words_of}
 use Rattle.osn_written.specs.Finding.{is_by_other_calendar}
 use Rattle.osn_written.specs.OtherForms.{plain_day}
 use Rattle.osn_written.specs.ReadDate.{one_day}
-use Rattle.osn_written.specs.Text.{written_text}
 
 -- ---- the name of a date
 
 -- one day of which nothing more is said without its weekday, and any other date with all that is
 -- said of it
+abbrev pub without_weekday : AnyDate → AnyDate
+without_weekday w = record w { weekday = None }
+
 abbrev pub subject_of : AnyDate → Result WrittenDate DateFault → List ℕ
-subject_of w (Ok day) = written_text day
+subject_of w (Ok day) = words_of (without_weekday w)
 subject_of w (Err fault) = words_of w
 
 unfoldable pub subject : AnyDate → List ℕ
@@ -52,6 +55,11 @@ sureness approximate uncertain supplied = line_of_words
 abbrev pub sureness_line : AnyDate → List ℕ
 sureness_line w = sureness w.is_approximate w.is_uncertain w.is_supplied
 
+-- a year of three digits may lack its last one
+abbrev pub three_digits_line : AnyDate → List ℕ
+three_digits_line w =
+    if has_three_digits w.extent then codes "year of three digits\n" else []
+
 -- ---- by which calendar
 
 abbrev pub calendar_line : Bool → List ℕ
@@ -77,5 +85,6 @@ weekday_line weekday None = not_sought_line weekday
 unfoldable pub remark_lines : Profile → TerritoryModel → AnyDate → Option Weekday → List ℕ
 remark_lines p t w given =
     sureness_line w
+    ++ (three_digits_line w
     ++ (calendar_line (is_by_other_calendar p t w)
-    ++ weekday_line (option_or w.weekday given) (one_day w))
+    ++ weekday_line (option_or w.weekday given) (one_day w)))

@@ -11,6 +11,16 @@ use std::alloc::{AllocError, Global};
 use std::fmt;
 use std::fmt::Write;
 
+/// A date without the weekday that it names.
+fn without_weekday(date: AnyDate) -> AnyDate
+    ensures { result ≡ spec.without_weekday date }
+{
+    AnyDate {
+        weekday: None,
+        ..date
+    }
+}
+
 /// A date as its page names it. One day of which nothing more is said stands without its weekday,
 /// and any other date with all that is said of it.
 #[derive(Clone, Copy)]
@@ -25,7 +35,7 @@ impl fmt::Display for Subject {
     #[tactic(auto, unfolding(crate::specs::Remarks::subject))]
     fn fmt<W: fmt::Write>(&self, f: &mut fmt::Formatter<W>) -> fmt::Result {
         match plain_day(self.0) {
-            Ok(day) => write!(f, "{day}"),
+            Ok(_) => write!(f, "{}", DateInWords(without_weekday(self.0))),
             Err(_) => write!(f, "{}", DateInWords(self.0)),
         }
     }
@@ -44,6 +54,17 @@ fn sureness(date: AnyDate) -> &'static str
         (true, false, true) => "approximate; supplied by an editor\n",
         (true, true, false) => "approximate; in doubt\n",
         (true, true, true) => "approximate; in doubt; supplied by an editor\n",
+    }
+}
+
+/// The line of a date that has a year of three digits and no zero before them.
+fn three_digits_line(date: AnyDate) -> &'static str
+    ensures { result.now ≡ spec.three_digits_line date }
+{
+    if date.extent.has_year_of_three_digits() {
+        "year of three digits\n"
+    } else {
+        ""
     }
 }
 
@@ -103,6 +124,7 @@ pub(crate) fn push_remarks(
 {
     let is_other = is_by_other_calendar(alloc, territory, date)?;
     out.push_str(sureness(date))?;
+    out.push_str(three_digits_line(date))?;
     out.push_str(calendar_line(is_other))?;
     push_weekday(out, date.weekday.or(given), WrittenDate::of_one_day(date))
 }

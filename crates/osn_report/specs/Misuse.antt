@@ -31,6 +31,8 @@ date_text faults.NotOneDay = codes
 date_text faults.Qualifier = codes
     "about, ?, [ ], O.S. and their like say more than the day: write the day alone"
 date_text faults.ShortYear = codes "a year of one or two digits needs its zeros, as 0045"
+date_text faults.OpenYear = codes
+    "173? may be any year of a decade: write the year in four digits, as 1731 or 0173"
 date_text faults.DayOrMonth = codes
     "11/2/1731 may be 11 February or 2 November: write the month by its name"
 date_text faults.TwoDays = codes

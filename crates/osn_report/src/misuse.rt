@@ -75,6 +75,9 @@ with a weekday before it or without"
             "about, ?, [ ], O.S. and their like say more than the day: write the day alone"
         }
         DateFault::ShortYear => "a year of one or two digits needs its zeros, as 0045",
+        DateFault::OpenYear => {
+            "173? may be any year of a decade: write the year in four digits, as 1731 or 0173"
+        }
         DateFault::DayOrMonth => {
             "11/2/1731 may be 11 February or 2 November: write the month by its name"
         }

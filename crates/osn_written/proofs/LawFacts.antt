@@ -1,101 +1,27 @@
--- The dual text of a day is a written date, with the name of a weekday before it or without. Each
--- part of it is found, and is a number, a month or a weekday.
-use Rattle.std.proofs.Common.{◌≡◌, ◌≤◌, ◌<◌, ℕ, ◌^◌, Bool, true, false, not, ◌&&◌, ◌==◌, inl, inr}
-use Rattle.std.proofs.Common.{if◌then◌else◌, List, [], ◌∷◌, ◌++◌, length, Some, None, refl}
-use Rattle.std.proofs.Common.{zero, suc, ap, subst, ◌∙◌, arith, option_map}
-use Rattle.std.proofs.Common.{codes, ◌+◌, ◌*◌, ◌/◌, ◌%◌, Ok}
-use Rattle.std.proofs.Common.{length-append}
+-- The digits of a year, and how the text of a year is read.
+use Rattle.std.proofs.Common.{◌≡◌, ◌≤◌, ◌<◌, ℕ, ◌^◌, nat_le, ◌==◌, Bool, true, false, not, ◌&&◌}
+use Rattle.std.proofs.Common.{if◌then◌else◌, List, [], ◌∷◌, ◌++◌, codes, length, pos, Option}
+use Rattle.std.proofs.Common.{Some, None, inl, inr, zero, suc, refl, sym, ap, ◌∙◌, subst, ⊎_elim}
+use Rattle.std.proofs.Common.{arith, ◌+◌, ◌*◌, ◌/◌, ◌%◌, append_assoc, length-append}
 use Rattle.std.specs.Fmt.{decimal}
 use Rattle.std.specs.Str.{all_ascii_digits}
 use Rattle.std.specs.Str.Parse.{digits_value}
 use Rattle.std.proofs.Math.Arith.{mod-mul}
 use Rattle.std.proofs.Math.Nat.{one-le-pow, pow-suc}
-use Rattle.std.proofs.lemmas.Bool.{cases_order, ne_eqb, le-leb, le-ltb, lt-ltb}
+use Rattle.std.proofs.lemmas.Bool.{cases_lt, cases_order, le-leb, leb-true, le-ltb, lt-ltb, ne_eqb}
 use Rattle.std.proofs.lemmas.Bool.Decides.{Decides-eqb}
 use Rattle.std.proofs.lemmas.Fmt.{decimal_is_IsNumeral, decimal_nonempty, decimal_digit}
-use Rattle.std.proofs.lemmas.Fmt.{length-decimal-le, decimal_step}
+use Rattle.std.proofs.lemmas.Fmt.{decimal_step, length-decimal-le}
 use Rattle.std.proofs.lemmas.Str.Parse.{numerals_by_value, tells_all_ascii_digits}
-use Rattle.osn_days.specs.Month.{month_name, month_named}
-use Rattle.osn_days.specs.Weekday.{weekday_numbered}
-use Rattle.osn_lands.specs.Dual.{later_digits}
+use Rattle.osn_days.specs.Month.{month_name}
+use Rattle.osn_grammar.specs.declared.part.Numeral.{Numeral}
+use Rattle.osn_grammar.specs.declared.part.Part.TheVariants.{Number}
+use Rattle.osn_grammar.specs.declared.written.Year.{Year}
+use Rattle.osn_grammar.proofs.FormFacts.{IsYear, year_parts}
+use Rattle.osn_grammar.proofs.TextFacts.{Reads, slash, digits_read, joined_reads}
+use Rattle.osn_lands.specs.Dual.{later_digits, year_text}
 use Rattle.osn_lands.proofs.YearDigits.{last_digit_differs, earlier_digit_differs}
-use Rattle.osn_written.specs.WrittenDate.{parts_at, with_first, number_of, years_of}
-use Rattle.osn_written.specs.WrittenDate.{weekday_named, in_words, plain_date, date_of_numbers}
-use Rattle.osn_written.specs.WrittenDate.{usual_date, written_date, plain_date_in, date_in}
-use Rattle.osn_written.specs.WrittenDate.{date_after}
-use Rattle.osn_written.specs.WrittenDate.{or_else}
-use Rattle.osn_written.specs.OtherForms.{other_date}
-use Rattle.osn_written.specs.declared.written_date.WrittenDate.{WrittenDate}
-use Rattle.osn_written.proofs.Grammar.{number_is}
-
--- ---- parts
-
--- the text has no such byte
-abbrev pub lacks : ℕ → List ℕ → Bool
-lacks c [] = true
-lacks c (x ∷ xs) = not (x == c) && lacks c xs
-
-both_parts : (a b : Bool) → (not a && b) ≡ true → (a ≡ false) × (b ≡ true)
-both_parts true b h = absurd (cc)
-both_parts false b h = (refl, h)
-
-pub no_parts : (c : ℕ) (xs : List ℕ) → lacks c xs ≡ true → parts_at c xs ≡ None
-no_parts c [] h = refl
-no_parts c (x ∷ xs) h =
-    let both = both_parts (x == c) (lacks c xs) h in
-    rw both.0 (ap (option_map (with_first x)) (no_parts c xs both.1))
-
-pub parts_around : (c : ℕ) (xs rest : List ℕ) → lacks c xs ≡ true
-    → parts_at c (xs ++ c ∷ rest) ≡ Some (xs, rest)
-parts_around c [] rest h = rw ((Decides-eqb c c).1 refl) refl
-parts_around c (x ∷ xs) rest h =
-    let both = both_parts (x == c) (lacks c xs) h in
-    rw both.0 (ap (option_map (with_first x)) (parts_around c xs rest both.1))
-
-lacks-append : (c : ℕ) (xs ys : List ℕ) → lacks c xs ≡ true → lacks c ys ≡ true
-    → lacks c (xs ++ ys) ≡ true
-lacks-append c [] ys h g = g
-lacks-append c (x ∷ xs) ys h g =
-    let both = both_parts (x == c) (lacks c xs) h in
-    rw both.0 (lacks-append c xs ys both.1 g)
-
-digits_lack : (c : ℕ) → c < 48 → (ds : List ℕ) → all_ascii_digits ds ≡ true → lacks c ds ≡ true
-digits_lack c low [] h = refl
-digits_lack c low (d ∷ ds) h =
-    let parts = tells_all_ascii_digits.parts d ds h in
-    rw (ne_eqb d c (λ e. omega (arith, e, parts.0.0, low))) (digits_lack c low ds parts.1)
-
--- ---- months
-
--- the name of a month is one word, of that month
-abbrev IsMonthWord : ℕ → Type 0
-IsMonthWord m =
-    (lacks 32 (month_name m) ≡ true) × (lacks 45 (month_name m) ≡ true)
-    × (month_named (month_name m) ≡ Some m)
-
-from_month : (k m : ℕ) → k ≤ m → IsMonthWord k → (suc k ≤ m → IsMonthWord m) → IsMonthWord m
-from_month k m low here later =
-    elim (cases_order k m) [
-      | inl same ↦ subst IsMonthWord same here
-      | inr (inl lt) ↦ later (omega (arith, lt))
-      | inr (inr gt) ↦ absurd (omega (arith, gt, low))
-    ]
-
-month_facts : (m : ℕ) → 1 ≤ m → m ≤ 12 → IsMonthWord m
-month_facts m low high =
-    from_month 1 m low (refl, refl, refl) (λ l.
-    from_month 2 m l (refl, refl, refl) (λ l.
-    from_month 3 m l (refl, refl, refl) (λ l.
-    from_month 4 m l (refl, refl, refl) (λ l.
-    from_month 5 m l (refl, refl, refl) (λ l.
-    from_month 6 m l (refl, refl, refl) (λ l.
-    from_month 7 m l (refl, refl, refl) (λ l.
-    from_month 8 m l (refl, refl, refl) (λ l.
-    from_month 9 m l (refl, refl, refl) (λ l.
-    from_month 10 m l (refl, refl, refl) (λ l.
-    from_month 11 m l (refl, refl, refl) (λ l.
-    from_month 12 m l (refl, refl, refl) (λ l.
-    absurd (omega (arith, l, high))))))))))))))
+use Rattle.osn_written.specs.DateInWords.{zeros_before, words_of_year, is_writable_year}
 
 -- ---- numbers
 
@@ -106,13 +32,6 @@ decimal_digits n small =
 
 pub decimal_value : (n : ℕ) → n < 10 ^ 9 → digits_value 10 (decimal n) ≡ n
 decimal_value n small = (decimal_is_IsNumeral n (omega (arith, small))).1
-
-number_read : (n : ℕ) → n < 10 ^ 9 → number_of (decimal n) ≡ Some n
-number_read n small =
-    let fits : n < 2 ^ 64 = omega (arith, small) in
-    number_is (decimal n) (omega (arith, decimal_nonempty n fits))
-    (length-decimal-le 9 n (omega arith) small fits) (decimal_digits n small)
-    ∙ ap (λ v. Some v) (decimal_value n small)
 
 -- ---- the digits of the later of two years
 
@@ -174,141 +93,207 @@ later_number (suc most) e l within below small =
       | inr (inr more) ↦ absurd (omega (arith, more, below))
     ]
 
+-- ---- numbers of at least three digits
+
+-- digits of a number, at least so many of them
+pub record IsLongNumber (least n : ℕ) (word : List ℕ) : Type 0 where
+  pub digits : all_ascii_digits word ≡ true
+  pub value : digits_value 10 word ≡ n
+  pub some : least ≤ length word
+  pub few : length word ≤ 9
+
+one_more : (n : ℕ) → 10 ≤ n → n < 10 ^ 9 → length (decimal n) ≡ length (decimal (n / 10)) + 1
+one_more n ten small =
+    ap length (decimal_step n ten (omega (arith, small)))
+    ∙ length-append (decimal (n / 10)) ((48 + n % 10) ∷ [])
+
+short : (n : ℕ) → n ≤ 10000 → length (decimal n) ≤ 5
+short n high = length-decimal-le 5 n (omega arith) (omega (arith, high)) (omega (arith, high))
+
+some_digits : (n : ℕ) → n ≤ 10000 → 1 ≤ length (decimal n)
+some_digits n high = omega (arith, decimal_nonempty n (omega (arith, high)))
+
+two_digits : (n : ℕ) → n ≤ 10000 → 10 ≤ n → 2 ≤ length (decimal n)
+two_digits n high ten =
+    omega (arith, one_more n ten (omega (arith, high)), some_digits (n / 10) (omega (arith, high)))
+
+three_digits : (n : ℕ) → n ≤ 10000 → 100 ≤ n → 3 ≤ length (decimal n)
+three_digits n high hundred =
+    omega (
+      arith,
+      one_more n (omega (arith, hundred)) (omega (arith, high)),
+      two_digits (n / 10) (omega (arith, high)) (omega (arith, hundred)),
+    )
+
+four_digits : (n : ℕ) → n ≤ 10000 → 1000 ≤ n → 4 ≤ length (decimal n)
+four_digits n high thousand =
+    omega (
+      arith,
+      one_more n (omega (arith, thousand)) (omega (arith, high)),
+      three_digits (n / 10) (omega (arith, high)) (omega (arith, thousand)),
+    )
+
+-- a number without zeros before it
+pub bare : (least n : ℕ) → n ≤ 10000 → least ≤ length (decimal n) → IsLongNumber least n (decimal n)
+bare least n high some = record {
+  digits = decimal_digits n (omega (arith, high));
+  value = decimal_value n (omega (arith, high));
+  some = some;
+  few = omega (arith, short n high);
+}
+
+pub from_hundred : (n : ℕ) → n ≤ 10000 → 100 ≤ n → IsLongNumber 3 n (decimal n)
+from_hundred n high hundred = bare 3 n high (three_digits n high hundred)
+
+-- the same with the zeros that bring it to four digits
+below_ten : (n : ℕ) → n ≤ 10000 → n < 10 → IsLongNumber 4 n (zeros_before n ++ decimal n)
+below_ten n high low = rw (lt-ltb n 10 low) (record {
+  digits = decimal_digits n (omega (arith, high));
+  value = decimal_value n (omega (arith, high));
+  some = omega (arith, some_digits n high);
+  few = omega (arith, short n high);
+})
+
+below_hundred : (n : ℕ) → n ≤ 10000 → 10 ≤ n → n < 100
+    → IsLongNumber 4 n (zeros_before n ++ decimal n)
+below_hundred n high ten low = rw (le-ltb n 10 ten, lt-ltb n 100 low) (record {
+  digits = decimal_digits n (omega (arith, high));
+  value = decimal_value n (omega (arith, high));
+  some = omega (arith, two_digits n high ten);
+  few = omega (arith, short n high);
+})
+
+below_thousand : (n : ℕ) → n ≤ 10000 → 100 ≤ n → n < 1000
+    → IsLongNumber 4 n (zeros_before n ++ decimal n)
+below_thousand n high hundred low =
+    rw (le-ltb n 10 (omega (arith, hundred)), le-ltb n 100 hundred, lt-ltb n 1000 low) (record {
+      digits = decimal_digits n (omega (arith, high));
+      value = decimal_value n (omega (arith, high));
+      some = omega (arith, three_digits n high hundred);
+      few = omega (arith, short n high);
+    })
+
+from_thousand : (n : ℕ) → n ≤ 10000 → 1000 ≤ n → IsLongNumber 4 n (zeros_before n ++ decimal n)
+from_thousand n high thousand =
+    rw (
+      le-ltb n 10 (omega (arith, thousand)),
+      le-ltb n 100 (omega (arith, thousand)),
+      le-ltb n 1000 thousand,
+    ) (bare 4 n high (four_digits n high thousand))
+
+year_number : (n : ℕ) → n ≤ 10000 → IsLongNumber 4 n (zeros_before n ++ decimal n)
+year_number n high =
+    ⊎_elim (λ low. below_ten n high low)
+    (λ ten. ⊎_elim (λ low. below_hundred n high ten low)
+    (λ hundred. ⊎_elim (λ low. below_thousand n high hundred low)
+    (λ thousand. from_thousand n high thousand) (cases_lt n 1000)) (cases_lt n 100))
+    (cases_lt n 10)
+
+-- a number of digits, and how many
+abbrev pub numeral : ℕ → List ℕ → Numeral
+numeral n word = record { value = n; digits = length word }
+
+long_reads : (least n : ℕ) (word : List ℕ) → 3 ≤ least → IsLongNumber least n word
+    → Reads word (Number (numeral n word) ∷ [])
+long_reads least n word three number =
+    digits_read word n (length word) number.digits number.value refl
+    (omega (arith, three, number.some)) number.few
+
+pub decimal_reads : (n : ℕ) → n < 10 ^ 9
+    → Reads (decimal n) (Number (numeral n (decimal n)) ∷ [])
+decimal_reads n small =
+    digits_read (decimal n) n (length (decimal n)) (decimal_digits n small) (decimal_value n small)
+    refl (omega (arith, decimal_nonempty n (omega (arith, small))))
+    (length-decimal-le 9 n (omega arith) small (omega (arith, small)))
+
 -- ---- years
 
--- the text of a year is read as that year
-pub record IsYearText (n : ℕ) (double : Bool) (shown : List ℕ) : Type 0 where
-  pub is : years_of shown ≡ Ok (n, double)
-  pub no_dash : lacks 45 shown ≡ true
+-- a year of these digits
+abbrev pub year_in : ℕ → Bool → List ℕ → Year
+year_in n double word = record {
+  first = n;
+  is_double = double;
+  has_three_digits = length word == 3 && nat_le 100 n;
+}
 
-double_read : (n later : ℕ) → n < 10 ^ 9 → later < 10 ^ 9
+-- the text is read as the numbers of the year
+pub record IsYearRead (text : List ℕ) (year : Year) : Type 0 where
+  pub first : Numeral
+  pub later : Option Numeral
+  pub reads : Reads text (year_parts first later)
+  pub is : IsYear first later year
+
+single_read : (least n : ℕ) (word : List ℕ) → n ≤ 10000 → 3 ≤ least → IsLongNumber least n word
+    → IsYearRead word (year_in n false word)
+single_read least n word high three number =
+    let long = le-leb 3 (length word) (omega (arith, three, number.some)) in
+    record {
+      first = numeral n word;
+      later = None;
+      reads = long_reads least n word three number;
+      is = record { long = long; is = rw (long, le-ltb 10000 n high) refl };
+    }
+
+double_read : (least n later : ℕ) (word : List ℕ) → n ≤ 10000 → 3 ≤ least
+    → IsLongNumber least n word → later < 10 ^ 9
     → later ≡ (n + 1) % 10 ^ length (decimal later)
-    → IsYearText n true (decimal n ++ (codes "/" ++ decimal later))
-double_read n later small short ends =
-    let digits = decimal_digits n small in
-    let around = parts_around 47 (decimal n) (decimal later)
-    (digits_lack 47 (omega arith) (decimal n) digits) in
-    let test : (digits_value 10 (decimal later) == (n + 1) % 10 ^ length (decimal later)) ≡ true =
-    (Decides-eqb (digits_value 10 (decimal later)) ((n + 1) % 10 ^ length (decimal later))).1
-    (decimal_value later short ∙ ends) in
+    → IsYearRead (word ++ 47 ∷ decimal later) (year_in n true word)
+double_read least n later word high three number small ends =
+    let long = le-leb 3 (length word) (omega (arith, three, number.some)) in
+    let last : (later == (n + 1) % 10 ^ length (decimal later)) ≡ true =
+    (Decides-eqb later ((n + 1) % 10 ^ length (decimal later))).1 ends in
     record {
-      is = rw (around, number_read n small, number_read later short, test) refl;
-      no_dash = lacks-append 45 (decimal n) (47 ∷ decimal later)
-          (digits_lack 45 (omega arith) (decimal n) digits)
-          (digits_lack 45 (omega arith) (decimal later) (decimal_digits later short));
+      first = numeral n word;
+      later = Some (numeral later (decimal later));
+      reads = joined_reads slash (long_reads least n word three number)
+          (decimal_reads later small);
+      is = record { long = long; is = rw (long, le-ltb 10000 n high, last) refl };
     }
 
-pub year_text_read : (n m : ℕ) → n < 10 ^ 9 → m < 10 ^ 9 → (t : Bool) → (t ≡ true → m ≡ n + 1)
-    → IsYearText n t (if t then decimal n ++ (codes "/" ++ later_digits (decimal n) (decimal m))
-    else decimal n)
-year_text_read n m small small_m true next =
-    let later = later_number m n m (omega arith) (omega (arith, next refl)) small_m in
-    let last : later.number ≡ (n + 1) % 10 ^ length (decimal later.number) =
-    later.ends ∙ ap (λ y. y % 10 ^ length (decimal later.number)) (next refl) in
-    subst (λ part. IsYearText n true (decimal n ++ (codes "/" ++ part))) later.is
-    (double_read n later.number small (omega (arith, later.high, small_m)) last)
-year_text_read n m small small_m false next =
-    let digits = decimal_digits n small in
-    let none = no_parts 47 (decimal n) (digits_lack 47 (omega arith) (decimal n) digits) in
-    record {
-      is = rw (none, number_read n small) refl;
-      no_dash = digits_lack 45 (omega arith) (decimal n) digits;
-    }
+-- the text of a year with some zeros before it
+abbrev pub padded_year : List ℕ → ℕ → Bool → List ℕ
+padded_year zeros n double = zeros ++ year_text (pos n) (pos (if double then n + 1 else n))
+
+pub year_by : (zeros : List ℕ) (least n : ℕ) (double : Bool) → n ≤ 10000 → 3 ≤ least
+    → IsLongNumber least n (zeros ++ decimal n)
+    → IsYearRead (padded_year zeros n double) (year_in n double (zeros ++ decimal n))
+year_by zeros least n false high three number =
+    rw (le-ltb n n (omega arith)) (single_read least n (zeros ++ decimal n) high three number)
+year_by zeros least n true high three number =
+    let later = later_number (n + 1) n (n + 1) (omega arith) (omega arith) (omega (arith, high)) in
+    let read = double_read least n later.number (zeros ++ decimal n) high three number
+    (omega (arith, later.high, high)) later.ends in
+    rw (lt-ltb n (n + 1) (omega arith), sym later.is)
+    (subst (λ text. IsYearRead text (year_in n true (zeros ++ decimal n)))
+    (append_assoc zeros (decimal n) (47 ∷ decimal later.number)) read)
+
+pub both : (a b : Bool) → (a && b) ≡ true → (a ≡ true) × (b ≡ true)
+both true b h = (refl, h)
+both false b h = absurd (cc)
+
+pub is_not : (b : Bool) → not b ≡ true → b ≡ false
+is_not false h = refl
+is_not true h = absurd (cc)
+
+-- the words of a year have four digits at least
+pub year_read : (y : Year) → is_writable_year y ≡ true → IsYearRead (words_of_year y) y
+unfolding words_of_year
+year_read y ok =
+    let oks = both (nat_le y.first 10000) (not y.has_three_digits) ok in
+    let high = leb-true y.first 10000 oks.0 in
+    let word = zeros_before y.first ++ decimal y.first in
+    let number = year_number y.first high in
+    let four : (length word == 3) ≡ false =
+    ne_eqb (length word) 3 (λ same. omega (arith, same, number.some)) in
+    let same : (length word == 3 && nat_le 100 y.first) ≡ y.has_three_digits =
+    rw four (sym (is_not y.has_three_digits oks.1)) in
+    subst (λ three. IsYearRead (padded_year (zeros_before y.first) y.first y.is_double)
+    (record y { has_three_digits = three })) same
+    (year_by (zeros_before y.first) 4 y.first y.is_double high (omega arith) number)
 
 -- ---- dates
-
--- numbers that are a date's
-dated : (n : ℕ) (double : Bool) (month day : ℕ) → n ≤ 10000 → 1 ≤ month → month ≤ 12 → 1 ≤ day
-    → day ≤ 31
-    → date_of_numbers (n, double) month day ≡ Ok (record {
-      year = n;
-      month = month;
-      day = day;
-      is_double = double;
-      weekday = None;
-    })
-dated n double month day high low_m high_m low_d high_d =
-    rw (
-      le-ltb 10000 n high,
-      le-leb 1 month low_m,
-      le-leb month 12 high_m,
-      le-leb 1 day low_d,
-      le-leb day 31 high_d,
-    ) refl
-
--- a date by its parts at the spaces
-words_by_parts : (text : List ℕ) (first second : List ℕ × List ℕ) (day month : ℕ) (years : ℕ × Bool)
-    → parts_at 32 text ≡ Some first → parts_at 32 first.1 ≡ Some second
-    → number_of first.0 ≡ Some day → month_named second.0 ≡ Some month
-    → years_of second.1 ≡ Ok years
-    → in_words text ≡ date_of_numbers years month day
-words_by_parts text first second day month years at_first at_second is_day is_month are_years =
-    rw (at_first, at_second, is_day, is_month, are_years) refl
 
 -- a text of day, month and year
 abbrev pub words : ℕ → ℕ → List ℕ → List ℕ
 words day month years =
     decimal day ++ (codes " " ++ (month_name month ++ (codes " " ++ years)))
-
-pub words_read : (day month n : ℕ) (double : Bool) (years : List ℕ) → n ≤ 10000 → 1 ≤ month
-    → month ≤ 12 → 1 ≤ day → day ≤ 31 → IsYearText n double years
-    → plain_date (words day month years) ≡ Ok (record {
-      year = n;
-      month = month;
-      day = day;
-      is_double = double;
-      weekday = None;
-    })
-words_read day month n double years high low_m high_m low_d high_d read =
-    let rest = month_name month ++ 32 ∷ years in
-    let word = month_facts month low_m high_m in
-    let small : day < 10 ^ 9 = omega (arith, high_d) in
-    let digits = decimal_digits day small in
-    let no_dash = no_parts 45 (decimal day ++ 32 ∷ rest) (lacks-append 45 (decimal day) (32 ∷ rest)
-    (digits_lack 45 (omega arith) (decimal day) digits)
-    (lacks-append 45 (month_name month) (32 ∷ years) word.1 read.no_dash)) in
-    let first = parts_around 32 (decimal day) rest
-    (digits_lack 32 (omega arith) (decimal day) digits) in
-    let second = parts_around 32 (month_name month) years word.0 in
-    ap (plain_date_in (words day month years)) no_dash
-    ∙ words_by_parts (words day month years) (decimal day, rest) (month_name month, years) day
-    month (n, double) first second (number_read day small) word.2 read.is
-    ∙ dated n double month day high low_m high_m low_d high_d
-
--- ---- weekdays
-
--- the first character of a weekday's name is no digit
-no_weekday : (d : ℕ) (ds : List ℕ) → d < 65 → weekday_named (d ∷ ds) ≡ None
-unfolding weekday_numbered
-no_weekday d ds low =
-    rw (
-      lt-ltb d 65 low,
-      ne_eqb 115 d (λ e. omega (arith, e, low)),
-      ne_eqb 109 d (λ e. omega (arith, e, low)),
-      ne_eqb 116 d (λ e. omega (arith, e, low)),
-      ne_eqb 119 d (λ e. omega (arith, e, low)),
-      ne_eqb 102 d (λ e. omega (arith, e, low)),
-    ) refl
-
-digits_no_weekday : (ds : List ℕ) → all_ascii_digits ds ≡ true → weekday_named ds ≡ None
-unfolding weekday_numbered
-digits_no_weekday [] h = refl
-digits_no_weekday (d ∷ ds) h =
-    let parts = tells_all_ascii_digits.parts d ds h in
-    no_weekday d ds (omega (arith, parts.0.1))
-
--- a date with no weekday before it
-pub date_read : (day month : ℕ) (years : List ℕ) → day < 10 ^ 9
-    → usual_date (words day month years) ≡ plain_date (words day month years)
-date_read day month years small =
-    let rest = month_name month ++ 32 ∷ years in
-    let text = words day month years in
-    let digits = decimal_digits day small in
-    ap (date_in text) (parts_around 32 (decimal day) rest
-    (digits_lack 32 (omega arith) (decimal day) digits))
-    ∙ ap (date_after text rest) (digits_no_weekday (decimal day) digits)
-
--- a date in the usual forms is the date of the text
-pub usual_read : (text : List ℕ) (date : WrittenDate) → usual_date text ≡ Ok date
-    → written_date text ≡ Ok date
-usual_read text date is = ap (λ read. or_else read (other_date text)) is

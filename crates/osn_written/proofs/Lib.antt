@@ -8,4 +8,4 @@ pub mod OrderFacts
 pub mod OneDayFacts
 mod SpanFacts
 mod UnionFacts
-mod WordsLaw
+pub mod WordsLaw

@@ -127,20 +127,20 @@ in_meaning p t w given d within =
 -- ---- the law
 
 written_means : (p : Profile) (t : TerritoryModel) (d : ℕ) (named : Option Weekday)
-    (dual text : List ℕ) → IsDay p d
+    (text : List ℕ) → IsDay p d
     → IsWritten (local_label p (regime_at t d) d) (date_of (regime_at t d).calendar d).year named
-    dual text
+    text
     → Means p t d text
-written_means p t d named dual text on read w given is =
+written_means p t d named text on read w given is =
     let same : read.date ≡ w = cc (read.is, is) in
     in_meaning p t w given d (subst (λ v. Contains (days_meant p t v) d) same
     (meant_day p t read.date d on read.label read.later))
 
 pub texts_meant : (t : TerritoryModel) → AreDualTextsMeant newest_rules t
 unfolding AreDualTextsMeant AreDualTextsWritten AreNamedDaysWritten
-texts_meant t d on = (
-  written_means newest_rules t d _ _ _ on (dual_texts_written (regime_at t d) d on),
-  written_means newest_rules t d _ _ _ on (named_days_written (regime_at t d) d on),
+texts_meant t d on late = (
+  written_means newest_rules t d _ _ on (dual_texts_written (regime_at t d) d on late),
+  written_means newest_rules t d _ _ on (named_days_written (regime_at t d) d on late),
 )
 
 -- the laws of what a date means

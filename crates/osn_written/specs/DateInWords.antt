@@ -1,6 +1,6 @@
 -- A date in words: a day, a month, a year, a range or a bound, with what is said beside it. This
 -- project's profile.
-use Rattle.std.specs.Prelude.{◌≡◌, ℕ, ◌≤◌, Bool, true, false, ◌&&◌, nat_lt, nat_le, ◌+◌, pos, List}
+use Rattle.std.specs.Prelude.{◌≡◌, ℕ, Bool, true, not, ◌&&◌, nat_lt, nat_le, ◌+◌, pos, List}
 use Rattle.std.specs.Prelude.{if◌then◌else◌, [], ◌++◌, codes, Option, Some, None, Ok}
 use Rattle.std.specs.Fmt.{decimal}
 use Rattle.osn_days.specs.declared.weekday.Weekday.{Weekday}
@@ -19,23 +19,23 @@ use Rattle.osn_grammar.specs.declared.written.Year.{Year}
 use Rattle.osn_grammar.specs.Reading.{written}
 use Rattle.osn_grammar.specs.Simple.{is_between}
 use Rattle.osn_lands.specs.Dual.{year_text}
-use Rattle.osn_written.specs.declared.written_date.WrittenDate.{WrittenDate}
-use Rattle.osn_written.specs.Text.{written_text}
 
 -- ---- a day, a month, a year
 
--- the zeros that bring a year to three digits, since no shorter number is read as a year
+-- the zeros that bring a year to four digits, since a shorter number is read as no year, or as one
+-- that may lack a digit
 abbrev pub zeros_before : ℕ → List ℕ
 zeros_before year =
-    if nat_lt year 10 then codes "00"
-    else (if nat_lt year 100 then codes "0"
-    else [])
+    if nat_lt year 10 then codes "000"
+    else (if nat_lt year 100 then codes "00"
+    else (if nat_lt year 1000 then codes "0"
+    else []))
 
 -- the later year of a double one, or the only one
 abbrev pub last_year : Year → ℕ
 last_year y = if y.is_double then y.first + 1 else y.first
 
--- a year: 1731, 045, and where it is double 1731/2, 1699/700, 009/10
+-- a year: 1731, 0045, and where it is double 1731/2, 1699/700, 0009/10
 unfoldable pub words_of_year : Year → List ℕ
 words_of_year y = zeros_before y.first ++ year_text (pos y.first) (pos (last_year y))
 
@@ -89,12 +89,16 @@ words_of w =
 
 -- ---- which words are read back
 
--- a date whose year is at most 10000, whose month is 1 to 12 and whose day is 1 to 31
+-- a year that is at most 10000, and is not written with three digits
+abbrev pub is_writable_year : Year → Bool
+is_writable_year y = nat_le y.first 10000 && not y.has_three_digits
+
+-- a date of such a year whose month is 1 to 12 and whose day is 1 to 31
 abbrev pub is_writable_date : SimpleDate → Bool
 is_writable_date (date.Day y month day) =
-    nat_le y.first 10000 && (is_between 1 12 month && is_between 1 31 day)
-is_writable_date (date.Month y month) = nat_le y.first 10000 && is_between 1 12 month
-is_writable_date (date.Year y) = nat_le y.first 10000
+    is_writable_year y && (is_between 1 12 month && is_between 1 31 day)
+is_writable_date (date.Month y month) = is_writable_year y && is_between 1 12 month
+is_writable_date (date.Year y) = is_writable_year y
 
 abbrev pub is_writable_extent : Extent → Bool
 is_writable_extent (extent.On d) = is_writable_date d
@@ -111,21 +115,3 @@ is_writable w = is_writable_extent w.extent
 unfoldable pub AreWordsRead : Type 0
 AreWordsRead =
     (o : DateOrder) (w : AnyDate) → is_writable w ≡ true → written o (words_of w) ≡ Ok (say.Date w)
-
--- ---- a plain day
-
--- the date of a day and nothing said beside it but its weekday
-abbrev pub plain : WrittenDate → AnyDate
-plain w = record {
-  extent = extent.On
-      (date.Day (record { first = w.year; is_double = w.is_double }) w.month w.day);
-  weekday = None;
-  reckoning = None;
-  is_approximate = false;
-  is_uncertain = false;
-  is_supplied = false;
-}
-
--- as a law: from the year 100 on the words of a plain day are those of a written date
-unfoldable pub AreDaysAlike : Type 0
-AreDaysAlike = (w : WrittenDate) → 100 ≤ w.year → words_of (plain w) ≡ written_text w

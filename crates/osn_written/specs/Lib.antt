@@ -1,6 +1,5 @@
 pub mod OtherForms
 pub mod WrittenDate
-pub mod Text
 pub mod DateInWords
 pub mod Meaning
 pub mod Absence

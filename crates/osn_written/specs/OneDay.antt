@@ -10,7 +10,11 @@ use Rattle.osn_written.specs.Runs.{all_meant}
 
 -- the day, as a day, a month or a year is written
 abbrev pub simple_of : WrittenDate → SimpleDate
-simple_of w = Day (record { first = w.year; is_double = w.is_double }) w.month w.day
+simple_of w = Day (record {
+  first = w.year;
+  is_double = w.is_double;
+  has_three_digits = false;
+}) w.month w.day
 
 -- as a law: they are the same days, in some order
 unfoldable pub AreSameDays : Profile → TerritoryModel → Type 0

@@ -1,17 +1,15 @@
--- The forms of one day that the grammar of dates reads besides the usual ones. This project's
+-- Which of the dates that the grammar reads are one day of which no more is said. This project's
 -- profile.
-use Rattle.std.specs.Prelude.{ℕ, Bool, ◌||◌, if◌then◌else◌, List, Option, is_some, Result, Ok, Err}
+use Rattle.std.specs.Prelude.{Bool, ◌||◌, if◌then◌else◌, Option, is_some, Result, Ok, Err}
 use Rattle.osn_days.specs.declared.weekday.Weekday.{Weekday}
 use Rattle.osn_grammar.specs.declared.written.DateFault.{DateFault as FormFault}
 use Rattle.osn_grammar.specs.declared.written.DateFault.TheVariants as form
-use Rattle.osn_grammar.specs.declared.written.DateOrder.TheVariants.{Unknown}
 use Rattle.osn_grammar.specs.declared.written.Extent.{Extent}
 use Rattle.osn_grammar.specs.declared.written.Extent.TheVariants.{On}
 use Rattle.osn_grammar.specs.declared.written.SimpleDate.TheVariants as simple
 use Rattle.osn_grammar.specs.declared.written.Written.{Written}
 use Rattle.osn_grammar.specs.declared.written.Written.TheVariants as say
 use Rattle.osn_grammar.specs.declared.written.WrittenDate.{WrittenDate as AnyDate}
-use Rattle.osn_grammar.specs.Reading.{written}
 use Rattle.osn_written.specs.declared.written_date.WrittenDate.{WrittenDate}
 use Rattle.osn_written.specs.declared.written_date.DateFault.{DateFault}
 use Rattle.osn_written.specs.declared.written_date.DateFault.TheVariants as faults
@@ -24,6 +22,7 @@ fault_of form.Year = faults.Year
 fault_of form.Month = faults.Month
 fault_of form.Day = faults.Day
 fault_of form.ShortYear = faults.ShortYear
+fault_of form.OpenYear = faults.OpenYear
 fault_of form.DayOrMonth = faults.DayOrMonth
 fault_of form.TwoDays = faults.TwoDays
 fault_of form.Feast = faults.Feast
@@ -59,7 +58,3 @@ day_read (Ok (say.Date w)) = plain_day w
 day_read (Ok say.NoDate) = Err faults.NoDate
 day_read (Ok say.Set) = Err faults.NotOneDay
 day_read (Err fault) = Err (fault_of fault)
-
--- the date of one day that a text is in one of the grammar's forms, or why it is no such date
-unfoldable pub other_date : List ℕ → Result WrittenDate DateFault
-other_date text = day_read (written Unknown text)

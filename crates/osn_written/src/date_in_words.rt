@@ -4,20 +4,22 @@ ghost use Rattle.osn_lands.specs.Dated.{years_text};
 ghost use Rattle.osn_lands.specs.Dual.{year_text};
 ghost use Rattle.osn_grammar.specs.Simple as simple;
 ghost use Rattle.osn_written.specs.DateInWords as spec;
-ghost use Rattle.osn_written.specs.DateInWords.{AreDaysAlike, AreWordsRead};
+ghost use Rattle.osn_written.specs.DateInWords.{AreWordsRead};
 
 use osn_days::{Day, Weekday, month_name};
 use osn_grammar::{Extent, Reckoning, SimpleDate, WrittenDate, Year};
 use osn_lands::{DatedDay, DatedYears, Label};
 use std::fmt;
 
-/// The zeros that bring a year to three digits.
+/// The zeros that bring a year to four digits.
 fn zeros_before(year: u16) -> &'static str
     ensures { result.now ≡ spec.zeros_before year }
 {
     if year < 10 {
-        "00"
+        "000"
     } else if year < 100 {
+        "00"
+    } else if year < 1000 {
         "0"
     } else {
         ""
@@ -138,29 +140,34 @@ fn is_between(low: u8, high: u8, number: u8) -> bool
     low <= number && number <= high
 }
 
+/// Whether the words of a year are read back.
+fn is_writable_year(year: Year) -> bool
+    ensures { result ≡ spec.is_writable_year year }
+{
+    year.first <= 10000 && !year.has_three_digits
+}
+
 /// Whether the words of a day, a month or a year are read back.
 fn is_writable_date(date: SimpleDate) -> bool
     ensures { result ≡ spec.is_writable_date date }
 {
     match date {
         SimpleDate::Day { year, month, day } => {
-            year.first <= 10000 && is_between(1, 12, month) && is_between(1, 31, day)
+            is_writable_year(year) && is_between(1, 12, month) && is_between(1, 31, day)
         }
-        SimpleDate::Month { year, month } => year.first <= 10000 && is_between(1, 12, month),
-        SimpleDate::Year(year) => year.first <= 10000,
+        SimpleDate::Month { year, month } => is_writable_year(year) && is_between(1, 12, month),
+        SimpleDate::Year(year) => is_writable_year(year),
     }
 }
 
-/// Whether each year of a date is at most 10000, each month 1 to 12 and each day 1 to 31. Then
-/// `osn_grammar::parse` reads the words of the date as that very date, in each order of day and
-/// month.
-#[tactic(auto, using(crate::proofs::WordsLaw::words_laws))]
+/// Whether each year of a date is at most 10000 and none is written with three digits, each month
+/// is 1 to 12 and each day 1 to 31. Then `osn_grammar::parse` reads the words of the date as that
+/// very date, in each order of day and month.
+#[tactic(auto, using(crate::proofs::WordsLaw::words_law))]
 pub fn is_writable(date: WrittenDate) -> bool
     ensures value { result ≡ spec.is_writable date }
     // as a law: the words of such a date are read as that date, in each order of day and month
     ensures words { AreWordsRead }
-    // as a law: from the year 100 on the words of a plain day are those of a written date
-    ensures days { AreDaysAlike }
 {
     match date.extent {
         Extent::FromTo(first, last) => is_writable_date(first) && is_writable_date(last),
@@ -173,8 +180,8 @@ pub fn is_writable(date: WrittenDate) -> bool
 }
 
 /// Writes a date in words, with all that is said of it: `[about Friday 11 February 1731/2 O.S.?]`,
-/// `February 1731/2 to 1735`, `not after 1640`. A year of one or two digits has zeros before it,
-/// as `045`, since no shorter number is read as a year. A month that is not 1 to 12 is taken for
+/// `February 1731/2 to 1735`, `not after 1640`. A year below 1000 has zeros before it, as `0045`,
+/// since a shorter number is read as no year, or as one that may lack a digit. A month that is not 1 to 12 is taken for
 /// 12, and `is_writable` tells of which dates the words are read back.
 #[derive(Clone, Copy, Debug, PartialEq, Eq)]
 pub struct DateInWords(pub WrittenDate);

@@ -14,7 +14,6 @@ mod set;
 mod span;
 mod words;
 mod written_date;
-mod written_text;
 
 pub use absence::{Absence, absence_of};
 pub use date_in_text::read_date;

@@ -1,11 +1,11 @@
-//! A text is read as a date: in the usual forms, or else in one of those that `osn_grammar` reads.
-ghost use Rattle.std.specs.Prelude.{◌≡◌, false, is_ok, IfOk, OnErr};
+//! A text is read as a date of one day.
+ghost use Rattle.std.specs.Prelude.{◌≡◌, IfOk};
 ghost use Rattle.osn_days.specs.Profile.{newest_rules};
 ghost use Rattle.osn_written.specs.Law.{AreDualTextsWritten, AreNamedDaysWritten};
 ghost use Rattle.osn_written.specs.OtherForms as other;
 ghost use Rattle.osn_written.specs.WrittenDate as spec;
 
-use crate::written_date::{DateFault, WrittenDate, usual_date};
+use crate::written_date::{DateFault, WrittenDate};
 use osn_days::Weekday;
 use osn_grammar::{
     DateFault as FormFault, DateOrder, Extent, SimpleDate, Written, WrittenDate as AnyDate,
@@ -23,6 +23,7 @@ pub(crate) fn fault_of(fault: FormFault) -> DateFault
         FormFault::Month => DateFault::Month,
         FormFault::Day => DateFault::Day,
         FormFault::ShortYear => DateFault::ShortYear,
+        FormFault::OpenYear => DateFault::OpenYear,
         FormFault::DayOrMonth => DateFault::DayOrMonth,
         FormFault::TwoDays => DateFault::TwoDays,
         FormFault::Feast => DateFault::Feast,
@@ -80,51 +81,24 @@ fn day_read(read: Result<Written, FormFault>) -> Result<WrittenDate, DateFault>
     }
 }
 
-/// The date of one day that a text is in a form of `osn_grammar`, or why it is no such date.
-#[tactic(auto, unfolding(crate::specs::OtherForms::other_date))]
-fn other_date(alloc: Global, text: &str) -> Result<Result<WrittenDate, DateFault>, AllocError>
-    ensures { IfOk result (λ date. date ≡ other.other_date text.now) }
-{
-    let read = osn_grammar::parse(alloc, text, DateOrder::Unknown)?;
-    Ok(day_read(read))
-}
-
-/// The date in another form, or its fault. Where it has none, the fault of the usual forms.
-fn else_fault(
-    fault: DateFault,
-    date: Result<WrittenDate, DateFault>,
-) -> Result<WrittenDate, DateFault>
-    ensures { result ≡ spec.else_fault fault date }
-{
-    match date {
-        Err(DateFault::Malformed) => Err(fault),
-        _ => date,
-    }
-}
-
 impl WrittenDate {
-    /// The date that a text is, in the usual forms or else in another form of one day:
-    /// `1731-02-11`, `11 February 1731/2`, `Friday 11 February 1731`, `11 Feb. 1731/32`,
-    /// `Feb 11, 1731`. `docs/DATES.md` has all forms. Where the text is no such date, the result
-    /// within has the fault.
+    /// The date of one day that a text is: `1731-02-11`, `11 February 1731/2`,
+    /// `Friday 11 February 1731`, `11 Feb. 1731/32`, `Feb 11, 1731`. `docs/DATES.md` has all forms.
+    /// Where the text is no such date, the result within has the fault.
     ///
     /// # Errors
     ///
-    /// Want of memory, which a date in the usual forms never wants.
-    #[tactic(auto, using(crate::proofs::DualLaw::dual_laws))]
+    /// Want of memory.
+    #[tactic(auto, using(crate::proofs::DualLaw::dual_laws), unfolding(crate::specs::WrittenDate::written_date))]
     pub fn parse(alloc: Global, text: &str) -> Result<Result<WrittenDate, DateFault>, AllocError>
         ensures value { IfOk result (λ date. date ≡ spec.written_date text.now) }
-        // a text in the usual forms is read without memory
-        ensures memory { OnErr result (is_ok (spec.usual_date text.now) ≡ false) }
         // as a law: the dual text of each day of the line, under each regime, is a date with the
-        // label of the day. It is a double one where the day has both years
+        // label of the day, from the year 100 on. It is a double one where the day has both years
         ensures dual { AreDualTextsWritten newest_rules }
         // as a law: so it is with the day's weekday before it, which is then the date's
         ensures named { AreNamedDaysWritten newest_rules }
     {
-        match usual_date(text) {
-            Ok(date) => Ok(Ok(date)),
-            Err(fault) => Ok(else_fault(fault, other_date(alloc, text)?)),
-        }
+        let read = osn_grammar::parse(alloc, text, DateOrder::Unknown)?;
+        Ok(day_read(read))
     }
 }

@@ -63,6 +63,7 @@ impl DateFault {
             DateFault::NotOneDay => "not one day",
             DateFault::Qualifier => "more than a day",
             DateFault::ShortYear => "year of one or two digits",
+            DateFault::OpenYear => "year with an open digit",
             DateFault::DayOrMonth => "open between day and month",
             DateFault::TwoDays => "day by both calendars",
             DateFault::Feast => "a feast, not read",

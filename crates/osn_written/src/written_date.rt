@@ -1,9 +1,9 @@
-//! Dates as people write them, and the usual forms of one.
-ghost use Rattle.std.specs.Prelude.{◌≡◌, ◌<◌, ◌≤◌, ◌+◌, ◌%◌, ◌^◌, ◌==◌, IfSome, find, option_map};
+//! Dates of one day, as people write them.
+ghost use Rattle.std.specs.Prelude.{◌≡◌, ◌<◌, ◌^◌, IfSome, find, option_map};
 ghost use Rattle.std.specs.Str.{all_ascii_digits};
 ghost use Rattle.osn_written.specs.WrittenDate as spec;
 
-use osn_days::{Weekday, month_named};
+use osn_days::Weekday;
 
 /// A date as people write it: a year, a month and a day, and whether it is a double date as
 /// `11 February 1731/2`, whose year is the first one. It has the weekday before it too, if one is
@@ -38,6 +38,9 @@ pub enum DateFault {
     Qualifier,
     /// A year of one or two digits has its zeros, as `0045`.
     ShortYear,
+    /// A digit of the year is open, as in `173-` and `173X`, or a year of three digits is in doubt
+    /// or stands in brackets, as `173?`.
+    OpenYear,
     /// `11/2/1731` may be 11 February or 2 November.
     DayOrMonth,
     /// In `11/22 February 1731` the day is that of both calendars.
@@ -113,120 +116,4 @@ pub fn weekday_named(name: &str) -> Option<Weekday>
     ensures { result ≡ spec.weekday_named name.now }
 {
     first_named(&WEEKDAYS, name)
-}
-
-/// Whether `later` is the last `digits` digits of the year that follows `year`.
-fn ends_next_year(year: u32, later: u32, digits: u32) -> bool
-    requires year { year < 10 ^ 9 }
-    requires digits { digits ≤ 9 }
-    ensures { result ≡ (later == (year + 1) % 10 ^ digits) }
-{
-    later == (year + 1) % 10u32.pow(digits)
-}
-
-/// A year, and whether it is a double one.
-fn years_of(text: &str) -> Result<(u32, bool), DateFault>
-    ensures { result ≡ spec.years_of text.now }
-{
-    let Some((first, part)) = parts_at(text, '/') else {
-        return Ok((number_of(text).ok_or(DateFault::Malformed)?, false));
-    };
-    let year = number_of(first).ok_or(DateFault::Malformed)?;
-    let later = number_of(part).ok_or(DateFault::LaterYear)?;
-    if ends_next_year(year, later, part.len() as u32) {
-        Ok((year, true))
-    } else {
-        Err(DateFault::LaterYear)
-    }
-}
-
-/// The date of these numbers, if there may be one.
-fn date_of_numbers(years: (u32, bool), month: u32, day: u32) -> Result<WrittenDate, DateFault>
-    ensures { result ≡ spec.date_of_numbers years month day }
-{
-    if years.0 > 10000 {
-        return Err(DateFault::Year);
-    }
-    if month < 1 || month > 12 {
-        return Err(DateFault::Month);
-    }
-    if day < 1 || day > 31 {
-        return Err(DateFault::Day);
-    }
-    Ok(WrittenDate {
-        year: years.0 as u16,
-        month: month as u8,
-        day: day as u8,
-        is_double: years.1,
-        weekday: None,
-    })
-}
-
-/// Whether the first year of a text has three characters or more, so that it is no day.
-fn has_long_year(text: &str) -> bool
-    ensures { result ≡ spec.has_long_year text.now }
-{
-    match parts_at(text, '/') {
-        None => text.len() >= 3,
-        Some((first, _)) => first.len() >= 3,
-    }
-}
-
-/// A year of three digits or more, and month and day with `-` between them.
-fn in_numbers(year: &str, rest: &str) -> Result<WrittenDate, DateFault>
-    ensures { result ≡ spec.in_numbers year.now rest.now }
-{
-    if !has_long_year(year) {
-        return Err(DateFault::Malformed);
-    }
-    let (month, day) = parts_at(rest, '-').ok_or(DateFault::Malformed)?;
-    let years = years_of(year)?;
-    let month = number_of(month).ok_or(DateFault::Malformed)?;
-    let day = number_of(day).ok_or(DateFault::Malformed)?;
-    date_of_numbers(years, month, day)
-}
-
-/// Day, month and year, with a space between.
-fn in_words(text: &str) -> Result<WrittenDate, DateFault>
-    ensures { result ≡ spec.in_words text.now }
-{
-    let (day, rest) = parts_at(text, ' ').ok_or(DateFault::Malformed)?;
-    let (month, years) = parts_at(rest, ' ').ok_or(DateFault::Malformed)?;
-    let day = number_of(day).ok_or(DateFault::Malformed)?;
-    let month = month_named(month).ok_or(DateFault::Malformed)?;
-    let years = years_of(years)?;
-    date_of_numbers(years, u32::from(month), day)
-}
-
-/// A date with no weekday.
-fn plain_date(text: &str) -> Result<WrittenDate, DateFault>
-    ensures { result ≡ spec.plain_date text.now }
-{
-    match parts_at(text, '-') {
-        Some((year, rest)) => in_numbers(year, rest),
-        None => in_words(text),
-    }
-}
-
-/// A date that may begin with a weekday: the whole text, and what stands after its first word.
-fn date_after(text: &str, rest: &str, weekday: Option<Weekday>) -> Result<WrittenDate, DateFault>
-    ensures { result ≡ spec.date_after text.now rest.now weekday }
-{
-    if weekday.is_none() {
-        return plain_date(text);
-    }
-    let date = plain_date(rest)?;
-    Ok(WrittenDate { weekday, ..date })
-}
-
-/// The date that a text is in the usual forms: `1731-02-11`, `11 February 1731` or
-/// `11 February 1731/2`. A weekday and a space may stand before it. A number has 1 to 9 digits,
-/// zeros before it included. The letters of names may be capital or small.
-pub(crate) fn usual_date(text: &str) -> Result<WrittenDate, DateFault>
-    ensures { result ≡ spec.usual_date text.now }
-{
-    match parts_at(text, ' ') {
-        None => plain_date(text),
-        Some((first, rest)) => date_after(text, rest, weekday_named(first)),
-    }
 }
