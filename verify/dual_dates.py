@@ -31,7 +31,9 @@ def random_day(chance, territory, middle):
 
 
 def texts_of(territory, day):
-    """Each text that is to mean the day, without its weekday."""
+    """Each text that is to mean the day, without its weekday: none before the year 100."""
+    if territory.label(day)[0] < 100:
+        return
     dual = territory.dual(day)
     yield dual
     if "/" in dual:
@@ -56,6 +58,8 @@ def remark_of(row, text, weekday):
     years = [int(dual.split(" ")[2].split("/")[0]) for dual in duals]
     if "/" in text and any(year != parse(text).year for year in years):
         remarks.append("not counted double there")
+    if parse(text).has_three_digits:
+        remarks.append("year of three digits")
     return "; ".join(remarks)
 
 

@@ -27,6 +27,7 @@ CALENDARS = ["gregorian", "julian", "swedish"]
 WRONG_WORDS = {
     "form": 'a date is written 1731-02-11, "11 February 1731" or "11 February 1731/2", '
             "with a weekday before it or without",
+    "short year": "a year of one or two digits needs its zeros, as 0045",
     "later year": "after the / stands the year that follows, in full or its last digits, "
                   "as 1731/2, 1731/32 or 1731/1732",
     "year": "a year is 0 to 10000",

@@ -97,7 +97,8 @@ def date_text(chance, label):
     if chance.random() < (0.6 if month < 4 else 0.1):
         later = "/" + later_digits(year + 1, chance.randint(1, 5))
     name = any_case(chance, MONTHS[month - 1])
-    text = chance.choice([f"{day} {name} {year}{later}", f"{year:04}{later}-{month:02}-{day:02}"])
+    text = chance.choice([f"{day} {name} {year:03}{later}",
+                          f"{year:04}{later}-{month:02}-{day:02}"])
     if chance.random() < 0.3:
         text = f"{any_case(chance, chance.choice(WEEKDAYS))} {text}"
     return text
@@ -110,6 +111,7 @@ def later_digits(year, count):
 
 MALFORMED = ["11 February 1731/5", "11 February 1731/", "1731/33-02-11", "11 Febuary 1731",
              "11 1731", "11  Febuary 1731", "Fryday 11 February 1731", "1731-13-01", "1731-02-32",
-             "1731-00-01", "10001-01-01", "1731-02-", "0 February 1731", "11 February 1731/z", "z"]
+             "1731-00-01", "10001-01-01", "11 February 31", "11 May 9/10", "1731-02-",
+             "0 February 1731", "11 February 1731/z", "z"]
 
 

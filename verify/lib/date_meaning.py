@@ -15,7 +15,7 @@ from lib.calendars import HIGH, MONTHS, WEEKDAYS, dates, dual_text, easter, styl
 
 
 class Malformed(Exception):
-    """What keeps a text from being a date: form, later year, year, month or day."""
+    """What keeps a text from being a date: form, short year, later year, year, month or day."""
 
 
 class Written(NamedTuple):
@@ -24,13 +24,14 @@ class Written(NamedTuple):
     day: int
     is_double: bool = False
     weekday: Optional[str] = None
+    has_three_digits: bool = False
 
     def label(self, later=0):
         return self.year + later, self.month, self.day
 
 
-def number(text):
-    if not (text.isascii() and text.isdigit() and len(text) <= 9):
+def number(text, digits=9):
+    if not (text.isascii() and text.isdigit() and len(text) <= digits):
         raise Malformed("form")
     return int(text)
 
@@ -47,15 +48,19 @@ def weekday_named(text):
 
 
 def years_of(text):
-    """The year of a text, and whether the one that follows stands after a slash."""
+    """The year of a text, whether the one that follows stands after a slash, and whether it has
+    three digits and no zero before them."""
     first, slash, later = text.partition("/")
     year = number(first)
-    if not slash:
-        return year, False
-    following = str(year + 1).zfill(len(later))
-    if not later or len(later) > 9 or not following.endswith(later):
+    if slash:
+        number(later)
+    if len(first) < 3:
+        raise Malformed("short year")
+    if year > 10_000:
+        raise Malformed("year")
+    if slash and not str(year + 1).zfill(len(later)).endswith(later):
         raise Malformed("later year")
-    return year, True
+    return year, bool(slash), len(first) == 3 and year >= 100
 
 
 def month_of(text):
@@ -68,20 +73,17 @@ def month_of(text):
 def plain_date(text):
     if text.count("-") >= 2:
         first, middle, last = text.split("-", 2)
-        if len(first.partition("/")[0]) < 3:
-            raise Malformed("form")
-        years, month, day = years_of(first), number(middle), number(last)
+        month, day, years = number(middle, 2), number(last, 2), years_of(first)
     elif text.count(" ") >= 2 and "-" not in text:
         first, middle, last = text.split(" ", 2)
-        day, month, years = number(first), month_of(middle), years_of(last)
+        day, month, years = number(first, 2), month_of(middle), years_of(last)
     else:
         raise Malformed("form")
-    for name, value, least, most in (
-        ("year", years[0], 0, 10_000), ("month", month, 1, 12), ("day", day, 1, 31)
-    ):
-        if not least <= value <= most:
+    for name, value, most in (("month", month, 12), ("day", day, 31)):
+        if not 1 <= value <= most:
             raise Malformed(name)
-    return Written(years[0], month, day, years[1])
+    year, is_double, has_three_digits = years
+    return Written(year, month, day, is_double, None, has_three_digits)
 
 
 def parse(text):

@@ -8,7 +8,8 @@ from lib.date_meaning import (Malformed, has_weekday, is_not_counted_double, par
 
 COLUMNS = ["days", "gregorian", "julian", "dual", "weekday_found", "jdn", "earliest", "latest",
            "kind", "edtf", "edition", "remark"]
-FAULTS = {"form": "malformed date", "later year": "not the year that follows",
+FAULTS = {"form": "malformed date", "short year": "year of one or two digits",
+          "later year": "not the year that follows",
           "year": "no year from 0 to 10000", "month": "no month from 1 to 12",
           "day": "no day from 1 to 31"}
 SPACES = " \t\n\r\f"
@@ -40,10 +41,11 @@ def meant_in_place(territories, code, text, given):
         date = parse(text)
     except Malformed as why:
         return territory, [], "", [FAULTS[why.args[0]], *unknown]
+    beside = ["year of three digits"] if date.has_three_digits else []
     if territory is None:
-        return None, [], "day", unknown
+        return None, [], "day", [*unknown, *beside]
     days = territory.days_meant(date, given)
-    return territory, days, "day", remarks_of_days(territory, date, given, days)
+    return territory, days, "day", [*remarks_of_days(territory, date, given, days), *beside]
 
 
 def letter_fields(territories, edition, code, text, weekday=""):

@@ -40,8 +40,9 @@ def years_written(year, later):
 
 
 def date_written(date):
-    years = years_written(date.year, date.year + 1) if date.is_double else date.year
-    return f"{date.day} {MONTHS[date.month - 1]} {years}"
+    years = years_written(date.year, date.year + 1) if date.is_double else str(date.year)
+    zeros = "0" * (4 - len(str(date.year)))
+    return f"{date.day} {MONTHS[date.month - 1]} {zeros}{years}"
 
 
 def named(territory, day):
@@ -121,7 +122,8 @@ def reading_page(place, date, given):
     days = place.territory.days_meant(date, given)
     lines = [line for day in days for line in meant_lines(place.territory, date, given, day)]
     return [f"{date_written(date)} in {place.heading()}",
-            *(lines or why_lines(place.territory, date))]
+            *(lines or why_lines(place.territory, date)),
+            *(["year of three digits"] if date.has_three_digits else [])]
 
 
 # The pages of days, months and territories.

@@ -25,9 +25,12 @@ BOUND = r"(before|not after|by|after|not before) (.+)"
 MAY_BE_MONTH = "([1-9]|1[0-2])"
 # Texts of no date, and why they are none.
 NONE = {r" *|n\.d\.|s\.d\.|undated|no date": "no date",
-        r"\d{1,2}-\d{1,2}-\d{3,4}": "open between day and month",
-        rf"{MAY_BE_MONTH}/(?!\1/){MAY_BE_MONTH}/\d{{3,4}}": "open between day and month"}
+        rf"{MAY_BE_MONTH}([/-])(?!\1\2){MAY_BE_MONTH}\2\d{{3,4}}": "open between day and month",
+        rf"(?:{DAY} {NAME} )?\d{{1,2}}": "year of one or two digits",
+        rf"(?:{DAY} {NAME} )?[1-9]\d\d ?(?:[?%x_-]|\.\.)": "year with an open digit"}
 
+# A year that may lack its last digit.
+THREE_DIGITS = r"(?<![\d/])[1-9]\d\d(?!\d)"
 SUPPLIED = r"\[(.*)\]"
 SET_DAY = r"\d{3,5}-\d\d-\d\d[?~%]?"
 SET_MEMBER = rf"{SET_DAY}(?:\.\.{SET_DAY})?"
@@ -128,6 +131,8 @@ def span_of(text):
         return found
     rest, supplied = without(SUPPLIED, text)
     rest, uncertain = without(UNCERTAIN, rest)
+    if (supplied or uncertain) and re.search(THREE_DIGITS, rest):
+        raise Unread(text)
     named = re.fullmatch(RECKONING, rest, re.I)
     reckoning = ("old" if named[2].lower().startswith("o") else "new") if named else None
     rest, approximate = without(APPROXIMATE, named[1] if named else rest)

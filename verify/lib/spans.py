@@ -39,7 +39,7 @@ class Simple(NamedTuple):
         return f"{self.year:04}-{self.month:02}-{self.day:02}"
 
     def years(self):
-        first = f"{self.year:03}"
+        first = f"{self.year:04}"
         if not self.is_double:
             return first
         return first + years_written(self.year, self.year + 1)[len(str(self.year)):]
@@ -282,7 +282,7 @@ def month_name(chance, month):
 
 def years_text(chance, date):
     """Both years of a double one, the later one by some of its last digits."""
-    text = f"{date.year:03}"
+    text = f"{date.year:04}"
     if date.is_double:
         later = str(date.year + 1)
         return f"{text}/{later[-chance.randint(1, len(later)):]}"

@@ -75,7 +75,12 @@ impl Display for ShownWritten {
         }
         f.write_str(if date.is_approximate { ", about" } else { "" })?;
         f.write_str(if date.is_uncertain { ", in doubt" } else { "" })?;
-        f.write_str(if date.is_supplied { ", supplied" } else { "" })
+        f.write_str(if date.is_supplied { ", supplied" } else { "" })?;
+        f.write_str(if date.extent.has_year_of_three_digits() {
+            ", three digits"
+        } else {
+            ""
+        })
     }
 }
 
@@ -114,7 +119,7 @@ fn are_read(
     Ok(())
 }
 
-const DAYS: [(&str, &str); 40] = [
+const DAYS: [(&str, &str); 53] = [
     ("11 February 1731", "1731 2 11"),
     ("February 11, 1731", "1731 2 11"),
     ("1731 February 11", "1731 2 11"),
@@ -142,7 +147,7 @@ const DAYS: [(&str, &str); 40] = [
     ("Xbris 5 1640", "1640 12 5"),
     ("5 7bris 1640", "1640 9 5"),
     ("5 9ber 1640", "1640 11 5"),
-    ("13-13-1640", "DayOrMonth"),
+    ("13-13-1640", "Month"),
     ("29.8ber 1640", "1640 10 29"),
     ("29. 8bris 1640", "1640 10 29"),
     ("Feb. 11. 1731", "1731 2 11"),
@@ -155,6 +160,19 @@ const DAYS: [(&str, &str); 40] = [
     ("12/25/1640", "1640 12 25"),
     ("5/5/1640", "1640 5 5"),
     ("1640, 3 May", "1640 5 3"),
+    ("25-12-1640", "1640 12 25"),
+    ("5-5-1640", "1640 5 5"),
+    ("11/Feb/1731", "1731 2 11"),
+    ("3rd.May.1640", "1640 5 3"),
+    ("3.Mai.1640 N.S.", "1640 5 3, NewStyle"),
+    ("a.d. 3 May 1640 O. S.", "Malformed"),
+    ("11 February 0031", "31 2 11"),
+    ("11 February 031", "31 2 11"),
+    ("0173-02-11", "173 2 11"),
+    ("11 Feb. 173", "173 2 11, three digits"),
+    ("11 Feb. 0173?", "173 2 11, in doubt"),
+    ("11 Feb. 045?", "45 2 11, in doubt"),
+    ("11 February 1699/700?", "1699+ 2 11, in doubt"),
 ];
 
 #[test]
@@ -162,7 +180,7 @@ fn days(rt: HostRuntime) -> Result<(), Fail> {
     are_read(&rt, rt.alloc(), DateOrder::Unknown, &DAYS)
 }
 
-const LANGUAGES: [(&str, &str); 20] = [
+const LANGUAGES: [(&str, &str); 26] = [
     ("3 Martii 1640", "1640 3 3"),
     ("le 3 août 1640", "1640 8 3"),
     ("3 AOÛT 1640", "1640 8 3"),
@@ -183,6 +201,12 @@ const LANGUAGES: [(&str, &str); 20] = [
     ("1º de mayo de 1640", "1640 5 1"),
     ("A.D. 1640", "1640"),
     ("3 Maii 1640 stilo novo", "1640 5 3, NewStyle"),
+    ("3 Janner 1650", "1650 1 3"),
+    ("mer. 3 mai 1640", "1640 5 3, Wednesday"),
+    ("sáb 3 mayo 1640", "1640 5 3, Saturday"),
+    ("lor 3 maj 1640", "1640 5 3, Saturday"),
+    ("lør. 3 maj 1640", "1640 5 3, Saturday"),
+    ("søn. 3 maj 1640", "1640 5 3, Sunday"),
 ];
 
 #[test]
@@ -190,7 +214,7 @@ fn languages(rt: HostRuntime) -> Result<(), Fail> {
     are_read(&rt, rt.alloc(), DateOrder::Unknown, &LANGUAGES)
 }
 
-const MONTHS_AND_YEARS: [(&str, &str); 11] = [
+const MONTHS_AND_YEARS: [(&str, &str); 13] = [
     ("February 1731", "1731 2"),
     ("1731 February", "1731 2"),
     ("1731-02", "1731 2"),
@@ -202,6 +226,8 @@ const MONTHS_AND_YEARS: [(&str, &str); 11] = [
     ("1731/2", "1731+"),
     ("anno 1640", "1640"),
     ("10000", "10000"),
+    ("2/1731", "1731 2"),
+    ("173/4", "173+, three digits"),
 ];
 
 #[test]
@@ -209,7 +235,7 @@ fn months_and_years(rt: HostRuntime) -> Result<(), Fail> {
     are_read(&rt, rt.alloc(), DateOrder::Unknown, &MONTHS_AND_YEARS)
 }
 
-const RANGES: [(&str, &str); 45] = [
+const RANGES: [(&str, &str); 51] = [
     ("3-10 May 1640", "1640 5 3 to 1640 5 10"),
     ("3–10 May 1640", "1640 5 3 to 1640 5 10"),
     ("3 to 10 May 1640", "1640 5 3 to 1640 5 10"),
@@ -255,6 +281,12 @@ const RANGES: [(&str, &str); 45] = [
     ("1640, 1641, 1642", "Malformed"),
     ("1698-07-25 - 1699", "1698 7 25 to 1699"),
     ("1698-07/1699", "1698 7 to 1699"),
+    ("1640/1645", "1640 to 1645"),
+    ("1640/1640-05", "1640 to 1640 5"),
+    ("3\u{2010}10 May 1640", "1640 5 3 to 1640 5 10"),
+    ("3\u{2011}10 May 1640", "1640 5 3 to 1640 5 10"),
+    ("before 173", "before 173, three digits"),
+    ("173 to 1740", "173 to 1740, three digits"),
 ];
 
 #[test]
@@ -262,7 +294,7 @@ fn ranges(rt: HostRuntime) -> Result<(), Fail> {
     are_read(&rt, rt.alloc(), DateOrder::Unknown, &RANGES)
 }
 
-const CERTAINTY: [(&str, &str); 14] = [
+const CERTAINTY: [(&str, &str); 16] = [
     ("about 1640", "1640, about"),
     ("c. 1640", "1640, about"),
     ("ca. May 1640", "1640 5, about"),
@@ -277,6 +309,8 @@ const CERTAINTY: [(&str, &str); 14] = [
     ("[3 May 1640]", "1640 5 3, supplied"),
     ("[c. 1640?]", "1640, about, in doubt, supplied"),
     ("3 [May] 1640", "1640 5 3, supplied"),
+    ("c.March 1640", "1640 3, about"),
+    ("c. 173", "173, about, three digits"),
 ];
 
 #[test]
@@ -300,7 +334,7 @@ fn nothing(rt: HostRuntime) -> Result<(), Fail> {
     are_read(&rt, rt.alloc(), DateOrder::Unknown, &NOTHING)
 }
 
-const SETS: [(&str, &str); 14] = [
+const SETS: [(&str, &str); 15] = [
     ("[1543-04-11,1544-04-11]", "set; 1543 4 11; 1544 4 11"),
     (
         "[1731-04-05..1731-04-11,1732-03-12..1732-04-04]",
@@ -314,13 +348,14 @@ const SETS: [(&str, &str); 14] = [
     ("[1640-05-03]", "1640 5 3, supplied"),
     ("[1640, 05, 03]", "1640 5 3, supplied"),
     ("[from 1640, to 1645]", "1640 to 1645, supplied"),
-    ("1543-04-11,1544-04-11", "ShortYear"),
-    ("[1543-04-11 1544-04-11]", "ShortYear"),
-    ("[1543-04-11,1544-04]", "ShortYear"),
-    ("[1543-04-11,1544-04-32]", "ShortYear"),
-    ("[1543-04-11,,1544-04-11]", "ShortYear"),
-    ("[1543-04-11,1544-04-11] N.S.", "ShortYear"),
-    ("[[1543-04-11,1544-04-11]]", "ShortYear"),
+    ("1543-04-11,1544-04-11", "Malformed"),
+    ("[1543-04-11 1544-04-11]", "Malformed"),
+    ("[1543-04-11,1544-04]", "Malformed"),
+    ("[1543-04-11,1544-04-32]", "Day"),
+    ("[1543-13-11,1544-04-11]", "Month"),
+    ("[1543-04-11,,1544-04-11]", "Malformed"),
+    ("[1543-04-11,1544-04-11] N.S.", "Malformed"),
+    ("[[1543-04-11,1544-04-11]]", "Malformed"),
 ];
 
 #[test]
@@ -328,7 +363,7 @@ fn sets(rt: HostRuntime) -> Result<(), Fail> {
     are_read(&rt, rt.alloc(), DateOrder::Unknown, &SETS)
 }
 
-const FAULTS: [(&str, &str); 36] = [
+const FAULTS: [(&str, &str); 62] = [
     ("11/2/1731", "DayOrMonth"),
     ("2/11/1731", "DayOrMonth"),
     ("11-2-1731", "DayOrMonth"),
@@ -345,7 +380,7 @@ const FAULTS: [(&str, &str); 36] = [
     ("0 February 1731", "Day"),
     ("1731/3", "LaterYear"),
     ("11 February 1731/2/3", "Malformed"),
-    ("1640/1645", "LaterYear"),
+    ("1640/45", "LaterYear"),
     ("11 February", "Malformed"),
     ("Monday", "Malformed"),
     ("Monday or Tuesday 3 May 1640", "Malformed"),
@@ -363,8 +398,34 @@ const FAULTS: [(&str, &str); 36] = [
     ("31/12/16", "ShortYear"),
     ("1731/2 11", "Malformed"),
     ("mid-May 1640", "Malformed"),
-    ("25-12-1640", "DayOrMonth"),
+    ("1731-XX-11", "Malformed"),
     ("13/13/1640", "Month"),
+    ("11 February 9/10", "ShortYear"),
+    ("11 May 45", "ShortYear"),
+    ("Monday 3 January 0", "ShortYear"),
+    ("173?", "OpenYear"),
+    ("173 (?)", "OpenYear"),
+    ("11 Feb. 173?", "OpenYear"),
+    ("[11 Feb. 173?]", "OpenYear"),
+    ("173%", "OpenYear"),
+    ("173[ ]", "OpenYear"),
+    ("11 Feb. 173[?]", "OpenYear"),
+    ("1640 - 173?", "OpenYear"),
+    ("173-", "OpenYear"),
+    ("11 Feb. 173–", "OpenYear"),
+    ("173..", "OpenYear"),
+    ("173X", "OpenYear"),
+    ("11 Feb. 173x", "OpenYear"),
+    ("17XX", "OpenYear"),
+    ("173_", "OpenYear"),
+    ("1731-", "Malformed"),
+    ("17?", "ShortYear"),
+    ("February 011, 1731", "Malformed"),
+    ("1731 February 011", "Malformed"),
+    ("1731-002-XX", "Malformed"),
+    ("011/2/1731", "Malformed"),
+    ("1000000000-1-1", "Malformed"),
+    ("1731/2/1735", "Malformed"),
 ];
 
 #[test]

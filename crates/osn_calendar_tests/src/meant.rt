@@ -109,7 +109,11 @@ fn turned_back(alloc: Global) -> Result<Territory, LandFault> {
 /// The date that is written so.
 pub fn date_of(written: Written) -> SimpleDate {
     let (first, is_double, month, day) = written;
-    let year = Year { first, is_double };
+    let year = Year {
+        first,
+        is_double,
+        has_three_digits: false,
+    };
     match (month, day) {
         (Some(month), Some(day)) => SimpleDate::Day { year, month, day },
         (Some(month), None) => SimpleDate::Month { year, month },

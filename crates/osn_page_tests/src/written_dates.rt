@@ -20,7 +20,7 @@ const PLAIN: [Row; 9] = [
     ("1731-02-11", Ok((1731, 2, 11, false, None))),
     ("1731-2-11", Ok((1731, 2, 11, false, None))),
     ("11 February 1731", Ok((1731, 2, 11, false, None))),
-    ("011 fEBRUARY 01731", Ok((1731, 2, 11, false, None))),
+    ("11 fEBRUARY 01731", Ok((1731, 2, 11, false, None))),
     (
         "Friday 11 February 1731",
         Ok((1731, 2, 11, false, Some(Weekday::Friday))),
@@ -29,7 +29,7 @@ const PLAIN: [Row; 9] = [
         "fRIDAY 1731-02-11",
         Ok((1731, 2, 11, false, Some(Weekday::Friday))),
     ),
-    ("1 January 0", Ok((0, 1, 1, false, None))),
+    ("1 January 000", Ok((0, 1, 1, false, None))),
     ("31 December 10000", Ok((10_000, 12, 31, false, None))),
     ("30 February 1731", Ok((1731, 2, 30, false, None))),
 ];
@@ -45,8 +45,8 @@ const DOUBLE: [Row; 14] = [
     ("11 February 1699/00", Ok((1699, 2, 11, true, None))),
     ("11 February 1699/0", Ok((1699, 2, 11, true, None))),
     ("11 February 1699/1700", Ok((1699, 2, 11, true, None))),
-    ("11 February 9/10", Ok((9, 2, 11, true, None))),
-    ("11 February 9/0", Ok((9, 2, 11, true, None))),
+    ("11 February 0009/10", Ok((9, 2, 11, true, None))),
+    ("11 February 009/0", Ok((9, 2, 11, true, None))),
     (
         "Friday 11 February 1731/2",
         Ok((1731, 2, 11, true, Some(Weekday::Friday))),
@@ -57,7 +57,7 @@ const DOUBLE: [Row; 14] = [
     ),
 ];
 
-/// The forms of one day besides the usual ones.
+/// Further forms of one day.
 const OTHER: [Row; 15] = [
     ("11 Feb. 1731/32", Ok((1731, 2, 11, true, None))),
     ("11 February 1731/ 2", Ok((1731, 2, 11, true, None))),
@@ -85,7 +85,7 @@ const OTHER: [Row; 15] = [
     ),
 ];
 
-/// What is told of a text by the other forms.
+/// What is wrong with texts of further forms.
 const OTHER_FAULTS: [Row; 21] = [
     ("", Err(DateFault::NoDate)),
     ("n.d.", Err(DateFault::NoDate)),
@@ -110,17 +110,16 @@ const OTHER_FAULTS: [Row; 21] = [
     ("11.13.1731", Err(DateFault::Month)),
 ];
 
-/// The first fault counts: that of the year's text, then of the other parts, then of a year, of a
-/// month and of a day.
-const FAULTS: [Row; 25] = [
+/// The first fault counts: that of a year, then of a month and of a day.
+const FAULTS: [Row; 28] = [
     ("11 February 1731/5", LATER_YEAR),
     ("11 February 1731/1", LATER_YEAR),
     ("11 February 1731/33", LATER_YEAR),
     ("11 February 1731/832", LATER_YEAR),
     ("11 February 1731/2732", LATER_YEAR),
-    ("11 February 1731/", LATER_YEAR),
-    ("11 February 1731/2/3", LATER_YEAR),
-    ("11 February 1731/0000001732", LATER_YEAR),
+    ("11 February 1731/", MALFORMED),
+    ("11 February 1731/2/3", MALFORMED),
+    ("11 February 1731/0000001732", MALFORMED),
     ("1731/5-13-32", LATER_YEAR),
     ("11 February /2", MALFORMED),
     ("11 Febuary 1731/5", MALFORMED),
@@ -138,6 +137,9 @@ const FAULTS: [Row; 25] = [
     ("Fryday 11 February 1731", MALFORMED),
     ("Friday", MALFORMED),
     ("+11 February 1731", MALFORMED),
+    ("11 February 31", Err(DateFault::ShortYear)),
+    ("11 February 9/10", Err(DateFault::ShortYear)),
+    ("11 Feb. 173?", Err(DateFault::OpenYear)),
 ];
 
 /// The parts of a date.
@@ -192,27 +194,4 @@ fn words_are_read(rt: HostRuntime) {
         (weekday_named("friDAY"), weekday_named("Fri")),
         (friday, None),
     );
-}
-
-/// Dates, and how they are written.
-const WRITTEN: [(&str, &str); 6] = [
-    ("friday 1731-02-11", "11 February 1731"),
-    ("11 february 1731/32", "11 February 1731/2"),
-    ("11 February 1699/0", "11 February 1699/700"),
-    ("009/10-02-01", "1 February 9/10"),
-    ("1 January 0", "1 January 0"),
-    ("Feb. 11, 1731/32", "11 February 1731/2"),
-];
-
-#[test]
-fn dates_are_written(rt: HostRuntime) -> Result<(), Fail> {
-    for (text, wanted) in &WRITTEN {
-        if let Ok(date) = WrittenDate::parse(rt.alloc(), text)? {
-            let written = format!(in rt.alloc(); "{date}")?;
-            same(&rt, written.as_str(), wanted);
-        } else {
-            same(&rt, *text, "a date");
-        }
-    }
-    Ok(())
 }
