@@ -153,7 +153,7 @@ const SETS: [(&str, &str); 10] = [
         "[1640-05-03,1640-05-10..1752-09-05]",
         "set: last date: skipped",
     ),
-    ("[1640-05-03,1640-05-10 O.S.]", "year of one or two digits"),
+    ("[1640-05-03,1640-05-10 O.S.]", "malformed date"),
 ];
 
 /// Appends the Gregorian date of a day.
