@@ -16,6 +16,7 @@ use Rattle.osn_lands.specs.declared.style.Style.TheVariants.{September, Pisan, E
 use Rattle.osn_lands.specs.declared.regime.Regime.{Regime}
 use Rattle.osn_lands.specs.declared.label.Label.{Label}
 use Rattle.osn_lands.specs.Style.{is_before_25_march, is_from_25_december, is_from_september}
+use Rattle.osn_lands.specs.Style.{style_year}
 use Rattle.osn_lands.specs.Territory.{TerritoryModel, regime_at, skipped}
 
 -- the date is before the other one
@@ -37,12 +38,18 @@ is_dated_before_easter p c date =
 abbrev pub has_easter : Profile → ℤ → Bool
 has_easter p y = not (int_lt y (pos 1)) && not (int_lt (pos p.last_year) y)
 
--- the label's numbers, read as a date of the calendar, are before the Easter of their year by the
--- Julian rule. A year without an Easter has no such date
+-- the year whose Easter parts the dates of a label's year. The line begins within year 0, and has
+-- those of its dates alone that come before the Easter of year 1
+abbrev pub parting_year : Label → ℤ
+parting_year l = if int_lt l.year (pos 1) then pos 1 else l.year
+
+-- the label's month and day, read as a date of the calendar in that year, are before its Easter by
+-- the Julian rule. A year without an Easter has no such date
 abbrev pub is_labelled_before_easter : Profile → Calendar → Label → Bool
 is_labelled_before_easter p c l =
-    has_easter p l.year
-    && is_dated_before_easter p c (record { year = l.year; month = l.month; day = l.day })
+    has_easter p (parting_year l)
+    && is_dated_before_easter p c
+    (record { year = parting_year l; month = l.month; day = l.day })
 
 -- the year counted from 1 January in which a style has the month and day of a year of its own
 abbrev pub counted_year : Style → Label → Bool → ℤ
@@ -65,13 +72,21 @@ label_date p r l = record {
   day = l.day;
 }
 
--- the label comes after the day's date under the regime
-abbrev pub is_after : Profile → Regime → Label → ℕ → Bool
-is_after p r l d = is_earlier (date_of r.calendar d) (label_date p r l)
+-- one date of a style's year comes before another one: the years that the style counts go first
+abbrev pub is_earlier_in_style : ℤ → Date → ℤ → Date → Bool
+is_earlier_in_style year date other_year other =
+    int_lt year other_year || (int_eq year other_year && is_earlier date other)
 
--- the label comes before the day's date under the regime
+-- the label comes after the day's in the order of the regime's style. Its own year goes first, so
+-- that a date which its year lacks, from Easter to Easter, comes after that year and before the next
+abbrev pub is_after : Profile → Regime → Label → ℕ → Bool
+is_after p r l d =
+    is_earlier_in_style (style_year p r d) (date_of r.calendar d) l.year (label_date p r l)
+
+-- the label comes before the day's in that order
 abbrev pub is_before : Profile → Regime → Label → ℕ → Bool
-is_before p r l d = is_earlier (label_date p r l) (date_of r.calendar d)
+is_before p r l d =
+    is_earlier_in_style l.year (label_date p r l) (style_year p r d) (date_of r.calendar d)
 
 -- the label comes after the last day before a change, and before the day of the change. It lies
 -- among the dates that the change passes over

@@ -7,15 +7,27 @@ use crate::label::{Label, date_in_year};
 use crate::regime::Regime;
 use crate::style::Style;
 use crate::style_year::{
-    is_before_25_march, is_before_easter, is_from_25_december, is_from_september,
+    date_and_year, is_before_25_march, is_before_easter, is_from_25_december, is_from_september,
 };
-use osn_days::{Calendar, Day, date_of};
+use osn_days::{Calendar, Day};
 
-/// Whether the label's numbers are a date before the Easter of their year by the Julian rule.
+/// The year whose Easter parts the dates of the label's year: of year 0, within which the line
+/// begins, that is year 1.
+fn parting_year(label: Label) -> i64
+    ensures { result ≡ order.parting_year label }
+{
+    if label.year < 1 {
+        1
+    } else {
+        i64::from(label.year)
+    }
+}
+
+/// Whether the label's month and day are before the Easter of that year by the Julian rule.
 fn is_labelled_before_easter(calendar: Calendar, label: Label) -> bool
     ensures { result ≡ order.is_labelled_before_easter newest_rules calendar label }
 {
-    match date_in_year(label, i64::from(label.year)) {
+    match date_in_year(label, parting_year(label)) {
         Some(date) => is_before_easter(calendar, date),
         None => false,
     }
@@ -36,20 +48,24 @@ fn counted_year(regime: Regime, label: Label) -> i64
     }
 }
 
-/// Whether the label comes after the day's date under the regime.
+/// Whether the label comes after the day's in the order of the regime's style, whose years go first.
 pub(crate) fn is_after(regime: Regime, label: Label, day: Day) -> bool
     ensures { result ≡ order.is_after newest_rules regime label day }
 {
-    let date = date_of(regime.calendar, day);
+    let (date, style_year) = date_and_year(regime, day);
     let year = counted_year(regime, label);
-    (i64::from(date.year), date.month, date.day) < (year, label.month, label.day)
+    style_year < label.year
+        || style_year == label.year
+            && (i64::from(date.year), date.month, date.day) < (year, label.month, label.day)
 }
 
-/// Whether the label comes before the day's date under the regime.
+/// Whether the label comes before the day's in that order.
 pub(crate) fn is_before(regime: Regime, label: Label, day: Day) -> bool
     ensures { result ≡ order.is_before newest_rules regime label day }
 {
-    let date = date_of(regime.calendar, day);
+    let (date, style_year) = date_and_year(regime, day);
     let year = counted_year(regime, label);
-    (year, label.month, label.day) < (i64::from(date.year), date.month, date.day)
+    label.year < style_year
+        || label.year == style_year
+            && (year, label.month, label.day) < (i64::from(date.year), date.month, date.day)
 }
